@@ -1,0 +1,41 @@
+-- No header begins another of its tag.
+use Rattle.std.proofs.Common.{◌≡◌, ℕ, suc, ◌+◌, ◌<◌, ◌≤◌, Bool, List, [], ◌∷◌, ◌++◌, length, refl, sym, ap, subst, ◌∙◌, arith, append_assoc}
+use Rattle.std.specs.Int.Digits.{number_from_digits}
+use Rattle.asn_base.specs.declared.tag.Tag.{Tag}
+use Rattle.encodings.specs.Header.{identifier, LongForm, LengthOf, short, long, Header}
+use Rattle.encodings.proofs.Headers.{identifier_length}
+
+abbrev head_or_0 : List ℕ → ℕ
+head_or_0 [] = 0
+head_or_0 (x ∷ xs) = x
+
+abbrev tail_of : List ℕ → List ℕ
+tail_of [] = []
+tail_of (x ∷ xs) = xs
+
+pub split_front : (a b x y : List ℕ) → length a ≡ length b → a ++ x ≡ b ++ y → (a ≡ b) × (x ≡ y)
+split_front [] [] x y l e = (refl, e)
+split_front [] (c ∷ b) x y l e = absurd (omega arith)
+split_front (c ∷ a) [] x y l e = absurd (omega arith)
+split_front (c ∷ a) (d ∷ b) x y l e =
+    let r = split_front a b x y (omega arith) (ap tail_of e) in
+    let h : c ≡ d = ap head_or_0 e in
+    let t : a ≡ b = r.0 in (cc, r.1)
+
+size_front : {n m : ℕ} {p q : List ℕ} (x y : List ℕ) → LengthOf n p → LengthOf m q → p ++ x ≡ q ++ y → (n ≡ m) × (p ≡ q) × (x ≡ y)
+size_front x y (short h) (short k) e = let f = ap head_or_0 e in (f, ap (λ z. z ∷ []) f, ap tail_of e)
+size_front x y (short h) (long k) e = let f = ap head_or_0 e in absurd (omega arith)
+size_front x y (long h) (short k) e = let f = ap head_or_0 e in absurd (omega arith)
+size_front x y (long {ds = ds} h) (long {ds = es} k) e =
+    let f = ap head_or_0 e in
+    let r = split_front ds es x y (omega arith) (ap tail_of e) in
+    (sym h.worth ∙ ap (number_from_digits 256) r.0 ∙ k.worth, ap (λ z. (128 + length z) ∷ z) r.0, r.1)
+
+pub header_front : (t : Tag) (b c : Bool) (n m : ℕ) (h g x y : List ℕ) → Header t b n h → Header t c m g → h ++ x ≡ g ++ y → (n ≡ m) × (h ≡ g) × (x ≡ y)
+header_front t b c n m h g x y a d e =
+    let i = identifier t.class t.number b in
+    let j = identifier t.class t.number c in
+    let f : i ++ (a.size ++ x) ≡ j ++ (d.size ++ y) = sym (append_assoc i a.size x) ∙ ap (λ z. z ++ x) (sym a.whole) ∙ e ∙ ap (λ z. z ++ y) d.whole ∙ append_assoc j d.size y in
+    let r = split_front i j (a.size ++ x) (d.size ++ y) (identifier_length t.class t.number b c) f in
+    let s = size_front x y a.is_size d.is_size r.1 in
+    (s.0, a.whole ∙ ap (λ z. z ++ a.size) r.0 ∙ ap (λ z. j ++ z) s.1 ∙ sym d.whole, s.2)

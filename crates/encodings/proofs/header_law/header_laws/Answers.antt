@@ -1,0 +1,5 @@
+use Rattle.encodings.proofs.Headers.{shortest_is, shortest_only, shortest_least}
+use Rattle.encodings.proofs.header_law.header_laws.Goals as goal
+
+pub returns : goal.returns
+returns c = record { is = shortest_is; only = shortest_only; least = shortest_least }
