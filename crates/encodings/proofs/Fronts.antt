@@ -1,15 +1,15 @@
 -- No header begins another of its tag.
-use Rattle.std.proofs.Common.{◌≡◌, ℕ, suc, ◌+◌, ◌<◌, ◌≤◌, Bool, List, [], ◌∷◌, ◌++◌, length, refl, sym, ap, subst, ◌∙◌, arith, append_assoc}
+use Rattle.std.proofs.Common.{◌≡◌, ℕ, ◌+◌, Bool, List, [], ◌∷◌, ◌++◌, length, refl, sym, ap, ◌∙◌, arith, append_assoc}
 use Rattle.std.specs.Int.Digits.{number_from_digits}
 use Rattle.asn_base.specs.declared.tag.Tag.{Tag}
-use Rattle.encodings.specs.Header.{identifier, LongForm, LengthOf, short, long, Header}
+use Rattle.encodings.specs.Header.{identifier, LengthOf, short, long, Header}
 use Rattle.encodings.proofs.Headers.{identifier_length}
 
-abbrev head_or_0 : List ℕ → ℕ
+abbrev pub head_or_0 : List ℕ → ℕ
 head_or_0 [] = 0
 head_or_0 (x ∷ xs) = x
 
-abbrev tail_of : List ℕ → List ℕ
+abbrev pub tail_of : List ℕ → List ℕ
 tail_of [] = []
 tail_of (x ∷ xs) = xs
 
@@ -22,7 +22,7 @@ split_front (c ∷ a) (d ∷ b) x y l e =
     let h : c ≡ d = ap head_or_0 e in
     let t : a ≡ b = r.0 in (cc, r.1)
 
-size_front : {n m : ℕ} {p q : List ℕ} (x y : List ℕ) → LengthOf n p → LengthOf m q → p ++ x ≡ q ++ y → (n ≡ m) × (p ≡ q) × (x ≡ y)
+pub size_front : {n m : ℕ} {p q : List ℕ} (x y : List ℕ) → LengthOf n p → LengthOf m q → p ++ x ≡ q ++ y → (n ≡ m) × (p ≡ q) × (x ≡ y)
 size_front x y (short h) (short k) e = let f = ap head_or_0 e in (f, ap (λ z. z ∷ []) f, ap tail_of e)
 size_front x y (short h) (long k) e = let f = ap head_or_0 e in absurd (omega arith)
 size_front x y (long h) (short k) e = let f = ap head_or_0 e in absurd (omega arith)

@@ -1,13 +1,13 @@
 -- The one header with the fewest octets, and that no header of as much or more is shorter.
-use Rattle.std.proofs.Common.{◌≡◌, ℕ, suc, ◌+◌, ◌*◌, ◌/◌, ◌%◌, ◌<◌, ◌≤◌, ◌^◌, ◌⊎◌, Bool, true, false, List, [], ◌∷◌, ◌++◌, length, map, refl, sym, ap, subst, ◌∙◌, ⊎_elim, arith, append_assoc, length-append, cond, ltb}
+use Rattle.std.proofs.Common.{◌≡◌, ℕ, suc, ◌+◌, ◌/◌, ◌%◌, ◌<◌, ◌≤◌, ◌^◌, Bool, true, false, List, [], ◌∷◌, ◌++◌, length, map, refl, sym, ap, subst, ◌∙◌, arith, length-append, cond}
 use Rattle.std.proofs.lemmas.Bool.Decides.{nat_tests}
 use Rattle.std.specs.Prelude.{nat_lt}
-use Rattle.std.specs.Int.Digits.{digits_of, number_from_digits, AllBelowBase}
+use Rattle.std.specs.Int.Digits.{digits_of}
 use Rattle.std.proofs.lemmas.Int.Digits.{number_lt, length-digits_of-le, all_below_base_digits_of, number_digits_of, length-digits_of_step}
 use Rattle.asn_base.specs.declared.tag.Class.{Class}
 use Rattle.asn_base.specs.declared.tag.Tag.{Tag}
-use Rattle.encodings.specs.Rules.{Rules, Basic, Distinguished, Strictly}
-use Rattle.encodings.specs.Header.{class_bits, form_bit, septets, identifier, LongForm, LengthOf, short, long, Header, FewestOctets, HeaderBy, shortest_size, shortest_header}
+use Rattle.encodings.specs.Rules.{Rules, Distinguished}
+use Rattle.encodings.specs.Header.{class_bits, form_bit, septets, identifier, LongForm, LengthOf, short, long, HeaderBy, shortest_size, shortest_header}
 use Rattle.encodings.proofs.Digits.{same_digits}
 
 -- the fewest octets of a length, by cases
@@ -30,7 +30,8 @@ fewest_is {n} h (more s) =
       some = omega (arith, step);
       at_most = h;
       octets = all_below_base_digits_of 256 n (omega arith);
-      worth = number_digits_of 256 n (omega arith) })
+      worth = number_digits_of 256 n (omega arith);
+    })
 
 long_least : (n m : ℕ) (ds : List ℕ) → n ≤ m → LongForm m ds → length (digits_of 256 n) ≤ length ds
 long_least n m ds le f =
@@ -78,7 +79,8 @@ header_of t c n l h f = record {
   fewest = λ p hp. let i = identifier t.class t.number c in
       let le = fewest_least (omega arith) f hp.is_size in
       let e : length p ≡ length (i ++ hp.size) = ap length hp.whole in
-      omega (arith, le, e, length-append i l, length-append i hp.size) }
+      omega (arith, le, e, length-append i l, length-append i hp.size);
+}
 
 -- no header of as much or more is shorter, constructed or not
 pub header_least : (r : Rules) (t : Tag) (b c : Bool) (n m : ℕ) (l h : List ℕ) → n ≤ m → Fewest n l → HeaderBy r t c m h → length (identifier t.class t.number b ++ l) ≤ length h

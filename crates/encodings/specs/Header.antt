@@ -1,5 +1,5 @@
 -- Identifier and length octets (X.690, 8.1.2 and 8.1.3).
-use Rattle.std.specs.Prelude.{◌≡◌, ℕ, ◌+◌, ◌*◌, ◌/◌, ◌%◌, ◌<◌, ◌≤◌, ◌⊎◌, Bool, true, false, List, [], ◌∷◌, ◌++◌, length, map, nat_lt, if◌then◌else◌}
+use Rattle.std.specs.Prelude.{◌≡◌, ℕ, ◌+◌, ◌/◌, ◌%◌, ◌<◌, ◌≤◌, Bool, true, false, List, [], ◌∷◌, ◌++◌, length, map, nat_lt, if◌then◌else◌}
 use Rattle.std.specs.Int.Digits.{digits_of, number_from_digits, AllBelowBase}
 use Rattle.asn_base.specs.declared.tag.Class.{Class}
 use Rattle.asn_base.specs.declared.tag.Class.TheVariants.{Universal, Application, Context, Private}

@@ -1,6 +1,8 @@
 //! What octets say of a value: definitions in `specs`, and the laws of them that other crates call.
 #![tactic(auto)]
 
+mod encoding_law;
 mod header_law;
 
+pub use encoding_law::{der_laws, level_laws, reading_laws, writer_laws};
 pub use header_law::header_laws;

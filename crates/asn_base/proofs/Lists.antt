@@ -1,0 +1,42 @@
+-- What holds of each member of a list holds of the one at a place.
+use Rattle.std.proofs.Common.{arith, ◌≡◌, ℕ, zero, suc, ◌<◌, List, [], ◌∷◌, ◌++◌, length, map, get_or, sym, ap, subst}
+use Rattle.std.specs.Prelude.{Option, Some, None, slice_get, IsSomeAnd}
+use Rattle.std.specs.List.{AllByRecursion}
+
+abbrev or_else : {A : Type 0} → A → Option A → A
+or_else x None = x
+or_else x (Some y) = y
+
+abbrev IsNone' : {A : Type 0} → Option A → Type 0
+IsNone' None = Unit {0}
+IsNone' (Some x) = ⊥
+
+pub at_place : {A : Type 0} (P : A → Type 0) (xs : List A) (i : ℕ) (x : A) → slice_get xs i ≡ Some x → AllByRecursion P xs → P x
+at_place P [] i x e a = absurd (subst IsNone' e tt)
+at_place P (y ∷ xs) zero x e a = subst P (ap (or_else y) e) a.0
+at_place P (y ∷ xs) (suc i) x e a = at_place P xs i x e a.1
+
+pub all_mapped : {A : Type 0} (P Q : A → Type 0) → ((x : A) → P x → Q x) → (xs : List A) → AllByRecursion P xs → AllByRecursion Q xs
+all_mapped P Q f [] a = tt
+all_mapped P Q f (x ∷ xs) a = (f x a.0, all_mapped P Q f xs a.1)
+
+pub all_append : {A : Type 0} (P : A → Type 0) (xs : List A) (y : A) → AllByRecursion P xs → P y → AllByRecursion P (xs ++ (y ∷ []))
+all_append P [] y a b = (b, tt)
+all_append P (x ∷ xs) y a b = (a.0, all_append P xs y a.1 b)
+
+-- what is found in a list is found in a longer one
+pub found_still : {A : Type 0} (P : A → Type 0) (xs : List A) (y : A) (i : ℕ) → IsSomeAnd (slice_get xs i) P → IsSomeAnd (slice_get (xs ++ (y ∷ [])) i) P
+found_still P [] y i h = absurd h
+found_still P (x ∷ xs) y zero h = h
+found_still P (x ∷ xs) y (suc i) h = found_still P xs y i h
+
+mapped_at : {A B : Type 0} (P : B → Type 0) (f : A → B) (xs : List A) (i : ℕ) (d : A) → i < length (map f xs) → AllByRecursion P (map f xs) → P (f (get_or xs i d))
+mapped_at P f [] i d h a = absurd (omega arith)
+mapped_at P f (x ∷ xs) zero d h a = a.0
+mapped_at P f (x ∷ xs) (suc i) d h a = mapped_at P f xs i d (omega arith) a.1
+
+-- what a view promises of each of its members holds of the one at a place
+pub seen_at : {A B : Type 0} (P : List B → B → Type 0) (f : A → B) (xs : List A) (now : List B) (i : ℕ) (d : A) → map f xs ≡ now → d ≡ get_or xs i d → i < length now → AllByRecursion (P (map f xs)) (map f xs) → P now (f d)
+seen_at P f xs now i d e g h a =
+    let lt : i < length (map f xs) = subst (λ q. i < length q) (sym e) h in
+    subst (λ q. P q (f d)) e (subst (λ q. P (map f xs) (f q)) (sym g) (mapped_at (P (map f xs)) f xs i d lt a))

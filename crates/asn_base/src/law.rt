@@ -1,0 +1,60 @@
+//! Laws of values and schemas, for the crates above.
+
+ghost use Rattle.std.specs.Prelude.{◌≡◌, ◌≤◌, ℕ, ℤ, List, [], ◌∷◌, ◌++◌, map, option_map, string_bytes, Bool as 𝔹, Option, Vec, String as String', Box};
+ghost use Rattle.std.specs.declared.alloc.Global.{Global as Global'};
+ghost use Rattle.asn_base.specs.declared.value.BitString.{BitString};
+ghost use Rattle.asn_base.specs.declared.value.Value.{Value};
+ghost use Rattle.asn_base.specs.declared.value.Value.TheVariants.{Bool, Int, Enum, Bits, Octets, Text, Null, Oid, Fields, List as List', Alt};
+ghost use Rattle.asn_base.specs.Abstract.{AbstractValue, boolean, integer, enumerated, bits, bits_of, octets, text, null, oid, fields, list, alternative, abstract, row_of_options, row_of_list};
+ghost use Rattle.asn_base.specs.Types.{Resolved};
+ghost use Rattle.asn_base.specs.Typed.{ValueIn, IsValueWithoutNodes, IsValue, IsWithinLimit, nodes};
+ghost use Rattle.asn_base.specs.Same.{Alike, Same};
+ghost use Rattle.asn_base.specs.Accepted.{IsAccepted, IsAcceptedType};
+ghost use Rattle.asn_base.specs.Tags.{AllTagged, AllTellable};
+
+/// What each variant of a value is without memory.
+pub fn abstract_values()
+    ensures bool { (b : 𝔹) → abstract (Bool b) ≡ boolean b }
+    ensures int { (z : ℤ) → abstract (Int z) ≡ integer z }
+    ensures enum_ { (z : ℤ) → abstract (Enum z) ≡ enumerated z }
+    ensures bits_ { (b : BitString) → abstract (Bits b) ≡ bits (bits_of b) }
+    ensures octets_ { (v : Vec ℕ Global') → abstract (Octets v) ≡ octets v.items }
+    ensures text_ { (v : String' Global') → abstract (Text v) ≡ text (string_bytes v) }
+    ensures null_ { abstract Null ≡ null }
+    ensures oid_ { (v : Vec ℕ Global') → abstract (Oid v) ≡ oid v.items }
+    ensures fields_ { (v : Vec (Option Value) Global') → abstract (Fields v) ≡ fields (row_of_options (map (option_map abstract) v.items)) }
+    ensures list_ { (v : Vec Value Global') → abstract (List' v) ≡ list (row_of_list (map abstract v.items)) }
+    ensures alt { (i : ℕ) (b : Box Value Global') → abstract (Alt i b) ≡ alternative i (abstract b.value) }
+{}
+
+/// A number of 128 bits is within the limit of INTEGER.
+pub fn integer_within_limit(number: i128)
+    ensures { IsWithinLimit number }
+{}
+
+/// A schema without types is accepted, and one stays accepted with one more type that is.
+pub fn schemas_grow()
+    ensures empty { IsAccepted [] }
+    ensures grows { (s : List Resolved) (r : Resolved) → IsAccepted s → IsAcceptedType s r → IsAccepted (s ++ (r ∷ [])) }
+{}
+
+/// Each type of an accepted schema but a CHOICE has a tag, and first tags are distinct where they must be.
+pub fn accepted_are_told_apart()
+    ensures tagged { (s : List Resolved) → IsAccepted s → AllTagged s }
+    ensures tellable { (s : List Resolved) → IsAccepted s → AllTellable s }
+{}
+
+/// In an accepted schema of today the limit on nodes is never passed: members are at most 256, and hold no others.
+pub fn few_nodes()
+    ensures nodes { (s : List Resolved) (n t : ℕ) (v : AbstractValue) → IsAccepted s → ValueIn s n t v → nodes v ≤ 257 }
+    ensures value { (s : List Resolved) (t : ℕ) (v : AbstractValue) → IsAccepted s → IsValueWithoutNodes s t v → IsValue s t v }
+{}
+
+/// Being the same is an equivalence on the values of a type, the limit on nodes apart.
+pub fn sameness()
+    ensures itself { (s : List Resolved) (t : ℕ) (v : AbstractValue) → IsValueWithoutNodes s t v → Same s t v v }
+    ensures turned { (s : List Resolved) (t : ℕ) (v w : AbstractValue) → Same s t v w → Same s t w v }
+    ensures joined { (s : List Resolved) (t : ℕ) (v w x : AbstractValue) → Same s t v w → Same s t w x → Same s t v x }
+    ensures alike_turned { (s : List Resolved) (t : ℕ) (v w : AbstractValue) → Alike s t v w → Alike s t w v }
+    ensures alike_joined { (s : List Resolved) (t : ℕ) (v w x : AbstractValue) → Alike s t v w → Alike s t w x → Alike s t v x }
+{}

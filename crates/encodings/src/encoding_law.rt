@@ -1,0 +1,63 @@
+//! The laws of encodings (X.690, 8 to 11).
+
+ghost use Rattle.std.specs.Prelude.{◌≡◌, ℕ, ◌*◌, ◌≤◌, List, ◌++◌, length};
+ghost use Rattle.asn_base.specs.Abstract.{AbstractValue};
+ghost use Rattle.asn_base.specs.Accepted.{IsAccepted};
+ghost use Rattle.asn_base.specs.Tags.{AllTagged, AllTellable};
+ghost use Rattle.asn_base.specs.Same.{Same};
+ghost use Rattle.asn_base.specs.Typed.{IsValueWithoutNodes, ValueIn};
+ghost use Rattle.asn_base.specs.Types.{Resolved};
+ghost use Rattle.encodings.specs.Encoding.{Ber, Der, Says, Shortest};
+ghost use Rattle.encodings.specs.Levels.{HasFewTags, levels};
+ghost use Rattle.encodings.specs.Rules.{Rules, Basic, Distinguished};
+
+use asn_base::law::{accepted_are_told_apart, sameness};
+
+/// A value of a type has one encoding by the distinguished rules, and none by the basic rules is shorter: for each kind
+/// of type, over every spelling of definite length.
+pub fn der_laws()
+    // What octets say of a value by the distinguished rules is an encoding of it by them, and by the basic ones.
+    ensures der { (s : List Resolved) (t : ℕ) (v : AbstractValue) (o : List ℕ) → IsValueWithoutNodes s t v → Says s Distinguished t v 0 o → Der s t v 0 o }
+    ensures ber { (s : List Resolved) (t : ℕ) (v : AbstractValue) (o : List ℕ) → Der s t v 0 o → Ber s t v 0 o }
+    // Values that are the same have one such encoding, where only a CHOICE has no tag.
+    ensures one { (s : List Resolved) (t : ℕ) (v w : AbstractValue) (o p : List ℕ) → AllTagged s → Same s t v w → Der s t v 0 o → Der s t w 0 p → p ≡ o }
+    // None by the basic rules of a value that is the same has fewer octets.
+    ensures none_shorter { (s : List Resolved) (t : ℕ) (v w : AbstractValue) (o p : List ℕ) → Same s t v w → Der s t v 0 o → Ber s t w 0 p → length o ≤ length p }
+    ensures shortest { (s : List Resolved) (t : ℕ) (v : AbstractValue) (o : List ℕ) → Der s t v 0 o → Shortest s t v o }
+{
+    sameness();
+}
+
+/// The same for a writer, which proves of its octets what they say, in a schema that is accepted.
+pub fn writer_laws()
+    ensures der { (s : List Resolved) (t : ℕ) (v : AbstractValue) (o : List ℕ) → IsValueWithoutNodes s t v → Says s Distinguished t v 0 o → Der s t v 0 o }
+    ensures only { (s : List Resolved) (t : ℕ) (v : AbstractValue) (o : List ℕ) → IsAccepted s → IsValueWithoutNodes s t v → Says s Distinguished t v 0 o → (p : List ℕ) → Der s t v 0 p → p ≡ o }
+    ensures shortest { (s : List Resolved) (t : ℕ) (v : AbstractValue) (o : List ℕ) → IsValueWithoutNodes s t v → Says s Distinguished t v 0 o → Shortest s t v o }
+    // And octets that are an encoding of two values by these rules make them the same.
+    ensures one_value { (s : List Resolved) (t : ℕ) (v w : AbstractValue) (o : List ℕ) → IsAccepted s → Der s t v 0 o → Der s t w 0 o → Same s t v w }
+{
+    sameness();
+    accepted_are_told_apart();
+    der_laws();
+    reading_laws();
+}
+
+/// Octets say one value, and no encoding begins another, where only a CHOICE has no tag and first tags are distinct.
+pub fn reading_laws()
+    // Octets say one value as it stands, with one number of unknown additions.
+    ensures one_value { (s : List Resolved) (r : Rules) (t j k : ℕ) (v w : AbstractValue) (o : List ℕ) → AllTagged s → AllTellable s → Says s r t v j o → Says s r t w k o → (v ≡ w) × (j ≡ k) }
+    // So they are an encoding of values that are the same.
+    ensures ber { (s : List Resolved) (t j k : ℕ) (v w : AbstractValue) (o : List ℕ) → AllTagged s → AllTellable s → Ber s t v j o → Ber s t w k o → Same s t v w × (j ≡ k) }
+    ensures der { (s : List Resolved) (t j k : ℕ) (v w : AbstractValue) (o : List ℕ) → AllTagged s → AllTellable s → Der s t v j o → Der s t w k o → Same s t v w × (j ≡ k) }
+    // No encoding begins another one, whatever follows and of whatever types they are.
+    ensures none_begins_another { (s : List Resolved) (q r : Rules) (t u j k : ℕ) (v w : AbstractValue) (o p x y : List ℕ) → AllTagged s → Says s q t v j o → Says s r u w k p → o ++ x ≡ p ++ y → (o ≡ p) × (x ≡ y) }
+{
+    sameness();
+}
+
+/// An encoding by the distinguished rules has at most six levels of headers for each level of its value, so that one of a
+/// value has at most 400.
+pub fn level_laws()
+    ensures few { (s : List Resolved) (n t : ℕ) (v : AbstractValue) (o : List ℕ) (d : Says s Distinguished t v 0 o) → HasFewTags s → ValueIn s n t v → levels d ≤ 6 * n }
+    ensures within_limit { (s : List Resolved) (t : ℕ) (v : AbstractValue) (o : List ℕ) (d : Says s Distinguished t v 0 o) → HasFewTags s → IsValueWithoutNodes s t v → levels d ≤ 400 }
+{}

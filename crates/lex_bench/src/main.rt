@@ -1,0 +1,97 @@
+//! Reads texts of 8 MiB and of 16 MiB, and writes how many tokens each has.
+//! How long each took, in microseconds, is written on standard error.
+#![tactic(auto)]
+
+use std::alloc::{AllocError, Global};
+use std::io;
+use std::process::ExitCode;
+use std::time::{Duration, Instant};
+
+/// A text that is one piece again and again, and from its middle on another.
+struct Shape {
+    name: &'static str,
+    /// 64 octets, as `second` too.
+    first: &'static str,
+    second: &'static str,
+}
+
+const ASSIGNMENT: &str = "Name-12 ::= [9] SEQUENCE {a-b INTEGER (0..7), c BIT STRING} --d\n";
+
+const STRINGS: &str = "\"one\"\"two\" '0123456789ABCDEF 0123456789ABCDEF'H '0101 0101 01'B\n";
+
+const COMMENTS: &str = "/* one /* two /* three */ */ */ -- four\n/*/*/*/* five */*/*/*/ \n";
+
+const LETTERS: &str = "abcdefghijklmnopqrstuvwxyz-ABCDEFGHIJKLMNOPQRSTUVWXYZ-0123456789";
+
+const OPENINGS: &str = "/*/*/*/*/*/*/*/*/*/*/*/*/*/*/*/*/*/*/*/*/*/*/*/*/*/*/*/*/*/*/*/*";
+
+const CLOSINGS: &str = "*/*/*/*/*/*/*/*/*/*/*/*/*/*/*/*/*/*/*/*/*/*/*/*/*/*/*/*/*/*/*/*/";
+
+const SHAPES: [Shape; 5] = [
+    Shape {
+        name: "assignments",
+        first: ASSIGNMENT,
+        second: ASSIGNMENT,
+    },
+    Shape {
+        name: "strings",
+        first: STRINGS,
+        second: STRINGS,
+    },
+    Shape {
+        name: "comments",
+        first: COMMENTS,
+        second: COMMENTS,
+    },
+    Shape {
+        name: "one name",
+        first: LETTERS,
+        second: LETTERS,
+    },
+    Shape {
+        name: "one comment",
+        first: OPENINGS,
+        second: CLOSINGS,
+    },
+];
+
+/// Each of the two pieces so many times.
+fn text_of(alloc: Global, shape: &Shape, times: usize) -> Result<Vec<u8>, AllocError> {
+    let mut text = Vec::new(alloc);
+    for piece in [shape.first, shape.second] {
+        for _ in 0..times {
+            text.extend_from_slice(piece.as_bytes())?;
+        }
+    }
+    Ok(text)
+}
+
+/// The least time of five readings of a text, whose number of tokens is written.
+fn least_time(rt: &HostRuntime, shape: &Shape, times: usize) -> io::Result<Duration> {
+    let text = text_of(rt.alloc(), shape, times)?;
+    let mut least = Duration::MAX;
+    let mut count = 0;
+    for _ in 0..5 {
+        let start = Instant::now(rt)?;
+        if let Ok(tokens) = text::lex(rt.alloc(), &text) {
+            count = tokens.len();
+        }
+        least = least.min(start.elapsed(rt)?);
+    }
+    println!(rt; "{}: {} octets, {count} tokens", shape.name, text.len())?;
+    Ok(least)
+}
+
+fn main(rt: HostRuntime) -> io::Result<ExitCode> {
+    for shape in &SHAPES {
+        let half = least_time(&rt, shape, 1 << 16)?;
+        let whole = least_time(&rt, shape, 1 << 17)?;
+        eprintln!(rt;
+            "{}: {} us, {} us",
+            shape.name,
+            half.as_micros(),
+            whole.as_micros()
+        )?;
+    }
+    Ok(ExitCode::SUCCESS)
+}
