@@ -8,9 +8,9 @@ use Rattle.std.specs.Int.Digits.{AllBelowBase}
 use Rattle.asn_base.specs.declared.tag.Class.TheVariants.{Universal}
 use Rattle.asn_base.specs.declared.tag.Tag.{Tag}
 use Rattle.asn_base.specs.Abstract.{AbstractValue, integer, octets, null, fields, list, alternative, end, absent, present}
-use Rattle.asn_base.specs.Types.{Bounds, Constraint, Presence, mandatory, optional, default, addition, Component, Kind, an_integer, an_octet_string, a_sequence, a_sequence_of, Resolved}
-use Rattle.asn_base.specs.Typed.{IsMember, is_first, is_later, IsWithinLimit, IsAllowed, HasNumber, IsObjectIdentifier, arcs, Fits, fits_integer, fits_octets, ValueIn, value_in, of_leaf, of_sequence, of_sequence_of, MayBeAbsent, where_optional, where_default, where_addition, no_component, component_absent, component_present, no_element, nodes}
-use Rattle.asn_base.specs.Same.{Alike, alike, AlikeBy, equal}
+use Rattle.asn_base.specs.Types.{Bounds, Constraint, Presence, mandatory, optional, default, addition, Component, Kind, an_integer, an_octet_string, a_sequence, a_sequence_of, a_choice, Resolved}
+use Rattle.asn_base.specs.Typed.{IsMember, is_first, is_later, IsWithinLimit, IsAllowed, HasNumber, IsObjectIdentifier, arcs, Fits, fits_integer, fits_octets, ValueIn, value_in, of_leaf, of_sequence, of_sequence_of, of_choice, ValueOf, members, one_element, MayBeAbsent, where_optional, where_default, where_addition, no_component, component_absent, component_present, no_element, nodes}
+use Rattle.asn_base.specs.Same.{Alike, alike, AlikeBy, alike_choice, equal}
 use Rattle.asn_base.proofs.Sameness.{by_at, same_kind}
 
 abbrev tag : Tag
@@ -26,6 +26,10 @@ to_7 = record { allowed = Some (record { least = Some (pos 0); greatest = Some (
 abbrev free : Constraint
 free = record { allowed = None; visible = bounds }
 
+-- (SIZE (1..MAX))
+abbrev some : Constraint
+some = record { allowed = Some (record { least = Some (pos 1); greatest = None } ∷ []); visible = bounds }
+
 abbrev row : Kind → Resolved
 row k = record { tags = tag ∷ []; kind = k }
 
@@ -39,6 +43,8 @@ s = row (an_integer to_7)  -- 0
     ∷ row (a_sequence true (part 1 optional ∷ part 1 addition ∷ []))  -- 3
     ∷ row (a_sequence false (part 1 (default (integer (pos 5))) ∷ []))  -- 4
     ∷ row (a_sequence_of free 1)  -- 5
+    ∷ row (a_sequence_of some 1)  -- 6
+    ∷ row (a_choice (record { name = []; type = 0 } ∷ []) true (record { name = []; type = 1 } ∷ []))  -- 7
     ∷ []
 
 -- the limits of INTEGER
@@ -165,3 +171,34 @@ one_not_two a = by a refl refl
     by : {v w : AbstractValue} → Alike s 1 v w → v ≡ integer (pos 1) → w ≡ integer (pos 2) → ⊥
     by (alike {v = v} {w = w} i a) e f =
         let h : pos 1 ≡ pos 2 = ap number_of (sym e ∙ in_order (by_at (same_kind (record { found = refl }) i) a) ∙ f) in omega (arith, ints)
+
+-- sizes of lists
+list_of_one : ValueIn s 2 6 (list (present (integer (pos 5)) end))
+list_of_one = value_in (record { found = refl }) (of_sequence_of (one_element five no_element) (inl (omega (arith, ints), tt)))
+
+none_listed : {n : ℕ} {v : AbstractValue} → ValueOf s n (a_sequence_of some 1) v → v ≡ list end → ⊥
+none_listed (of_leaf f) e = elim f [ ]
+none_listed (of_sequence_of {vs = vs} es a) e =
+    let z : members vs ≡ 0 = ap size_in e in
+    ⊎_elim (λ h. let l = h.0 in omega (arith, ints)) (λ b. b) a
+  where
+    size_in : AbstractValue → ℕ
+    size_in (list vs) = members vs
+    size_in v = 1
+
+value_at : {n : ℕ} {k k' : Kind} {v : AbstractValue} → k' ≡ k → ValueOf s n k' v → ValueOf s n k v
+value_at {n} {v = v} e a = subst (λ q. ValueOf s n q v) e a
+
+list_of_none : {n : ℕ} → ValueIn s n 6 (list end) → ⊥
+list_of_none a = by a refl
+  where
+    by : {n : ℕ} {v : AbstractValue} → ValueIn s n 6 v → v ≡ list end → ⊥
+    by (value_in i a) e = none_listed (value_at (same_kind (record { found = refl }) i) a) e
+
+-- an alternative behind the marker, and none that the type lacks
+new_alternative : ValueIn s 2 7 (alternative 1 (integer (pos 5)))
+new_alternative = value_in (record { found = refl }) (of_choice refl five)
+
+-- two values of an alternative are alike, of two alternatives not
+alternatives_alike : Alike s 7 (alternative 1 (integer (pos 5))) (alternative 1 (integer (pos 5)))
+alternatives_alike = alike (record { found = refl }) (alike_choice refl (alike (record { found = refl }) (equal tt)))

@@ -1,6 +1,8 @@
 -- First tags, by which a reader tells components and alternatives apart (X.680, 25.6.1, 27.3 and 29.3).
-use Rattle.std.specs.Prelude.{◌≡◌, ℕ, Bool, true, false, List, [], ◌∷◌, ◌++◌, Some, slice_get, map, if◌then◌else◌}
+use Rattle.std.specs.Prelude.{◌≡◌, ℕ, ◌<◌, ◌≤◌, ◌⊎◌, length, Bool, true, false, List, [], ◌∷◌, ◌++◌, Some, slice_get, map, if◌then◌else◌}
 use Rattle.std.specs.List.{AllByRecursion}
+use Rattle.asn_base.specs.declared.tag.Class.{Class}
+use Rattle.asn_base.specs.declared.tag.Class.TheVariants.{Universal, Application, Context, Private}
 use Rattle.asn_base.specs.declared.tag.Tag.{Tag}
 use Rattle.asn_base.specs.Types.{Alternative, Kind, a_sequence, a_set, a_choice, mandatory, optional, default, addition, Component, Resolved, Is}
 
@@ -48,3 +50,18 @@ IsChoice k = ⊥
 -- a type without a tag is a CHOICE
 abbrev pub AllTagged : List Resolved → Type 0
 AllTagged s = (t : ℕ) (k : Kind) → Is s t [] k → IsChoice k
+
+-- each type has at most six tags: four written ones, its own and an automatic one
+abbrev pub HasFewTags : List Resolved → Type 0
+HasFewTags s = (t : ℕ) (tags : List Tag) (k : Kind) → Is s t tags k → length tags ≤ 6
+
+-- universal, application, context, private
+abbrev pub class_rank : Class → ℕ
+class_rank Universal = 0
+class_rank Application = 1
+class_rank Context = 2
+class_rank Private = 3
+
+-- the canonical order of tags: by class, and within a class by number (8.6)
+abbrev pub TagBefore : Tag → Tag → Type 0
+TagBefore g f = (class_rank g.class < class_rank f.class) ⊎ ((class_rank g.class ≡ class_rank f.class) × (g.number < f.number))

@@ -3,12 +3,13 @@ use Rattle.std.proofs.Common.{arith, ◌≡◌, ℕ, ◌*◌, ◌≤◌, max, Bo
 use Rattle.std.proofs.Math.Nat.{max-le}
 use Rattle.asn_base.specs.Abstract.{AbstractValue, Row}
 use Rattle.asn_base.specs.Types.{Kind, Component, Resolved}
+use Rattle.asn_base.specs.Tags.{HasFewTags}
 use Rattle.asn_base.specs.Typed.{ValueIn, value_in, ValueOf, of_leaf, of_sequence, of_set, of_sequence_of, of_set_of, of_choice, AreComponents, component_absent, component_present, AreElements, one_element}
 use Rattle.encodings.specs.Rules.{Distinguished}
 use Rattle.encodings.specs.Strings.{Pieces, whole, cut, BitPieces, whole_bits, cut_bits}
 use Rattle.encodings.specs.Contents.{Contents, of_false, of_true, of_integer, of_enumerated, of_bits, of_named_bits, of_octets, of_null, of_oid, of_utf8, of_restricted}
 use Rattle.encodings.specs.Encoding.{no_unknown, unknown, UnknownIf, closed, extensible, Says, says, Holds, leaf, sequence, set, sequence_of, set_of, choice, Members, no_member, left_out, member, Elements, no_element, element}
-use Rattle.encodings.specs.Levels.{piece_levels, bit_piece_levels, leaf_levels, unknown_levels, levels, inner_levels, member_levels, element_levels, HasFewTags}
+use Rattle.encodings.specs.Levels.{piece_levels, bit_piece_levels, leaf_levels, unknown_levels, levels, inner_levels, member_levels, element_levels}
 use Rattle.encodings.proofs.Least.{same_kind, alternative_type}
 
 flat_piece : {s : List ℕ} {c : Bool} {o : List ℕ} (p : Pieces s c o) → c ≡ false → piece_levels p ≡ 0

@@ -109,6 +109,7 @@ rows =
     ∷ type (u10 ∷ []) (an_enumerated (record { name = []; number = pos 0 } ∷ []) true (record { name = []; number = pos 2 } ∷ []))  -- 21
     ∷ type (u16 ∷ []) (a_sequence_of free 22)  -- 22
     ∷ type (u16 ∷ []) (a_sequence false (a_component 15 (default seven) ∷ []))  -- 23
+    ∷ type (u17 ∷ []) (a_set true (a_component 9 mandatory ∷ []))  -- 24
     ∷ []
 
 abbrev Fine : Resolved → Type 0
@@ -186,7 +187,10 @@ fine = (
                                               (some_tag, tt),
                                               (
                                                 (some_tag, ((λ f. tt), tt)),
-                                                tt,
+                                                (
+                                                  (some_tag, (tt, tt)),
+                                                  tt,
+                                                ),
                                               ),
                                             ),
                                           ),
@@ -212,7 +216,7 @@ fine = (
   ),
 )
 
-place : (P : Resolved → Type 0) (xs : List Resolved) (t : ℕ) (r : Resolved) → AllByRecursion P xs → slice_get xs t ≡ Some r → P r
+pub place : (P : Resolved → Type 0) (xs : List Resolved) (t : ℕ) (r : Resolved) → AllByRecursion P xs → slice_get xs t ≡ Some r → P r
 place P [] t r a e = absurd (subst IsFound (sym e) tt)
 place P (x ∷ xs) zero r a e = subst P (ap found e) a.0
   where

@@ -75,7 +75,7 @@ seven = says (record { found = refl }) (leaf (of_integer (small 7 (lit< tt)))) (
 other : First rows 14 c1 → ⊥
 other f = let e = ap (λ g. g.number) (first_only {t = 14} refl f) in omega arith
 
-optional_no : (d : AbstractValue) → optional ≡ default d → ⊥
+pub optional_no : (d : AbstractValue) → optional ≡ default d → ⊥
 optional_no d e = subst IsOptional e tt
   where
     IsOptional : Presence → Type 0

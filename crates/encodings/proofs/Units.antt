@@ -3,11 +3,11 @@ use Rattle.std.proofs.Common.{arith, ◌≡◌, ℕ, zero, suc, inl, inr, ⊎_el
 use Rattle.asn_base.specs.declared.tag.Tag.{Tag}
 use Rattle.asn_base.specs.Abstract.{AbstractValue}
 use Rattle.asn_base.specs.Types.{Kind, Resolved}
-use Rattle.asn_base.specs.Tags.{IsChoice, AllTagged}
+use Rattle.asn_base.specs.Tags.{IsChoice, AllTagged, class_rank, TagBefore}
 use Rattle.encodings.specs.Rules.{Rules}
-use Rattle.encodings.specs.Header.{Header, class_bits}
+use Rattle.encodings.specs.Header.{Header}
 use Rattle.encodings.specs.Contents.{Contents, of_false, of_true, of_integer, of_enumerated, of_bits, of_named_bits, of_octets, of_null, of_oid, of_utf8, of_restricted}
-use Rattle.encodings.specs.Orders.{AtMost, BeginsWith, TagBefore, InTagOrder}
+use Rattle.encodings.specs.Orders.{AtMost, BeginsWith, InTagOrder}
 use Rattle.encodings.specs.Encoding.{Framed, bare, innermost, outer, Says, says, Holds, leaf, sequence, set, sequence_of, set_of, choice}
 use Rattle.encodings.proofs.Fronts.{split_front}
 use Rattle.encodings.proofs.Identifiers.{any_front}
@@ -115,7 +115,7 @@ begins_same g f o a b =
 
 tags_ordered : (a b c d : Tag) → TagBefore a b → TagBefore c d → SameTag b c → TagBefore a d
 tags_ordered a b c d h k e =
-    let f = ap class_bits e.classes in
+    let f = ap class_rank e.classes in
     let n = e.numbers in
     ⊎_elim
     (λ lt. ⊎_elim (λ lt'. inl (omega arith)) (λ m. inl (let m' = m.0 in omega arith)) k)
@@ -124,7 +124,7 @@ tags_ordered a b c d h k e =
 
 not_before_itself : (a b : Tag) → TagBefore a b → SameTag b a → ⊥
 not_before_itself a b h e =
-    let f = ap class_bits e.classes in
+    let f = ap class_rank e.classes in
     let n = e.numbers in
     ⊎_elim (λ lt. omega arith) (λ l. let l' = l.1 in omega arith) h
 

@@ -6,6 +6,7 @@ use Rattle.asn_base.specs.declared.tag.Tag.{Tag}
 use Rattle.asn_base.specs.Abstract.{AbstractValue, fields, list, alternative, Row, end, absent, present}
 use Rattle.asn_base.specs.Types.{Constraint, Alternative, Kind, a_sequence, a_set, a_sequence_of, a_set_of, a_choice, default, Component, Resolved, Is}
 use Rattle.asn_base.specs.Tags.{First, is_mandatory}
+use Rattle.asn_base.specs.Typed.{IsValueWithoutNodes}
 use Rattle.asn_base.specs.Same.{Alike, Same}
 use Rattle.encodings.specs.Rules.{Rules, Basic, Distinguished, Strictly}
 use Rattle.encodings.specs.Header.{Header, HeaderBy}
@@ -71,6 +72,11 @@ mutual
   pub data Elements (s : List Resolved) (r : Rules) : ℕ → Row → ℕ → List (List ℕ) → Type 0 where
     no_element : {u : ℕ} → Elements s r u end 0 []
     element : {u : ℕ} {w : AbstractValue} {ws : Row} {j n : ℕ} {x : List ℕ} {xs : List (List ℕ)} → Says s r u w j x → Elements s r u ws n xs → Elements s r u (present w ws) (j + n) (x ∷ xs)
+
+-- octets encode w as it stands: it is a value of the type, the limit on nodes apart, and they say it, with k unknown additions
+pub record Encodes (s : List Resolved) (r : Rules) (t : ℕ) (w : AbstractValue) (k : ℕ) (o : List ℕ) : Type 0 where
+  pub value : IsValueWithoutNodes s t w
+  pub says_it : Says s r t w k o
 
 -- by the basic rules octets encode v: they say a value that is the same, with k unknown additions
 abbrev pub Ber : List Resolved → ℕ → AbstractValue → ℕ → List ℕ → Type 0

@@ -1,9 +1,8 @@
 -- How many levels of headers an encoding has: a header at the outside is one, one inside constructed contents is one more.
 -- An unknown addition counts its own header alone. (X.690, 8.1.1)
-use Rattle.std.specs.Prelude.{ℕ, suc, ◌+◌, ◌≤◌, max, Bool, List, length}
-use Rattle.asn_base.specs.declared.tag.Tag.{Tag}
+use Rattle.std.specs.Prelude.{ℕ, suc, ◌+◌, max, Bool, List, length}
 use Rattle.asn_base.specs.Abstract.{AbstractValue, Row}
-use Rattle.asn_base.specs.Types.{Kind, Component, Resolved, Is}
+use Rattle.asn_base.specs.Types.{Kind, Component, Resolved}
 use Rattle.encodings.specs.Rules.{Rules}
 use Rattle.encodings.specs.Strings.{Pieces, whole, cut, Segments, no_segment, segment, BitPieces, whole_bits, cut_bits, BitSegments, last_segment, bit_segment}
 use Rattle.encodings.specs.Contents.{Contents, of_false, of_true, of_integer, of_enumerated, of_bits, of_named_bits, of_octets, of_null, of_oid, of_utf8, of_restricted}
@@ -65,7 +64,3 @@ abbrev mutual
   pub element_levels : {s : List Resolved} {r : Rules} {u n : ℕ} {ws : Row} {xs : List (List ℕ)} → Elements s r u ws n xs → ℕ
   element_levels no_element = 0
   element_levels (element a es) = max (levels a) (element_levels es)
-
--- each type has at most six headers: four written tags, its own and an automatic one
-abbrev pub HasFewTags : List Resolved → Type 0
-HasFewTags s = (t : ℕ) (tags : List Tag) (k : Kind) → Is s t tags k → length tags ≤ 6

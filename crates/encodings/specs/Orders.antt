@@ -1,7 +1,8 @@
 -- Encodings in order, in some order, and mixed (X.690, 8.11.3, 8.12.2, 10.3 and 11.6).
 use Rattle.std.specs.Prelude.{◌≡◌, ℕ, ◌<◌, ◌⊎◌, Bool, List, [], ◌∷◌, ◌++◌}
 use Rattle.asn_base.specs.declared.tag.Tag.{Tag}
-use Rattle.encodings.specs.Header.{Header, class_bits}
+use Rattle.asn_base.specs.Tags.{TagBefore}
+use Rattle.encodings.specs.Header.{Header}
 
 -- each is related to the next
 pub data Ascending (R : List ℕ → List ℕ → Type 0) : List (List ℕ) → Type 0 where
@@ -23,10 +24,6 @@ pub record BeginsWith (g : Tag) (o : List ℕ) : Type 0 where
   pub rest : List ℕ
   pub is_header : Header g constructed count header
   pub whole : o ≡ header ++ rest
-
--- universal, application, context, private; within a class by number (X.680, 8.6)
-abbrev pub TagBefore : Tag → Tag → Type 0
-TagBefore g f = (class_bits g.class < class_bits f.class) ⊎ ((class_bits g.class ≡ class_bits f.class) × (g.number < f.number))
 
 -- the first encoding's tag stands before the second's (10.3)
 pub record InTagOrder (x y : List ℕ) : Type 0 where

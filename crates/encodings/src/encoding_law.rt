@@ -1,14 +1,15 @@
 //! The laws of encodings (X.690, 8 to 11).
 
-ghost use Rattle.std.specs.Prelude.{◌≡◌, ℕ, ◌*◌, ◌≤◌, List, ◌++◌, length};
+ghost use Rattle.std.specs.Prelude.{◌≡◌, ℕ, ◌*◌, ◌≤◌, List, [], ◌++◌, length};
 ghost use Rattle.asn_base.specs.Abstract.{AbstractValue};
 ghost use Rattle.asn_base.specs.Accepted.{IsAccepted};
-ghost use Rattle.asn_base.specs.Tags.{AllTagged, AllTellable};
+ghost use Rattle.asn_base.specs.Schemas.{IsSchema};
+ghost use Rattle.asn_base.specs.Tags.{AllTagged, AllTellable, HasFewTags};
 ghost use Rattle.asn_base.specs.Same.{Same};
 ghost use Rattle.asn_base.specs.Typed.{IsValueWithoutNodes, ValueIn};
 ghost use Rattle.asn_base.specs.Types.{Resolved};
-ghost use Rattle.encodings.specs.Encoding.{Ber, Der, Says, Shortest};
-ghost use Rattle.encodings.specs.Levels.{HasFewTags, levels};
+ghost use Rattle.encodings.specs.Encoding.{Ber, Der, Encodes, Says, Shortest};
+ghost use Rattle.encodings.specs.Levels.{levels};
 ghost use Rattle.encodings.specs.Rules.{Rules, Basic, Distinguished};
 
 use asn_base::law::{accepted_are_told_apart, sameness};
@@ -18,7 +19,9 @@ use asn_base::law::{accepted_are_told_apart, sameness};
 pub fn der_laws()
     // What octets say of a value by the distinguished rules is an encoding of it by them, and by the basic ones.
     ensures der { (s : List Resolved) (t : ℕ) (v : AbstractValue) (o : List ℕ) → IsValueWithoutNodes s t v → Says s Distinguished t v 0 o → Der s t v 0 o }
-    ensures ber { (s : List Resolved) (t : ℕ) (v : AbstractValue) (o : List ℕ) → Der s t v 0 o → Ber s t v 0 o }
+    ensures ber { (s : List Resolved) (t k : ℕ) (v : AbstractValue) (o : List ℕ) → Der s t v k o → Ber s t v k o }
+    // Octets that encode a value as it stands encode it, with as many unknown additions.
+    ensures as_it_stands { (s : List Resolved) (t k : ℕ) (w : AbstractValue) (o : List ℕ) → Encodes s Basic t w k o → Ber s t w k o }
     // Values that are the same have one such encoding, where only a CHOICE has no tag.
     ensures one { (s : List Resolved) (t : ℕ) (v w : AbstractValue) (o p : List ℕ) → AllTagged s → Same s t v w → Der s t v 0 o → Der s t w 0 p → p ≡ o }
     // None by the basic rules of a value that is the same has fewer octets.
@@ -61,3 +64,23 @@ pub fn level_laws()
     ensures few { (s : List Resolved) (n t : ℕ) (v : AbstractValue) (o : List ℕ) (d : Says s Distinguished t v 0 o) → HasFewTags s → ValueIn s n t v → levels d ≤ 6 * n }
     ensures within_limit { (s : List Resolved) (t : ℕ) (v : AbstractValue) (o : List ℕ) (d : Says s Distinguished t v 0 o) → HasFewTags s → IsValueWithoutNodes s t v → levels d ≤ 400 }
 {}
+
+/// The laws together, of a schema with any kinds of types.
+pub fn schema_laws()
+    // Values that are the same have one encoding by the distinguished rules.
+    ensures one_der { (s : List Resolved) (t : ℕ) (v w : AbstractValue) (o p : List ℕ) → IsSchema s → Same s t v w → Der s t v 0 o → Der s t w 0 p → p ≡ o }
+    // Octets are such an encoding of values that are the same.
+    ensures one_value { (s : List Resolved) (t j k : ℕ) (v w : AbstractValue) (o : List ℕ) → IsSchema s → Der s t v j o → Der s t w k o → Same s t v w × (j ≡ k) }
+    // None by the basic rules is shorter.
+    ensures shortest { (s : List Resolved) (t : ℕ) (v : AbstractValue) (o : List ℕ) → IsSchema s → Der s t v 0 o → Shortest s t v o }
+    // By the basic rules octets say one value as it stands.
+    ensures says_one { (s : List Resolved) (t j k : ℕ) (v w : AbstractValue) (o : List ℕ) → IsSchema s → Says s Basic t v j o → Says s Basic t w k o → (v ≡ w) × (j ≡ k) }
+    // No encoding of a type is a proper front of another.
+    ensures none_begins_another { (s : List Resolved) (t j k : ℕ) (v w : AbstractValue) (o p x : List ℕ) → IsSchema s → Says s Basic t v j o → Says s Basic t w k p → p ≡ o ++ x → x ≡ [] }
+    // An encoding by the distinguished rules has at most 400 levels of headers.
+    ensures levels { (s : List Resolved) (t : ℕ) (v : AbstractValue) (o : List ℕ) (d : Says s Distinguished t v 0 o) → IsSchema s → IsValueWithoutNodes s t v → levels d ≤ 400 }
+{
+    der_laws();
+    reading_laws();
+    level_laws();
+}

@@ -6,7 +6,8 @@ returns c =
     let q = c.sameness.ensures in
     record {
       der = is_der q.itself;
-      ber = λ s t v o a. (a.0, a.1, basic_of a.2);
+      ber = λ s t k v o a. (a.0, a.1, basic_of a.2);
+      as_it_stands = λ s t k w o e. (w, q.itself s t w e.value, e.says_it);
       one = one_der q.alike_turned q.alike_joined;
       none_shorter = none_shorter q.alike_turned q.alike_joined;
       shortest = is_shortest q.alike_turned q.alike_joined q.itself;
