@@ -1,0 +1,58 @@
+-- What the tokens of a text say.
+use Rattle.std.specs.Prelude.{ℕ, ◌+◌, ◌-◌, ◌==◌, List, [], ◌∷◌, map, slice_range, Option, Some, None, if◌then◌else◌}
+use Rattle.std.specs.List.{filter_map}
+use Rattle.std.specs.Char.{digit_value}
+use Rattle.text.specs.declared.token.Token.{Token}
+use Rattle.text.specs.declared.token.TokenKind.{TokenKind}
+use Rattle.text.specs.declared.token.TokenKind.TheVariants as kinds
+use Rattle.text.specs.declared.token.Mark.{Mark as Mark'}
+use Rattle.text.specs.declared.reserved.Word.{Word as Word'}
+use Rattle.text.specs.Octets.{is_hex}
+use Rattle.text.specs.Items.{number_value}
+
+pub data Lexeme : Type 0 where
+  -- names, with their octets
+  TypeRef : List ℕ → Lexeme
+  Ident : List ℕ → Lexeme
+  Number : ℕ → Lexeme
+  -- the digits of binary and hexadecimal strings, and the octets of texts
+  BString : List ℕ → Lexeme
+  HString : List ℕ → Lexeme
+  CString : List ℕ → Lexeme
+  Word : Word' → Lexeme
+  Mark : Mark' → Lexeme
+
+-- a digit's value; white space between digits has none
+unfoldable pub digit_of : ℕ → Option ℕ
+digit_of c = if is_hex c then Some (digit_value c) else None
+
+-- the digits between the apostrophes, the last of them before a letter
+abbrev pub digits_between : List ℕ → ℕ → ℕ → List ℕ
+digits_between x i j = filter_map digit_of (slice_range x (i + 1) (j - 2))
+
+-- Two quotes are one: between the quotes of a text they stand in pairs alone.
+unfoldable pub single_quotes : List ℕ → List ℕ
+single_quotes [] = []
+single_quotes (c ∷ []) = c ∷ []
+single_quotes (c ∷ d ∷ x) = if (c == 34) then (c ∷ single_quotes x) else (c ∷ single_quotes (d ∷ x))
+
+-- the octets between the quotes
+abbrev pub chars_between : List ℕ → ℕ → ℕ → List ℕ
+chars_between x i j = single_quotes (slice_range x (i + 1) (j - 1))
+
+-- what a part of a text says that is of a kind
+abbrev pub lexeme_at : List ℕ → TokenKind → ℕ → ℕ → Lexeme
+lexeme_at x kinds.TypeReference i j = TypeRef (slice_range x i j)
+lexeme_at x kinds.Identifier i j = Ident (slice_range x i j)
+lexeme_at x kinds.Number i j = Number (number_value x i j)
+lexeme_at x kinds.BinaryString i j = BString (digits_between x i j)
+lexeme_at x kinds.HexString i j = HString (digits_between x i j)
+lexeme_at x kinds.CharacterString i j = CString (chars_between x i j)
+lexeme_at x (kinds.Reserved w) i j = Word w
+lexeme_at x (kinds.Mark m) i j = Mark m
+
+abbrev pub lexeme_of : List ℕ → Token → Lexeme
+lexeme_of x t = lexeme_at x t.kind t.span.start t.span.end
+
+abbrev pub lexemes : List ℕ → List Token → List Lexeme
+lexemes x ts = map (lexeme_of x) ts

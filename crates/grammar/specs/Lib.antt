@@ -1,0 +1,13 @@
+pub mod Lexeme
+pub mod Grammar
+pub mod Reading
+pub mod Laws
+pub mod Lists
+pub mod Loops
+pub mod Numbers
+pub mod Places
+pub mod Answers
+pub mod Grows
+pub mod Texts
+pub mod Parts
+pub mod Manies

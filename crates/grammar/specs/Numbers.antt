@@ -1,0 +1,51 @@
+-- Numbers under a limit.
+use Rattle.std.proofs.Common.{◌≡◌, ℕ, zero, suc, ◌≤◌, inl, inr, Bool, true, false, List, [], ◌∷◌, ◌++◌, length, Ok, Err, refl, sym, ap, subst, append_assoc, arith, length-append, ◌∙◌ as ◌⋆◌}
+use Rattle.grammar.specs.Lexeme.{Lexeme, Number}
+use Rattle.grammar.specs.Grammar.{Grammar}
+use Rattle.grammar.specs.Reading.{Limit, Integer, Fault, Unexpected, Beyond, Read, fitting}
+use Rattle.grammar.specs.Laws.{more, Sound, Passes, Stands, passes_on}
+
+-- what is asked where a limit's fault stands behind the lexeme that passes it
+abbrev pub Past : ℕ → Type 0 → Type 0
+Past zero P = Unit {0}
+Past (suc over) P = P
+
+beyond_sound : (over : Limit → ℕ) (k : ℕ) → over Integer ≡ k → (P : Type 0) → Past k P → {A : Type 0} (g : Grammar A) (n : ℕ) (u ts : List Lexeme)
+    → g.CanGoOn u → (P → g.CanGoOn (u ++ Number n ∷ [])) → Sound over g (u ++ Number n ∷ ts) (Err (Beyond Integer (length (Number n ∷ ts))))
+beyond_sound over zero e P past g n u ts before with_it = (u, Number n ∷ ts, refl, ap (λ (k : ℕ). more k (length (Number n ∷ ts))) (sym e), before)
+beyond_sound over (suc k) e P past g n u ts before with_it =
+    (u ++ Number n ∷ [], ts, sym (append_assoc u (Number n ∷ []) ts), same ⋆ ap (λ (k : ℕ). more k (length ts)) (sym e), with_it past)
+  where
+    same : length (Number n ∷ ts) ≡ suc (length ts)
+    same = omega arith
+
+-- a number behind a front
+pub fitting_sound : (over : Limit → ℕ) (fits fits' : ℕ → Bool) → Past (over Integer) ((n : ℕ) → fits' n ≡ true) → {A : Type 0} (g : Grammar A) (b : Bool) (n : ℕ) (u ts : List Lexeme) (r : Read A)
+    → g.CanGoOn u → (fits' n ≡ true → g.CanGoOn (u ++ Number n ∷ [])) → (b ≡ true → Sound over g (u ++ Number n ∷ ts) r) → Sound over g (u ++ Number n ∷ ts) (fitting b (Number n ∷ ts) r)
+fitting_sound over fits fits' past g true n u ts r before with_it h = h refl
+fitting_sound over fits fits' past g false n u ts r before with_it h =
+    beyond_sound over (over Integer) refl ((n : ℕ) → fits' n ≡ true) past g n u ts before (λ all. with_it (all n))
+
+-- where the reader refuses a number, not all is within the limits
+not_within : (within b : Bool) → (within ≡ true → b ≡ true) → b ≡ false → within ≡ false
+not_within true b h e = absurd (let p = h refl in cc)
+not_within false b h e = refl
+
+-- a number of a front
+pub fitting_passes : {A : Type 0} (within b : Bool) (us ts : List Lexeme) (r : Read A) → (within ≡ true → b ≡ true) → Passes within us r → Passes within us (fitting b ts r)
+fitting_passes within true us ts r room h = h
+fitting_passes within false us ts r room h = inr (not_within within false room refl)
+
+-- a number that stands behind a front
+pub fitting_shrinks : {A : Type 0} (within b : Bool) (n : ℕ) (us : List Lexeme) (r : Read A) → Passes within us r → Passes within (Number n ∷ us) (fitting b (Number n ∷ us) r)
+fitting_shrinks within true n us r h = passes_on within (Number n ∷ us) us r (omega arith) h
+fitting_shrinks within false n us r h = inl (omega arith)
+
+pub fitting_stands : {A : Type 0} (within b : Bool) (ts us : List Lexeme) (r : Read A) (x : A) → (within ≡ true → b ≡ true) → Stands within r x us → Stands within (fitting b ts r) x us
+fitting_stands within true ts us r x room h = h
+fitting_stands within false ts us r x room h = inr (not_within within false room refl, (Integer, length ts), refl)
+
+-- a number that stands among what is behind a front
+pub fitting_behind : {A : Type 0} (within b : Bool) (us ts : List Lexeme) (r : Read A) → length ts ≤ length us → Passes within us r → Passes within us (fitting b ts r)
+fitting_behind within true us ts r le h = h
+fitting_behind within false us ts r le h = inl le

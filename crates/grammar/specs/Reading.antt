@@ -1,0 +1,82 @@
+-- Reading from left to right, with the first fault that is met.
+use Rattle.std.specs.Prelude.{◌≡◌, ℕ, zero, suc, List, [], ◌∷◌, ◌++◌, length, Option, Some, None, Bool, true, false, Result, Ok, Err, if◌then◌else◌}
+use Rattle.text.specs.declared.token.Mark.TheVariants.{Comma, OpenBrace, CloseBrace}
+use Rattle.grammar.specs.Lexeme.{Lexeme, Ident, Number, Mark}
+
+pub data Limit : Type 0 where
+  Nesting : Limit
+  Integer : Limit
+
+-- What is wrong, with the number of lexemes from there on.
+pub data Fault : Type 0 where
+  -- nothing goes on so
+  Unexpected : ℕ → Fault
+  -- a limit is passed
+  Beyond : Limit → ℕ → Fault
+
+-- a tree and the lexemes after it, or a fault
+abbrev pub Read : Type 0 → Type 0
+Read A = Result (A × List Lexeme) Fault
+
+abbrev pub Reader : Type 0 → Type 0
+Reader A = List Lexeme → Read A
+
+infixl 10 ◌>>=◌
+abbrev pub ◌>>=◌ : {A B : Type 0} → Result A Fault → (A → Result B Fault) → Result B Fault
+(Ok x) >>= f = f x
+(Err e) >>= f = Err e
+
+abbrev pub stop : {A : Type 0} → List Lexeme → Read A
+stop ts = Err (Unexpected (length ts))
+
+-- what is read behind a front that is read already
+abbrev pub with_front : {A : Type 0} → List A → Read (List A) → Read (List A)
+with_front front read = read >>= λ x. Ok (front ++ x.0, x.1)
+
+unfoldable pub closed_at : Reader (Unit {0})
+closed_at (Mark CloseBrace ∷ rest) = Ok (tt, rest)
+closed_at ts = stop ts
+
+unfoldable pub next_comma : List Lexeme → Option (List Lexeme)
+next_comma (Mark Comma ∷ rest) = Some rest
+next_comma ts = None
+
+-- The parts behind the next commas. No more than k of them are read, and there are no more than lexemes.
+unfoldable pub behind_commas_at : {A : Type 0} → Reader A → ℕ → Reader (List A)
+behind_commas_at read (suc k) (Mark Comma ∷ rest) = do
+  x ← read rest
+  xs ← behind_commas_at read k x.1
+  Ok (x.0 ∷ xs.0, xs.1)
+behind_commas_at read k ts = Ok ([], ts)
+
+unfoldable pub listed_at : {A : Type 0} → Reader A → Reader (List A)
+listed_at read ts = do
+  x ← read ts
+  xs ← behind_commas_at read (length x.1) x.1
+  Ok (x.0 ∷ xs.0, xs.1)
+
+-- a name, and then a part
+unfoldable pub named_at : {A : Type 0} → Reader A → Reader (List ℕ × A)
+named_at read (Ident x ∷ rest) = do
+  v ← read rest
+  Ok ((x, v.0), v.1)
+named_at read ts = stop ts
+
+-- a number for which a test holds; n is the first of these lexemes
+abbrev pub fitting : {A : Type 0} → Bool → List Lexeme → Read A → Read A
+fitting true ts read = read
+fitting false ts read = Err (Beyond Integer (length ts))
+
+-- what is behind a lexeme that opens, where n more may be open
+abbrev pub opened : {A : Type 0} → ℕ → List Lexeme → Read A → Read A
+opened zero ts read = Err (Beyond Nesting (length ts))
+opened (suc n) ts read = read
+
+-- any number of parts that begin so, at most k
+abbrev pub goes_on_if : {A : Type 0} → Bool → List Lexeme → Read (List A) → Read (List A)
+goes_on_if true ts read = read
+goes_on_if false ts read = Ok ([], ts)
+
+unfoldable pub many_at : {A : Type 0} → (Lexeme → Bool) → Reader A → ℕ → Reader (List A)
+many_at begins read (suc k) (t ∷ ts) = goes_on_if (begins t) (t ∷ ts) (read (t ∷ ts) >>= λ x. many_at begins read k x.1 >>= λ xs. Ok (x.0 ∷ xs.0, xs.1))
+many_at begins read k ts = Ok ([], ts)

@@ -1,0 +1,87 @@
+-- What the loops of the reader keep.
+use Rattle.std.proofs.Common.{◌≡◌, ℕ, zero, suc, ◌-◌, Bool, true, false, List, [], ◌∷◌, ◌++◌, length, map, Some, None, Ok, Err, refl, sym, ap, subst, ◌∙◌ as ◌⋆◌, arith}
+use Rattle.std.proofs.lemmas.List.{append-nil}
+use Rattle.std.specs.Global.{Vec}
+use Rattle.std.specs.Prelude.{string_bytes}
+use Rattle.text.specs.declared.token.Mark.TheVariants.{Colon}
+use Rattle.grammar.specs.Lexeme.{Lexeme, Ident, Number, Mark}
+use Rattle.grammar.specs.Grammar.{token, ◌∙◌}
+use Rattle.grammar.specs.Reading.{Beyond, Integer, Read, Reader, ◌>>=◌, with_front, stop, fitting, behind_commas_at, listed_at, named_at, next_comma}
+use Rattle.grammar.specs.Laws.{nowhere}
+use Rattle.grammar.specs.Lists.{named_sound}
+use Rattle.grammar.specs.Loops.{Shrinks, sound_short, regroup, listed_fail, commas_fail}
+use Rattle.notation.specs.declared.fault.ReadError.{ReadError}
+use Rattle.notation.specs.declared.fault.ReadError.TheVariants as errors
+use Rattle.notation.specs.declared.fault.Limit.TheVariants as limits
+use Rattle.notation.specs.declared.tree.ValueSyntax.{ValueSyntax}
+use Rattle.notation.specs.declared.tree.ValueSyntax.TheViews.{Fields}
+use Rattle.notation.specs.declared.tree.ValueSyntax.TheVariants.{rolls-Fields}
+use Rattle.notation.specs.declared.tree.ValueSyntax.TheOpen as opened
+use Rattle.notation.specs.declared.tree.ValueSyntax.TheShapes.{former-ValueSyntax-Fields-0-at-2}
+use Rattle.notation.specs.declared.tree.ValueSyntax.TheFolds.{fold-roll-ValueSyntax}
+use Rattle.notation.specs.declared.tree.Named.{Named}
+use Rattle.notation.specs.Given.{Fails}
+use Rattle.notation.specs.Tree.{Name, Tree, fields, members, layer, tree_of, member_of}
+use Rattle.notation.specs.Value.{value}
+use Rattle.notation.specs.Reading.{alternative_at, step_at, value_at, next_number, numbers_at}
+use Rattle.notation.proofs.Sounds.{value_sound}
+
+none_open : (fits : ℕ → Bool) (ts : List Lexeme) → step_at fits zero stop ts ≡ step_at fits zero (step_at fits zero stop) ts
+unfolding step_at alternative_at
+none_open fits [] = refl
+none_open fits (Ident x ∷ []) = refl
+none_open fits (Ident x ∷ Mark Colon ∷ ts) = refl
+none_open fits (Ident x ∷ t ∷ ts) = refl
+none_open fits (t ∷ ts) = refl
+
+pub value_step : (fits : ℕ → Bool) (n : ℕ) (ts : List Lexeme) → value_at fits n ts ≡ step_at fits n (value_at fits (n - 1)) ts
+unfolding value_at
+value_step fits zero ts = none_open fits ts
+value_step fits (suc n) ts = let e : n ≡ suc n - 1 = omega arith in ap (λ (k : ℕ). step_at fits (suc n) (value_at fits k) ts) e
+
+pub value_shrinks : (fits : ℕ → Bool) (n : ℕ) → Shrinks (value_at fits n)
+value_shrinks fits n = record { shorter = λ ts x e. sound_short (value fits n) ts (value_at fits n ts) x e (value_sound fits n ts) }
+
+pub member_shrinks : (fits : ℕ → Bool) (n : ℕ) → Shrinks (named_at (value_at fits n))
+member_shrinks fits n = record { shorter = λ ts x e. sound_short (token Ident ∙ value fits n) ts (named_at (value_at fits n) ts) x e (named_sound nowhere (value fits n) (value_at fits n) (value_sound fits n) ts) }
+
+pub listed_gives_up : {A : Type 0} (read : Reader A) (ts : List Lexeme) (e : ReadError) → Fails e (read ts) → Fails e (listed_at read ts)
+listed_gives_up read ts errors.Memory r = tt
+listed_gives_up read ts (errors.Unexpected n) r = listed_fail read ts _ r
+listed_gives_up read ts (errors.Limit l n) r = listed_fail read ts _ r
+
+pub commas_give_up : {A : Type 0} (read : Reader A) (ts rest : List Lexeme) (e : ReadError) (front : List A) (total : Read (List A)) → next_comma ts ≡ Some rest → Fails e (read rest) → with_front front (behind_commas_at read (length ts) ts) ≡ total → Fails e total
+commas_give_up read ts rest errors.Memory front total c r h = tt
+commas_give_up read ts rest (errors.Unexpected n) front total c r h = commas_fail read ts rest _ front total c r h
+commas_give_up read ts rest (errors.Limit l n) front total c r h = commas_fail read ts rest _ front total c r h
+
+-- the tree of components
+pub fields_tree : (ms : Vec (Named ValueSyntax)) → tree_of (Fields ms) ≡ fields (members (map member_of ms.items))
+fields_tree ms =
+    let a = ap tree_of (sym (rolls-Fields ms)) ⋆ fold-roll-ValueSyntax Tree layer (opened.Fields ms) in
+    a ⋆ ap (λ (l : List (Name × Tree)). fields (members l)) (together ms.items)
+  where
+    together : (l : List (Named ValueSyntax)) → map (λ (f : Named Tree). (string_bytes f.name, f.value)) (map (former-ValueSyntax-Fields-0-at-2.map ValueSyntax Tree tree_of) l) ≡ map member_of l
+    together [] = refl
+    together (f ∷ l) = ap (λ (r : List (Name × Tree)). member_of f ∷ r) (together l)
+
+-- numbers
+pub numbers_end : (fits : ℕ → Bool) (ts : List Lexeme) (front : List ℕ) (total : Read (List ℕ)) → next_number ts ≡ None → with_front front (numbers_at fits ts) ≡ total → total ≡ Ok (front, ts)
+unfolding numbers_at next_number
+numbers_end fits [] front total e h = sym h ⋆ ap (λ (l : List ℕ). Ok (l, [])) (append-nil front)
+numbers_end fits (Number n ∷ ts) front total e h = absurd cc
+numbers_end fits (t ∷ ts) front total e h = sym h ⋆ ap (λ (l : List ℕ). Ok (l, t ∷ ts)) (append-nil front)
+
+pub numbers_more : (fits : ℕ → Bool) (n : ℕ) (ts : List Lexeme) (front : List ℕ) (total : Read (List ℕ)) → fits n ≡ true → with_front front (numbers_at fits (Number n ∷ ts)) ≡ total → with_front (front ++ n ∷ []) (numbers_at fits ts) ≡ total
+unfolding numbers_at
+numbers_more fits n ts front total f h =
+    sym (regroup front n (numbers_at fits ts)) ⋆ ap (λ (b : Bool). with_front front (fitting b (Number n ∷ ts) (numbers_at fits ts >>= λ ns. Ok (n ∷ ns.0, ns.1)))) (sym f) ⋆ h
+
+stop_at : (fits : ℕ → Bool) (n : ℕ) (ts : List Lexeme) (front : List ℕ) → fits n ≡ false → with_front front (numbers_at fits (Number n ∷ ts)) ≡ Err (Beyond Integer (length (Number n ∷ ts)))
+unfolding numbers_at
+stop_at fits n ts front f = ap (λ (b : Bool). with_front front (fitting b (Number n ∷ ts) (numbers_at fits ts >>= λ ns. Ok (n ∷ ns.0, ns.1)))) f
+
+pub numbers_stop : (fits : ℕ → Bool) (n : ℕ) (ls ts : List Lexeme) (left : ℕ) (e : ReadError) (front : List ℕ) (total : Read (List ℕ)) → ls ≡ Number n ∷ ts → left ≡ length ls → e ≡ errors.Limit limits.Integer left → fits n ≡ false → with_front front (numbers_at fits ls) ≡ total → Fails e total
+numbers_stop fits n ls ts left e front total d k q f h =
+    let g : total ≡ Err (Beyond Integer left) = sym h ⋆ ap (λ (l : List Lexeme). with_front front (numbers_at fits l)) d ⋆ stop_at fits n ts front f ⋆ ap (λ (i : ℕ). Err (Beyond Integer i)) (sym (k ⋆ ap length d)) in
+    subst (λ (e : ReadError). Fails e total) (sym q) g

@@ -1,0 +1,146 @@
+-- What is read from a place on is a value there, all of them are read, and a fault is the first one.
+use Rattle.std.proofs.Common.{◌≡◌, ℕ, zero, suc, ◌≤◌, ◌+◌, inl, inr, Bool, true, false, List, [], ◌∷◌, ◌++◌, Ok, refl, sym, ap, subst, ◌∙◌ as ◌⋆◌, arith}
+use Rattle.text.specs.declared.token.Mark.TheVariants.{Colon}
+use Rattle.grammar.specs.Lexeme.{Lexeme, Ident, Mark}
+use Rattle.grammar.specs.Grammar.{Grammar, token, number_of, ◌∙◌, many, behind, listed, braces}
+use Rattle.grammar.specs.Grows.{Grows, same_grows, number_grows, seq_grows, made_grows, either_grows, many_grows, behind_grows, listed_grows, braces_grows}
+use Rattle.grammar.specs.Reading.{Read}
+use Rattle.grammar.specs.Laws.{deeper, wider, Sound, Follows, Stands, behind_is}
+use Rattle.grammar.specs.Places.{any, small, free, unbounded}
+use Rattle.grammar.specs.Answers.{Closed, Reads, unbound}
+use Rattle.notation.specs.Tree.{Tree, chosen, numbers, items, fields, trees, members}
+use Rattle.notation.specs.Value.{simple, nested, value}
+use Rattle.notation.specs.Reading.{step_at, value_at}
+use Rattle.notation.proofs.Sounds.{chosen_of, empty_braces, three_numbers, numbers_of, items_of, fields_of, value_sound, value_deeper, value_wider}
+use Rattle.notation.specs.Laws.{goes_on, ValueLaws}
+use Rattle.notation.proofs.Values.{simple_whole, colon_stands, braced_whole}
+use Rattle.notation.proofs.Whole.{v_solid, v_number, v_name, v_behind_number, v_behind_name, zero_colon, zero_brace, zero_step, suc_step, suc_colon, suc_brace, value_finds}
+
+-- ---- what is whole is read, where the next lexeme can't go on with it
+
+module _ (fits fits' : ℕ → Bool) (room : (n : ℕ) → fits' n ≡ true → true ≡ true → fits n ≡ true) where
+  at_colon : (x : List ℕ) (us : List Lexeme) → Closed (free value) (Ident x ∷ []) us → Follows goes_on us
+  at_colon x [] c = tt
+  at_colon x ((Mark Colon) ∷ us) c = absurd (c (Mark Colon) us refl (suc zero, (inr (inl (inr (x, Ident x ∷ [], (Mark Colon) ∷ [], refl, refl, inl (inr (tt, refl))))))))
+  at_colon x (t ∷ us) c = refl
+
+  closed_name : (u us : List Lexeme) → Closed (free value) u us → (x : List ℕ) → u ≡ Ident x ∷ [] → Follows goes_on us
+  closed_name u us c x e = at_colon x us (subst (λ (l : List Lexeme). Closed (free value) l us) e c)
+
+  closed_inside : (x : List ℕ) (w u us : List Lexeme) → u ≡ Ident x ∷ (Mark Colon) ∷ w → Closed (free value) u us → Closed (free value) w us
+  closed_inside x w u us e c t r d (m, h) =
+      c t r d (suc m, subst (λ (l : List Lexeme). (value any (suc m)).CanGoOn (l ++ t ∷ [])) (sym e) (inr (inl (inr (x, Ident x ∷ [], (Mark Colon) ∷ (w ++ t ∷ []), refl, refl, inr (tt, (Mark Colon) ∷ [], w ++ t ∷ [], refl, refl, h))))))
+
+  to_zero : (z : Tree) (u us : List Lexeme) → Stands true (step_at fits zero (value_at fits zero) (u ++ us)) z us → Stands true (value_at fits zero (u ++ us)) z us
+  to_zero z u us h = subst (λ (q : Read Tree). Stands true q z us) (zero_step true fits fits' room (u ++ us)) h
+
+  to_suc : (n : ℕ) (z : Tree) (u us : List Lexeme) → Stands true (step_at fits (suc n) (value_at fits n) (u ++ us)) z us → Stands true (value_at fits (suc n) (u ++ us)) z us
+  to_suc n z u us h = subst (λ (q : Read Tree). Stands true q z us) (suc_step true fits fits' room n (u ++ us)) h
+
+  pub value_closed : (n m : ℕ) (z : Tree) (u us : List Lexeme) → m ≤ n → (value fits' m).Is z u → Closed (free value) u us → Stands true (value_at fits n (u ++ us)) z us
+  value_closed zero zero z u us le h c = to_zero z u us (simple_whole true fits fits' room zero (value_at fits zero) (zero_colon true fits fits' room) (zero_brace true fits fits' room) z u us (closed_name u us c) h)
+  value_closed zero (suc m) z u us le h c = absurd (omega arith)
+  value_closed (suc n) zero z u us le h c =
+      let f = value_finds true fits fits' room n zero (λ e. omega arith) in
+      to_suc n z u us (simple_whole true fits fits' room (suc n) (value_at fits n) (suc_colon true fits fits' room n f) (suc_brace true fits fits' room n f) z u us (closed_name u us c) h)
+  value_closed (suc n) (suc m) z u us le (inl h) c =
+      let f = value_finds true fits fits' room n zero (λ e. omega arith) in
+      to_suc n z u us (simple_whole true fits fits' room (suc n) (value_at fits n) (suc_colon true fits fits' room n f) (suc_brace true fits fits' room n f) z u us (closed_name u us c) h)
+  value_closed (suc n) (suc m) z u us le (inr (inl (x, d, (p, q, e, hp, hq)))) c =
+      let f = value_finds true fits fits' room n zero (λ e. omega arith) in
+      let b = behind_is (Mark Colon) (value fits' m) x.1 q hq in
+      let shape = e ⋆ ap (λ (l : List Lexeme). l ++ q) hp ⋆ ap (λ (l : List Lexeme). Ident x.0 ∷ l) b.1 in
+      to_suc n z u us (colon_stands true fits fits' room (suc n) (value_at fits n) (suc_colon true fits fits' room n f) (suc_brace true fits fits' room n f) (value fits' m) (value_finds true fits fits' room n m (λ e. omega arith)) (v_solid fits' m) (v_number fits' m) (v_name fits' m) (v_behind_number fits' m) (v_behind_name fits' m) (λ ts us z r h. h)
+      x.0 x.1 z b.0 u us d shape (value_closed n m x.1 b.0 us (omega arith) b.2 (closed_inside x.0 b.0 u us shape c)))
+  value_closed (suc n) (suc m) z u us le (inr (inr h)) c =
+      let f = value_finds true fits fits' room n zero (λ e. omega arith) in
+      to_suc n z u us (braced_whole true fits fits' room (suc n) (value_at fits n) (suc_colon true fits fits' room n f) (suc_brace true fits fits' room n f) (value fits' m) (value_finds true fits fits' room n m (λ e. omega arith)) (v_solid fits' m) (v_number fits' m) (v_name fits' m) (v_behind_number fits' m) (v_behind_name fits' m) (λ ts us z r h. h) z u us h)
+
+-- with more numbers there are more values
+module _ (fits fits' : ℕ → Bool) (grows : (n : ℕ) → fits n ≡ true → fits' n ≡ true) where
+  simple_grows : Grows (simple fits) (simple fits')
+  simple_grows = record { is = is; on = on }
+    where
+      is : (x : Tree) (u : List Lexeme) → (simple fits).Is x u → (simple fits').Is x u
+      is x u (inr (inr (inr (inl (n, e, h))))) = inr (inr (inr (inl (n, e, (grows n h.0, h.1)))))
+      is x u (inl h) = inl h
+      is x u (inr (inl h)) = inr (inl h)
+      is x u (inr (inr (inl h))) = inr (inr (inl h))
+      is x u (inr (inr (inr (inr h)))) = inr (inr (inr (inr h)))
+
+      on : (u : List Lexeme) → (simple fits).CanGoOn u → (simple fits').CanGoOn u
+      on u (inr (inr (inr (inl h)))) = inr (inr (inr (inl ((number_grows fits fits' grows).on u h))))
+      on u (inl h) = inl h
+      on u (inr (inl h)) = inr (inl h)
+      on u (inr (inr (inl h))) = inr (inr (inl h))
+      on u (inr (inr (inr (inr h)))) = inr (inr (inr (inr h)))
+
+  three_grow : Grows (three_numbers fits) (three_numbers fits')
+  three_grow =
+      seq_grows (number_of fits) (number_of fits') (number_of fits ∙ many (number_of fits)) (number_of fits' ∙ many (number_of fits')) (number_grows fits fits' grows)
+      (seq_grows (number_of fits) (number_of fits') (many (number_of fits)) (many (number_of fits')) (number_grows fits fits' grows) (many_grows (number_of fits) (number_of fits') (number_grows fits fits' grows)))
+
+  nested_grows : (v v' : Grammar Tree) → Grows v v' → Grows (nested fits v) (nested fits' v')
+  nested_grows v v' g =
+      either_grows (chosen_of v) (chosen_of v') _ _ (made_grows (token Ident ∙ behind (Mark Colon) v) (token Ident ∙ behind (Mark Colon) v') (λ p. chosen p.0 p.1) (seq_grows (token Ident) (token Ident) (behind (Mark Colon) v) (behind (Mark Colon) v') (same_grows (token Ident)) (behind_grows (Mark Colon) v v' g)))
+      (either_grows empty_braces empty_braces _ _ (same_grows empty_braces)
+      (either_grows (numbers_of fits) (numbers_of fits') _ _ (made_grows (braces (three_numbers fits)) (braces (three_numbers fits')) (λ p. numbers (p.0 ∷ p.1.0 ∷ p.1.1)) (braces_grows (three_numbers fits) (three_numbers fits') three_grow))
+      (either_grows (items_of v) (items_of v') (fields_of v) (fields_of v') (made_grows (braces (listed v)) (braces (listed v')) (λ vs. items (trees vs)) (braces_grows (listed v) (listed v') (listed_grows v v' g)))
+      (made_grows (braces (listed (token Ident ∙ v))) (braces (listed (token Ident ∙ v'))) (λ ms. fields (members ms)) (braces_grows (listed (token Ident ∙ v)) (listed (token Ident ∙ v')) (listed_grows (token Ident ∙ v) (token Ident ∙ v') (seq_grows (token Ident) (token Ident) v v' (same_grows (token Ident)) g)))))))
+
+  pub value_grows : (n : ℕ) → Grows (value fits n) (value fits' n)
+  value_grows zero = simple_grows
+  value_grows (suc n) = either_grows (simple fits) (simple fits') (nested fits (value fits n)) (nested fits' (value fits' n)) simple_grows (nested_grows (value fits n) (value fits' n) (value_grows n))
+
+-- A list of lexemes is one value at most.
+pub one_tree : (u : List Lexeme) (v w : Tree) → (free value).Is v u → (free value).Is w u → v ≡ w
+one_tree u v w (m, h) (k, l) =
+    let p = value_closed any any (λ n e t. refl) (m + k) m v u [] (omega arith) h (λ t r e. absurd cc) in
+    let q = value_closed any any (λ n e t. refl) (m + k) k w u [] (omega arith) l (λ t r e. absurd cc) in
+    same p q
+  where
+    one_result : (x y : Tree × List Lexeme) (r : Read Tree) → r ≡ Ok x → r ≡ Ok y → x ≡ y
+    one_result x y r p q = let e = sym p ⋆ q in cc
+
+    same : Stands true (value_at any (m + k) (u ++ [])) v [] → Stands true (value_at any (m + k) (u ++ [])) w [] → v ≡ w
+    same (inl p) (inl q) = ap (λ (x : Tree × List Lexeme). x.0) (one_result (v, []) (w, []) (value_at any (m + k) (u ++ [])) p q)
+    same (inl p) (inr (g, n, q)) = absurd cc
+    same (inr (g, n, p)) q = absurd cc
+
+within_small : (n : ℕ) → small n ≡ true → true ≡ true → small n ≡ true
+within_small n e t = e
+
+beyond_small : (n : ℕ) → any n ≡ true → false ≡ true → small n ≡ true
+beyond_small n e t = absurd cc
+
+pub value_reads : (n : ℕ) → Reads (value small n) (free value) (value_at small n)
+value_reads n = record {
+  weaker = λ u h. (n, (value_grows small any (λ n e. refl) n).on u h);
+  sound = value_sound small n;
+  front = λ u us h. (value_finds false small any beyond_small n h.0 (λ e. absurd cc)).front u us h.1;
+  front_within = λ u us h. (value_finds true small small within_small n n (λ e. omega arith)).front u us h;
+  whole = λ x u h. (value_finds false small any beyond_small n h.0 (λ e. absurd cc)).whole x u [] h.1 tt;
+  closed = λ x u us h c. value_closed small small within_small n n x u us (omega arith) h c;
+}
+
+-- and where a limit is passed
+pub deeper_values : (n : ℕ) (ts : List Lexeme) → Sound deeper (unbounded (value small)) ts (value_at small n ts)
+deeper_values n ts = unbound (value small) (suc n) deeper ts (value_at small n ts) (value_deeper small n ts)
+
+pub wider_values : (n : ℕ) (ts : List Lexeme) → Sound wider (free value) ts (value_at small n ts)
+wider_values n ts = unbound (value any) n wider ts (value_at small n ts) (value_wider small n ts)
+
+within_any : (n : ℕ) → any n ≡ true → true ≡ true → any n ≡ true
+within_any n e t = e
+
+pub laws : ValueLaws
+laws = record {
+  sound = value_sound small;
+  sound_any = value_wider small;
+  sound_deeper = value_deeper small;
+  finds = λ n m le. value_finds true small small within_small n m (λ e. le);
+  finds_free = λ n m. value_finds false small any beyond_small n m (λ e. absurd cc);
+  finds_any = λ n m le. value_finds true any any within_any n m (λ e. le);
+  grows = value_grows small any (λ n e. refl);
+  solid = v_solid;
+}

@@ -1,0 +1,79 @@
+-- What is answered for what stands from a place on.
+use Rattle.std.specs.Prelude.{◌≡◌, ℕ, ⊤, Bool, true, false, List, Option, Some, None, slice_get, if◌then◌else◌}
+use Rattle.text.specs.declared.token.Mark.{Mark as Mark'}
+use Rattle.text.specs.declared.token.Mark.TheVariants.{OpenVersion, CloseVersion, Caret, Less, Exclamation, At, Ampersand, Ellipsis}
+use Rattle.text.specs.declared.reserved.Word.{Word as Word'}
+use Rattle.text.specs.declared.reserved.Word.TheVariants as words
+use Rattle.grammar.specs.Lexeme.{Lexeme, Word, Mark}
+use Rattle.grammar.specs.Places.{Limited, small, free, unbounded, IsFirst, PassesLimit}
+use Rattle.notation.specs.declared.fault.SyntaxFault.{SyntaxFault}
+use Rattle.notation.specs.declared.fault.SyntaxFault.TheVariants as faults
+use Rattle.notation.specs.declared.fault.Limit.TheVariants as limits
+
+-- the words of constructs that this compiler leaves out
+abbrev pub is_refused_word : Word' → Bool
+is_refused_word words.Real = true
+is_refused_word words.GeneralizedTime = true
+is_refused_word words.UtcTime = true
+is_refused_word words.External = true
+is_refused_word words.Embedded = true
+is_refused_word words.Character = true
+is_refused_word words.OidIri = true
+is_refused_word words.ObjectDescriptor = true
+is_refused_word words.BmpString = true
+is_refused_word words.UniversalString = true
+is_refused_word words.TeletexString = true
+is_refused_word words.T61String = true
+is_refused_word words.GeneralString = true
+is_refused_word words.GraphicString = true
+is_refused_word words.VideotexString = true
+is_refused_word words.RelativeOid = true
+is_refused_word words.Class = true
+is_refused_word words.TypeIdentifier = true
+is_refused_word words.AbstractSyntax = true
+is_refused_word words.Instance = true
+is_refused_word words.Universal = true
+is_refused_word words.Components = true
+is_refused_word words.With = true
+is_refused_word words.Containing = true
+is_refused_word words.Pattern = true
+is_refused_word words.Includes = true
+is_refused_word words.Intersection = true
+is_refused_word words.Except = true
+is_refused_word words.Extensibility = true
+is_refused_word words.PlusInfinity = true
+is_refused_word words.MinusInfinity = true
+is_refused_word w = false
+
+-- their marks
+abbrev pub is_refused_mark : Mark' → Bool
+is_refused_mark OpenVersion = true
+is_refused_mark CloseVersion = true
+is_refused_mark Caret = true
+is_refused_mark Less = true
+is_refused_mark Exclamation = true
+is_refused_mark At = true
+is_refused_mark Ampersand = true
+is_refused_mark Ellipsis = true
+is_refused_mark m = false
+
+abbrev pub is_refused : Lexeme → Bool
+is_refused (Word w) = is_refused_word w
+is_refused (Mark m) = is_refused_mark m
+is_refused t = false
+
+abbrev pub is_refused_at : Option Lexeme → Bool
+is_refused_at (Some t) = is_refused t
+is_refused_at None = false
+
+-- the fault of a place where nothing goes on so
+abbrev pub unexpected : List Lexeme → ℕ → SyntaxFault
+unexpected ts i = if is_refused_at (slice_get ts i) then faults.OutOfProfile i else faults.Unexpected i
+
+-- A fault stands at its place: of what a grammar says of the lexemes from start on, where n things may be open at one place.
+abbrev pub Stands : {A : Type 0} → Limited A → List Lexeme → ℕ → ℕ → SyntaxFault → Type 0
+Stands g ts start n faults.Memory = ⊤
+Stands g ts start n (faults.Unexpected i) = IsFirst (free g) ts start i × (is_refused_at (slice_get ts i) ≡ false)
+Stands g ts start n (faults.OutOfProfile i) = IsFirst (free g) ts start i × (is_refused_at (slice_get ts i) ≡ true)
+Stands g ts start n (faults.Limit limits.Nesting i) = PassesLimit (g small n) (unbounded (g small)) ts start i
+Stands g ts start n (faults.Limit limits.Integer i) = PassesLimit (g small n) (free g) ts start i

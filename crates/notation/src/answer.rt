@@ -1,0 +1,58 @@
+//! The value from a place on.
+
+ghost use Rattle.std.specs.Prelude.{◌≡◌, ◌-◌, ◌≤◌, ℕ, length, IfOk, IfErr, MatchResult};
+ghost use Rattle.grammar.specs.Lexeme.{lexemes};
+ghost use Rattle.grammar.specs.Places.{small, free, IsRead};
+ghost use Rattle.notation.specs.Tree.{Tree, tree_of};
+ghost use Rattle.notation.specs.Value.{value};
+ghost use Rattle.notation.specs.Given.{IsLexed};
+ghost use Rattle.notation.specs.Answer.{Stands};
+
+use crate::fault::{ReadError, SyntaxFault};
+use crate::reading::value;
+use crate::refused::unexpected;
+use crate::tree::ValueSyntax;
+use std::alloc::Global;
+use text::Token;
+
+/// How many things may be open at one place.
+pub const MAX_NESTING: usize = 128;
+
+/// Reads the value that begins at a place, where `opened` things are open already.
+///
+/// In go a text, its tokens as [`text::lex`] gives them, and the place of a token, which may be their end.
+/// Out come the value and the place behind it; the token there can't go on with the value.
+/// The notation is that of X.680, clause 17.1, with the values of the types that this compiler knows.
+///
+/// # Errors
+/// - [`SyntaxFault::Unexpected`] and [`SyntaxFault::OutOfProfile`] at the first token with which no value can go on;
+///   `OutOfProfile` where that token is a word or mark of a construct that is left out.
+/// - [`SyntaxFault::Limit`] at the brace or colon that opens more than 128 things, and at a number of 2 to the 127
+///   with no minus before it.
+/// - [`SyntaxFault::Memory`] if there is not enough memory.
+pub fn value_at(
+    alloc: Global,
+    text: &[u8],
+    tokens: &[Token],
+    place: usize,
+    opened: usize,
+) -> Result<(ValueSyntax, usize), SyntaxFault>
+    requires text { IsLexed text.now tokens.now }
+    requires place { place ≤ length tokens.now }
+    requires room { opened ≤ 128 }
+    // What is answered is the value there.
+    ensures found { IfOk result (λ x. IsRead (value small (128 - opened)) (free value) (lexemes text.now tokens.now) place (tree_of x.0) x.1) }
+    // A value that is there is answered, unless memory runs out.
+    ensures only { (v : Tree) (end : ℕ) → IsRead (value small (128 - opened)) (free value) (lexemes text.now tokens.now) place v end
+        → MatchResult result (λ x. (tree_of x.0 ≡ v) × (x.1 ≡ end)) (λ f. f ≡ SyntaxFault.Memory) }
+    // A fault stands at its place.
+    ensures fault { IfErr result (Stands value (lexemes text.now tokens.now) place (128 - opened)) }
+{
+    text::law::spans_within();
+    match value(alloc, text, &tokens[place..], MAX_NESTING - opened) {
+        Ok((value, rest)) => Ok((value, tokens.len() - rest.len())),
+        Err(ReadError::Memory) => Err(SyntaxFault::Memory),
+        Err(ReadError::Unexpected(left)) => Err(unexpected(tokens, tokens.len() - left)),
+        Err(ReadError::Limit(limit, left)) => Err(SyntaxFault::Limit(limit, tokens.len() - left)),
+    }
+}

@@ -1,0 +1,5 @@
+pub mod Items
+pub mod Typing
+pub mod Assigning
+pub mod Loop
+pub mod Parsed

@@ -1,0 +1,16 @@
+//! The notation of ASN.1 modules.
+#![tactic(auto)]
+
+pub mod modules;
+pub mod parsing;
+pub mod tree;
+pub mod types;
+
+pub use notation::{Limit, SyntaxFault};
+pub use parsing::{one_module, parse};
+pub use tree::{
+    Assignment, Member, Module, TagDefault, TypeAssignment, TypeSyntax, ValueAssignment,
+};
+
+#[cfg(test)]
+mod tests;

@@ -1,0 +1,322 @@
+//! Reading a module from its first token on.
+
+ghost use Rattle.std.specs.Prelude.{◌≡◌, [], ◌∷◌, map, length, IfOk, Ok, slice_range, string_bytes};
+ghost use Rattle.text.specs.declared.token.TokenKind.TheVariants as kinds;
+ghost use Rattle.grammar.specs.Lexeme.{lexemes};
+ghost use Rattle.grammar.specs.Reading.{many_at};
+ghost use Rattle.grammar.specs.Manies.{is_begun_by};
+ghost use Rattle.grammar.specs.Places.{small};
+ghost use Rattle.notation.specs.Given.{Gives, IsTokenOf, AreTokens};
+ghost use Rattle.notation.specs.Reading.{value_at};
+ghost use Rattle.syntax.specs.Tree.{assignment_of, module_tree_of};
+ghost use Rattle.syntax.specs.Reading.{definitions_at, tags_at, assign_at, begin_at, end_at, type_assigned_at, value_assigned_at, begins_assignment, assignment_at, tag_default_at, assignments_at, defined_at, module_at};
+
+use crate::tree::{Assignment, Module, TagDefault, TypeAssignment, ValueAssignment};
+use crate::types::type_syntax;
+use notation::ReadError;
+use notation::decode::name_of;
+use notation::reading::value;
+use std::alloc::Global;
+use text::reserved::Word;
+use text::{Mark, Token, TokenKind};
+
+/// The tokens behind `DEFINITIONS`.
+#[tactic(auto, unfolding(crate::specs::Reading::definitions_at))]
+fn definitions<'a>(text: &[u8], tokens: &'a [Token]) -> Result<&'a [Token], ReadError>
+    requires tokens { AreTokens text.now tokens.now }
+    ensures read { Gives (λ x. (tt, lexemes text.now x.now)) result (definitions_at (lexemes text.now tokens.now)) }
+    ensures rest { IfOk result (λ x. AreTokens text.now x.now) }
+{
+    match tokens {
+        [
+            Token {
+                kind: TokenKind::Reserved(Word::Definitions),
+                ..
+            },
+            rest @ ..,
+        ] => Ok(rest),
+        _ => Err(ReadError::Unexpected(tokens.len())),
+    }
+}
+
+/// The tokens behind `TAGS`.
+#[tactic(auto, unfolding(crate::specs::Reading::tags_at))]
+fn tags<'a>(text: &[u8], tokens: &'a [Token]) -> Result<&'a [Token], ReadError>
+    requires tokens { AreTokens text.now tokens.now }
+    ensures read { Gives (λ x. (tt, lexemes text.now x.now)) result (tags_at (lexemes text.now tokens.now)) }
+    ensures rest { IfOk result (λ x. AreTokens text.now x.now) }
+{
+    match tokens {
+        [
+            Token {
+                kind: TokenKind::Reserved(Word::Tags),
+                ..
+            },
+            rest @ ..,
+        ] => Ok(rest),
+        _ => Err(ReadError::Unexpected(tokens.len())),
+    }
+}
+
+/// The tokens behind `::=`.
+#[tactic(auto, unfolding(crate::specs::Reading::assign_at))]
+fn assign<'a>(text: &[u8], tokens: &'a [Token]) -> Result<&'a [Token], ReadError>
+    requires tokens { AreTokens text.now tokens.now }
+    ensures read { Gives (λ x. (tt, lexemes text.now x.now)) result (assign_at (lexemes text.now tokens.now)) }
+    ensures rest { IfOk result (λ x. AreTokens text.now x.now) }
+{
+    match tokens {
+        [
+            Token {
+                kind: TokenKind::Mark(Mark::Assign),
+                ..
+            },
+            rest @ ..,
+        ] => Ok(rest),
+        _ => Err(ReadError::Unexpected(tokens.len())),
+    }
+}
+
+/// The tokens behind `BEGIN`.
+#[tactic(auto, unfolding(crate::specs::Reading::begin_at))]
+fn begin<'a>(text: &[u8], tokens: &'a [Token]) -> Result<&'a [Token], ReadError>
+    requires tokens { AreTokens text.now tokens.now }
+    ensures read { Gives (λ x. (tt, lexemes text.now x.now)) result (begin_at (lexemes text.now tokens.now)) }
+    ensures rest { IfOk result (λ x. AreTokens text.now x.now) }
+{
+    match tokens {
+        [
+            Token {
+                kind: TokenKind::Reserved(Word::Begin),
+                ..
+            },
+            rest @ ..,
+        ] => Ok(rest),
+        _ => Err(ReadError::Unexpected(tokens.len())),
+    }
+}
+
+/// The tokens behind `END`.
+#[tactic(auto, unfolding(crate::specs::Reading::end_at))]
+fn end<'a>(text: &[u8], tokens: &'a [Token]) -> Result<&'a [Token], ReadError>
+    requires tokens { AreTokens text.now tokens.now }
+    ensures read { Gives (λ x. (tt, lexemes text.now x.now)) result (end_at (lexemes text.now tokens.now)) }
+    ensures rest { IfOk result (λ x. AreTokens text.now x.now) }
+{
+    match tokens {
+        [
+            Token {
+                kind: TokenKind::Reserved(Word::End),
+                ..
+            },
+            rest @ ..,
+        ] => Ok(rest),
+        _ => Err(ReadError::Unexpected(tokens.len())),
+    }
+}
+
+/// Reads what stands behind the name of a type that is assigned.
+fn type_assignment<'a>(
+    alloc: Global,
+    text: &[u8],
+    name: Token,
+    tokens: &'a [Token],
+    depth: usize,
+) -> Result<(Assignment, &'a [Token]), ReadError>
+    requires tokens { AreTokens text.now tokens.now }
+    requires before { IsTokenOf text.now name }
+    requires name { name.kind ≡ kinds.TypeReference }
+    ensures read { Gives (λ x. (assignment_of x.0, lexemes text.now x.1.now)) result (type_assigned_at depth (slice_range text.now name.span.start name.span.end) (lexemes text.now tokens.now)) }
+    ensures rest { IfOk result (λ x. AreTokens text.now x.1.now) }
+{
+    let rest = assign(text, tokens)?;
+    let (syntax, rest) = type_syntax(alloc, text, rest, depth)?;
+    let name = name_of(alloc, text, name)?;
+    Ok((Assignment::Type(TypeAssignment { name, syntax }), rest))
+}
+
+/// Reads what stands behind the name of a value that is assigned.
+fn value_assignment<'a>(
+    alloc: Global,
+    text: &[u8],
+    name: Token,
+    tokens: &'a [Token],
+    depth: usize,
+) -> Result<(Assignment, &'a [Token]), ReadError>
+    requires tokens { AreTokens text.now tokens.now }
+    requires before { IsTokenOf text.now name }
+    requires name { name.kind ≡ kinds.Identifier }
+    ensures read { Gives (λ x. (assignment_of x.0, lexemes text.now x.1.now)) result (value_assigned_at small depth (slice_range text.now name.span.start name.span.end) (lexemes text.now tokens.now)) }
+    ensures rest { IfOk result (λ x. AreTokens text.now x.1.now) }
+{
+    let (syntax, rest) = type_syntax(alloc, text, tokens, depth)?;
+    let rest = assign(text, rest)?;
+    let (value, rest) = value(alloc, text, rest, depth)?;
+    let name = name_of(alloc, text, name)?;
+    Ok((
+        Assignment::Value(ValueAssignment {
+            name,
+            syntax,
+            value,
+        }),
+        rest,
+    ))
+}
+
+/// Reads an assignment.
+#[tactic(auto, unfolding(crate::specs::Reading::assignment_at))]
+fn assignment<'a>(
+    alloc: Global,
+    text: &[u8],
+    tokens: &'a [Token],
+    depth: usize,
+) -> Result<(Assignment, &'a [Token]), ReadError>
+    requires tokens { AreTokens text.now tokens.now }
+    ensures read { Gives (λ x. (assignment_of x.0, lexemes text.now x.1.now)) result (assignment_at small depth (lexemes text.now tokens.now)) }
+    ensures rest { IfOk result (λ x. AreTokens text.now x.1.now) }
+{
+    match tokens {
+        [
+            name @ Token {
+                kind: TokenKind::TypeReference,
+                ..
+            },
+            rest @ ..,
+        ] => { type_assignment(alloc, text, *name, rest, depth) }
+        [
+            name @ Token {
+                kind: TokenKind::Identifier,
+                ..
+            },
+            rest @ ..,
+        ] => { value_assignment(alloc, text, *name, rest, depth) }
+        _ => Err(ReadError::Unexpected(tokens.len())),
+    }
+}
+
+/// Whether the next token begins an assignment.
+fn begins(text: &[u8], tokens: &[Token]) -> bool
+    ensures { result ≡ is_begun_by begins_assignment (lexemes text.now tokens.now) }
+{
+    matches!(
+        tokens,
+        [
+            Token {
+                kind: TokenKind::TypeReference | TokenKind::Identifier,
+                ..
+            },
+            ..
+        ]
+    )
+}
+
+/// Reads assignments, as many as there are.
+fn many<'a>(
+    alloc: Global,
+    text: &[u8],
+    tokens: &'a [Token],
+    depth: usize,
+) -> Result<(Vec<Assignment>, &'a [Token]), ReadError>
+    requires tokens { AreTokens text.now tokens.now }
+    ensures read { Gives (λ x. (map assignment_of x.0.items, lexemes text.now x.1.now)) result (many_at begins_assignment (assignment_at small depth) (length (lexemes text.now tokens.now)) (lexemes text.now tokens.now)) }
+    ensures rest { IfOk result (λ x. AreTokens text.now x.1.now) }
+{
+    notation::law::values_are_read();
+    let mut assignments = Vec::new(alloc);
+    let mut rest = tokens;
+    while begins(text, rest) {
+        let (next, after) = assignment(alloc, text, rest, depth)?;
+        assignments.push(next)?;
+        rest = after;
+    }
+    Ok((assignments, rest))
+}
+
+/// Reads the assignments of a module and its end.
+#[tactic(auto, unfolding(crate::specs::Reading::assignments_at))]
+fn assignments<'a>(
+    alloc: Global,
+    text: &[u8],
+    tokens: &'a [Token],
+    depth: usize,
+) -> Result<(Vec<Assignment>, &'a [Token]), ReadError>
+    requires tokens { AreTokens text.now tokens.now }
+    ensures read { Gives (λ x. (map assignment_of x.0.items, lexemes text.now x.1.now)) result (assignments_at small depth (lexemes text.now tokens.now)) }
+    ensures rest { IfOk result (λ x. AreTokens text.now x.1.now) }
+{
+    let (assignments, rest) = many(alloc, text, tokens, depth)?;
+    Ok((assignments, end(text, rest)?))
+}
+
+/// Reads what tags in a module are if nothing else is written.
+#[tactic(auto, unfolding(crate::specs::Reading::tag_default_at))]
+fn tag_default<'a>(text: &[u8], tokens: &'a [Token]) -> Result<(TagDefault, &'a [Token]), ReadError>
+    requires tokens { AreTokens text.now tokens.now }
+    ensures read { Gives (λ x. (x.0, lexemes text.now x.1.now)) result (tag_default_at small (lexemes text.now tokens.now)) }
+    ensures rest { IfOk result (λ x. AreTokens text.now x.1.now) }
+{
+    match tokens {
+        [
+            Token {
+                kind: TokenKind::Reserved(Word::Explicit),
+                ..
+            },
+            rest @ ..,
+        ] => { Ok((TagDefault::Explicit, tags(text, rest)?)) }
+        _ => Ok((TagDefault::Explicit, tokens)),
+    }
+}
+
+/// Reads what stands behind `DEFINITIONS`.
+fn defined<'a>(
+    alloc: Global,
+    text: &[u8],
+    tokens: &'a [Token],
+    depth: usize,
+) -> Result<((TagDefault, Vec<Assignment>), &'a [Token]), ReadError>
+    requires tokens { AreTokens text.now tokens.now }
+    ensures read { Gives (λ x. ((x.0.0, map assignment_of x.0.1.items), lexemes text.now x.1.now)) result (defined_at small depth (lexemes text.now tokens.now)) }
+    ensures rest { IfOk result (λ x. AreTokens text.now x.1.now) }
+{
+    let (tag_default, rest) = tag_default(text, tokens)?;
+    let rest = assign(text, rest)?;
+    let rest = begin(text, rest)?;
+    let (assignments, rest) = assignments(alloc, text, rest, depth)?;
+    Ok(((tag_default, assignments), rest))
+}
+
+/// Reads a module, where so many things may be open at one place.
+#[tactic(auto, unfolding(crate::specs::Reading::module_at, crate::specs::Reading::module_name_at))]
+pub fn module<'a>(
+    alloc: Global,
+    text: &[u8],
+    tokens: &'a [Token],
+    depth: usize,
+) -> Result<(Module, &'a [Token]), ReadError>
+    requires tokens { AreTokens text.now tokens.now }
+    ensures read { Gives (λ x. (module_tree_of x.0, lexemes text.now x.1.now)) result (module_at small depth (lexemes text.now tokens.now)) }
+    ensures rest { IfOk result (λ x. AreTokens text.now x.1.now) }
+{
+    match tokens {
+        [
+            name @ Token {
+                kind: TokenKind::TypeReference,
+                ..
+            },
+            rest @ ..,
+        ] => {
+            let rest = definitions(text, rest)?;
+            let ((tag_default, assignments), rest) = defined(alloc, text, rest, depth)?;
+            let name = name_of(alloc, text, *name)?;
+            Ok((
+                Module {
+                    name,
+                    tag_default,
+                    assignments,
+                },
+                rest,
+            ))
+        }
+        _ => Err(ReadError::Unexpected(tokens.len())),
+    }
+}

@@ -1,0 +1,61 @@
+//! The module that a text is.
+
+ghost use Rattle.std.specs.Prelude.{◌≡◌, IfOk, IfErr, MatchResult, List};
+ghost use Rattle.grammar.specs.Lexeme.{Lexeme, lexemes};
+ghost use Rattle.grammar.specs.Places.{small, free};
+ghost use Rattle.notation.specs.Given.{IsLexed};
+ghost use Rattle.notation.specs.Answer.{Stands};
+ghost use Rattle.syntax.specs.Tree.{ModuleTree, module_tree_of};
+ghost use Rattle.syntax.specs.Syntax.{module_text};
+
+use crate::modules::module;
+use crate::tree::Module;
+use notation::refused::unexpected;
+use notation::{MAX_NESTING, ReadError, SyntaxFault};
+use std::alloc::Global;
+use text::Token;
+
+/// Reads the module that a text is.
+///
+/// In go a text and its tokens, as [`text::lex`] gives them. Out comes the module as it is written
+/// (X.680, clause 13.1): a name, `DEFINITIONS`, `EXPLICIT TAGS` or nothing, `::=`, `BEGIN`, assignments of types
+/// (BOOLEAN, INTEGER, OCTET STRING, references, SEQUENCE) and values, and `END`.
+///
+/// # Errors
+/// - [`SyntaxFault::Unexpected`] and [`SyntaxFault::OutOfProfile`] at the first token with which no module can go on,
+///   or at the end of the tokens; `OutOfProfile` where that token is a word or mark of a construct that is left out.
+/// - [`SyntaxFault::Limit`] at the brace or colon that opens more than 128 things, and at a number of 2 to the 127
+///   with no minus before it.
+/// - [`SyntaxFault::Memory`] if there is not enough memory.
+pub fn parse(alloc: Global, text: &[u8], tokens: &[Token]) -> Result<Module, SyntaxFault>
+    requires { IsLexed text.now tokens.now }
+    // What is answered is the module that the tokens are.
+    ensures found { IfOk result (λ m. (module_text small 128).Is (module_tree_of m) (lexemes text.now tokens.now)) }
+    // The module that the tokens are is answered, unless memory runs out.
+    ensures only { (m : ModuleTree) → (module_text small 128).Is m (lexemes text.now tokens.now)
+        → MatchResult result (λ x. module_tree_of x ≡ m) (λ f. f ≡ SyntaxFault.Memory) }
+    // A fault stands at its place.
+    ensures fault { IfErr result (Stands module_text (lexemes text.now tokens.now) 0 128) }
+{
+    notation::law::lexed_tokens();
+    notation::law::values_are_read();
+    match module(alloc, text, tokens, MAX_NESTING) {
+        Ok((module, rest)) => {
+            if rest.is_empty() {
+                Ok(module)
+            } else {
+                Err(unexpected(tokens, tokens.len() - rest.len()))
+            }
+        }
+        Err(ReadError::Memory) => Err(SyntaxFault::Memory),
+        Err(ReadError::Unexpected(left)) => Err(unexpected(tokens, tokens.len() - left)),
+        Err(ReadError::Limit(limit, left)) => Err(SyntaxFault::Limit(limit, tokens.len() - left)),
+    }
+}
+
+/// A list of lexemes is one module at most.
+pub fn one_module()
+    ensures { (ts : List Lexeme) (m n : ModuleTree) → (free module_text).Is m ts → (free module_text).Is n ts → m ≡ n }
+{
+    notation::law::values_are_read();
+}
