@@ -238,3 +238,17 @@ fn refuses_what_is_too_long(rt: HostRuntime) -> Result<(), Fail> {
     assert!(rt; outcome(alloc, &schema, OCTETS, &more).err() == Some(WriteFault::TooLong));
     Ok(())
 }
+
+// What a program prints of a refusal: its number and its name.
+#[test]
+fn faults_have_numbers(rt: HostRuntime) -> Result<(), Fail> {
+    let rows = [
+        (WriteFault::Memory, "1 Memory"),
+        (WriteFault::NotOfType, "70 NotOfType"),
+        (WriteFault::TooLong, "71 TooLong"),
+    ];
+    for (fault, text) in rows {
+        assert_eq!(rt; fault.to_string(rt.alloc())?.as_str(), text);
+    }
+    Ok(())
+}

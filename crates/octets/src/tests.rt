@@ -1,6 +1,6 @@
 //! Headers by hand.
 
-use crate::{Form, header_len, octets_of, write_header};
+use crate::{Fault, Form, header_len, octets_of, write_header};
 use asn_base::tag::{Class, Tag};
 use std::alloc::Global;
 use std::test::Fail;
@@ -123,5 +123,12 @@ fn octets_of_numbers(rt: HostRuntime) -> Result<(), Fail> {
     );
     let greatest = octets_of(alloc, u128::MAX).ok().ok_or("refused")?;
     assert_eq!(rt; greatest.len(), 16);
+    Ok(())
+}
+
+// What a program prints of a refusal: its number and its name.
+#[test]
+fn faults_have_numbers(rt: HostRuntime) -> Result<(), Fail> {
+    assert_eq!(rt; Fault::Memory.to_string(rt.alloc())?.as_str(), "1 Memory");
     Ok(())
 }

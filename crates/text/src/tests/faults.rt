@@ -120,3 +120,26 @@ fn long_texts(rt: HostRuntime) -> Result<(), Fail> {
     has_fault(&rt, rt.alloc(), &text, LexFault::NotUtf8(16_777_217));
     Ok(())
 }
+
+// What a program prints of a refusal: its number, its name and its place.
+#[test]
+fn faults_have_numbers(rt: HostRuntime) -> Result<(), Fail> {
+    let rows = [
+        (LexFault::Memory, "1 Memory"),
+        (
+            LexFault::Limit(Limit::Text, 16_777_216),
+            "2 Limit(Text) at 16777216",
+        ),
+        (LexFault::Limit(Limit::Integer, 3), "2 Limit(Integer) at 3"),
+        (LexFault::NotUtf8(4), "10 NotUtf8 at 4"),
+        (LexFault::BadCharacter(5), "11 BadCharacter at 5"),
+        (LexFault::OpenComment(6), "12 OpenComment at 6"),
+        (LexFault::OpenString(7), "13 OpenString at 7"),
+        (LexFault::BadNumber(8), "14 BadNumber at 8"),
+        (LexFault::BadName(9), "15 BadName at 9"),
+    ];
+    for (fault, text) in rows {
+        assert_eq!(&rt; fault.to_string(rt.alloc())?.as_str(), text);
+    }
+    Ok(())
+}

@@ -1,0 +1,11 @@
+pub mod Accepting
+pub mod CommandLine
+pub mod Limits
+pub mod Names
+pub mod Naming
+pub mod Notations
+pub mod Opening
+pub mod Resolving
+pub mod Status
+pub mod Walks
+pub mod Writing

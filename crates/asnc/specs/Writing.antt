@@ -1,0 +1,18 @@
+-- Octets that encode a value of a module.
+use Rattle.std.specs.Prelude.{◌≡◌, ℕ, List}
+use Rattle.asn_base.specs.Abstract.{AbstractValue}
+use Rattle.asn_base.specs.Types.{Resolved}
+use Rattle.encodings.specs.Encoding.{Der, Shortest}
+use Rattle.notation.specs.Tree.{Tree}
+use Rattle.syntax.specs.Tree.{ModuleTree}
+use Rattle.asnc.specs.Notations.{Notation}
+
+-- A notation stands for a value under a type, the octets are its one encoding by the distinguished rules, and none is shorter.
+pub record IsEncoded (m : ModuleTree) (s : List Resolved) (o : List ℕ) : Type 0 where
+  pub type : ℕ
+  pub notation : Tree
+  pub value : AbstractValue
+  pub stands : Notation m s type notation value
+  pub der : Der s type value 0 o
+  pub only : (p : List ℕ) → Der s type value 0 p → p ≡ o
+  pub shortest : Shortest s type value o

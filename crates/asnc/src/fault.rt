@@ -1,0 +1,236 @@
+//! Why a request is refused, and with which exit status.
+
+ghost use Rattle.std.specs.Prelude.{◌≡◌};
+ghost use Rattle.asnc.specs.Status.{number_of, status_of, text_number_of, tree_number_of, name_number_of, value_number_of};
+ghost use Rattle.asnc.specs.declared.fault.Fault.TheVariants.{Memory};
+ghost use Rattle.asnc.specs.declared.fault.NameFault.TheVariants.{Memory as no_names};
+ghost use Rattle.asnc.specs.declared.fault.ValueFault.TheVariants.{Memory as no_value};
+
+use notation::SyntaxFault;
+use std::alloc::{AllocError, AllocFailed};
+use text::LexFault;
+use thiserror::Error;
+
+/// A limit of modules that is passed.
+#[derive(Clone, Copy, Debug, PartialEq, Eq)]
+pub enum NameLimit {
+    /// A list has at most 256 members.
+    Members,
+    /// A module has at most 4,096 type assignments and 65,536 written types.
+    Types,
+    /// A module has at most 65,536 value assignments.
+    Values,
+}
+
+/// Why the names of a module have no meaning; the name where it stands.
+#[derive(Debug, Drop)]
+pub enum NameFault {
+    /// There was not enough memory.
+    Memory,
+    /// The module, or the list of the type with this name, passes the limit.
+    Limit(NameLimit, String),
+    /// A name is assigned twice, or stands twice in a list of members.
+    Twice(String),
+    /// A type's name that means no type.
+    UnknownName(String),
+    /// The name of a type that comes back to itself by references alone.
+    Circular(String),
+    /// A member with this name whose type is a SEQUENCE, which this stage leaves out.
+    InnerSequence(String),
+}
+
+impl<T: Drop> From<AllocFailed<T>> for NameFault {
+    ghost from_gives = { λ _ e. e ≡ no_names };
+
+    fn from(_error: AllocFailed<T>) -> NameFault {
+        NameFault::Memory
+    }
+}
+
+impl From<AllocError> for NameFault {
+    ghost from_gives = { λ _ e. e ≡ no_names };
+
+    fn from(_error: AllocError) -> NameFault {
+        NameFault::Memory
+    }
+}
+
+/// Why a notation stands for no value of a type.
+#[derive(Debug, Drop)]
+pub enum ValueFault {
+    /// There was not enough memory.
+    Memory,
+    /// A number is not from -2^127 to 2^127 - 1.
+    Integer,
+    /// A value's name, behind a module's name, that means no value.
+    UnknownName(String),
+    /// The name of a value that comes back to itself by references alone.
+    Circular(String),
+    /// The notation is of another kind than the type, or its components stand in another order.
+    NotOfType,
+    /// A name that is neither a component of the type nor a value.
+    UnknownItem(String),
+    /// A component without a value.
+    Missing(String),
+    /// A component with more than one value.
+    Repeated(String),
+}
+
+impl<T: Drop> From<AllocFailed<T>> for ValueFault {
+    ghost from_gives = { λ _ e. e ≡ no_value };
+
+    fn from(_error: AllocFailed<T>) -> ValueFault {
+        ValueFault::Memory
+    }
+}
+
+impl From<AllocError> for ValueFault {
+    ghost from_gives = { λ _ e. e ≡ no_value };
+
+    fn from(_error: AllocError) -> ValueFault {
+        ValueFault::Memory
+    }
+}
+
+/// A refusal: its number and name come first in its text, but for a help that was asked for.
+#[derive(Debug, Drop, Error)]
+pub enum Fault {
+    /// There was not enough memory.
+    #[error("error 1 Memory: out of memory")]
+    Memory,
+    /// A file, or the output, could not be read or written; its name.
+    #[error("error 3 File: {0}: the file can not be read")]
+    File(String),
+    /// The command line asks for nothing that the program does; what is wrong with it.
+    #[error("error 4 BadWords: {0}")]
+    BadWords(String),
+    /// Help was asked for; its text.
+    #[error("{0}")]
+    Help(String),
+    /// The text has no tokens.
+    #[error("error {0}")]
+    Text(LexFault),
+    /// The tokens are no module.
+    #[error("error {0}")]
+    Tree(SyntaxFault),
+    /// The module's names have no meaning.
+    #[error("error {0:?}")]
+    Name(NameFault),
+    /// The notation stands for no value of the type.
+    #[error("error {0:?}")]
+    Value(ValueFault),
+    /// The name of a type, as the caller wrote it, that the module doesn't have.
+    #[error("error 31 UnknownName: {0}")]
+    NoType(String),
+    /// The name of a value, as the caller wrote it, that the module doesn't have.
+    #[error("error 31 UnknownName: {0}")]
+    NoValue(String),
+    /// The encoding has more than 16,777,216 octets.
+    #[error("error 71 TooLong: the encoding has more than 16777216 octets")]
+    TooLong,
+    /// The output took no more octets.
+    #[error("error 72 Device: the output could not be written")]
+    Device,
+}
+
+impl<T: Drop> From<AllocFailed<T>> for Fault {
+    ghost from_gives = { λ _ e. e ≡ Memory };
+
+    fn from(_error: AllocFailed<T>) -> Fault {
+        Fault::Memory
+    }
+}
+
+impl From<AllocError> for Fault {
+    ghost from_gives = { λ _ e. e ≡ Memory };
+
+    fn from(_error: AllocError) -> Fault {
+        Fault::Memory
+    }
+}
+
+/// The number of a fault's class, which its text names.
+pub fn number(fault: &Fault) -> u8
+    ensures { result ≡ number_of fault.now }
+{
+    match fault {
+        Fault::Memory => 1,
+        Fault::File(_) => 3,
+        Fault::BadWords(_) => 4,
+        Fault::Help(_) => 5,
+        Fault::Text(fault) => text_number(fault),
+        Fault::Tree(fault) => tree_number(fault),
+        Fault::Name(fault) => name_number(fault),
+        Fault::Value(fault) => value_number(fault),
+        Fault::NoType(_) | Fault::NoValue(_) => 31,
+        Fault::TooLong => 71,
+        Fault::Device => 72,
+    }
+}
+
+fn text_number(fault: &LexFault) -> u8
+    ensures { result ≡ text_number_of fault.now }
+{
+    match fault {
+        LexFault::Memory => 1,
+        LexFault::Limit(_, _) => 2,
+        LexFault::NotUtf8(_) => 10,
+        LexFault::BadCharacter(_) => 11,
+        LexFault::OpenComment(_) => 12,
+        LexFault::OpenString(_) => 13,
+        LexFault::BadNumber(_) => 14,
+        LexFault::BadName(_) => 15,
+    }
+}
+
+fn tree_number(fault: &SyntaxFault) -> u8
+    ensures { result ≡ tree_number_of fault.now }
+{
+    match fault {
+        SyntaxFault::Memory => 1,
+        SyntaxFault::Limit(_, _) => 2,
+        SyntaxFault::Unexpected(_) => 20,
+        SyntaxFault::OutOfProfile(_) => 21,
+    }
+}
+
+fn name_number(fault: &NameFault) -> u8
+    ensures { result ≡ name_number_of fault.now }
+{
+    match fault {
+        NameFault::Memory => 1,
+        NameFault::Limit(_, _) => 2,
+        NameFault::InnerSequence(_) => 21,
+        NameFault::Twice(_) => 30,
+        NameFault::UnknownName(_) => 31,
+        NameFault::Circular(_) => 33,
+    }
+}
+
+fn value_number(fault: &ValueFault) -> u8
+    ensures { result ≡ value_number_of fault.now }
+{
+    match fault {
+        ValueFault::Memory => 1,
+        ValueFault::Integer => 2,
+        ValueFault::UnknownName(_) => 31,
+        ValueFault::Circular(_) => 33,
+        ValueFault::NotOfType => 60,
+        ValueFault::UnknownItem(_) => 62,
+        ValueFault::Missing(_) => 63,
+        ValueFault::Repeated(_) => 64,
+    }
+}
+
+/// The exit status of a program that ends with this fault: 0 where help was asked for, 2 for a bad command line,
+/// 3 where memory, a file or a device was wanting, and 1 for what else is refused.
+pub fn status(fault: &Fault) -> u8
+    ensures { result ≡ status_of (number_of fault.now) }
+{
+    match number(fault) {
+        5 => 0,
+        4 => 2,
+        1 | 3 | 72 => 3,
+        _ => 1,
+    }
+}

@@ -1,0 +1,103 @@
+//! The program `asnc`: reads its words and files, and writes what they ask for.
+#![tactic(auto)]
+
+use asnc::{Fault, Job, Kit, job, report, status};
+use std::io::Write;
+use std::process::ExitCode;
+use std::{env, fs, io};
+
+/// The words of the command line, the first of them the product's name.
+fn words_of(rt: &HostRuntime) -> Result<Vec<String>, Fault> {
+    let alloc = rt.alloc();
+    let mut words = Vec::new(alloc);
+    words.push(String::from_str(alloc, "asnc")?)?;
+    let args = match env::args(rt) {
+        Ok(args) => args,
+        Err(_) => {
+            let text = String::from_str(alloc, "a word of the command line is not text")?;
+            return Err(Fault::BadWords(text));
+        }
+    };
+    for word in args.skip(1) {
+        words.push(word)?;
+    }
+    Ok(words)
+}
+
+/// Tells of a fault: help on standard output, else one line on standard error.
+fn tell(rt: &HostRuntime, fault: &Fault) -> io::Result<()> {
+    match fault {
+        Fault::Help(text) => print!(rt; "{text}"),
+        _ => eprintln!(rt; "{fault}"),
+    }
+}
+
+/// Tells of a fault, and answers the exit status; 3 where it can't be told.
+fn end(rt: &HostRuntime, fault: &Fault) -> ExitCode {
+    match tell(rt, fault) {
+        Ok(()) => ExitCode::from(status(fault)),
+        Err(_) => ExitCode::from(3),
+    }
+}
+
+/// Tells of a fault that stands in a module's text.
+fn end_in(rt: &HostRuntime, job: &Job, file: &str, text: &[u8], fault: &Fault) -> ExitCode {
+    match report(rt.alloc(), job, file, text, fault) {
+        Ok(line) => match eprintln!(rt; "{line}") {
+            Ok(()) => ExitCode::from(status(fault)),
+            Err(_) => ExitCode::from(3),
+        },
+        Err(_) => end(rt, &Fault::Memory),
+    }
+}
+
+/// The octets that a job asks for.
+fn work(rt: &HostRuntime, job: &Job, text: &[u8]) -> Result<Vec<u8>, Fault> {
+    let kit = Kit::open(rt.alloc(), text)?;
+    kit.der(rt.alloc(), job.ty.as_str(), job.value.as_str())
+}
+
+/// Writes octets, themselves or in hexadecimal.
+fn write(rt: &HostRuntime, job: &Job, octets: &[u8]) -> Result<(), Fault> {
+    let mut out = io::writer(rt);
+    if job.raw {
+        return out.write_all(octets).map_err(|_| Fault::Device);
+    }
+    let hex = hex::encode_upper(rt.alloc(), octets)?;
+    let line = format!(in rt.alloc(); "{hex}\n")?;
+    out.write_all(line.as_bytes()).map_err(|_| Fault::Device)
+}
+
+/// Does a job on the text of its file.
+fn run(rt: &HostRuntime, job: &Job, file: &str) -> ExitCode {
+    let text = match fs::read(rt, file) {
+        Ok(text) => text,
+        Err(_) => {
+            return match String::from_str(rt.alloc(), file) {
+                Ok(name) => end(rt, &Fault::File(name)),
+                Err(_) => end(rt, &Fault::Memory),
+            };
+        }
+    };
+    match work(rt, job, text.as_slice()) {
+        Ok(octets) => match write(rt, job, octets.as_slice()) {
+            Ok(()) => ExitCode::SUCCESS,
+            Err(fault) => end(rt, &fault),
+        },
+        Err(fault) => end_in(rt, job, file, text.as_slice(), &fault),
+    }
+}
+
+fn main(rt: HostRuntime) -> ExitCode {
+    let words = match words_of(&rt) {
+        Ok(words) => words,
+        Err(fault) => return end(&rt, &fault),
+    };
+    match job(rt.alloc(), words.as_slice()) {
+        Ok(job) => match job.files.first() {
+            Some(file) => run(&rt, &job, file.as_str()),
+            None => end(&rt, &Fault::Memory),
+        },
+        Err(fault) => end(&rt, &fault),
+    }
+}
