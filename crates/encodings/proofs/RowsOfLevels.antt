@@ -7,7 +7,7 @@ use Rattle.asn_base.specs.Types.{Kind, a_boolean, Component, Resolved, Is}
 use Rattle.encodings.specs.Rules.{Rules}
 use Rattle.encodings.specs.Strings.{Pieces, whole}
 use Rattle.encodings.specs.Contents.{Contents, of_true}
-use Rattle.encodings.specs.Encoding.{Framed, Unknown, UnknownIf, unknown, extensible, Says, says, Holds}
+use Rattle.encodings.specs.Encoding.{Framed, Unknown, UnknownIf, unknown, extensible, says, Holds}
 use Rattle.encodings.specs.Levels.{levels, inner_levels, unknown_levels}
 
 -- each tag is a level, explicit ones too
