@@ -1,5 +1,5 @@
 -- Types behind their references.
-use Rattle.std.proofs.Common.{◌≡◌, ◌⊎◌, inl, inr, ℕ, List, [], ◌∷◌, length, map, Option, Some, None, refl, sym, ap, ◌∙◌, arith, option_map, string_bytes, subst}
+use Rattle.std.proofs.Common.{◌≡◌, ℕ, List, [], ◌∷◌, map, Option, Some, None, refl, sym, ap, ◌∙◌, option_map, string_bytes, subst}
 use Rattle.std.specs.Prelude.{slice_get, option_and_then}
 use Rattle.std.proofs.lemmas.Option.{slice_get-map}
 use Rattle.notation.specs.Tree.{Name}
@@ -16,10 +16,10 @@ use Rattle.std.specs.Borrow.{Bor}
 use Rattle.std.specs.Global.{Global}
 use Rattle.asnc.specs.declared.fault.NameFault.{NameFault}
 use Rattle.asnc.specs.declared.fault.NameFault.TheVariants as faults
-use Rattle.asnc.specs.Names.{names_of, assigned_name, assigned_type, type_meant, behind_type, next_type}
+use Rattle.asnc.specs.Names.{assigned_name, assigned_type, behind_type, next_type}
 use Rattle.asnc.specs.Walks.{EndsAt, ComesBack}
 use Rattle.asnc.specs.Resolving.{IsPlain, IsCore, itself, behind, IsWritten, in_assignment, IsAssigned}
-use Rattle.asnc.specs.Naming.{Stands, IsUnknown, IsCircular, NamesReference}
+use Rattle.asnc.specs.Naming.{Stands, IsCircular, NamesReference}
 
 none_tree : (x : String Global) → type_tree_of (types.Reference None x) ≡ type_reference None (string_bytes x)
 none_tree x = ap type_tree_of (sym (types.rolls-Reference None x)) ∙ fold-roll-TypeSyntax TypeTree type_layer (layer.Reference None x)

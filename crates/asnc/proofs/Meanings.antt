@@ -1,6 +1,5 @@
 -- What names mean.
-use Rattle.std.proofs.Common.{◌≡◌, ℕ, zero, suc, ◌<◌, Bool, true, false, List, [], ◌∷◌, length, map, take, Option, Some, None, refl, sym, ap, ◌∙◌, arith, cond, option_map, string_bytes, String}
-use Rattle.std.specs.Global.{Global}
+use Rattle.std.proofs.Common.{◌≡◌, ℕ, zero, suc, ◌<◌, Bool, true, false, List, [], ◌∷◌, length, map, take, Option, Some, None, refl, sym, ap, ◌∙◌, arith, cond, option_map}
 use Rattle.std.specs.Prelude.{slice_get, bytes_eq}
 use Rattle.std.proofs.lemmas.Option.{slice_get-map, slice_get_read}
 use Rattle.std.specs.Prelude.{option_and_then}
@@ -12,10 +11,8 @@ use Rattle.asnc.specs.Names.{Added}
 use Rattle.std.specs.Option.{option_map_or}
 use Rattle.std.proofs.lemmas.Option.{slice_get_within}
 use Rattle.asnc.specs.Walks.{IsWithin}
-use Rattle.notation.specs.Tree.{Name, Tree, reference, tree_of}
-use Rattle.notation.specs.declared.tree.ValueSyntax.TheVariants as notations
-use Rattle.syntax.specs.Tree.{TypeTree, type_reference, AssignmentTree, ModuleTree, type_tree_of}
-use Rattle.syntax.specs.declared.tree.TypeSyntax.TheVariants as types
+use Rattle.notation.specs.Tree.{Name, Tree, reference}
+use Rattle.syntax.specs.Tree.{TypeTree, type_reference, AssignmentTree, ModuleTree}
 use Rattle.asnc.specs.Names.{place_in, StandsTwice, names_of, assigned_name, is_own, where_it, meant, type_meant, value_meant, assigns_a_type, assigns_a_value, assigned_type, assigned_notation, behind_type, behind_notation, next_type, next_notation}
 use Rattle.asnc.proofs.Places.{same_name}
 

@@ -1,5 +1,5 @@
 -- Members and the components that they are; types and their schema.
-use Rattle.std.proofs.Common.{◌≡◌, ◌⊎◌, inl, inr, ℕ, zero, suc, ◌+◌, ◌<◌, ◌≤◌, Bool, true, false, List, [], ◌∷◌, ◌++◌, length, map, take, Option, Some, None, refl, sym, ap, ◌∙◌, arith, option_map, string_bytes, subst, get_or}
+use Rattle.std.proofs.Common.{◌≡◌, inl, inr, ℕ, zero, suc, ◌+◌, ◌<◌, ◌≤◌, Bool, true, false, List, [], ◌∷◌, ◌++◌, length, map, take, Some, refl, sym, ap, ◌∙◌, arith, option_map, string_bytes, subst, get_or}
 use Rattle.std.specs.Prelude.{slice_get, IsSomeAnd, Vec}
 use Rattle.std.specs.Global.{Global}
 use Rattle.syntax.specs.declared.tree.TypeSyntax.TheVariants as types
@@ -10,20 +10,19 @@ use Rattle.std.proofs.lemmas.Option.{slice_get-map, slice_get_read}
 use Rattle.std.proofs.lemmas.List.{take-map, map-append, take_all}
 use Rattle.std.proofs.lemmas.Slice.Zip.{AllZip-long}
 use Rattle.asn_base.specs.Types.{Component, Resolved, Kind}
-use Rattle.asn_base.specs.Types as kinds
-use Rattle.asn_base.specs.Accepted.{IsAccepted, IsAcceptedType, IsSimple, IsSimpleMember, IsOfFirstStage, IsUnconstrained}
+use Rattle.asn_base.specs.Accepted.{IsAccepted, IsAcceptedType, IsSimple, IsSimpleMember, IsOfFirstStage}
 use Rattle.asn_base.specs.declared.schema.Resolved.{Resolved as Resolved'}
 use Rattle.asn_base.specs.Seen.{resolved_of, kind_of, component_of, types_of}
 use Rattle.asn_base.specs.declared.schema.Component.{Component as Component'}
 use Rattle.notation.specs.Tree.{Name}
-use Rattle.syntax.specs.Tree.{TypeTree, a_boolean, an_integer, an_octet_string, type_reference, a_sequence, AssignmentTree, ModuleTree, type_tree_of, type_members, type_member_of}
+use Rattle.syntax.specs.Tree.{TypeTree, a_boolean, an_integer, an_octet_string, type_reference, a_sequence, AssignmentTree, ModuleTree, type_tree_of, type_member_of}
 use Rattle.syntax.specs.declared.tree.TypeSyntax.{TypeSyntax}
 use Rattle.syntax.specs.declared.tree.Member.{Member}
 use Rattle.asnc.specs.declared.fault.NameFault.{NameFault}
 use Rattle.asnc.specs.declared.fault.NameFault.TheVariants as faults
-use Rattle.asnc.specs.Names.{place_in, Added, StandsTwice, assigned_type}
-use Rattle.asnc.specs.Resolving.{IsPlain, IsCore, itself, behind, IsWritten, in_list, IsAssigned, IsList, IsComponent, AreComponents, IsKind, boolean, integer, octet_string, sequence, IsTypeOf, AreTypes, IsUniversal, universal_number, basic_number}
-use Rattle.asnc.specs.Naming.{Stands, StandsAtMember, ListsTwice, HoldsSequence}
+use Rattle.asnc.specs.Names.{place_in, Added, assigned_type}
+use Rattle.asnc.specs.Resolving.{IsPlain, IsCore, itself, behind, IsWritten, in_list, IsAssigned, IsList, IsComponent, IsKind, boolean, integer, octet_string, sequence, IsTypeOf, AreTypes, IsUniversal, universal_number, basic_number}
+use Rattle.asnc.specs.Naming.{Stands, StandsAtMember, ListsTwice}
 use Rattle.asnc.proofs.Meanings.{twice, not_added}
 
 pub member_at : (xs : List (Member TypeSyntax)) (k : ℕ) (x : Member TypeSyntax) → k < length xs → x ≡ get_or xs k x → slice_get (map type_member_of xs) k ≡ Some (type_member_of x)

@@ -1,6 +1,6 @@
 -- Notations behind their references.
-use Rattle.std.proofs.Common.{◌≡◌, ◌⊎◌, inl, inr, ℕ, List, [], ◌∷◌, map, Option, Some, None, refl, sym, ap, ◌∙◌, option_map, string_bytes, subst}
-use Rattle.std.specs.Prelude.{slice_get, option_and_then, Vec, String, Result, Ok, Err, IfOk, IfErr}
+use Rattle.std.proofs.Common.{◌≡◌, ◌⊎◌, inl, inr, ℕ, List, [], ◌∷◌, map, Option, Some, None, refl, sym, ap, ◌∙◌, string_bytes, subst}
+use Rattle.std.specs.Prelude.{slice_get, Vec, String, Result, Ok, Err, IfOk, IfErr}
 use Rattle.std.specs.Global.{Global}
 use Rattle.std.specs.Borrow.{Bor}
 use Rattle.notation.specs.Tree.{Name, Tree, reference, Members, members, member_of, tree_of, layer}

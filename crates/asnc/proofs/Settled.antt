@@ -1,18 +1,18 @@
 -- A fault that stands in a module excludes that it is accepted.
-use Rattle.std.proofs.Common.{◌≡◌, ◌⊎◌, inl, inr, ℕ, zero, suc, ◌<◌, ◌≤◌, List, [], ◌∷◌, length, map, Option, Some, None, refl, sym, ap, ◌∙◌, arith, option_map, subst, string_bytes}
+use Rattle.std.proofs.Common.{◌≡◌, inl, inr, ℕ, zero, suc, List, [], ◌∷◌, map, Option, Some, None, refl, sym, ap, ◌∙◌, arith, option_map, subst, string_bytes}
 use Rattle.std.specs.Prelude.{slice_get, option_and_then}
 use Rattle.std.specs.List.{AllZip}
 use Rattle.std.proofs.lemmas.Option.{slice_get-map}
 use Rattle.asn_base.specs.Types.{Component, Resolved, Kind}
 use Rattle.notation.specs.Tree.{Name}
-use Rattle.syntax.specs.Tree.{TypeTree, type_reference, a_sequence, TypeMembers, no_member, member_and, type_members, AssignmentTree, ModuleTree}
+use Rattle.syntax.specs.Tree.{TypeTree, type_reference, a_sequence, type_members, AssignmentTree, ModuleTree}
 use Rattle.asnc.specs.declared.fault.NameFault.{NameFault}
 use Rattle.asnc.specs.declared.fault.NameFault.TheVariants as faults
 use Rattle.asnc.specs.declared.fault.NameLimit.TheVariants as limits
 use Rattle.asnc.specs.Names.{AreDistinct, StandsTwice, names_of, assigned_name, assigned_type, behind_type, type_meant, next_type}
 use Rattle.asnc.specs.Walks.{EndsAt, ComesBack}
-use Rattle.asnc.specs.Resolving.{IsPlain, IsCore, itself, behind, IsComponent, AreComponents, IsKind, boolean, integer, octet_string, sequence, IsTypeOf, AreTypes, IsAssigned, IsList, IsWritten, in_assignment, in_list, basic_number}
-use Rattle.asnc.specs.Naming.{Stands, IsUnknown, IsCircular, HoldsSequence, HasManyMembers, ListsTwice}
+use Rattle.asnc.specs.Resolving.{IsPlain, IsCore, itself, behind, IsComponent, AreComponents, IsKind, boolean, integer, octet_string, sequence, IsTypeOf, IsAssigned, IsList, IsWritten, in_assignment, in_list, basic_number}
+use Rattle.asnc.specs.Naming.{Stands}
 use Rattle.asnc.specs.Accepting.{IsAcceptedModule}
 use Rattle.asnc.proofs.Walks.{ends_unique, ends_next, no_next, core_not_circular}
 use Rattle.asnc.proofs.Members.{core_same}

@@ -1,9 +1,9 @@
 -- Components of a schema whose types hold no others.
-use Rattle.std.proofs.Common.{◌≡◌, ℕ, zero, suc, ◌<◌, List, [], ◌∷◌, length, map, Option, Some, None, refl, sym, ap, ◌∙◌, get_or, arith, option_map}
+use Rattle.std.proofs.Common.{◌≡◌, ℕ, zero, suc, ◌<◌, List, [], ◌∷◌, length, map, Option, Some, None, refl, sym, ap, ◌∙◌, get_or, option_map}
 use Rattle.std.specs.Prelude.{slice_get, IsSomeAnd}
 use Rattle.std.specs.List.{AllByRecursion}
 use Rattle.std.proofs.lemmas.Option.{slice_get-map, slice_get_read, slice_get_within}
-use Rattle.asn_base.specs.Types.{Component, Resolved}
+use Rattle.asn_base.specs.Types.{Resolved}
 use Rattle.asn_base.specs.Accepted.{IsSimpleMember, IsSimple}
 use Rattle.asn_base.specs.Seen.{component_of}
 use Rattle.asn_base.specs.declared.schema.Component.{Component as Component'}

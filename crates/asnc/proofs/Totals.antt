@@ -1,5 +1,5 @@
 -- Sums over assignments.
-use Rattle.std.proofs.Common.{◌≡◌, ℕ, zero, suc, ◌+◌, ◌<◌, ◌≤◌, List, [], ◌∷◌, ◌++◌, length, map, take, refl, sym, ap, ◌∙◌, arith, get_or}
+use Rattle.std.proofs.Common.{◌≡◌, ℕ, zero, suc, ◌+◌, ◌<◌, ◌≤◌, List, [], ◌∷◌, ◌++◌, length, map, take, refl, ap, ◌∙◌, arith, get_or}
 use Rattle.syntax.specs.Tree.{TypeTree, type_members, AssignmentTree, assignment_of}
 use Rattle.syntax.specs.declared.tree.Assignment.{Assignment}
 use Rattle.notation.specs.Tree.{Name}

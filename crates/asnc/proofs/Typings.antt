@@ -1,5 +1,5 @@
 -- Notations and their values.
-use Rattle.std.proofs.Common.{◌≡◌, ◌⊎◌, inl, inr, ℕ, zero, suc, ◌+◌, ◌<◌, ◌≤◌, List, [], ◌∷◌, ◌++◌, length, map, take, Option, Some, None, refl, sym, ap, ◌∙◌, arith, option_map, string_bytes, subst, get_or}
+use Rattle.std.proofs.Common.{◌≡◌, inl, inr, ℕ, zero, suc, ◌+◌, ◌<◌, ◌≤◌, List, [], ◌∷◌, ◌++◌, length, map, take, Option, Some, None, refl, sym, ap, ◌∙◌, option_map, string_bytes, subst, get_or}
 use Rattle.std.specs.Prelude.{slice_get, bytes_eq, Result, Ok, Err, IfOk, IfErr, Vec}
 use Rattle.std.proofs.Common.{Bool, true, false, not}
 use Rattle.std.specs.Global.{Global}
@@ -11,7 +11,7 @@ use Rattle.std.proofs.lemmas.Option.{slice_get-map, slice_get_read}
 use Rattle.asn_base.specs.declared.tag.Tag.{Tag}
 use Rattle.asn_base.specs.declared.value.Value.{Value}
 use Rattle.asn_base.specs.declared.schema.Component.{Component as Component'}
-use Rattle.asn_base.specs.Abstract.{AbstractValue, abstract, fields, row_of_options}
+use Rattle.asn_base.specs.Abstract.{AbstractValue, abstract, row_of_options}
 use Rattle.asn_base.specs.Types.{Kind, a_sequence, Component, Resolved, Is}
 use Rattle.asn_base.specs.Accepted.{IsSimple}
 use Rattle.asn_base.specs.Seen.{component_of, kind_of, resolved_of}

@@ -1,10 +1,10 @@
 -- Walks through references: they add up, and a long one comes back to where it was.
-use Rattle.std.proofs.Common.{◌≡◌, ◌⊎◌, inl, inr, ℕ, zero, suc, ◌+◌, ◌-◌, ◌*◌, ◌<◌, ◌≤◌, Bool, true, false, List, [], ◌∷◌, length, Option, Some, None, refl, sym, ap, ◌∙◌, arith, subst, eqb, eq-eqb}
+use Rattle.std.proofs.Common.{◌≡◌, ◌⊎◌, inl, inr, ℕ, zero, suc, ◌+◌, ◌-◌, ◌*◌, ◌<◌, ◌≤◌, true, false, List, [], ◌∷◌, length, Option, Some, None, refl, sym, ap, ◌∙◌, arith, eqb}
 use Rattle.std.proofs.Math.Nat.{mul-le-mul_left}
 use Rattle.std.specs.List.{IsDistinct, AllByRecursion, list_any}
 use Rattle.std.proofs.lemmas.Map.Steps.{length-le_from_distinct_below}
 use Rattle.asnc.specs.Walks.{onward, walk, EndsAt, ComesBack, IsWithin}
-use Rattle.std.proofs.lemmas.Bool.{eqb-true, eqb-false, ne_eqb, or_cases, cases_Bool, cases_eq}
+use Rattle.std.proofs.lemmas.Bool.{eqb-true, or_cases, cases_Bool}
 
 walk_on : (next : ℕ → Option ℕ) (a b j : ℕ) (o : Option ℕ) → ((k : ℕ) → walk next a k ≡ Some j → walk next (a + b) k ≡ walk next b j) → onward o (λ k. walk next a k) ≡ Some j → onward o (λ k. walk next (a + b) k) ≡ walk next b j
 walk_on next a b j None go e = absurd cc

@@ -1,6 +1,7 @@
 pub mod Accepting
 pub mod CommandLine
 pub mod Limits
+pub mod Named
 pub mod Names
 pub mod Naming
 pub mod Notations

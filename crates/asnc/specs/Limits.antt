@@ -1,5 +1,5 @@
 -- How much a module may hold (limits of this compiler).
-use Rattle.std.specs.Prelude.{ℕ, zero, suc, ◌+◌, ◌≤◌, List, [], ◌∷◌}
+use Rattle.std.specs.Prelude.{ℕ, suc, ◌+◌, ◌≤◌, List, [], ◌∷◌}
 use Rattle.syntax.specs.Tree.{TypeTree, a_sequence, TypeMembers, no_member, member_and, AssignmentTree, assigns_type, assigns_value}
 use Rattle.asnc.specs.declared.limits.Count.{Count}
 use Rattle.asnc.specs.declared.limits.Count.TheVariants as counts

@@ -1,11 +1,11 @@
 -- What stands against a module's names.
 use Rattle.std.specs.Prelude.{◌≡◌, ◌⊎◌, ⊤, ℕ, ◌<◌, List, length, map, Option, Some, None, slice_get, string_bytes}
 use Rattle.notation.specs.Tree.{Name}
-use Rattle.syntax.specs.Tree.{TypeTree, type_reference, a_sequence, TypeMembers, type_members, AssignmentTree, ModuleTree}
+use Rattle.syntax.specs.Tree.{TypeTree, type_reference, a_sequence, TypeMembers, AssignmentTree, ModuleTree}
 use Rattle.asnc.specs.declared.fault.NameFault.{NameFault}
 use Rattle.asnc.specs.declared.fault.NameFault.TheVariants as faults
 use Rattle.asnc.specs.declared.fault.NameLimit.TheVariants as limits
-use Rattle.asnc.specs.Names.{StandsTwice, names_of, assigned_name, type_meant, next_type}
+use Rattle.asnc.specs.Names.{StandsTwice, names_of, type_meant, next_type}
 use Rattle.asnc.specs.Walks.{ComesBack}
 use Rattle.asnc.specs.declared.limits.Count.TheVariants as counts
 use Rattle.asnc.specs.Limits.{total}

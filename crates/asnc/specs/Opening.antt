@@ -1,5 +1,5 @@
 -- What a module's text is, and its faults.
-use Rattle.std.specs.Prelude.{◌≡◌, ⊤, ℕ, List}
+use Rattle.std.specs.Prelude.{ℕ, List}
 use Rattle.text.specs.declared.token.Token.{Token}
 use Rattle.text.specs.Text as texts
 use Rattle.grammar.specs.Lexeme.{lexemes}

@@ -1,5 +1,5 @@
 -- Types behind their references, and the schema of a module.
-use Rattle.std.specs.Prelude.{◌≡◌, ◌⊎◌, ⊤, ℕ, ◌+◌, ◌<◌, ◌≤◌, false, List, [], ◌∷◌, length, map, Option, Some, None, slice_get, string_bytes, sum}
+use Rattle.std.specs.Prelude.{◌≡◌, ⊤, ℕ, ◌≤◌, false, List, [], ◌∷◌, length, map, Option, Some, None, slice_get}
 use Rattle.std.specs.List.{AllZip}
 use Rattle.asn_base.specs.declared.tag.Tag.{Tag}
 use Rattle.asn_base.specs.declared.tag.Class.TheVariants as classes
@@ -8,8 +8,8 @@ use Rattle.asn_base.specs.Types as kinds
 use Rattle.asn_base.specs.Accepted.{IsUnconstrained}
 use Rattle.notation.specs.Tree.{Name}
 use Rattle.syntax.specs.Tree.{TypeTree, a_boolean, an_integer, an_octet_string, type_reference, a_sequence, TypeMembers, type_members, AssignmentTree, ModuleTree}
-use Rattle.asnc.specs.Names.{AreDistinct, StandsTwice, names_of, assigned_name, assigned_type, type_meant, next_type}
-use Rattle.asnc.specs.Walks.{EndsAt, ComesBack}
+use Rattle.asnc.specs.Names.{AreDistinct, assigned_type, type_meant, next_type}
+use Rattle.asnc.specs.Walks.{EndsAt}
 
 -- the type is no reference
 abbrev pub IsPlain : TypeTree → Type 0

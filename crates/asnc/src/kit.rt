@@ -1,6 +1,6 @@
 //! A module that is ready for use.
 
-ghost use Rattle.std.specs.Prelude.{◌≡◌, ◌<◌, ◌+◌, length, IfSome};
+ghost use Rattle.std.specs.Prelude.{◌≡◌, ◌<◌, ◌+◌, ◌++◌, ◌∷◌, length, IfSome};
 ghost use Rattle.asn_base.specs.Accepted.{IsAccepted};
 ghost use Rattle.syntax.specs.Tree.{module_tree_of};
 ghost use Rattle.asnc.specs.Resolving.{AreTypes};
@@ -11,6 +11,8 @@ ghost use Rattle.asnc.specs.declared.fault.NameFault.TheVariants.{Memory as no_m
 ghost use Rattle.asnc.specs.Accepting.{IsAcceptedModule};
 ghost use Rattle.asnc.specs.Naming.{Stands};
 ghost use Rattle.asnc.specs.Writing.{IsEncoded};
+ghost use Rattle.asnc.specs.Named.{TypeNamed, ValueNamed};
+ghost use Rattle.notation.specs.Tree.{tree_of};
 ghost use Rattle.asnc.specs.Opening.{IsOpened, StandsIn};
 
 use crate::fault::{Fault, NameFault, ValueFault};
@@ -20,6 +22,7 @@ use crate::scope::{Scope, assignment_at, notation_of, type_named, value_named};
 use crate::typing::typed;
 use asn_base::schema::{Schema, TypeId};
 use der_writer::{WriteFault, write_der};
+use notation::ValueSyntax;
 use std::alloc::Global;
 use syntax::{Module, parse};
 
@@ -33,7 +36,9 @@ pub struct Kit {
 }
 
 /// The name behind the module's name and a dot.
-fn own_name<'a>(scope: &Scope, text: &'a str) -> Option<&'a str> {
+fn own_name<'a>(scope: &Scope, text: &'a str) -> Option<&'a str>
+    ensures { IfSome result (λ x. text.now ≡ (module_tree_of scope.now.parsed).name ++ (46 ∷ x.now)) }
+{
     text.strip_prefix(scope.parsed.name.as_str())?
         .strip_prefix('.')
 }
@@ -91,7 +96,8 @@ impl Kit {
 
     /// The number of the type that a text names as `Module.Type`.
     fn type_number(&self, name: &str) -> Option<TypeId>
-        ensures { IfSome result (λ id. id.index < length self.now.schema) }
+        ensures within { IfSome result (λ id. id.index < length self.now.schema) }
+        ensures named { IfSome result (λ id. TypeNamed (module_tree_of self.now.scope.parsed) name.now id.index) }
     {
         let own = own_name(&self.scope, name)?;
         match type_named(&self.scope, &None, own) {
@@ -100,23 +106,26 @@ impl Kit {
         }
     }
 
+    /// The notation of the value that a text names as `Module.value`.
+    fn notation_named(&self, name: &str) -> Option<&ValueSyntax>
+        ensures named { IfSome result (λ n. ValueNamed (module_tree_of self.now.scope.parsed) name.now (tree_of n.now)) }
+    {
+        let own = own_name(&self.scope, name)?;
+        match value_named(&self.scope, &None, own) {
+            None => None,
+            Some(place) => notation_of(assignment_at(&self.scope, place)),
+        }
+    }
+
     /// The octets that encode a value of a type by the distinguished rules, both named as `Module.Name`.
     pub fn der(&self, alloc: Global, ty: &str, value: &str) -> Result<Vec<u8>, Fault>
         // The octets are the one encoding of a value that a notation stands for in the module.
-        ensures encoded { IfOk result (λ o. IsEncoded (module_tree_of self.now.scope.parsed) self.now.schema o.items) }
+        ensures encoded { IfOk result (λ o. IsEncoded (module_tree_of self.now.scope.parsed) self.now.schema ty.now value.now o.items) }
     {
         let Some(id) = self.type_number(ty) else {
             return Err(Fault::NoType(String::from_str(alloc, ty)?));
         };
-        let named = own_name(&self.scope, value).and_then(|name| value_named(
-            &self.scope,
-            &None,
-            name,
-        ));
-        let Some(place) = named else {
-            return Err(Fault::NoValue(String::from_str(alloc, value)?));
-        };
-        let Some(notation) = notation_of(assignment_at(&self.scope, place)) else {
+        let Some(notation) = self.notation_named(value) else {
             return Err(Fault::NoValue(String::from_str(alloc, value)?));
         };
         let typed = match typed(alloc, &self.scope, &self.schema, id, notation) {

@@ -17,7 +17,7 @@ mod typing;
 mod words;
 
 pub use fault::{Fault, status};
-pub use kit::Kit;
+pub use kit::{Kit, faults_exclude};
 pub use request::{Given, Job, Verb};
 pub use telling::report;
 pub use words::job;

@@ -136,3 +136,39 @@ fn values_and_refusals(rt: HostRuntime) -> Result<(), Fail> {
     }
     Ok(())
 }
+
+#[test]
+fn a_status_for_each_class(rt: HostRuntime) -> Result<(), Fail> {
+    assert_eq!(rt; status(&Fault::Memory), 3);
+    assert_eq!(rt; status(&Fault::Value(crate::fault::ValueFault::Integer)), 1);
+    assert_eq!(rt;
+        status(&Fault::File(String::from_str(rt.alloc(), "m.asn")?)),
+        3
+    );
+    assert_eq!(rt;
+        status(&Fault::BadWords(String::from_str(rt.alloc(), "der")?)),
+        2
+    );
+    assert_eq!(rt;
+        status(&Fault::Help(String::from_str(rt.alloc(), "usage")?)),
+        0
+    );
+    assert_eq!(rt;
+        status(&Fault::NoType(String::from_str(rt.alloc(), "M.T")?)),
+        1
+    );
+    assert_eq!(rt;
+        status(&Fault::NoValue(String::from_str(rt.alloc(), "M.v")?)),
+        1
+    );
+    assert_eq!(rt; status(&Fault::TooLong), 1);
+    assert_eq!(rt; status(&Fault::Device), 3);
+    match Kit::open(rt.alloc(), &[255]) {
+        Ok(_) => assert!(rt; false, "a module from an octet that is no text"),
+        Err(fault) => {
+            assert_eq!(rt; number(&fault), 10);
+            assert_eq!(rt; status(&fault), 1);
+        }
+    }
+    Ok(())
+}

@@ -1,8 +1,7 @@
-use Rattle.std.proofs.Common.{◌≡◌, ◌+◌, length, sym, ap, ◌∙◌, arith, subst}
+use Rattle.std.proofs.Common.{sym, arith, subst}
 use Rattle.asnc.specs.Resolving.{AreTypes}
 use Rattle.std.proofs.lemmas.List.{length-map}
 use Rattle.syntax.specs.Tree.{module_tree_of, assignment_of}
-use Rattle.asn_base.specs.Seen.{types_of}
 use Rattle.asnc.proofs.Members.{types_long}
 use Rattle.asnc.proofs.kit.kit_of.Goals as goal
 

@@ -1,6 +1,5 @@
-use Rattle.std.proofs.Common.{◌≡◌, ◌+◌, ◌≤◌, ◌<◌, map, take, sym, ap, ◌∙◌, arith}
-use Rattle.syntax.specs.Tree.{assignment_of}
-use Rattle.asnc.specs.Limits.{total, most}
+use Rattle.std.proofs.Common.{◌+◌, arith}
+use Rattle.asnc.specs.Limits.{most}
 use Rattle.asnc.proofs.Totals.{total_more, front_over}
 use Rattle.asnc.proofs.limits.is_within.Goals as goal
 

@@ -1,7 +1,6 @@
-use Rattle.std.proofs.Common.{◌≡◌, Some, None, sym, ap, ◌∙◌, rules, option_map, inl, inr}
+use Rattle.std.proofs.Common.{sym, ap, ◌∙◌, option_map}
 use Rattle.notation.specs.Tree.{tree_of}
 use Rattle.syntax.specs.Tree.{module_tree_of, assignment_of}
-use Rattle.asnc.specs.Names.{assigned_notation}
 use Rattle.asnc.proofs.Notated.{ok_itself, ok_behind, err_behind, lacks_value, lacks_end}
 use Rattle.asnc.proofs.notations.behind_all.Goals as goal
 

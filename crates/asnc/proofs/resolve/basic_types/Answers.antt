@@ -1,4 +1,4 @@
-use Rattle.std.proofs.Common.{◌≡◌, sym, ap, rules, subst}
+use Rattle.std.proofs.Common.{sym, rules, subst}
 use Rattle.asn_base.specs.Seen.{kind_of}
 use Rattle.syntax.specs.Tree.{a_boolean, an_integer, an_octet_string}
 use Rattle.asnc.specs.Resolving.{IsKind, boolean, integer, octet_string}

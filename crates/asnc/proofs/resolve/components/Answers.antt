@@ -1,10 +1,10 @@
-use Rattle.std.proofs.Common.{◌≡◌, ◌≤◌, inr, map, take, string_bytes, sym, ap, ◌∙◌, rules, subst, arith, length}
+use Rattle.std.proofs.Common.{◌≡◌, ◌≤◌, inr, map, rules, subst, arith, length}
 use Rattle.std.proofs.lemmas.List.{length-map}
 use Rattle.std.specs.List.{AllZip}
 use Rattle.asn_base.specs.Seen.{component_of}
 use Rattle.syntax.specs.Tree.{module_tree_of, type_member_of}
 use Rattle.asnc.specs.Names.{AreDistinct, Added}
-use Rattle.asnc.specs.Naming.{ListsTwice, Stands}
+use Rattle.asnc.specs.Naming.{ListsTwice}
 use Rattle.asnc.specs.Resolving.{IsComponent}
 use Rattle.asnc.proofs.Members.{member_at, written_member, inner_stands, listed_twice, named_more, each_more, done_all}
 use Rattle.asnc.proofs.resolve.components.Goals as goal

@@ -1,8 +1,6 @@
-use Rattle.std.proofs.Common.{◌≡◌, sym, ap, ◌∙◌, rules, refl, subst, string_bytes}
-use Rattle.std.specs.Prelude.{MatchResult, IfOk, IfErr, Ok, Err}
+use Rattle.std.proofs.Common.{sym, ◌∙◌, string_bytes}
 use Rattle.syntax.specs.Tree.{module_tree_of, assignment_of, type_tree_of}
-use Rattle.asnc.specs.Naming.{Stands, NamesReference, IsCircular}
-use Rattle.asnc.proofs.Cores.{core_itself, core_behind, unknown_itself, unknown_behind, circular_at, ok_behind, ok_itself}
+use Rattle.asnc.proofs.Cores.{circular_at, ok_behind, ok_itself}
 use Rattle.asnc.proofs.resolve.core_of.Goals as goal
 
 pub returns-in-Ok-clause-core : goal.returns-in-Ok-clause-core

@@ -1,4 +1,4 @@
-use Rattle.std.proofs.Common.{◌≡◌, ◌≤◌, length, map, sym, ap, rules, subst, arith}
+use Rattle.std.proofs.Common.{◌≤◌, length, subst, arith}
 use Rattle.std.proofs.lemmas.List.{length-map, take_all}
 use Rattle.asn_base.specs.Seen.{types_of}
 use Rattle.syntax.specs.Tree.{module_tree_of, type_tree_of, assignment_of}

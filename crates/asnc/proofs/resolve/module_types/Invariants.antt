@@ -1,4 +1,4 @@
-use Rattle.std.proofs.Common.{◌≡◌, take}
+use Rattle.std.proofs.Common.{take}
 use Rattle.asn_base.specs.Accepted.{IsAccepted}
 use Rattle.asn_base.specs.Seen.{types_of}
 use Rattle.syntax.specs.Tree.{module_tree_of}

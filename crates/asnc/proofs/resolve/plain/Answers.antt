@@ -1,4 +1,4 @@
-use Rattle.std.proofs.Common.{◌≡◌, sym, ap, ◌∙◌, rules, option_map, string_bytes}
+use Rattle.std.proofs.Common.{ap, ◌∙◌, rules, option_map, string_bytes}
 use Rattle.syntax.specs.Tree.{type_tree_of, type_reference}
 use Rattle.asnc.proofs.Cores.{reference_tree}
 use Rattle.asnc.proofs.resolve.plain.Goals as goal

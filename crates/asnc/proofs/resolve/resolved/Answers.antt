@@ -1,8 +1,8 @@
-use Rattle.std.proofs.Common.{◌≡◌, ◌<◌, length, map, sym, ap, ◌∙◌, rules, subst, arith}
+use Rattle.std.proofs.Common.{map, sym, ap, ◌∙◌, rules, subst, arith}
 use Rattle.std.proofs.lemmas.List.{length-map}
 use Rattle.asn_base.specs.Seen.{kind_of}
 use Rattle.syntax.specs.Tree.{module_tree_of, type_tree_of, type_member_of, type_members, a_boolean, an_integer, an_octet_string, a_sequence}
-use Rattle.asnc.specs.Resolving.{IsKind, boolean, integer, octet_string, sequence, IsUniversal}
+use Rattle.asnc.specs.Resolving.{IsKind, boolean, integer, octet_string, sequence}
 use Rattle.asnc.proofs.Cores.{boolean_tree, integer_tree, octets_tree, sequence_tree}
 use Rattle.asnc.proofs.Members.{listed, typed_as}
 use Rattle.asnc.proofs.resolve.resolved.Goals as goal

@@ -1,4 +1,4 @@
-use Rattle.std.proofs.Common.{◌≡◌, sym, ap, ◌∙◌, rules, refl}
+use Rattle.std.proofs.Common.{rules, refl}
 use Rattle.asnc.proofs.resolve.universal.Goals as goal
 
 pub returns : goal.returns

@@ -1,4 +1,4 @@
-use Rattle.std.proofs.Common.{◌≡◌, string_bytes, sym, ◌∙◌, rules, subst}
+use Rattle.std.proofs.Common.{sym, rules, subst}
 use Rattle.syntax.specs.Tree.{assignment_of}
 use Rattle.asnc.specs.Names.{names_of, StandsTwice}
 use Rattle.std.specs.Prelude.{map}

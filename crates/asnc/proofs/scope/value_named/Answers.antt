@@ -1,4 +1,4 @@
-use Rattle.std.proofs.Common.{◌≡◌, sym, ap, ◌∙◌, rules, refl, true, false, option_map, string_bytes}
+use Rattle.std.proofs.Common.{sym, rules, true, false, option_map, string_bytes}
 use Rattle.syntax.specs.Tree.{module_tree_of}
 use Rattle.asnc.specs.Names.{assigns_a_value, value_meant}
 use Rattle.asnc.proofs.Meanings.{not_own, not_there, there}

@@ -1,9 +1,8 @@
-use Rattle.std.proofs.Common.{◌≡◌, sym, ap, ◌∙◌, rules, subst}
+use Rattle.std.proofs.Common.{sym, ap, ◌∙◌, rules, subst}
 use Rattle.asn_base.specs.Types.{an_integer}
 use Rattle.asn_base.specs.Abstract.{integer}
-use Rattle.asn_base.specs.Typed.{IsWithinLimit}
 use Rattle.notation.specs.Tree.{tree_of}
-use Rattle.asnc.specs.Notations.{IsLeaf, whole_number, signed}
+use Rattle.asnc.specs.Notations.{IsLeaf, whole_number}
 use mir.Val.{SFits}
 use Rattle.std.specs.Int.{w128}
 use Rattle.std.proofs.lemmas.Int.{to_z-of_z}

@@ -1,4 +1,4 @@
-use Rattle.std.proofs.Common.{◌≡◌, sym, ap, ◌∙◌, rules, subst}
+use Rattle.std.proofs.Common.{sym, ◌∙◌, subst}
 use Rattle.asn_base.specs.Types.{a_boolean}
 use Rattle.notation.specs.Tree.{tree_of}
 use Rattle.asnc.specs.Notations.{IsLeaf, truth}

@@ -1,8 +1,8 @@
-use Rattle.std.proofs.Common.{◌≡◌, false, sym, ap, ◌∙◌, rules, subst, map, option_map}
+use Rattle.std.proofs.Common.{false, sym, ap, ◌∙◌, subst, map, option_map}
 use Rattle.asn_base.specs.Seen.{kind_of, component_of}
 use Rattle.notation.specs.Tree.{tree_of, member_of}
 use Rattle.syntax.specs.Tree.{module_tree_of}
-use Rattle.asnc.specs.Notations.{Notation, Fields, Lacks, sequence}
+use Rattle.asnc.specs.Notations.{Notation, sequence}
 use Rattle.asnc.proofs.Typings.{IsNoSequence, ok_leaf, err_leaf, lacks_fields_in, lacks_fields, is_sequence}
 use Rattle.asnc.proofs.typing.typed.Goals as goal
 

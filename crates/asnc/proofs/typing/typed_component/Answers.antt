@@ -1,4 +1,4 @@
-use Rattle.std.proofs.Common.{◌≡◌, sym, ap, ◌∙◌, rules, subst}
+use Rattle.std.proofs.Common.{subst}
 use Rattle.std.specs.Prelude.{IsSomeAnd}
 use Rattle.asn_base.specs.Accepted.{IsSimple}
 use Rattle.asn_base.specs.Seen.{kind_of}

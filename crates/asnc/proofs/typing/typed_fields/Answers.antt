@@ -1,4 +1,4 @@
-use Rattle.std.proofs.Common.{◌≡◌, ◌≤◌, length, arith, sym, map, option_map}
+use Rattle.std.proofs.Common.{◌≤◌, length, arith, map, option_map}
 use Rattle.asn_base.specs.Abstract.{abstract}
 use Rattle.syntax.specs.Tree.{module_tree_of}
 use Rattle.std.specs.Prelude.{string_bytes}

@@ -6,7 +6,9 @@ pub returns-in-Ok-write_der : goal.returns-in-Ok-write_der
 returns-in-Ok-write_der c = record {
   encoded = record {
     type = c.in-Some.id.index;
-    notation = tree_of c.in-Some-notation_of.notation.now;
+    typed = c.in-Some.ensures.named;
+    notation = tree_of c.in-Some-notation_named.notation.now;
+    valued = c.in-Some-notation_named.ensures.named;
     value = abstract c.in-Ok.typed;
     stands = c.in-Ok.ensures.value;
     der = c.in-Ok-write_der.ensures.der;

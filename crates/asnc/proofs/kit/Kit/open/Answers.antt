@@ -1,4 +1,4 @@
-use Rattle.std.proofs.Common.{◌≡◌, rules, sym, subst}
+use Rattle.std.proofs.Common.{rules}
 use Rattle.syntax.specs.Tree.{module_tree_of}
 use Rattle.asnc.proofs.kit.Kit.open.Goals as goal
 

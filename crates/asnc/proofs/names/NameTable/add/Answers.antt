@@ -1,8 +1,5 @@
-use Rattle.std.proofs.Common.{rules, ◌≡◌, ◌++◌, ◌∷◌, [], ap, sym, ◌∙◌, map, string_bytes, not, cond, refl, subst}
-use Rattle.std.proofs.lemmas.List.{map-append}
-use Rattle.std.specs.List.{list_any}
-use Rattle.std.specs.Prelude.{bytes_eq}
-use Rattle.asnc.specs.Names.{place_in, Added}
+use Rattle.std.proofs.Common.{map, string_bytes, subst}
+use Rattle.asnc.specs.Names.{Added}
 use Rattle.asnc.proofs.Places.{added_as, distinct_added}
 use Rattle.asnc.proofs.names.NameTable.add.Goals as goal
 
