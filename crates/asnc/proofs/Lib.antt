@@ -11,3 +11,4 @@ mod Simple
 pub mod Totals
 mod Typings
 mod Walks
+mod Dots

@@ -1,6 +1,7 @@
 //! A module that is ready for use.
 
-ghost use Rattle.std.specs.Prelude.{◌≡◌, ◌<◌, ◌+◌, ◌++◌, ◌∷◌, length, IfSome};
+ghost use Rattle.std.specs.Prelude.{◌≡◌, ◌<◌, ◌+◌, ◌++◌, ◌∷◌, length, IfSome, MatchOption, ℕ};
+ghost use Rattle.notation.specs.Tree.{Name, Tree};
 ghost use Rattle.asn_base.specs.Accepted.{IsAccepted};
 ghost use Rattle.syntax.specs.Tree.{module_tree_of};
 ghost use Rattle.asnc.specs.Resolving.{AreTypes};
@@ -10,7 +11,7 @@ ghost use Rattle.asnc.specs.declared.fault.NameFault.{NameFault as NameFault'};
 ghost use Rattle.asnc.specs.declared.fault.NameFault.TheVariants.{Memory as no_memory};
 ghost use Rattle.asnc.specs.Accepting.{IsAcceptedModule};
 ghost use Rattle.asnc.specs.Naming.{Stands};
-ghost use Rattle.asnc.specs.Writing.{IsEncoded};
+ghost use Rattle.asnc.specs.Writing.{IsEncoded, IsNotEncoded};
 ghost use Rattle.asnc.specs.Named.{TypeNamed, ValueNamed};
 ghost use Rattle.notation.specs.Tree.{tree_of};
 ghost use Rattle.asnc.specs.Opening.{IsOpened, StandsIn};
@@ -37,10 +38,24 @@ pub struct Kit {
 
 /// The name behind the module's name and a dot.
 fn own_name<'a>(scope: &Scope, text: &'a str) -> Option<&'a str>
-    ensures { IfSome result (λ x. text.now ≡ (module_tree_of scope.now.parsed).name ++ (46 ∷ x.now)) }
+    ensures { MatchOption result ((x : Name) → text.now ≡ (module_tree_of scope.now.parsed).name ++ (46 ∷ x) → ⊥) (λ x. text.now ≡ (module_tree_of scope.now.parsed).name ++ (46 ∷ x.now)) }
 {
-    text.strip_prefix(scope.parsed.name.as_str())?
-        .strip_prefix('.')
+    let behind = behind_name(scope.parsed.name.as_str(), text)?;
+    behind_dot(behind)
+}
+
+/// What stands behind a name.
+fn behind_name<'a>(name: &str, text: &'a str) -> Option<&'a str>
+    ensures { MatchOption result ((x : Name) → text.now ≡ name.now ++ x → ⊥) (λ x. text.now ≡ name.now ++ x.now) }
+{
+    text.strip_prefix(name)
+}
+
+/// What stands behind a dot.
+fn behind_dot(text: &str) -> Option<&str>
+    ensures { MatchOption result ((x : Name) → text.now ≡ 46 ∷ x → ⊥) (λ x. text.now ≡ 46 ∷ x.now) }
+{
+    text.strip_prefix('.')
 }
 
 /// The kit of a module. The first fault of its names is answered.
@@ -97,7 +112,7 @@ impl Kit {
     /// The number of the type that a text names as `Module.Type`.
     fn type_number(&self, name: &str) -> Option<TypeId>
         ensures within { IfSome result (λ id. id.index < length self.now.schema) }
-        ensures named { IfSome result (λ id. TypeNamed (module_tree_of self.now.scope.parsed) name.now id.index) }
+        ensures named { MatchOption result ((t : ℕ) → TypeNamed (module_tree_of self.now.scope.parsed) name.now t → ⊥) (λ id. TypeNamed (module_tree_of self.now.scope.parsed) name.now id.index) }
     {
         let own = own_name(&self.scope, name)?;
         match type_named(&self.scope, &None, own) {
@@ -108,7 +123,7 @@ impl Kit {
 
     /// The notation of the value that a text names as `Module.value`.
     fn notation_named(&self, name: &str) -> Option<&ValueSyntax>
-        ensures named { IfSome result (λ n. ValueNamed (module_tree_of self.now.scope.parsed) name.now (tree_of n.now)) }
+        ensures named { MatchOption result ((n : Tree) → ValueNamed (module_tree_of self.now.scope.parsed) name.now n → ⊥) (λ n. ValueNamed (module_tree_of self.now.scope.parsed) name.now (tree_of n.now)) }
     {
         let own = own_name(&self.scope, name)?;
         match value_named(&self.scope, &None, own) {
@@ -118,9 +133,14 @@ impl Kit {
     }
 
     /// The octets that encode a value of a type by the distinguished rules, both named as `Module.Name`.
+    ///
+    /// `NoType` where the first name is no type's, else `NoValue` where the second is no value's; `Value` where the value's
+    /// notation stands for no value of the type; `TooLong` where the encoding has more than 16,777,216 octets; `Memory`.
     pub fn der(&self, alloc: Global, ty: &str, value: &str) -> Result<Vec<u8>, Fault>
         // The octets are the one encoding of a value that a notation stands for in the module.
         ensures encoded { IfOk result (λ o. IsEncoded (module_tree_of self.now.scope.parsed) self.now.schema ty.now value.now o.items) }
+        // A refusal stands.
+        ensures refused { IfErr result (IsNotEncoded (module_tree_of self.now.scope.parsed) self.now.schema ty.now value.now) }
     {
         let Some(id) = self.type_number(ty) else {
             return Err(Fault::NoType(String::from_str(alloc, ty)?));

@@ -15,4 +15,5 @@ returns-in-Ok-write_der c = record {
     only = c.in-Ok-write_der.ensures.only;
     shortest = c.in-Ok-write_der.ensures.shortest;
   };
+  refused = tt;
 }
