@@ -253,6 +253,7 @@ module _ {A : Type 0} (within : Bool) (v : Grammar A) (starts ends : Lexeme → 
       first t u (inl (inr (x, e))) = subst (λ (t : Lexeme). is_ident t ≡ true) (sym (head_is t (Ident x) u [] e)) refl
       first t u (inr (x, p, q, e, hp, hq)) = subst (λ (t : Lexeme). is_ident t ≡ true) (sym (head_is t (Ident x) u q (e ⋆ ap (λ (l : List Lexeme). l ++ q) hp))) refl
 
+
 -- ---- what stands behind an open brace
 
 pub braces_is : {A : Type 0} (a : Grammar A) (z : A) (u : List Lexeme) → (braces a).Is z u → (v : List Lexeme) × (u ≡ Mark OpenBrace ∷ v) × ((a ∙ mark CloseBrace) ⇒ (λ p. p.0)).Is z v

@@ -89,3 +89,4 @@ listed_first read ts x r = sym (ap (λ (q : Read _). q >>= λ x. behind_commas_a
 pub listed_fail : {A : Type 0} (read : Reader A) (ts : List Lexeme) (f : Fault) → read ts ≡ Err f → listed_at read ts ≡ Err f
 unfolding listed_at
 listed_fail read ts f r = ap (λ (q : Read _). q >>= λ x. behind_commas_at read (length x.1) x.1 >>= λ xs. Ok (x.0 ∷ xs.0, xs.1)) r
+

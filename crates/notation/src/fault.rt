@@ -52,11 +52,8 @@ impl<T: Drop> From<AllocFailed<T>> for SyntaxFault {
 /// Why a part could not be read, with the number of tokens from the first wrong one on.
 #[derive(Debug, Drop)]
 pub enum ReadError {
-    /// There was not enough memory.
     Memory,
-    /// Nothing goes on with the first of these tokens.
     Unexpected(usize),
-    /// With the first of these tokens a limit is passed.
     Limit(Limit, usize),
 }
 

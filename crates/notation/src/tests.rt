@@ -68,34 +68,6 @@ fn simple_values(rt: HostRuntime) -> Result<(), Fail> {
 }
 
 #[test]
-fn words_and_names(rt: HostRuntime) {
-    assert!(rt;
-        matches!(
-            value_in(rt.alloc(), b"FALSE", 0, 0),
-            Some(Ok((ValueSyntax::False, 1)))
-        )
-    );
-    assert!(rt;
-        matches!(
-            value_in(rt.alloc(), b"NULL", 0, 0),
-            Some(Ok((ValueSyntax::Null, 1)))
-        )
-    );
-    assert!(rt;
-        matches!(
-            value_in(rt.alloc(), b"7 8", 0, 0),
-            Some(Ok((ValueSyntax::Number(false, 7), 1)))
-        )
-    );
-    assert!(rt;
-        matches!(
-            value_in(rt.alloc(), b"v w", 0, 0),
-            Some(Ok((ValueSyntax::Reference(None, _), 1)))
-        )
-    );
-}
-
-#[test]
 fn values_in_braces(rt: HostRuntime) -> Result<(), Fail> {
     let (value, end) = value_in(rt.alloc(), b"{a 5, b {c, M.d}}", 0, 0)
         .ok_or("text")?
