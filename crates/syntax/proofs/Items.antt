@@ -1,133 +1,11 @@
 -- The readers of one lexeme.
 use Rattle.std.proofs.Common.{◌≡◌, ℕ, Bool, true, false, List, ◌∷◌, Ok, refl}
-use Rattle.text.specs.declared.token.Mark.TheVariants.{Assign, OpenBrace, CloseBrace}
-use Rattle.text.specs.declared.reserved.Word.TheVariants.{Definitions, Explicit, Tags, Begin, End, Boolean, Integer, Octet, String, Sequence}
+use Rattle.text.specs.declared.token.Mark.TheVariants.{Assign, CloseBrace}
+use Rattle.text.specs.declared.reserved.Word.TheVariants.{Definitions, Tags, Begin, End}
 use Rattle.grammar.specs.Lexeme.{Lexeme, TypeRef, Ident, Word, Mark}
 use Rattle.grammar.specs.Reading.{Reader, stop, closed_at}
 use Rattle.grammar.specs.Parts.{IsKind}
-use Rattle.syntax.specs.Reading.{definitions_at, explicit_at, tags_at, assign_at, begin_at, end_at, string_at, module_name_at}
-
-unfoldable pub boolean_at : Reader (Unit {0})
-boolean_at (Word Boolean ∷ rest) = Ok (tt, rest)
-boolean_at ts = stop ts
-
-abbrev pub is_boolean : Lexeme → Bool
-is_boolean (Word Boolean) = true
-is_boolean t = false
-
-boolean_one : (s : Lexeme) → is_boolean s ≡ true → (x : Unit {0}) × (s ≡ Word Boolean)
-boolean_one (Word Boolean) e = (tt, refl)
-boolean_one s e = absurd cc
-
-boolean_miss : (s : Lexeme) (ts : List Lexeme) → is_boolean s ≡ false → boolean_at (s ∷ ts) ≡ stop (s ∷ ts)
-unfolding boolean_at
-boolean_miss (Word Boolean) ts e = absurd cc
-boolean_miss s ts e = refl
-
-pub boolean_is : IsKind (λ (x : Unit {0}). Word Boolean) is_boolean boolean_at
-unfolding boolean_at
-boolean_is = record { yes = λ x. refl; one = boolean_one; nil = refl; hit = λ x ts. refl; miss = boolean_miss }
-
-unfoldable pub integer_at : Reader (Unit {0})
-integer_at (Word Integer ∷ rest) = Ok (tt, rest)
-integer_at ts = stop ts
-
-abbrev pub is_integer : Lexeme → Bool
-is_integer (Word Integer) = true
-is_integer t = false
-
-integer_one : (s : Lexeme) → is_integer s ≡ true → (x : Unit {0}) × (s ≡ Word Integer)
-integer_one (Word Integer) e = (tt, refl)
-integer_one s e = absurd cc
-
-integer_miss : (s : Lexeme) (ts : List Lexeme) → is_integer s ≡ false → integer_at (s ∷ ts) ≡ stop (s ∷ ts)
-unfolding integer_at
-integer_miss (Word Integer) ts e = absurd cc
-integer_miss s ts e = refl
-
-pub integer_is : IsKind (λ (x : Unit {0}). Word Integer) is_integer integer_at
-unfolding integer_at
-integer_is = record { yes = λ x. refl; one = integer_one; nil = refl; hit = λ x ts. refl; miss = integer_miss }
-
-unfoldable pub octet_at : Reader (Unit {0})
-octet_at (Word Octet ∷ rest) = Ok (tt, rest)
-octet_at ts = stop ts
-
-abbrev pub is_octet : Lexeme → Bool
-is_octet (Word Octet) = true
-is_octet t = false
-
-octet_one : (s : Lexeme) → is_octet s ≡ true → (x : Unit {0}) × (s ≡ Word Octet)
-octet_one (Word Octet) e = (tt, refl)
-octet_one s e = absurd cc
-
-octet_miss : (s : Lexeme) (ts : List Lexeme) → is_octet s ≡ false → octet_at (s ∷ ts) ≡ stop (s ∷ ts)
-unfolding octet_at
-octet_miss (Word Octet) ts e = absurd cc
-octet_miss s ts e = refl
-
-pub octet_is : IsKind (λ (x : Unit {0}). Word Octet) is_octet octet_at
-unfolding octet_at
-octet_is = record { yes = λ x. refl; one = octet_one; nil = refl; hit = λ x ts. refl; miss = octet_miss }
-
-abbrev pub is_string : Lexeme → Bool
-is_string (Word String) = true
-is_string t = false
-
-string_one : (s : Lexeme) → is_string s ≡ true → (x : Unit {0}) × (s ≡ Word String)
-string_one (Word String) e = (tt, refl)
-string_one s e = absurd cc
-
-string_miss : (s : Lexeme) (ts : List Lexeme) → is_string s ≡ false → string_at (s ∷ ts) ≡ stop (s ∷ ts)
-unfolding string_at
-string_miss (Word String) ts e = absurd cc
-string_miss s ts e = refl
-
-pub string_is : IsKind (λ (x : Unit {0}). Word String) is_string string_at
-unfolding string_at
-string_is = record { yes = λ x. refl; one = string_one; nil = refl; hit = λ x ts. refl; miss = string_miss }
-
-unfoldable pub sequence_word_at : Reader (Unit {0})
-sequence_word_at (Word Sequence ∷ rest) = Ok (tt, rest)
-sequence_word_at ts = stop ts
-
-abbrev pub is_sequence_word : Lexeme → Bool
-is_sequence_word (Word Sequence) = true
-is_sequence_word t = false
-
-sequence_word_one : (s : Lexeme) → is_sequence_word s ≡ true → (x : Unit {0}) × (s ≡ Word Sequence)
-sequence_word_one (Word Sequence) e = (tt, refl)
-sequence_word_one s e = absurd cc
-
-sequence_word_miss : (s : Lexeme) (ts : List Lexeme) → is_sequence_word s ≡ false → sequence_word_at (s ∷ ts) ≡ stop (s ∷ ts)
-unfolding sequence_word_at
-sequence_word_miss (Word Sequence) ts e = absurd cc
-sequence_word_miss s ts e = refl
-
-pub sequence_word_is : IsKind (λ (x : Unit {0}). Word Sequence) is_sequence_word sequence_word_at
-unfolding sequence_word_at
-sequence_word_is = record { yes = λ x. refl; one = sequence_word_one; nil = refl; hit = λ x ts. refl; miss = sequence_word_miss }
-
-unfoldable pub open_at : Reader (Unit {0})
-open_at (Mark OpenBrace ∷ rest) = Ok (tt, rest)
-open_at ts = stop ts
-
-abbrev pub is_open : Lexeme → Bool
-is_open (Mark OpenBrace) = true
-is_open t = false
-
-open_one : (s : Lexeme) → is_open s ≡ true → (x : Unit {0}) × (s ≡ Mark OpenBrace)
-open_one (Mark OpenBrace) e = (tt, refl)
-open_one s e = absurd cc
-
-open_miss : (s : Lexeme) (ts : List Lexeme) → is_open s ≡ false → open_at (s ∷ ts) ≡ stop (s ∷ ts)
-unfolding open_at
-open_miss (Mark OpenBrace) ts e = absurd cc
-open_miss s ts e = refl
-
-pub open_is : IsKind (λ (x : Unit {0}). Mark OpenBrace) is_open open_at
-unfolding open_at
-open_is = record { yes = λ x. refl; one = open_one; nil = refl; hit = λ x ts. refl; miss = open_miss }
+use Rattle.syntax.specs.Reading.{definitions_at, tags_at, assign_at, begin_at, end_at, module_name_at}
 
 abbrev pub is_closed : Lexeme → Bool
 is_closed (Mark CloseBrace) = true
@@ -179,23 +57,6 @@ definitions_miss s ts e = refl
 pub definitions_is : IsKind (λ (x : Unit {0}). Word Definitions) is_definitions definitions_at
 unfolding definitions_at
 definitions_is = record { yes = λ x. refl; one = definitions_one; nil = refl; hit = λ x ts. refl; miss = definitions_miss }
-
-abbrev pub is_explicit : Lexeme → Bool
-is_explicit (Word Explicit) = true
-is_explicit t = false
-
-explicit_one : (s : Lexeme) → is_explicit s ≡ true → (x : Unit {0}) × (s ≡ Word Explicit)
-explicit_one (Word Explicit) e = (tt, refl)
-explicit_one s e = absurd cc
-
-explicit_miss : (s : Lexeme) (ts : List Lexeme) → is_explicit s ≡ false → explicit_at (s ∷ ts) ≡ stop (s ∷ ts)
-unfolding explicit_at
-explicit_miss (Word Explicit) ts e = absurd cc
-explicit_miss s ts e = refl
-
-pub explicit_is : IsKind (λ (x : Unit {0}). Word Explicit) is_explicit explicit_at
-unfolding explicit_at
-explicit_is = record { yes = λ x. refl; one = explicit_one; nil = refl; hit = λ x ts. refl; miss = explicit_miss }
 
 abbrev pub is_tags : Lexeme → Bool
 is_tags (Word Tags) = true

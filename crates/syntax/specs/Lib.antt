@@ -1,3 +1,10 @@
 pub mod Tree
+pub mod Types
+pub mod TypeReading
+pub mod PartLaws
 pub mod Syntax
 pub mod Reading
+pub mod Heading
+pub mod HeadingReading
+pub mod ImportReading
+pub mod ModuleReading

@@ -1,0 +1,28 @@
+use Rattle.std.proofs.Common.{map, subst}
+use Rattle.std.proofs.lemmas.Result.{err_from_is_err_and}
+use Rattle.notation.specs.Constraint.{constraint_of}
+use Rattle.resolve.specs.Seen.{type_of}
+use Rattle.resolve.specs.Sound.{qualified_constraints, qualified_kind}
+use Rattle.resolve.specs.Soundness.{IsUnknownIn}
+use Rattle.resolve.specs.Sound.{MeanValues}
+use Rattle.resolve.proofs.Sounds.{mean_both, unknown_front, unknown_behind}
+use Rattle.resolve.proofs.qualified.names_in_type.Goals as goal
+
+pub returns-in_err-names_in_shape : goal.returns-in_err-names_in_shape
+returns-in_err-names_in_shape c =
+    let t = type_of c.args.written.now in
+    let p = err_from_is_err_and c.from_residual.result c.from_residual.ensures.1 in
+    rw (p.1, p.2) (unknown_front c.args.names.now c.args.within.now (qualified_kind t.kind) (qualified_constraints t.constraints) c.in_err-names_in_shape.field-0.0 c.in_err-names_in_shape.ensures)
+
+pub returns-in_err-names_in_constraints : goal.returns-in_err-names_in_constraints
+returns-in_err-names_in_constraints c =
+    let t = type_of c.args.written.now in
+    let p = err_from_is_err_and c.from_residual-in_err-names_in_constraints.result c.from_residual-in_err-names_in_constraints.ensures.1 in
+    let u = subst (λ l. IsUnknownIn c.args.names.now c.args.within.now (qualified_constraints (map constraint_of l)) c.in_err-names_in_constraints.field-0.0) c.deref.ensures.value c.in_err-names_in_constraints.ensures in
+    rw (p.1, p.2) (unknown_behind c.args.names.now c.args.within.now (qualified_kind t.kind) (qualified_constraints t.constraints) c.in_err-names_in_constraints.field-0.0 u)
+
+pub returns : goal.returns
+returns c =
+    let t = type_of c.args.written.now in
+    let m = subst (λ l. MeanValues c.args.names.now c.args.within.now (qualified_constraints (map constraint_of l))) c.deref.ensures.value c.in_ok-names_in_constraints.ensures in
+    mean_both c.args.names.now c.args.within.now (qualified_kind t.kind) (qualified_constraints t.constraints) c.in_ok-names_in_shape.ensures m
