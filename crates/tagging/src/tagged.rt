@@ -1,6 +1,6 @@
 //! Linked modules whose types have their tags.
 
-ghost use Rattle.std.specs.Prelude.{ℕ, ◌≡◌, ◌<◌, ◌≤◌, length, map, slice_get, List, Contains, Some, IfOk, IsOk, MatchResult};
+ghost use Rattle.std.specs.Prelude.{ℕ, IsTrue, ◌↔◌, ◌≡◌, ◌<◌, ◌≤◌, length, map, slice_get, List, Contains, Some, IfOk, IsOk, MatchResult};
 ghost use Rattle.syntax.specs.declared.tree.TagDefault.{TagDefault};
 ghost use Rattle.resolve.specs.Seen.{type_of, types_of, header_of, assignment_of};
 ghost use Rattle.resolve.specs.Table.{Type'};
@@ -17,6 +17,14 @@ use resolve::table::Header;
 use resolve::{Assignment, Linked, Written};
 use std::alloc::{AllocError, Global};
 use std::marker::Model;
+
+/// Whether a type has this number.
+#[tactic(auto, using(crate::proofs::Tables::as_long))]
+fn is_below(types: &[Written], number: usize) -> bool
+    ensures { IsTrue result ↔ number < length (types_of types.now) }
+{
+    number < types.len()
+}
 
 /// Linked modules whose types have their tags as X.680 asks: every list is distinct, and each SET component and each
 /// CHOICE alternative has exactly one tag that can stand first. It borrows the modules, so the numbers of types are theirs.
@@ -49,6 +57,13 @@ impl<'a> Tagged<'a> {
     {
         let _types = linked.types();
         Tagged { linked }
+    }
+
+    /// Whether the number is that of one of the types.
+    pub fn has(&self, ty: TypeId) -> bool
+        ensures { IsTrue result ↔ ty.index < length self.now.types }
+    {
+        is_below(self.linked.types(), ty.index)
     }
 
     /// The linked modules.

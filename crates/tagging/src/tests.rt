@@ -1,5 +1,7 @@
 use super::*;
-use resolve::{Linked, link};
+use asn_base::schema::TypeId;
+use asn_base::tag::Class;
+use resolve::{Found, Linked, Shape, link};
 use std::alloc::Global;
 use std::test::*;
 
@@ -18,6 +20,55 @@ fn linked(alloc: Global, default: &str, assignments: &str) -> Result<Linked, Fai
     Ok(link(alloc, modules).ok().ok_or("linked")?)
 }
 
+/// The number of type T.
+fn number_of(linked: &Linked) -> Result<TypeId, Fail> {
+    match linked.find("M", "T") {
+        Some(Found::TypeNamed(id)) => Ok(id),
+        _ => Err(Fail::from("no type T")),
+    }
+}
+
+/// The number of the type of a member of T, counted from 0.
+fn member_of(linked: &Linked, number: usize) -> Result<TypeId, Fail> {
+    let ty = number_of(linked)?;
+    let written = linked.types().get(ty.index).ok_or("written")?;
+    match &written.shape {
+        Shape::Members(_, members) => Ok(TypeId {
+            index: members.get(number).ok_or("member")?.ty,
+        }),
+        _ => Err(Fail::from("no list")),
+    }
+}
+
+/// Whether a path has these tags with these forms.
+fn is_path(path: &TagPath, expected: &[(Class, u32, Form)]) -> bool {
+    path.len() == expected.len()
+        && path.iter().zip(expected.iter()).all(|(t, e)| t.tag.class == e.0
+            && t.tag.number == e.1
+            && t.form == e.2)
+}
+
+/// Whether the type of T, or of a member of T if one is given, has these tags.
+fn has_tags(
+    alloc: Global,
+    default: &str,
+    assignments: &str,
+    member: Option<usize>,
+    expected: &[(Class, u32, Form)],
+) -> Result<bool, Fail> {
+    let linked = linked(alloc, default, assignments)?;
+    let tagged = tag(alloc, &linked).ok().ok_or("tagged")?;
+    let ty = match member {
+        None => number_of(&linked)?,
+        Some(number) => member_of(&linked, number)?,
+    };
+    if !tagged.has(ty) {
+        return Err(Fail::from("no such type"));
+    }
+    let path = tags_of(alloc, &tagged, ty)?;
+    Ok(is_path(&path, expected))
+}
+
 /// The fault of a module, if it has one.
 fn fault(alloc: Global, default: &str, assignments: &str) -> Result<Option<TagFault>, Fail> {
     let linked = linked(alloc, default, assignments)?;
@@ -27,6 +78,47 @@ fn fault(alloc: Global, default: &str, assignments: &str) -> Result<Option<TagFa
 /// Whether a fault names type T of module M.
 fn is_at_t(module: &String, name: &String) -> bool {
     module.as_str() == "M" && name.as_str() == "T"
+}
+
+#[test]
+fn written_tags(rt: HostRuntime) -> Result<(), Fail> {
+    let upon = [
+        (Class::Context, 1, Form::Implicit),
+        (Class::Context, 2, Form::Implicit),
+        (Class::Universal, 5, Form::Explicit),
+    ];
+    let two = "T ::= [1] IMPLICIT [2] IMPLICIT NULL";
+    assert!(rt; has_tags(rt.alloc(), "EXPLICIT", two, None, &upon)?);
+    let behind = [
+        (Class::Application, 30, Form::Explicit),
+        (Class::Private, 2, Form::Explicit),
+        (Class::Universal, 17, Form::Explicit),
+    ];
+    let referred = "T ::= [APPLICATION 30] U U ::= [PRIVATE 2] SET OF NULL";
+    assert!(rt; has_tags(rt.alloc(), "EXPLICIT", referred, None, &behind)?);
+    let tagged_choice = "T ::= [0] C C ::= CHOICE {a NULL, b BOOLEAN}";
+    let outer = [(Class::Context, 0, Form::Explicit)];
+    assert!(rt; has_tags(rt.alloc(), "IMPLICIT", tagged_choice, None, &outer)?);
+    Ok(())
+}
+
+#[test]
+fn automatic_tags(rt: HostRuntime) -> Result<(), Fail> {
+    let pair = "T ::= SEQUENCE {a INTEGER OPTIONAL, b INTEGER}";
+    let first = [
+        (Class::Context, 0, Form::Implicit),
+        (Class::Universal, 2, Form::Explicit),
+    ];
+    assert!(rt; has_tags(rt.alloc(), "AUTOMATIC", pair, Some(0), &first)?);
+    let second = [
+        (Class::Context, 1, Form::Implicit),
+        (Class::Universal, 2, Form::Explicit),
+    ];
+    assert!(rt; has_tags(rt.alloc(), "AUTOMATIC", pair, Some(1), &second)?);
+    let choice = [(Class::Context, 0, Form::Explicit)];
+    let set = "T ::= SET {c CHOICE {x NULL}}";
+    assert!(rt; has_tags(rt.alloc(), "AUTOMATIC", set, Some(0), &choice)?);
+    Ok(())
 }
 
 #[test]
