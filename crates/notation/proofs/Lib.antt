@@ -6,3 +6,6 @@ pub mod Whole
 pub mod Places
 pub mod Loop
 pub mod Answered
+pub mod Ors
+pub mod ConstraintParts
+pub mod ConstraintPlaces

@@ -1,6 +1,11 @@
 pub mod Tree
+pub mod Constraint
 pub mod Value
+pub mod ConstraintGrammar
 pub mod Reading
+pub mod ConstraintReading
+pub mod Rules
+pub mod Parens
 pub mod Given
 pub mod Answer
 pub mod Laws

@@ -1,7 +1,10 @@
-//! The notation of ASN.1 values.
+//! The notation of ASN.1 values and constraints.
 #![tactic(auto)]
 
 pub mod answer;
+pub mod constraint;
+pub mod constraint_answer;
+pub mod constraint_reading;
 pub mod decode;
 pub mod fault;
 pub mod law;
@@ -10,8 +13,14 @@ pub mod refused;
 pub mod tree;
 
 pub use answer::{MAX_NESTING, value_at};
+pub use constraint::{
+    CharsSyntax, ConstraintSyntax, EndSyntax, RangeSyntax, RangesSyntax, SizeSyntax,
+};
+pub use constraint_answer::{constraint_at, size_at};
 pub use fault::{Limit, ReadError, SyntaxFault};
 pub use tree::{Named, ValueSyntax};
 
+#[cfg(test)]
+mod constraint_tests;
 #[cfg(test)]
 mod tests;

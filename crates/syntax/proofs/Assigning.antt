@@ -1,5 +1,5 @@
 -- What is read as a module is one; the reader refuses no front of a module, and reads each whole one.
-use Rattle.std.proofs.Common.{◌≡◌, ℕ, suc, ◌≤◌, ◌+◌, inl, inr, Bool, true, false, ◌||◌, List, [], ◌∷◌, ◌++◌, length, Option, Some, Ok, Err, refl, sym, ap, ◌∙◌ as ◌⋆◌, arith}
+use Rattle.std.proofs.Common.{◌≡◌, ℕ, suc, ◌≤◌, ◌+◌, inl, inr, Bool, true, false, ◌||◌, List, [], ◌∷◌, ◌++◌, length, Option, Some, None, Ok, Err, refl, sym, ap, ◌∙◌ as ◌⋆◌, arith}
 use Rattle.text.specs.declared.token.Mark.TheVariants.{Assign}
 use Rattle.text.specs.declared.reserved.Word.TheVariants.{Definitions, Explicit, Tags, Begin, End}
 use Rattle.grammar.specs.Lexeme.{Lexeme, TypeRef, Ident, Word, Mark}
@@ -57,7 +57,7 @@ abbrev defined_part : Grammar TypeTree → Grammar Tree → Grammar (TagDefault 
 defined_part t v = tag_part ∙ assigned_part t v
 
 abbrev module_of : Name × (TagDefault × List AssignmentTree) → ModuleTree
-module_of p = record { name = p.0; tag_default = p.1.0; assignments = p.1.1 }
+module_of p = record { name = p.0; tag_default = p.1.0; exports = None; imports = []; assignments = p.1.1 }
 
 abbrev module_part : Grammar TypeTree → Grammar Tree → Grammar ModuleTree
 module_part t v = (token TypeRef ∙ behind (Word Definitions) (defined_part t v)) ⇒ module_of

@@ -3,3 +3,5 @@ pub mod Typing
 pub mod Assigning
 pub mod Loop
 pub mod Parsed
+pub mod Headings
+pub mod Imported

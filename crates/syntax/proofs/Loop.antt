@@ -20,13 +20,13 @@ use Rattle.syntax.specs.declared.tree.TypeSyntax.{TypeSyntax}
 use Rattle.syntax.specs.declared.tree.TypeSyntax.TheViews as views
 use Rattle.syntax.specs.declared.tree.TypeSyntax.TheVariants.{rolls-Sequence}
 use Rattle.syntax.specs.declared.tree.TypeSyntax.TheOpen as opened
-use Rattle.syntax.specs.declared.tree.TypeSyntax.TheShapes.{former-TypeSyntax-Sequence-0-at-2}
+use Rattle.syntax.specs.declared.tree.TypeSyntax.TheShapes.{former-TypeSyntax-Sequence-0-at-3}
 use Rattle.syntax.specs.declared.tree.TypeSyntax.TheFolds.{fold-roll-TypeSyntax}
 use Rattle.syntax.specs.declared.tree.Member.{Member}
-use Rattle.syntax.specs.Tree.{TypeTree, a_sequence, type_members, type_layer, type_tree_of, type_member_of}
-use Rattle.syntax.specs.Syntax.{type}
-use Rattle.syntax.proofs.Typing.{type_sound}
-use Rattle.syntax.specs.Reading.{body_at, type_step, type_at}
+use Rattle.syntax.specs.Tree.{PresenceTree, presence_of, TypeTree, a_sequence, type_members, type_layer, type_tree_of, type_member_of}
+use Rattle.syntax.specs.Syntax.{type, component}
+use Rattle.syntax.proofs.Typing.{type_sound, component_sound}
+use Rattle.syntax.specs.Reading.{component_at, body_at, type_step, type_at}
 
 none_open : (ts : List Lexeme) → type_step zero stop ts ≡ type_step zero (type_step zero stop) ts
 unfolding type_step body_at
@@ -41,8 +41,8 @@ unfolding type_at
 type_stepped zero ts = none_open ts
 type_stepped (suc n) ts = let e : n ≡ suc n - 1 = omega arith in ap (λ (k : ℕ). type_step (suc n) (type_at k) ts) e
 
-pub member_shrinks : (n : ℕ) → Shrinks (named_at (type_at n))
-member_shrinks n = record { shorter = λ ts x e. sound_short (token Ident ∙ type any n) ts (named_at (type_at n) ts) x e (named_sound nowhere (type any n) (type_at n) (type_sound nowhere refl any n) ts) }
+pub member_shrinks : (n : ℕ) → Shrinks (named_at (component_at (type_at n)))
+member_shrinks n = record { shorter = λ ts x e. sound_short (token Ident ∙ component (type any n)) ts (named_at (component_at (type_at n)) ts) x e (named_sound nowhere (component (type any n)) (component_at (type_at n)) (component_sound nowhere (type any n) (type_at n) (type_sound nowhere refl any n)) ts) }
 
 pub listed_gives_up : {A : Type 0} (read : Reader A) (ts : List Lexeme) (e : ReadError) → Fails e (read ts) → Fails e (listed_at read ts)
 listed_gives_up read ts errors.Memory r = tt
@@ -58,11 +58,11 @@ commas_give_up read ts rest (errors.Limit l n) front total c r h = commas_fail r
 pub sequence_tree : (ms : Vec (Member TypeSyntax)) → type_tree_of (views.Sequence ms) ≡ a_sequence (type_members (map type_member_of ms.items))
 sequence_tree ms =
     let a = ap type_tree_of (sym (rolls-Sequence ms)) ⋆ fold-roll-TypeSyntax TypeTree type_layer (opened.Sequence ms) in
-    a ⋆ ap (λ (l : List (Name × TypeTree)). a_sequence (type_members l)) (together ms.items)
+    a ⋆ ap (λ (l : List (Name × (TypeTree × PresenceTree))). a_sequence (type_members l)) (together ms.items)
   where
-    together : (l : List (Member TypeSyntax)) → map (λ (f : Member TypeTree). (string_bytes f.name, f.syntax)) (map (former-TypeSyntax-Sequence-0-at-2.map TypeSyntax TypeTree type_tree_of) l) ≡ map type_member_of l
+    together : (l : List (Member TypeSyntax)) → map (λ (f : Member TypeTree). (string_bytes f.name, (f.syntax, presence_of f.presence))) (map (former-TypeSyntax-Sequence-0-at-3.map TypeSyntax TypeTree type_tree_of) l) ≡ map type_member_of l
     together [] = refl
-    together (f ∷ l) = ap (λ (r : List (Name × TypeTree)). type_member_of f ∷ r) (together l)
+    together (f ∷ l) = ap (λ (r : List (Name × (TypeTree × PresenceTree))). type_member_of f ∷ r) (together l)
 
 pub many_gives_up : {A : Type 0} (begins : Lexeme → Bool) (read : Reader A) (ts : List Lexeme) (e : ReadError) (front : List A) (total : Read (List A)) → is_begun_by begins ts ≡ true → Fails e (read ts) → with_front front (many_at begins read (length ts) ts) ≡ total → Fails e total
 many_gives_up begins read ts errors.Memory front total b r h = tt

@@ -9,9 +9,9 @@ use Rattle.grammar.specs.Laws.{deeper, more, seq_sound, Follows, Passes, Stands,
 use Rattle.grammar.specs.Lists.{IsSolid, is_ident, no_lexeme, listed_sound, named_sound, finds_named, finds_listed, with_comma, seq_solid}
 use Rattle.grammar.specs.Parts.{SoundReader, token_sound, token_finds, token_solid, made_sound, made_finds, made_solid, seq_finds, open_finds, open_solid, pair_sound, pair_finds, pair_solid, pick, pick_sound, pick_finds, either_solid, perhaps, optional_sound, optional_finds, cut_off_finds, cut_off_solid, same_sound, same_finds}
 use Rattle.notation.specs.Tree.{Name}
-use Rattle.syntax.specs.Tree.{TypeTree, a_boolean, an_integer, an_octet_string, type_reference, a_sequence, TypeMembers, no_member, type_members}
-use Rattle.syntax.specs.Syntax.{members_of, type_with, type}
-use Rattle.syntax.specs.Reading.{string_at, module_name_at, members_at, body_at, type_step, type_at}
+use Rattle.syntax.specs.Tree.{PresenceTree, mandatory, TypeTree, a_boolean, an_integer, an_octet_string, type_reference, a_sequence, TypeMembers, no_member, type_members}
+use Rattle.syntax.specs.Syntax.{component, members_of, type_with, type}
+use Rattle.syntax.specs.Reading.{string_at, module_name_at, component_at, members_at, body_at, type_step, type_at}
 use Rattle.syntax.proofs.Items.{boolean_at, is_boolean, boolean_is, integer_at, is_integer, integer_is, octet_at, is_octet, octet_is, is_string, string_is, sequence_word_at, is_sequence_word, sequence_word_is, open_at, is_open, open_is, is_closed, closed_is, is_typeref, typeref_is}
 
 -- the productions of types
@@ -61,16 +61,16 @@ step_same n read (t ∷ ts) = refl
 
 -- ---- what stands behind SEQUENCE
 
-abbrev member_list : Grammar TypeTree → Grammar (List (Name × TypeTree))
-member_list t = listed (token Ident ∙ t)
+abbrev member_list : Grammar TypeTree → Grammar (List (Name × (TypeTree × PresenceTree)))
+member_list t = listed (token Ident ∙ component t)
 
 abbrev body_of : Grammar TypeTree → Grammar TypeMembers
 body_of t = braces (optional (member_list t)) ⇒ members_of
 
-abbrev inside_read : Reader TypeTree → Reader (Option (List (Name × TypeTree)) × Unit {0})
-inside_read read = then_read (λ p. p) (perhaps is_ident (listed_at (named_at read))) closed_at
+abbrev inside_read : Reader TypeTree → Reader (Option (List (Name × (TypeTree × PresenceTree))) × Unit {0})
+inside_read read = then_read (λ p. p) (perhaps is_ident (listed_at (named_at (component_at read)))) closed_at
 
-abbrev braces_read : Reader TypeTree → Reader (Option (List (Name × TypeTree)))
+abbrev braces_read : Reader TypeTree → Reader (Option (List (Name × (TypeTree × PresenceTree))))
 braces_read read = then_read (λ p. p.1.0) open_at (inside_read read)
 
 abbrev body_read : Reader TypeTree → Reader TypeMembers
@@ -81,7 +81,7 @@ abbrev tie : {A B : Type 0} → (A → B) → Read A → Read B
 tie f r = r >>= λ x. Ok (f x.0, x.1)
 
 abbrev some_list : Type 0
-some_list = Option (List (Name × TypeTree))
+some_list = Option (List (Name × (TypeTree × PresenceTree)))
 
 abbrev both : some_list × Unit {0} → some_list × Unit {0}
 both p = p
@@ -95,7 +95,7 @@ finish r = tie members_of (tie list_of (after_read both r closed_at))
 abbrev with_list : some_list → Unit {0} → some_list × Unit {0}
 with_list o u = (o, u)
 
-some_same : (r : Read (List (Name × TypeTree))) → finish (tie Some r) ≡ (r >>= λ ms. tie (λ u. type_members ms.0) (closed_at ms.1))
+some_same : (r : Read (List (Name × (TypeTree × PresenceTree)))) → finish (tie Some r) ≡ (r >>= λ ms. tie (λ u. type_members ms.0) (closed_at ms.1))
 some_same (Ok ms) = go (closed_at ms.1)
   where
     go : (r : Read (Unit {0})) → tie members_of (tie list_of (tie (with_list (Some ms.0)) r)) ≡ tie (λ u. type_members ms.0) r
@@ -114,9 +114,19 @@ body_same : (n : ℕ) (read : Reader TypeTree) (ts : List Lexeme) → body_read 
 unfolding body_at members_at open_at
 body_same n read [] = refl
 body_same n read (Mark OpenBrace ∷ []) = none_same []
-body_same n read (Mark OpenBrace ∷ Ident x ∷ ts) = some_same (listed_at (named_at read) (Ident x ∷ ts))
+body_same n read (Mark OpenBrace ∷ Ident x ∷ ts) = some_same (listed_at (named_at (component_at read)) (Ident x ∷ ts))
 body_same n read (Mark OpenBrace ∷ t ∷ ts) = none_same (t ∷ ts)
 body_same n read (t ∷ ts) = refl
+
+-- ---- a member's type
+
+pub component_sound : (over : Limit → ℕ) (t : Grammar TypeTree) (read : Reader TypeTree) → SoundReader over t read → SoundReader over (component t) (component_at read)
+unfolding component_at
+component_sound over t read s = made_sound over t (λ t. (t, mandatory)) read s
+
+component_finds : {starts ends : Lexeme → Bool} (within : Bool) (t : Grammar TypeTree) (read : Reader TypeTree) → Finds within t starts ends read → Finds within (component t) starts ends (component_at read)
+unfolding component_at
+component_finds {starts} {ends} within t read f = made_finds within t (λ t. (t, mandatory)) starts ends read f
 
 -- ---- what is read is so
 
@@ -136,8 +146,8 @@ module _ (over : Limit → ℕ) where
       (made_sound over (braces (optional (member_list t))) members_of (braces_read read)
       (λ ts. seq_sound over (mark OpenBrace) (optional (member_list t) ∙ mark CloseBrace) (λ p. p.1.0) ts (open_at ts) (inside_read read) (token_sound (λ (x : Unit {0}). Mark OpenBrace) is_open open_at open_is over ts)
       (pair_sound over (optional (member_list t)) (mark CloseBrace) (inside_read read)
-      (λ us. seq_sound over (optional (member_list t)) (mark CloseBrace) (λ p. p) us (perhaps is_ident (listed_at (named_at read)) us) closed_at
-      (optional_sound over (member_list t) is_ident (listed_at (named_at read)) (listed_sound over (token Ident ∙ t) (named_at read) (named_sound over t read s)) us)
+      (λ us. seq_sound over (optional (member_list t)) (mark CloseBrace) (λ p. p) us (perhaps is_ident (listed_at (named_at (component_at read))) us) closed_at
+      (optional_sound over (member_list t) is_ident (listed_at (named_at (component_at read))) (listed_sound over (token Ident ∙ component t) (named_at (component_at read)) (named_sound over (component t) (component_at read) (component_sound over t read s))) us)
       (token_sound (λ (x : Unit {0}). Mark CloseBrace) is_closed closed_at closed_is over)))))
 
 -- a brace where no more may be open
@@ -226,7 +236,7 @@ or_second true b e = absurd cc
 or_second false b e = e
 
 list_solid : (t : Grammar TypeTree) → IsSolid (member_list t)
-list_solid t = seq_solid (token Ident ∙ t) (many (behind (Mark Comma) (token Ident ∙ t))) (λ p. p.0 ∷ p.1) (pair_solid (token Ident) t (token_solid Ident))
+list_solid t = seq_solid (token Ident ∙ component t) (many (behind (Mark Comma) (token Ident ∙ component t))) (λ p. p.0 ∷ p.1) (pair_solid (token Ident) (component t) (token_solid Ident))
 
 inside_solid : (t : Grammar TypeTree) → IsSolid (optional (member_list t) ∙ mark CloseBrace)
 inside_solid t = record { no_empty = λ p h. (open_solid (optional (member_list t)) (mark CloseBrace) both (token_solid (λ (x : Unit {0}). Mark CloseBrace))).no_empty p (p, refl, h) }
@@ -248,11 +258,11 @@ type_solid fits (suc n) = with_solid fits (body_of (type fits n))
 module _ (within : Bool) where
   body_finds : (t : Grammar TypeTree) (n : ℕ) (read : Reader TypeTree) → Finds within t type_starts no_lexeme read → Finds within (body_of t) is_open no_lexeme (body_at (suc n) read)
   body_finds t n read ft =
-      let fl = finds_listed within (token Ident ∙ t) is_ident no_lexeme (named_at read) (finds_named within t type_starts no_lexeme read ft) refl (pair_solid (token Ident) t (token_solid Ident)) in
-      let fo = optional_finds within (member_list t) is_ident (with_comma no_lexeme) member_ends (listed_at (named_at read)) fl (list_solid t) (λ t e. or_first (is_ident t) (with_comma no_lexeme t) e) (λ t e. or_second (is_ident t) (with_comma no_lexeme t) e) in
+      let fl = finds_listed within (token Ident ∙ component t) is_ident no_lexeme (named_at (component_at read)) (finds_named within (component t) type_starts no_lexeme (component_at read) (component_finds within t read ft)) refl (pair_solid (token Ident) (component t) (token_solid Ident)) in
+      let fo = optional_finds within (member_list t) is_ident (with_comma no_lexeme) member_ends (listed_at (named_at (component_at read))) fl (list_solid t) (λ t e. or_first (is_ident t) (with_comma no_lexeme t) e) (λ t e. or_second (is_ident t) (with_comma no_lexeme t) e) in
       let fc = token_finds (λ (x : Unit {0}). Mark CloseBrace) is_closed closed_at closed_is within in
       let fi = pair_finds within (optional (member_list t)) (mark CloseBrace) inside_starts no_lexeme (inside_read read)
-      (open_finds within (optional (member_list t)) (mark CloseBrace) both inside_starts is_ident member_ends is_closed no_lexeme (perhaps is_ident (listed_at (named_at read))) closed_at fo fc (token_solid (λ (x : Unit {0}). Mark CloseBrace)) closed_ends (λ t e. or_left (is_ident t) (is_closed t) e) (λ t e. or_right (is_ident t) (is_closed t) e)) in
+      (open_finds within (optional (member_list t)) (mark CloseBrace) both inside_starts is_ident member_ends is_closed no_lexeme (perhaps is_ident (listed_at (named_at (component_at read)))) closed_at fo fc (token_solid (λ (x : Unit {0}). Mark CloseBrace)) closed_ends (λ t e. or_left (is_ident t) (is_closed t) e) (λ t e. or_right (is_ident t) (is_closed t) e)) in
       let fb = seq_finds within (mark OpenBrace) (optional (member_list t) ∙ mark CloseBrace) (λ p. p.1.0) is_open no_lexeme inside_starts no_lexeme open_at (inside_read read) (token_finds (λ (x : Unit {0}). Mark OpenBrace) is_open open_at open_is within) fi (token_solid (λ (x : Unit {0}). Mark OpenBrace)) (inside_solid t) (λ t e. refl) in
       same_finds within (body_of t) is_open no_lexeme (body_read read) (body_at (suc n) read) (body_same n read) (made_finds within (braces (optional (member_list t))) members_of is_open no_lexeme (braces_read read) fb)
 

@@ -1,5 +1,5 @@
 -- Reading types and modules from left to right.
-use Rattle.std.specs.Prelude.{ℕ, zero, suc, Bool, true, false, List, ◌∷◌, length, None, Ok}
+use Rattle.std.specs.Prelude.{ℕ, zero, suc, Bool, true, false, List, [], ◌∷◌, length, None, Ok}
 use Rattle.text.specs.declared.token.Mark.TheVariants.{Assign, OpenBrace}
 use Rattle.text.specs.declared.reserved.Word.TheVariants.{Definitions, Explicit, Tags, Begin, End, Boolean, Integer, Octet, String, Sequence}
 use Rattle.grammar.specs.Lexeme.{Lexeme, TypeRef, Ident, Word, Mark}
@@ -8,7 +8,7 @@ use Rattle.notation.specs.Tree.{Tree}
 use Rattle.notation.specs.Reading.{value_at}
 use Rattle.syntax.specs.declared.tree.TagDefault.{TagDefault}
 use Rattle.syntax.specs.declared.tree.TagDefault.TheVariants as defaults
-use Rattle.syntax.specs.Tree.{TypeTree, a_boolean, an_integer, an_octet_string, type_reference, a_sequence, TypeMembers, no_member, type_members, AssignmentTree, assigns_type, assigns_value, ModuleTree}
+use Rattle.syntax.specs.Tree.{PresenceTree, mandatory, TypeTree, a_boolean, an_integer, an_octet_string, type_reference, a_sequence, TypeMembers, no_member, type_members, AssignmentTree, assigns_type, assigns_value, ModuleTree}
 
 -- ---- lexemes alone
 
@@ -50,9 +50,13 @@ then_at mark read ts = mark ts >>= λ m. read m.1 >>= λ x. Ok (x.0, x.1)
 
 -- ---- types
 
+-- a member's type, with nothing behind it
+unfoldable pub component_at : Reader TypeTree → Reader (TypeTree × PresenceTree)
+component_at read ts = read ts >>= λ t. Ok ((t.0, mandatory), t.1)
+
 -- behind an open brace
 unfoldable pub members_at : Reader TypeTree → Reader TypeMembers
-members_at read (Ident x ∷ rest) = listed_at (named_at read) (Ident x ∷ rest) >>= λ ms. closed_at ms.1 >>= λ e. Ok (type_members ms.0, e.1)
+members_at read (Ident x ∷ rest) = listed_at (named_at (component_at read)) (Ident x ∷ rest) >>= λ ms. closed_at ms.1 >>= λ e. Ok (type_members ms.0, e.1)
 members_at read ts = closed_at ts >>= λ e. Ok (no_member, e.1)
 
 -- behind SEQUENCE
@@ -116,4 +120,4 @@ module _ (fits : ℕ → Bool) where
   defined_at n ts = tag_default_at ts >>= λ d. then_at assign_at (then_at begin_at (assignments_at n)) d.1 >>= λ xs. Ok ((d.0, xs.0), xs.1)
 
   unfoldable pub module_at : ℕ → Reader ModuleTree
-  module_at n ts = module_name_at ts >>= λ x. then_at definitions_at (defined_at n) x.1 >>= λ p. Ok (record { name = x.0; tag_default = p.0.0; assignments = p.0.1 }, p.1)
+  module_at n ts = module_name_at ts >>= λ x. then_at definitions_at (defined_at n) x.1 >>= λ p. Ok (record { name = x.0; tag_default = p.0.0; exports = None; imports = []; assignments = p.0.1 }, p.1)

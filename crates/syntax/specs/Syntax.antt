@@ -1,5 +1,5 @@
 -- The grammar of types and modules (X.680, clauses 13, 16, 17 and 25).
-use Rattle.std.specs.Prelude.{ℕ, zero, suc, Bool, List, Option, Some, None}
+use Rattle.std.specs.Prelude.{ℕ, zero, suc, Bool, List, [], Option, Some, None}
 use Rattle.text.specs.declared.token.Mark.TheVariants.{Assign}
 use Rattle.text.specs.declared.reserved.Word.TheVariants.{Definitions, Explicit, Tags, Begin, End, Boolean, Integer, Octet, String, Sequence}
 use Rattle.grammar.specs.Lexeme.{TypeRef, Ident, Word, Mark}
@@ -7,12 +7,16 @@ use Rattle.grammar.specs.Grammar.{Grammar, token, word, ◌∙◌, ◌∣◌, �
 use Rattle.notation.specs.Tree.{Name}
 use Rattle.notation.specs.Value.{value}
 use Rattle.syntax.specs.declared.tree.TagDefault.TheVariants as defaults
-use Rattle.syntax.specs.Tree.{TypeTree, a_boolean, an_integer, an_octet_string, type_reference, a_sequence, TypeMembers, no_member, type_members, AssignmentTree, assigns_type, assigns_value, ModuleTree}
+use Rattle.syntax.specs.Tree.{PresenceTree, mandatory, TypeTree, a_boolean, an_integer, an_octet_string, type_reference, a_sequence, TypeMembers, no_member, type_members, AssignmentTree, assigns_type, assigns_value, ModuleTree}
 
 -- the members that may stand in braces
-abbrev pub members_of : Option (List (Name × TypeTree)) → TypeMembers
+abbrev pub members_of : Option (List (Name × (TypeTree × PresenceTree))) → TypeMembers
 members_of None = no_member
 members_of (Some ms) = type_members ms
+
+-- a member's type, with nothing behind it
+abbrev pub component : Grammar TypeTree → Grammar (TypeTree × PresenceTree)
+component t = t ⇒ (λ t. (t, mandatory))
 
 -- A limit on numbers is a test that numbers with no minus meet.
 module _ (fits : ℕ → Bool) where
@@ -28,7 +32,7 @@ module _ (fits : ℕ → Bool) where
   -- the types with at most n braces open at one place
   abbrev pub type : ℕ → Grammar TypeTree
   type zero = type_with cut_off
-  type (suc n) = type_with (braces (optional (listed (token Ident ∙ type n))) ⇒ members_of)
+  type (suc n) = type_with (braces (optional (listed (token Ident ∙ component (type n)))) ⇒ members_of)
 
   abbrev pub assignment : ℕ → Grammar AssignmentTree
   assignment n =
@@ -41,4 +45,4 @@ module _ (fits : ℕ → Bool) where
       (token TypeRef ∙ behind (Word Definitions) (
       (optional (word Explicit ∙ word Tags) ⇒ (λ _. defaults.Explicit)) ∙ behind (Mark Assign) (behind (Word Begin) (
       (many (assignment n) ∙ word End) ⇒ (λ p. p.0)))))
-      ⇒ (λ p. record { name = p.0; tag_default = p.1.0; assignments = p.1.1 })
+      ⇒ (λ p. record { name = p.0; tag_default = p.1.0; exports = None; imports = []; assignments = p.1.1 })

@@ -1,6 +1,8 @@
 //! The notation of ASN.1 modules.
 #![tactic(auto)]
 
+pub mod heading;
+pub mod importing;
 pub mod modules;
 pub mod parsing;
 pub mod tree;
@@ -9,7 +11,8 @@ pub mod types;
 pub use notation::{Limit, SyntaxFault};
 pub use parsing::{one_module, parse};
 pub use tree::{
-    Assignment, Member, Module, TagDefault, TypeAssignment, TypeSyntax, ValueAssignment,
+    Assignment, EnumeratedItem, Import, Keyword, Member, Module, NamedBit, NamedNumber,
+    PresenceSyntax, TagDefault, TypeAssignment, TypeSyntax, ValueAssignment,
 };
 
 #[cfg(test)]

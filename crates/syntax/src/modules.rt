@@ -41,7 +41,7 @@ fn definitions<'a>(text: &[u8], tokens: &'a [Token]) -> Result<&'a [Token], Read
 
 /// The tokens behind `TAGS`.
 #[tactic(auto, unfolding(crate::specs::Reading::tags_at))]
-fn tags<'a>(text: &[u8], tokens: &'a [Token]) -> Result<&'a [Token], ReadError>
+pub fn tags<'a>(text: &[u8], tokens: &'a [Token]) -> Result<&'a [Token], ReadError>
     requires tokens { AreTokens text.now tokens.now }
     ensures read { Gives (λ x. (tt, lexemes text.now x.now)) result (tags_at (lexemes text.now tokens.now)) }
     ensures rest { IfOk result (λ x. AreTokens text.now x.now) }
@@ -312,6 +312,8 @@ pub fn module<'a>(
                 Module {
                     name,
                     tag_default,
+                    exports: None,
+                    imports: Vec::new(alloc),
                     assignments,
                 },
                 rest,

@@ -5,9 +5,9 @@ ghost use Rattle.grammar.specs.Lexeme.{lexemes};
 ghost use Rattle.grammar.specs.Reading.{listed_at, named_at};
 ghost use Rattle.notation.specs.Given.{Gives, AreTokens};
 ghost use Rattle.syntax.specs.Tree.{type_tree_of, type_member_of, type_members};
-ghost use Rattle.syntax.specs.Reading.{string_at, members_at, body_at, sequence_at, type_step, type_at};
+ghost use Rattle.syntax.specs.Reading.{string_at, component_at, members_at, body_at, sequence_at, type_step, type_at};
 
-use crate::tree::{Member, TypeSyntax};
+use crate::tree::{Member, PresenceSyntax, TypeSyntax};
 use notation::decode::name_of;
 use notation::reading::{closed, comma};
 use notation::{Limit, ReadError};
@@ -162,7 +162,7 @@ fn listed<'a>(
     depth: usize,
 ) -> Result<(Vec<Member<TypeSyntax>>, &'a [Token]), ReadError>
     requires tokens { AreTokens text.now tokens.now }
-    ensures read { Gives (λ x. (map type_member_of x.0.items, lexemes text.now x.1.now)) result (listed_at (named_at (type_at depth)) (lexemes text.now tokens.now)) }
+    ensures read { Gives (λ x. (map type_member_of x.0.items, lexemes text.now x.1.now)) result (listed_at (named_at (component_at (type_at depth))) (lexemes text.now tokens.now)) }
     ensures rest { IfOk result (λ x. AreTokens text.now x.1.now) }
 {
     let mut members = Vec::new(alloc);
@@ -176,7 +176,7 @@ fn listed<'a>(
     Ok((members, rest))
 }
 
-#[tactic(auto, unfolding(grammar::specs::Reading::named_at))]
+#[tactic(auto, unfolding(grammar::specs::Reading::named_at, crate::specs::Reading::component_at))]
 #[cycle(type_syntax)]
 fn member<'a>(
     alloc: Global,
@@ -185,7 +185,7 @@ fn member<'a>(
     depth: usize,
 ) -> Result<(Member<TypeSyntax>, &'a [Token]), ReadError>
     requires tokens { AreTokens text.now tokens.now }
-    ensures read { Gives (λ x. (type_member_of x.0, lexemes text.now x.1.now)) result (named_at (type_at depth) (lexemes text.now tokens.now)) }
+    ensures read { Gives (λ x. (type_member_of x.0, lexemes text.now x.1.now)) result (named_at (component_at (type_at depth)) (lexemes text.now tokens.now)) }
     ensures rest { IfOk result (λ x. AreTokens text.now x.1.now) }
 {
     match tokens {
@@ -198,7 +198,14 @@ fn member<'a>(
         ] => {
             let (syntax, rest) = type_syntax(alloc, text, rest, depth)?;
             let name = name_of(alloc, text, *name)?;
-            Ok((Member { name, syntax }, rest))
+            Ok((
+                Member {
+                    name,
+                    syntax,
+                    presence: PresenceSyntax::Mandatory,
+                },
+                rest,
+            ))
         }
         _ => Err(ReadError::Unexpected(tokens.len())),
     }

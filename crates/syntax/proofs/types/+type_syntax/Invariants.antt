@@ -3,7 +3,7 @@ use Rattle.grammar.specs.Lexeme.{lexemes}
 use Rattle.grammar.specs.Reading.{with_front, behind_commas_at, listed_at, named_at}
 use Rattle.notation.specs.Given.{AreTokens}
 use Rattle.syntax.specs.Tree.{type_member_of}
-use Rattle.syntax.specs.Reading.{type_at}
+use Rattle.syntax.specs.Reading.{component_at, type_at}
 use Rattle.syntax.proofs.types.+type_syntax.Given as goal
 
 abbrev pub decreases-body : goal.decreases-body
@@ -29,7 +29,7 @@ decreases-members l = 8 * l.depth + 10
 
 abbrev pub invariant-listed-loop-after : goal.invariant-listed-loop-after
 invariant-listed-loop-after l = record {
-  read : with_front (map type_member_of l.members.items) (behind_commas_at (named_at (type_at l.depth)) (length (lexemes l.text l.rest)) (lexemes l.text l.rest)) ≡ listed_at (named_at (type_at l.depth)) (lexemes l.text l.fn.tokens);
+  read : with_front (map type_member_of l.members.items) (behind_commas_at (named_at (component_at (type_at l.depth))) (length (lexemes l.text l.rest)) (lexemes l.text l.rest)) ≡ listed_at (named_at (component_at (type_at l.depth))) (lexemes l.text l.fn.tokens);
   tokens : AreTokens l.text l.rest;
 }
 

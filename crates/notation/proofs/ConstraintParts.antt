@@ -1,0 +1,570 @@
+-- The readers of constraints, and what their productions are owed.
+use Rattle.std.proofs.Common.{◌≡◌, ℕ, ◌≤◌, inl, inr, Bool, true, false, List, [], ◌∷◌, ◌++◌, length, Option, Some, None, Ok, Err, refl, sym, ap, subst, ◌∙◌ as ◌⋆◌, arith}
+use Rattle.std.proofs.lemmas.List.{append-nil}
+use Rattle.text.specs.declared.token.Mark.TheVariants.{Range, Dot, OpenParenthesis, CloseParenthesis, Bar, Minus}
+use Rattle.text.specs.declared.reserved.Word.TheVariants.{From, Size, Union, Min, Max}
+use Rattle.grammar.specs.Lexeme.{Lexeme, TypeRef, Ident, Number, CString, Word, Mark}
+use Rattle.grammar.specs.Grammar.{Grammar, token, mark, word, only as lexeme, number_of, ◌∙◌, ◌∣◌, ◌⇒◌, many, optional, behind}
+use Rattle.grammar.specs.Grows.{Grows}
+use Rattle.grammar.specs.Reading.{Limit, Integer, Read, Reader, ◌>>=◌, stop, fitting, many_at}
+use Rattle.grammar.specs.Laws.{nowhere, then_read, after_read}
+use Rattle.grammar.specs.Loops.{Shrinks, sound_short}
+use Rattle.grammar.specs.Lists.{no_lexeme, is_ident}
+use Rattle.grammar.specs.Numbers.{Past}
+use Rattle.grammar.specs.Parts.{IsKind, pick, perhaps, token_solid}
+use Rattle.notation.specs.Rules.{Rules, Loose, Same, either, rule_token, rule_made, rule_seq, rule_behind, rule_tail, rule_pair, rule_pick, loose_optional, loose_many, rule_read, rule_tests, rule_same, is_number, number_at, rule_number, fitting_made, made, read_again, one_at, one_is}
+use Rattle.notation.specs.Parens.{rule_parens}
+use Rattle.notation.specs.Tree.{Name}
+use Rattle.notation.specs.Constraint.{EndTree, number_end, name_end, RangeTree, only, between, ConstraintTree, values_in, sizes_in, chars_in}
+use Rattle.notation.specs.ConstraintGrammar.{parens, or, by_or, ref, chars, end, range, ranges, size, constraint}
+use Rattle.notation.specs.ConstraintReading.{is_open, is_size, open_at, close_at, parens_at, is_or, or_then_at, by_or_at, last_chars_at, more_chars_at, chars_at, from_at, minus_at, end_name_at, end_dot_at, end_at, some_end_at, upper_at, behind_min_at, behind_end_at, single_at, range_at, ranges_at, size_at, size_in_at, from_in_at, values_in_at, inside_at, constraint_at}
+
+-- ---- lexemes
+
+abbrev pub is_range : Lexeme → Bool
+is_range (Mark Range) = true
+is_range t = false
+
+range_one : (t : Lexeme) → is_range t ≡ true → t ≡ Mark Range
+range_one (Mark Range) e = refl
+range_one t e = absurd cc
+
+abbrev pub is_dot : Lexeme → Bool
+is_dot (Mark Dot) = true
+is_dot t = false
+
+dot_one : (t : Lexeme) → is_dot t ≡ true → t ≡ Mark Dot
+dot_one (Mark Dot) e = refl
+dot_one t e = absurd cc
+
+abbrev pub is_minus : Lexeme → Bool
+is_minus (Mark Minus) = true
+is_minus t = false
+
+minus_one : (t : Lexeme) → is_minus t ≡ true → t ≡ Mark Minus
+minus_one (Mark Minus) e = refl
+minus_one t e = absurd cc
+
+abbrev pub is_bar : Lexeme → Bool
+is_bar (Mark Bar) = true
+is_bar t = false
+
+bar_one : (t : Lexeme) → is_bar t ≡ true → t ≡ Mark Bar
+bar_one (Mark Bar) e = refl
+bar_one t e = absurd cc
+
+abbrev pub is_union : Lexeme → Bool
+is_union (Word Union) = true
+is_union t = false
+
+union_one : (t : Lexeme) → is_union t ≡ true → t ≡ Word Union
+union_one (Word Union) e = refl
+union_one t e = absurd cc
+
+abbrev pub is_from : Lexeme → Bool
+is_from (Word From) = true
+is_from t = false
+
+from_one : (t : Lexeme) → is_from t ≡ true → t ≡ Word From
+from_one (Word From) e = refl
+from_one t e = absurd cc
+
+size_one : (t : Lexeme) → is_size t ≡ true → t ≡ Word Size
+size_one (Word Size) e = refl
+size_one t e = absurd cc
+
+abbrev pub is_min : Lexeme → Bool
+is_min (Word Min) = true
+is_min t = false
+
+min_one : (t : Lexeme) → is_min t ≡ true → t ≡ Word Min
+min_one (Word Min) e = refl
+min_one t e = absurd cc
+
+abbrev pub is_max : Lexeme → Bool
+is_max (Word Max) = true
+is_max t = false
+
+max_one : (t : Lexeme) → is_max t ≡ true → t ≡ Word Max
+max_one (Word Max) e = refl
+max_one t e = absurd cc
+
+unfoldable digits_at : Reader (ℕ)
+digits_at (Number x ∷ rest) = Ok (x, rest)
+digits_at ts = stop ts
+
+digits_is : IsKind Number is_number digits_at
+unfolding digits_at
+digits_is = record { yes = λ x. refl; one = one; nil = refl; hit = λ x ts. refl; miss = miss }
+  where
+    one : (s : Lexeme) → is_number s ≡ true → (x : ℕ) × (s ≡ Number x)
+    one (Number x) e = (x, refl)
+    one s e = absurd cc
+
+    miss : (s : Lexeme) (ts : List Lexeme) → is_number s ≡ false → digits_at (s ∷ ts) ≡ stop (s ∷ ts)
+    miss (Number x) ts e = absurd cc
+    miss s ts e = refl
+
+unfoldable name_at : Reader (List ℕ)
+name_at (Ident x ∷ rest) = Ok (x, rest)
+name_at ts = stop ts
+
+name_is : IsKind Ident is_ident name_at
+unfolding name_at
+name_is = record { yes = λ x. refl; one = one; nil = refl; hit = λ x ts. refl; miss = miss }
+  where
+    one : (s : Lexeme) → is_ident s ≡ true → (x : List ℕ) × (s ≡ Ident x)
+    one (Ident x) e = (x, refl)
+    one s e = absurd cc
+
+    miss : (s : Lexeme) (ts : List Lexeme) → is_ident s ≡ false → name_at (s ∷ ts) ≡ stop (s ∷ ts)
+    miss (Ident x) ts e = absurd cc
+    miss s ts e = refl
+
+abbrev pub is_typeref : Lexeme → Bool
+is_typeref (TypeRef x) = true
+is_typeref t = false
+
+unfoldable typeref_at : Reader (List ℕ)
+typeref_at (TypeRef x ∷ rest) = Ok (x, rest)
+typeref_at ts = stop ts
+
+typeref_is : IsKind TypeRef is_typeref typeref_at
+unfolding typeref_at
+typeref_is = record { yes = λ x. refl; one = one; nil = refl; hit = λ x ts. refl; miss = miss }
+  where
+    one : (s : Lexeme) → is_typeref s ≡ true → (x : List ℕ) × (s ≡ TypeRef x)
+    one (TypeRef x) e = (x, refl)
+    one s e = absurd cc
+
+    miss : (s : Lexeme) (ts : List Lexeme) → is_typeref s ≡ false → typeref_at (s ∷ ts) ≡ stop (s ∷ ts)
+    miss (TypeRef x) ts e = absurd cc
+    miss s ts e = refl
+
+abbrev pub is_text : Lexeme → Bool
+is_text (CString x) = true
+is_text t = false
+
+unfoldable text_at : Reader (List ℕ)
+text_at (CString x ∷ rest) = Ok (x, rest)
+text_at ts = stop ts
+
+text_is : IsKind CString is_text text_at
+unfolding text_at
+text_is = record { yes = λ x. refl; one = one; nil = refl; hit = λ x ts. refl; miss = miss }
+  where
+    one : (s : Lexeme) → is_text s ≡ true → (x : List ℕ) × (s ≡ CString x)
+    one (CString x) e = (x, refl)
+    one s e = absurd cc
+
+    miss : (s : Lexeme) (ts : List Lexeme) → is_text s ≡ false → text_at (s ∷ ts) ≡ stop (s ∷ ts)
+    miss (CString x) ts e = absurd cc
+    miss s ts e = refl
+
+or_is : (t : Lexeme) → either is_bar is_union t ≡ true → is_or t ≡ true
+or_is (Mark Bar) e = refl
+or_is (Word Union) e = refl
+or_is t e = absurd cc
+
+abbrev ref_read : Reader (Option Name × Name)
+ref_read = pick is_ident (λ ts. name_at ts >>= λ x. Ok ((None, x.0), x.1)) (λ ts. then_read (λ (p : Name × Name). p) typeref_at (then_read (λ p. p.1) (one_at is_dot) name_at) ts >>= λ p. Ok ((Some p.0.0, p.0.1), p.1))
+
+typeref_no_ident : (t : Lexeme) → is_typeref t ≡ true → is_ident t ≡ false
+typeref_no_ident (TypeRef x) e = refl
+typeref_no_ident t e = absurd cc
+
+module _ {over : Limit → ℕ} {within : Bool} where
+  rule_dots : Rules over within (lexeme (Mark Range)) is_range no_lexeme (one_at is_range)
+  rule_dots = rule_token (one_is (Mark Range) is_range refl range_one)
+
+  rule_dot : Rules over within (lexeme (Mark Dot)) is_dot no_lexeme (one_at is_dot)
+  rule_dot = rule_token (one_is (Mark Dot) is_dot refl dot_one)
+
+  rule_minus : Rules over within (lexeme (Mark Minus)) is_minus no_lexeme (one_at is_minus)
+  rule_minus = rule_token (one_is (Mark Minus) is_minus refl minus_one)
+
+  rule_bar : Rules over within (lexeme (Mark Bar)) is_bar no_lexeme (one_at is_bar)
+  rule_bar = rule_token (one_is (Mark Bar) is_bar refl bar_one)
+
+  rule_union : Rules over within (lexeme (Word Union)) is_union no_lexeme (one_at is_union)
+  rule_union = rule_token (one_is (Word Union) is_union refl union_one)
+
+  rule_from_w : Rules over within (lexeme (Word From)) is_from no_lexeme (one_at is_from)
+  rule_from_w = rule_token (one_is (Word From) is_from refl from_one)
+
+  rule_size_w : Rules over within (lexeme (Word Size)) is_size no_lexeme (one_at is_size)
+  rule_size_w = rule_token (one_is (Word Size) is_size refl size_one)
+
+  rule_min : Rules over within (lexeme (Word Min)) is_min no_lexeme (one_at is_min)
+  rule_min = rule_token (one_is (Word Min) is_min refl min_one)
+
+  rule_max : Rules over within (lexeme (Word Max)) is_max no_lexeme (one_at is_max)
+  rule_max = rule_token (one_is (Word Max) is_max refl max_one)
+
+  -- ---- "|" and UNION
+
+  rule_or : Rules over within or (either is_bar is_union) (either no_lexeme no_lexeme) (pick is_bar (one_at is_bar) (one_at is_union))
+  rule_or = rule_pick rule_bar rule_union apart
+    where
+      apart : (t : Lexeme) → is_union t ≡ true → is_bar t ≡ false
+      apart t e = subst (λ (t : Lexeme). is_bar t ≡ false) (sym (union_one t e)) refl
+
+  -- a part behind "|" or UNION
+  or_then_rule : {A : Type 0} {a : Grammar A} {starts ends : Lexeme → Bool} {read : Reader A} → Rules over within a starts ends read → Rules over within ((or ∙ a) ⇒ (λ p. p.1)) is_or ends (or_then_at read)
+  unfolding or_then_at
+  or_then_rule {A} {a} {starts} {ends} {read} k = rule_tests is_or ends or_is (λ t e. e) (rule_read (or_then_at read) same (rule_seq (λ p. p.1) rule_or k (λ t e. refl)))
+    where
+      same : (ts : List Lexeme) → then_read (λ (p : Unit {0} × A). p.1) (pick is_bar (one_at is_bar) (one_at is_union)) read ts ≡ or_then_at read ts
+      same [] = refl
+      same (Mark Bar ∷ ts) = read_again (read ts)
+      same (Word Union ∷ ts) = read_again (read ts)
+      same (t ∷ ts) = refl
+
+  pub rule_by_or : {A : Type 0} {a : Grammar A} {starts ends : Lexeme → Bool} {read : Reader A} → Rules over within a starts ends read → ((t : Lexeme) → is_or t ≡ true → ends t ≡ false) → Rules over within (by_or a) starts (either ends (either is_or ends)) (by_or_at read)
+  unfolding by_or_at
+  rule_by_or k apart = rule_tail (λ p. p.0 ∷ p.1) k (loose_many (or_then_rule k) apart) apart
+
+  -- ---- characters
+
+  range_then_text : Rules over within (behind (Mark Range) (token CString)) is_range no_lexeme (then_read (λ p. p.1) (one_at is_range) text_at)
+  range_then_text = rule_behind rule_dots (rule_token text_is)
+
+  pub rule_chars : Rules over within chars is_text (either no_lexeme (either is_range no_lexeme)) chars_at
+  unfolding text_at chars_at last_chars_at more_chars_at
+  rule_chars = rule_read chars_at same (rule_pair (token CString) (optional (behind (Mark Range) (token CString))) (token_solid CString) (rule_tail (λ p. p) (rule_token text_is) (loose_optional range_then_text) (λ t e. refl)))
+    where
+      last : (c : List ℕ) (ts : List Lexeme) → then_read (λ (p : List ℕ × Option (List ℕ)). p) (λ ts. Ok (c, ts)) (perhaps is_range (then_read (λ p. p.1) (one_at is_range) text_at)) (Mark Range ∷ ts) ≡ last_chars_at c ts
+      last c [] = refl
+      last c (CString d ∷ ts) = refl
+      last c (t ∷ ts) = refl
+
+      rest : (c : List ℕ) (ts : List Lexeme) → then_read (λ (p : List ℕ × Option (List ℕ)). p) (λ ts. Ok (c, ts)) (perhaps is_range (then_read (λ p. p.1) (one_at is_range) text_at)) ts ≡ more_chars_at c ts
+      rest c [] = refl
+      rest c (Mark Range ∷ ts) = last c ts
+      rest c (t ∷ ts) = refl
+
+      same : (ts : List Lexeme) → then_read (λ (p : List ℕ × Option (List ℕ)). p) text_at (perhaps is_range (then_read (λ p. p.1) (one_at is_range) text_at)) ts ≡ chars_at ts
+      same [] = refl
+      same (CString c ∷ ts) = rest c ts
+      same (t ∷ ts) = refl
+
+  -- behind FROM
+  pub rule_from : Rules over within (behind (Word From) (parens (by_or chars))) is_from no_lexeme from_at
+  unfolding from_at
+  rule_from = rule_read from_at same (rule_behind rule_from_w (rule_parens (rule_by_or rule_chars or_apart) refl))
+    where
+      or_apart : (t : Lexeme) → is_or t ≡ true → either no_lexeme (either is_range no_lexeme) t ≡ false
+      or_apart (Mark Bar) e = refl
+      or_apart (Word Union) e = refl
+      or_apart t e = absurd cc
+
+      same : (ts : List Lexeme) → then_read (λ (p : Unit {0} × List (List ℕ × Option (List ℕ))). p.1) (one_at is_from) (parens_at (by_or_at chars_at)) ts ≡ from_at ts
+      same [] = refl
+      same (Word From ∷ ts) = read_again (parens_at (by_or_at chars_at) ts)
+      same (t ∷ ts) = refl
+
+  -- ---- names
+
+  dot_then_name : Rules over within (behind (Mark Dot) (token Ident)) is_dot no_lexeme (then_read (λ p. p.1) (one_at is_dot) name_at)
+  dot_then_name = rule_behind rule_dot (rule_token name_is)
+
+  rule_ref : Rules over within ref (either is_ident is_typeref) (either no_lexeme no_lexeme) ref_read
+  rule_ref =
+      rule_pick (rule_made (λ x. (None, x)) (rule_token name_is))
+      (rule_made (λ p. (Some p.0, p.1)) (rule_pair (token TypeRef) (behind (Mark Dot) (token Ident)) (token_solid TypeRef) (rule_seq (λ p. p) (rule_token typeref_is) dot_then_name (λ t e. refl))))
+      typeref_no_ident
+
+-- fits is the reader's test on numbers, fits' the grammar's
+module _ (over : Limit → ℕ) (within : Bool) (fits fits' : ℕ → Bool) (grows : (n : ℕ) → fits n ≡ true → fits' n ≡ true) (past : Past (over Integer) ((n : ℕ) → fits' n ≡ true)) (room : (n : ℕ) → fits' n ≡ true → within ≡ true → fits n ≡ true) where
+  -- ---- ends of ranges
+
+  abbrev ends_start : Lexeme → Bool
+  ends_start (Number n) = true
+  ends_start (Mark Minus) = true
+  ends_start (Ident x) = true
+  ends_start (TypeRef x) = true
+  ends_start t = false
+
+  abbrev end_read : Reader EndTree
+  end_read =
+      pick is_number (λ ts. number_at fits ts >>= λ n. Ok (number_end false n.0, n.1))
+      (pick is_minus (λ ts. then_read (λ (p : Unit {0} × ℕ). p.1) (one_at is_minus) digits_at ts >>= λ n. Ok (number_end true n.0, n.1)) (λ ts. ref_read ts >>= λ p. Ok (name_end p.0.0 p.0.1, p.1)))
+
+  ref_no_minus : (t : Lexeme) → either is_ident is_typeref t ≡ true → is_minus t ≡ false
+  ref_no_minus (Ident x) e = refl
+  ref_no_minus (TypeRef x) e = refl
+  ref_no_minus t e = absurd cc
+
+  rest_no_number : (t : Lexeme) → either is_minus (either is_ident is_typeref) t ≡ true → is_number t ≡ false
+  rest_no_number (Number n) e = absurd cc
+  rest_no_number t e = refl
+
+  end_tests : (t : Lexeme) → either is_number (either is_minus (either is_ident is_typeref)) t ≡ true → ends_start t ≡ true
+  end_tests (Number n) e = refl
+  end_tests (Mark Minus) e = refl
+  end_tests (Ident x) e = refl
+  end_tests (TypeRef x) e = refl
+  end_tests t e = absurd cc
+
+  minus_same : (ts : List Lexeme) → end_read (Mark Minus ∷ ts) ≡ end_at fits (Mark Minus ∷ ts)
+  unfolding digits_at end_at minus_at
+  minus_same [] = refl
+  minus_same (Number n ∷ ts) = refl
+  minus_same (t ∷ ts) = refl
+
+  dot_same : (m : List ℕ) (ts : List Lexeme) → end_read (TypeRef m ∷ Mark Dot ∷ ts) ≡ end_at fits (TypeRef m ∷ Mark Dot ∷ ts)
+  unfolding typeref_at name_at end_at end_dot_at end_name_at
+  dot_same m [] = refl
+  dot_same m (Ident x ∷ ts) = refl
+  dot_same m (t ∷ ts) = refl
+
+  typeref_same : (m : List ℕ) (ts : List Lexeme) → end_read (TypeRef m ∷ ts) ≡ end_at fits (TypeRef m ∷ ts)
+  unfolding typeref_at end_at end_dot_at
+  typeref_same m [] = refl
+  typeref_same m (Mark Dot ∷ ts) = dot_same m ts
+  typeref_same m (t ∷ ts) = refl
+
+  end_same : (ts : List Lexeme) → end_read ts ≡ end_at fits ts
+  unfolding number_at name_at typeref_at end_at
+  end_same [] = refl
+  end_same (Number n ∷ ts) = fitting_made (number_end false) (fits n) n (Number n ∷ ts) ts
+  end_same (Mark Minus ∷ ts) = minus_same ts
+  end_same (Ident x ∷ ts) = refl
+  end_same (TypeRef m ∷ ts) = typeref_same m ts
+  end_same (t ∷ ts) = refl
+
+  pub rule_end : Rules over within (end fits') ends_start no_lexeme (end_at fits)
+  rule_end =
+      rule_tests ends_start no_lexeme end_tests (λ t e. refl)
+      (rule_read (end_at fits) end_same
+      (rule_pick (rule_made (number_end false) (rule_number over within fits fits' grows past room))
+      (rule_pick (rule_made (number_end true) (rule_behind rule_minus (rule_token digits_is))) (rule_made (λ p. name_end p.0 p.1) rule_ref) ref_no_minus) rest_no_number))
+
+  -- ---- ranges
+
+  abbrev bound : Grammar (Option EndTree)
+  bound = end fits' ⇒ Some ∣ word Max ⇒ (λ _. None)
+
+  max_no_end : (t : Lexeme) → is_max t ≡ true → ends_start t ≡ false
+  max_no_end (Word Max) e = refl
+  max_no_end t e = absurd cc
+
+  upper_same : (ts : List Lexeme) → pick ends_start (λ ts. end_at fits ts >>= λ e. Ok (Some e.0, e.1)) (λ ts. one_at is_max ts >>= λ x. Ok (None, x.1)) ts ≡ upper_at fits ts
+  unfolding upper_at some_end_at end_at
+  upper_same [] = refl
+  upper_same (Word Max ∷ ts) = refl
+  upper_same (Mark Minus ∷ ts) = refl
+  upper_same (t ∷ ts) = refl
+
+  rule_bound : Rules over within bound (either ends_start is_max) (either no_lexeme no_lexeme) (upper_at fits)
+  rule_bound = rule_read (upper_at fits) upper_same (rule_pick (rule_made Some rule_end) (rule_made (λ _. None) rule_max) max_no_end)
+
+  abbrev upper : Grammar (Option EndTree)
+  upper = behind (Mark Range) bound
+
+  abbrev upper_read : Reader (Option EndTree)
+  upper_read = then_read (λ p. p.1) (one_at is_range) (upper_at fits)
+
+  rule_upper : Rules over within upper is_range (either no_lexeme no_lexeme) upper_read
+  rule_upper = rule_behind rule_dots rule_bound
+
+  abbrev of_ends : EndTree × Option (Option EndTree) → RangeTree
+  of_ends (a, None) = only a
+  of_ends (a, Some b) = between (Some a) b
+
+  behind_same : (a : EndTree) (ts : List Lexeme) → made (λ (y : Option (Option EndTree)). of_ends (a, y)) (perhaps is_range upper_read ts) ≡ behind_end_at fits a ts
+  unfolding behind_end_at
+  behind_same a [] = refl
+  behind_same a (Mark Range ∷ ts) = go (upper_at fits ts)
+    where
+      go : (r : Read (Option EndTree)) → made (λ (y : Option (Option EndTree)). of_ends (a, y)) (made Some (made (λ (b : Option EndTree). b) r)) ≡ made (between (Some a)) r
+      go (Ok x) = refl
+      go (Err f) = refl
+  behind_same a (t ∷ ts) = refl
+
+  single_same : (ts : List Lexeme) → then_read of_ends (end_at fits) (perhaps is_range upper_read) ts ≡ single_at fits ts
+  unfolding single_at
+  single_same ts = go (end_at fits ts)
+    where
+      go : (r : Read EndTree) → after_read of_ends r (perhaps is_range upper_read) ≡ (r >>= λ a. behind_end_at fits a.0 a.1)
+      go (Ok x) = behind_same x.0 x.1
+      go (Err f) = refl
+
+  rule_single : Rules over within ((end fits' ∙ optional upper) ⇒ of_ends) ends_start (either no_lexeme (either is_range (either no_lexeme no_lexeme))) (single_at fits)
+  rule_single = rule_read (single_at fits) single_same (rule_tail of_ends rule_end (loose_optional rule_upper) (λ t e. refl))
+
+  min_same : (ts : List Lexeme) → made (between None) (upper_read ts) ≡ behind_min_at fits ts
+  unfolding behind_min_at
+  min_same [] = refl
+  min_same (Mark Range ∷ ts) = go (upper_at fits ts)
+    where
+      go : (r : Read (Option EndTree)) → made (between None) (made (λ (b : Option EndTree). b) r) ≡ made (between None) r
+      go (Ok x) = refl
+      go (Err f) = refl
+  min_same (t ∷ ts) = refl
+
+  rule_behind_min : Rules over within (upper ⇒ between None) is_range (either no_lexeme no_lexeme) (behind_min_at fits)
+  rule_behind_min = rule_read (behind_min_at fits) min_same (rule_made (between None) rule_upper)
+
+  single_no_min : (t : Lexeme) → ends_start t ≡ true → is_min t ≡ false
+  single_no_min (Word Min) e = absurd cc
+  single_no_min t e = refl
+
+  range_same : (ts : List Lexeme) → pick is_min (then_read (λ (p : Unit {0} × RangeTree). p.1) (one_at is_min) (behind_min_at fits)) (single_at fits) ts ≡ range_at fits ts
+  unfolding range_at
+  range_same [] = refl
+  range_same (Word Min ∷ ts) = read_again (behind_min_at fits ts)
+  range_same (t ∷ ts) = refl
+
+  -- what begins with MIN, and what begins with an end
+  abbrev split_range : Grammar RangeTree
+  split_range = behind (Word Min) (upper ⇒ between None) ∣ (end fits' ∙ optional upper) ⇒ of_ends
+
+  abbrev lower : Grammar (Option EndTree)
+  lower = end fits' ⇒ Some ∣ word Min ⇒ (λ _. None)
+
+  end_part : (a : EndTree) (u : List Lexeme) → (end fits').Is a u → (end fits').CanGoOn u
+  end_part = rule_end.finds.part
+
+  range_is_split : Same split_range (range fits')
+  range_is_split = record { to = record { is = to_is; on = to_on }; back = record { is = back_is; on = back_on } }
+    where
+      to_is : (x : RangeTree) (u : List Lexeme) → split_range.Is x u → (range fits').Is x u
+      to_is x u (inl (p, d, (m, v, q, hm, (b, e, hb)))) = inr ((None, b), d ⋆ e, (m, v, q, inr (tt, refl, hm), hb))
+      to_is x u (inr ((a, None), d, (v, w, q, hv, hw))) = inl (a, d, subst (λ (l : List Lexeme). (end fits').Is a l) (sym (q ⋆ ap (λ (l : List Lexeme). v ++ l) hw ⋆ append-nil v)) hv)
+      to_is x u (inr ((a, Some b), d, (v, w, q, hv, hw))) = inr ((Some a, b), d, (v, w, q, inl (a, refl, hv), hw))
+
+      to_on : (u : List Lexeme) → split_range.CanGoOn u → (range fits').CanGoOn u
+      to_on u (inl (inl h)) = inr (inl (inr h))
+      to_on u (inl (inr (t, v, w, q, hv, hw))) = inr (inr (None, v, w, q, inr (tt, refl, hv), hw))
+      to_on u (inr (inl h)) = inl h
+      to_on u (inr (inr (a, v, w, q, hv, inl e))) = inl (subst (end fits').CanGoOn (sym (q ⋆ ap (λ (l : List Lexeme). v ++ l) e ⋆ append-nil v)) (end_part a v hv))
+      to_on u (inr (inr (a, v, w, q, hv, inr h))) = inr (inr (Some a, v, w, q, inl (a, refl, hv), h))
+
+      back_is : (x : RangeTree) (u : List Lexeme) → (range fits').Is x u → split_range.Is x u
+      back_is x u (inl (a, d, h)) = inr ((a, None), d, (u, [], sym (append-nil u), h, refl))
+      back_is x u (inr ((c, b), d, (v, w, q, inl (a, e, hv), hw))) = inr ((a, Some b), d ⋆ ap (λ (c : Option EndTree). between c b) e, (v, w, q, hv, hw))
+      back_is x u (inr ((c, b), d, (v, w, q, inr (t, e, hv), hw))) = inl ((tt, between None b), d ⋆ ap (λ (c : Option EndTree). between c b) e, (v, w, q, hv, (b, refl, hw)))
+
+      back_on : (u : List Lexeme) → (range fits').CanGoOn u → split_range.CanGoOn u
+      back_on u (inl h) = inr (inl h)
+      back_on u (inr (inl (inl h))) = inr (inl h)
+      back_on u (inr (inl (inr h))) = inl (inl h)
+      back_on u (inr (inr (c, v, w, q, inl (a, e, hv), hw))) = inr (inr (a, v, w, q, hv, inr hw))
+      back_on u (inr (inr (c, v, w, q, inr (t, e, hv), hw))) = inl (inr (tt, v, w, q, hv, hw))
+
+  abbrev range_starts : Lexeme → Bool
+  range_starts = either is_min ends_start
+
+  range_ends : (t : Lexeme) → is_range t ≡ false → either (either no_lexeme no_lexeme) (either no_lexeme (either is_range (either no_lexeme no_lexeme))) t ≡ false
+  range_ends (Mark Range) e = absurd cc
+  range_ends t e = refl
+
+  pub rule_range : Rules over within (range fits') range_starts is_range (range_at fits)
+  rule_range =
+      rule_same (range fits') range_is_split
+      (rule_tests range_starts is_range (λ t e. e) range_ends (rule_read (range_at fits) range_same (rule_pick (rule_behind rule_min rule_behind_min) rule_single single_no_min)))
+
+  or_no_range : (t : Lexeme) → is_or t ≡ true → is_range t ≡ false
+  or_no_range (Mark Bar) e = refl
+  or_no_range (Word Union) e = refl
+  or_no_range t e = absurd cc
+
+  pub rule_ranges : Rules over within (ranges fits') range_starts (either is_range (either is_or is_range)) (ranges_at fits)
+  unfolding ranges_at
+  rule_ranges = rule_by_or rule_range or_no_range
+
+  -- ---- sizes and constraints
+
+  size_same : (ts : List Lexeme) → then_read (λ (p : Unit {0} × List RangeTree). p.1) (one_at is_size) (parens_at (ranges_at fits)) ts ≡ size_at fits ts
+  unfolding size_at
+  size_same [] = refl
+  size_same (Word Size ∷ ts) = read_again (parens_at (ranges_at fits) ts)
+  size_same (t ∷ ts) = refl
+
+  pub rule_size : Rules over within (size fits') is_size no_lexeme (size_at fits)
+  rule_size = rule_read (size_at fits) size_same (rule_behind rule_size_w (rule_parens rule_ranges refl))
+
+  abbrev inner : Grammar ConstraintTree
+  inner = ranges fits' ⇒ values_in ∣ size fits' ⇒ sizes_in ∣ behind (Word From) (parens (by_or chars)) ⇒ chars_in
+
+  rule_values_in : Rules over within (ranges fits' ⇒ values_in) range_starts (either is_range (either is_or is_range)) (values_in_at fits)
+  unfolding values_in_at
+  rule_values_in = rule_made values_in rule_ranges
+
+  rule_size_in : Rules over within (size fits' ⇒ sizes_in) is_size no_lexeme (size_in_at fits)
+  unfolding size_in_at
+  rule_size_in = rule_made sizes_in rule_size
+
+  rule_from_in : Rules over within (behind (Word From) (parens (by_or chars)) ⇒ chars_in) is_from no_lexeme (from_in_at fits)
+  unfolding from_in_at
+  rule_from_in = rule_made chars_in rule_from
+
+  from_no_size : (t : Lexeme) → is_from t ≡ true → is_size t ≡ false
+  from_no_size t e = subst (λ (t : Lexeme). is_size t ≡ false) (sym (from_one t e)) refl
+
+  words_no_range : (t : Lexeme) → either is_size is_from t ≡ true → range_starts t ≡ false
+  words_no_range (Word Size) e = refl
+  words_no_range (Word From) e = refl
+  words_no_range t e = absurd cc
+
+  inside_same : (ts : List Lexeme) → pick range_starts (values_in_at fits) (pick is_size (size_in_at fits) (from_in_at fits)) ts ≡ inside_at fits ts
+  unfolding inside_at values_in_at size_in_at from_in_at ranges_at by_or_at range_at single_at end_at from_at size_at
+  inside_same [] = refl
+  inside_same (Word Size ∷ ts) = refl
+  inside_same (Word From ∷ ts) = refl
+  inside_same (Word Min ∷ ts) = refl
+  inside_same (Mark Minus ∷ ts) = refl
+  inside_same (t ∷ ts) = refl
+
+  rule_inside : Rules over within inner (either range_starts (either is_size is_from)) (either (either is_range (either is_or is_range)) (either no_lexeme no_lexeme)) (inside_at fits)
+  rule_inside = rule_read (inside_at fits) inside_same (rule_pick rule_values_in (rule_pick rule_size_in rule_from_in from_no_size) words_no_range)
+
+  abbrev split_constraint : Grammar ConstraintTree
+  split_constraint = parens inner
+
+  -- one parenthesis for all
+  constraint_is_split : Same split_constraint (constraint fits')
+  constraint_is_split = record { to = record { is = to_is; on = to_on }; back = record { is = back_is; on = back_on } }
+    where
+      to_is : (x : ConstraintTree) (u : List Lexeme) → split_constraint.Is x u → (constraint fits').Is x u
+      to_is x u (p, d, (m, v, q, hm, (w, c, e, inl (a, f, ha), hc))) = inl (a, d ⋆ f, ((tt, (a, tt)), refl, (m, v, q, hm, (w, c, e, ha, hc))))
+      to_is x u (p, d, (m, v, q, hm, (w, c, e, inr (inl (a, f, ha)), hc))) = inr (inl (a, d ⋆ f, ((tt, (a, tt)), refl, (m, v, q, hm, (w, c, e, ha, hc)))))
+      to_is x u (p, d, (m, v, q, hm, (w, c, e, inr (inr (a, f, ha)), hc))) = inr (inr (a, d ⋆ f, ((tt, (a, tt)), refl, (m, v, q, hm, (w, c, e, ha, hc)))))
+
+      to_on : (u : List Lexeme) → split_constraint.CanGoOn u → (constraint fits').CanGoOn u
+      to_on u (inl h) = inl (inl h)
+      to_on u (inr (o, m, v, q, hm, inl (inl h))) = inl (inr (o, m, v, q, hm, inl h))
+      to_on u (inr (o, m, v, q, hm, inl (inr (inl h)))) = inr (inl (inr (o, m, v, q, hm, inl h)))
+      to_on u (inr (o, m, v, q, hm, inl (inr (inr h)))) = inr (inr (inr (o, m, v, q, hm, inl h)))
+      to_on u (inr (o, m, v, q, hm, inr (x, w, c, e, inl (a, f, ha), hc))) = inl (inr (o, m, v, q, hm, inr (a, w, c, e, ha, hc)))
+      to_on u (inr (o, m, v, q, hm, inr (x, w, c, e, inr (inl (a, f, ha)), hc))) = inr (inl (inr (o, m, v, q, hm, inr (a, w, c, e, ha, hc))))
+      to_on u (inr (o, m, v, q, hm, inr (x, w, c, e, inr (inr (a, f, ha)), hc))) = inr (inr (inr (o, m, v, q, hm, inr (a, w, c, e, ha, hc))))
+
+      back_is : (x : ConstraintTree) (u : List Lexeme) → (constraint fits').Is x u → split_constraint.Is x u
+      back_is x u (inl (a, d, (p, f, (m, v, q, hm, (w, c, e, ha, hc))))) = ((tt, (x, tt)), refl, (m, v, q, hm, (w, c, e, inl (p.1.0, d ⋆ ap values_in f, ha), hc)))
+      back_is x u (inr (inl (a, d, (p, f, (m, v, q, hm, (w, c, e, ha, hc)))))) = ((tt, (x, tt)), refl, (m, v, q, hm, (w, c, e, inr (inl (p.1.0, d ⋆ ap sizes_in f, ha)), hc)))
+      back_is x u (inr (inr (a, d, (p, f, (m, v, q, hm, (w, c, e, ha, hc)))))) = ((tt, (x, tt)), refl, (m, v, q, hm, (w, c, e, inr (inr (p.1.0, d ⋆ ap chars_in f, ha)), hc)))
+
+      back_on : (u : List Lexeme) → (constraint fits').CanGoOn u → split_constraint.CanGoOn u
+      back_on u (inl (inl h)) = inl h
+      back_on u (inl (inr (o, m, v, q, hm, inl h))) = inr (o, m, v, q, hm, inl (inl h))
+      back_on u (inl (inr (o, m, v, q, hm, inr (a, w, c, e, ha, hc)))) = inr (o, m, v, q, hm, inr (values_in a, w, c, e, inl (a, refl, ha), hc))
+      back_on u (inr (inl (inl h))) = inl h
+      back_on u (inr (inl (inr (o, m, v, q, hm, inl h)))) = inr (o, m, v, q, hm, inl (inr (inl h)))
+      back_on u (inr (inl (inr (o, m, v, q, hm, inr (a, w, c, e, ha, hc))))) = inr (o, m, v, q, hm, inr (sizes_in a, w, c, e, inr (inl (a, refl, ha)), hc))
+      back_on u (inr (inr (inl h))) = inl h
+      back_on u (inr (inr (inr (o, m, v, q, hm, inl h)))) = inr (o, m, v, q, hm, inl (inr (inr h)))
+      back_on u (inr (inr (inr (o, m, v, q, hm, inr (a, w, c, e, ha, hc))))) = inr (o, m, v, q, hm, inr (chars_in a, w, c, e, inr (inr (a, refl, ha)), hc))
+
+  pub rule_constraint : Rules over within (constraint fits') is_open no_lexeme (constraint_at fits)
+  unfolding constraint_at
+  rule_constraint = rule_same (constraint fits') constraint_is_split (rule_parens rule_inside refl)
+
+-- ---- what the loops need
+
+pub chars_shrinks : Shrinks chars_at
+chars_shrinks = record { shorter = λ ts x e. sound_short chars ts (chars_at ts) x e ((rule_chars {over = nowhere} {within = false}).sound ts) }
+
+pub range_shrinks : (fits : ℕ → Bool) → Shrinks (range_at fits)
+range_shrinks fits = record { shorter = λ ts x e. sound_short (range fits) ts (range_at fits ts) x e ((rule_range nowhere true fits fits (λ n h. h) tt (λ n h t. h)).sound ts) }

@@ -1,0 +1,60 @@
+-- The grammar of constraints (X.680, clauses 49 to 51), extension markers apart.
+use Rattle.std.specs.Prelude.{ℕ, Bool, true, false, List, ◌∷◌, Option, Some, None}
+use Rattle.text.specs.declared.token.Mark.TheVariants.{Range, Dot, OpenParenthesis, CloseParenthesis, Bar, Minus}
+use Rattle.text.specs.declared.reserved.Word.TheVariants.{From, Size, Union, Min, Max}
+use Rattle.grammar.specs.Lexeme.{TypeRef, Ident, Number, CString, Word, Mark}
+use Rattle.grammar.specs.Grammar.{Grammar, token, mark, word, number_of, ◌∙◌, ◌∣◌, ◌⇒◌, many, optional, behind}
+use Rattle.grammar.specs.Places.{Limited}
+use Rattle.notation.specs.Tree.{Name}
+use Rattle.notation.specs.Constraint.{EndTree, number_end, name_end, RangeTree, only, between, ConstraintTree, values_in, sizes_in, chars_in}
+
+-- a part in parentheses
+abbrev pub parens : {A : Type 0} → Grammar A → Grammar A
+parens a = (mark OpenParenthesis ∙ (a ∙ mark CloseParenthesis)) ⇒ λ p. p.1.0
+
+abbrev pub or : Grammar (Unit {0})
+or = mark Bar ∣ word Union
+
+-- one or more, with "|" or UNION between
+abbrev pub by_or : {A : Type 0} → Grammar A → Grammar (List A)
+by_or a = (a ∙ many ((or ∙ a) ⇒ (λ p. p.1))) ⇒ λ p. p.0 ∷ p.1
+
+-- a name, behind the name of a module or alone
+abbrev pub ref : Grammar (Option Name × Name)
+ref =
+    token Ident ⇒ (λ x. (None, x))
+    ∣ (token TypeRef ∙ behind (Mark Dot) (token Ident)) ⇒ (λ p. (Some p.0, p.1))
+
+-- a text, or the first and the last of a range
+abbrev pub chars : Grammar (List ℕ × Option (List ℕ))
+chars = token CString ∙ optional (behind (Mark Range) (token CString))
+
+-- A limit on numbers is a test that numbers with no minus meet.
+module _ (fits : ℕ → Bool) where
+  -- an end of a range, or a value alone
+  abbrev pub end : Grammar EndTree
+  end =
+      number_of fits ⇒ number_end false
+      ∣ behind (Mark Minus) (token Number) ⇒ number_end true
+      ∣ ref ⇒ (λ p. name_end p.0 p.1)
+
+  abbrev pub range : Grammar RangeTree
+  range =
+      end ⇒ only
+      ∣ ((end ⇒ Some ∣ word Min ⇒ (λ _. None)) ∙ behind (Mark Range) (end ⇒ Some ∣ word Max ⇒ (λ _. None))) ⇒ (λ p. between p.0 p.1)
+
+  abbrev pub ranges : Grammar (List RangeTree)
+  ranges = by_or range
+
+  abbrev pub size : Grammar (List RangeTree)
+  size = behind (Word Size) (parens ranges)
+
+  abbrev pub constraint : Grammar ConstraintTree
+  constraint =
+      parens ranges ⇒ values_in
+      ∣ parens size ⇒ sizes_in
+      ∣ parens (behind (Word From) (parens (by_or chars))) ⇒ chars_in
+
+-- the grammar of what opens nothing that is counted
+abbrev pub flat : {A : Type 0} → ((ℕ → Bool) → Grammar A) → Limited A
+flat g fits n = g fits

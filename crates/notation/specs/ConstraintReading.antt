@@ -1,0 +1,139 @@
+-- Reading constraints from left to right.
+use Rattle.std.specs.Prelude.{ℕ, suc, Bool, true, false, List, [], ◌∷◌, length, Option, Some, None, Ok}
+use Rattle.text.specs.declared.token.Mark.TheVariants.{Range, Dot, OpenParenthesis, CloseParenthesis, Bar, Minus}
+use Rattle.text.specs.declared.reserved.Word.TheVariants.{From, Size, Union, Min, Max}
+use Rattle.grammar.specs.Lexeme.{Lexeme, TypeRef, Ident, Number, CString, Word, Mark}
+use Rattle.grammar.specs.Reading.{Reader, ◌>>=◌, stop, fitting, many_at}
+use Rattle.notation.specs.Constraint.{EndTree, number_end, name_end, RangeTree, only, between, ConstraintTree, values_in, sizes_in, chars_in}
+
+unfoldable pub open_at : Reader (Unit {0})
+open_at (Mark OpenParenthesis ∷ rest) = Ok (tt, rest)
+open_at ts = stop ts
+
+abbrev pub is_open : Lexeme → Bool
+is_open (Mark OpenParenthesis) = true
+is_open t = false
+
+unfoldable pub close_at : Reader (Unit {0})
+close_at (Mark CloseParenthesis ∷ rest) = Ok (tt, rest)
+close_at ts = stop ts
+
+unfoldable pub parens_at : {A : Type 0} → Reader A → Reader A
+parens_at read ts = do
+  o ← open_at ts
+  x ← read o.1
+  c ← close_at x.1
+  Ok (x.0, c.1)
+
+abbrev pub is_or : Lexeme → Bool
+is_or (Mark Bar) = true
+is_or (Word Union) = true
+is_or t = false
+
+unfoldable pub next_or : List Lexeme → Option (List Lexeme)
+next_or (Mark Bar ∷ rest) = Some rest
+next_or (Word Union ∷ rest) = Some rest
+next_or ts = None
+
+unfoldable pub or_then_at : {A : Type 0} → Reader A → Reader A
+or_then_at read (Mark Bar ∷ rest) = read rest
+or_then_at read (Word Union ∷ rest) = read rest
+or_then_at read ts = stop ts
+
+unfoldable pub by_or_at : {A : Type 0} → Reader A → Reader (List A)
+by_or_at read ts = do
+  x ← read ts
+  xs ← many_at is_or (or_then_at read) (length x.1) x.1
+  Ok (x.0 ∷ xs.0, xs.1)
+
+-- behind ".." between texts
+unfoldable pub last_chars_at : List ℕ → Reader (List ℕ × Option (List ℕ))
+last_chars_at c (CString d ∷ rest) = Ok ((c, Some d), rest)
+last_chars_at c ts = stop ts
+
+-- behind a text
+unfoldable pub more_chars_at : List ℕ → Reader (List ℕ × Option (List ℕ))
+more_chars_at c (Mark Range ∷ rest) = last_chars_at c rest
+more_chars_at c ts = Ok ((c, None), ts)
+
+unfoldable pub chars_at : Reader (List ℕ × Option (List ℕ))
+chars_at (CString c ∷ rest) = more_chars_at c rest
+chars_at ts = stop ts
+
+unfoldable pub from_at : Reader (List (List ℕ × Option (List ℕ)))
+from_at (Word From ∷ rest) = parens_at (by_or_at chars_at) rest
+from_at ts = stop ts
+
+unfoldable pub minus_at : Reader EndTree
+minus_at (Number n ∷ rest) = Ok (number_end true n, rest)
+minus_at ts = stop ts
+
+unfoldable pub end_name_at : List ℕ → Reader EndTree
+end_name_at m (Ident x ∷ rest) = Ok (name_end (Some m) x, rest)
+end_name_at m ts = stop ts
+
+unfoldable pub end_dot_at : List ℕ → Reader EndTree
+end_dot_at m (Mark Dot ∷ rest) = end_name_at m rest
+end_dot_at m ts = stop ts
+
+abbrev pub is_size : Lexeme → Bool
+is_size (Word Size) = true
+is_size t = false
+
+-- fits: the test that numbers with no minus meet
+module _ (fits : ℕ → Bool) where
+  unfoldable pub end_at : Reader EndTree
+  end_at (Number n ∷ rest) = fitting (fits n) (Number n ∷ rest) (Ok (number_end false n, rest))
+  end_at (Mark Minus ∷ rest) = minus_at rest
+  end_at (Ident x ∷ rest) = Ok (name_end None x, rest)
+  end_at (TypeRef m ∷ rest) = end_dot_at m rest
+  end_at ts = stop ts
+
+  unfoldable pub some_end_at : Reader (Option EndTree)
+  some_end_at ts = end_at ts >>= λ e. Ok (Some e.0, e.1)
+
+  -- behind ".."
+  unfoldable pub upper_at : Reader (Option EndTree)
+  upper_at (Word Max ∷ rest) = Ok (None, rest)
+  upper_at ts = some_end_at ts
+
+  -- behind MIN
+  unfoldable pub behind_min_at : Reader RangeTree
+  behind_min_at (Mark Range ∷ rest) = upper_at rest >>= λ b. Ok (between None b.0, b.1)
+  behind_min_at ts = stop ts
+
+  unfoldable pub behind_end_at : EndTree → Reader RangeTree
+  behind_end_at a (Mark Range ∷ rest) = upper_at rest >>= λ b. Ok (between (Some a) b.0, b.1)
+  behind_end_at a ts = Ok (only a, ts)
+
+  unfoldable pub single_at : Reader RangeTree
+  single_at ts = end_at ts >>= λ a. behind_end_at a.0 a.1
+
+  unfoldable pub range_at : Reader RangeTree
+  range_at (Word Min ∷ rest) = behind_min_at rest
+  range_at ts = single_at ts
+
+  unfoldable pub ranges_at : Reader (List RangeTree)
+  ranges_at ts = by_or_at range_at ts
+
+  unfoldable pub size_at : Reader (List RangeTree)
+  size_at (Word Size ∷ rest) = parens_at ranges_at rest
+  size_at ts = stop ts
+
+  unfoldable pub size_in_at : Reader ConstraintTree
+  size_in_at ts = size_at ts >>= λ x. Ok (sizes_in x.0, x.1)
+
+  unfoldable pub from_in_at : Reader ConstraintTree
+  from_in_at ts = from_at ts >>= λ x. Ok (chars_in x.0, x.1)
+
+  unfoldable pub values_in_at : Reader ConstraintTree
+  values_in_at ts = ranges_at ts >>= λ x. Ok (values_in x.0, x.1)
+
+  -- behind an open parenthesis
+  unfoldable pub inside_at : Reader ConstraintTree
+  inside_at (Word Size ∷ rest) = size_in_at (Word Size ∷ rest)
+  inside_at (Word From ∷ rest) = from_in_at (Word From ∷ rest)
+  inside_at ts = values_in_at ts
+
+  unfoldable pub constraint_at : Reader ConstraintTree
+  constraint_at ts = parens_at inside_at ts

@@ -1,0 +1,89 @@
+//! The constraint, or the size, from a place on.
+
+ghost use Rattle.std.specs.Prelude.{◌≡◌, ◌≤◌, ℕ, List, length, IfOk, IfErr, MatchResult};
+ghost use Rattle.grammar.specs.Lexeme.{lexemes};
+ghost use Rattle.grammar.specs.Places.{small, free, IsRead};
+ghost use Rattle.notation.specs.Constraint.{ConstraintTree, RangeTree, constraint_of, size_of};
+ghost use Rattle.notation.specs.ConstraintGrammar.{constraint, size, flat};
+ghost use Rattle.notation.specs.Given.{IsLexed};
+ghost use Rattle.notation.specs.Answer.{Stands};
+
+use crate::constraint::{ConstraintSyntax, SizeSyntax};
+use crate::constraint_reading::{constraint, size};
+use crate::fault::{ReadError, SyntaxFault};
+use crate::refused::unexpected;
+use std::alloc::Global;
+use text::Token;
+
+/// Reads the constraint that begins at a place.
+///
+/// In go a text, its tokens as [`text::lex`] gives them, and the place of a token, which may be their end.
+/// Out come the constraint and the place behind its closing parenthesis.
+/// The notation is that of X.680, clause 49.6, with single values, ranges, sizes and alphabets (clause 51), and no
+/// extension marker.
+///
+/// # Errors
+/// - [`SyntaxFault::Unexpected`] and [`SyntaxFault::OutOfProfile`] at the first token with which no constraint can go
+///   on; `OutOfProfile` where that token is a word or mark of a construct that is left out.
+/// - [`SyntaxFault::Limit`] at a number of 2 to the 127 with no minus before it.
+/// - [`SyntaxFault::Memory`] if there is not enough memory.
+pub fn constraint_at(
+    alloc: Global,
+    text: &[u8],
+    tokens: &[Token],
+    place: usize,
+) -> Result<(ConstraintSyntax, usize), SyntaxFault>
+    requires text { IsLexed text.now tokens.now }
+    requires place { place ≤ length tokens.now }
+    // What is answered is the constraint there.
+    ensures found { IfOk result (λ x. IsRead (constraint small) (free (flat constraint)) (lexemes text.now tokens.now) place (constraint_of x.0) x.1) }
+    // A constraint that is there is answered, unless memory runs out.
+    ensures only { (v : ConstraintTree) (end : ℕ) → IsRead (constraint small) (free (flat constraint)) (lexemes text.now tokens.now) place v end
+        → MatchResult result (λ x. (constraint_of x.0 ≡ v) × (x.1 ≡ end)) (λ f. f ≡ SyntaxFault.Memory) }
+    // A fault stands at its place.
+    ensures fault { IfErr result (Stands (flat constraint) (lexemes text.now tokens.now) place 0) }
+{
+    text::law::spans_within();
+    match constraint(alloc, text, &tokens[place..]) {
+        Ok((constraint, rest)) => Ok((constraint, tokens.len() - rest.len())),
+        Err(ReadError::Memory) => Err(SyntaxFault::Memory),
+        Err(ReadError::Unexpected(left)) => Err(unexpected(tokens, tokens.len() - left)),
+        Err(ReadError::Limit(limit, left)) => Err(SyntaxFault::Limit(limit, tokens.len() - left)),
+    }
+}
+
+/// Reads the size that begins at a place: `SIZE (1..4)`.
+///
+/// In go a text, its tokens as [`text::lex`] gives them, and the place of a token, which may be their end.
+/// Out come the size and the place behind its closing parenthesis.
+/// The notation is that of X.680, clause 51.5, with no extension marker.
+///
+/// # Errors
+/// - [`SyntaxFault::Unexpected`] and [`SyntaxFault::OutOfProfile`] at the first token with which no size can go on;
+///   `OutOfProfile` where that token is a word or mark of a construct that is left out.
+/// - [`SyntaxFault::Limit`] at a number of 2 to the 127 with no minus before it.
+/// - [`SyntaxFault::Memory`] if there is not enough memory.
+pub fn size_at(
+    alloc: Global,
+    text: &[u8],
+    tokens: &[Token],
+    place: usize,
+) -> Result<(SizeSyntax, usize), SyntaxFault>
+    requires text { IsLexed text.now tokens.now }
+    requires place { place ≤ length tokens.now }
+    // What is answered is the size there.
+    ensures found { IfOk result (λ x. IsRead (size small) (free (flat size)) (lexemes text.now tokens.now) place (size_of x.0) x.1) }
+    // A size that is there is answered, unless memory runs out.
+    ensures only { (v : List RangeTree) (end : ℕ) → IsRead (size small) (free (flat size)) (lexemes text.now tokens.now) place v end
+        → MatchResult result (λ x. (size_of x.0 ≡ v) × (x.1 ≡ end)) (λ f. f ≡ SyntaxFault.Memory) }
+    // A fault stands at its place.
+    ensures fault { IfErr result (Stands (flat size) (lexemes text.now tokens.now) place 0) }
+{
+    text::law::spans_within();
+    match size(alloc, text, &tokens[place..]) {
+        Ok((size, rest)) => Ok((size, tokens.len() - rest.len())),
+        Err(ReadError::Memory) => Err(SyntaxFault::Memory),
+        Err(ReadError::Unexpected(left)) => Err(unexpected(tokens, tokens.len() - left)),
+        Err(ReadError::Limit(limit, left)) => Err(SyntaxFault::Limit(limit, tokens.len() - left)),
+    }
+}

@@ -1,0 +1,581 @@
+//! Reading a constraint from its first token on.
+
+ghost use Rattle.std.specs.Prelude.{◌≡◌, ◌<◌, Some, None, MatchOption, ℕ, length, map, option_map, IfOk, slice_range};
+ghost use Rattle.text.specs.declared.token.TokenKind.TheVariants as kinds;
+ghost use Rattle.grammar.specs.Lexeme.{lexemes, chars_between};
+ghost use Rattle.grammar.specs.Places.{small};
+ghost use Rattle.notation.specs.Constraint.{end_of, range_of, ranges_of, size_of, chars_of, constraint_of};
+ghost use Rattle.notation.specs.Given.{Gives, IsTokenOf, AreTokens};
+ghost use Rattle.notation.specs.ConstraintReading.{open_at, close_at, next_or, by_or_at, last_chars_at, more_chars_at, chars_at, from_at, minus_at, end_dot_at, end_at, some_end_at, upper_at, behind_min_at, behind_end_at, single_at, range_at, ranges_at, size_at, size_in_at, from_in_at, values_in_at, inside_at, constraint_at};
+
+use crate::constraint::{
+    CharsSyntax, ConstraintSyntax, EndSyntax, RangeSyntax, RangesSyntax, SizeSyntax,
+};
+use crate::decode::{chars_of, name_of, number_of, small_number};
+use crate::fault::ReadError;
+use std::alloc::Global;
+use text::reserved::Word;
+use text::{Mark, Token, TokenKind};
+
+/// The tokens behind an open parenthesis.
+#[tactic(auto, unfolding(crate::specs::ConstraintReading::open_at))]
+pub fn open<'a>(text: &[u8], tokens: &'a [Token]) -> Result<&'a [Token], ReadError>
+    requires tokens { AreTokens text.now tokens.now }
+    ensures read { Gives (λ x. (tt, lexemes text.now x.now)) result (open_at (lexemes text.now tokens.now)) }
+    ensures rest { IfOk result (λ x. AreTokens text.now x.now) }
+{
+    match tokens {
+        [
+            Token {
+                kind: TokenKind::Mark(Mark::OpenParenthesis),
+                ..
+            },
+            rest @ ..,
+        ] => Ok(rest),
+        _ => Err(ReadError::Unexpected(tokens.len())),
+    }
+}
+
+/// The tokens behind a closing parenthesis.
+#[tactic(auto, unfolding(crate::specs::ConstraintReading::close_at))]
+pub fn close<'a>(text: &[u8], tokens: &'a [Token]) -> Result<&'a [Token], ReadError>
+    requires tokens { AreTokens text.now tokens.now }
+    ensures read { Gives (λ x. (tt, lexemes text.now x.now)) result (close_at (lexemes text.now tokens.now)) }
+    ensures rest { IfOk result (λ x. AreTokens text.now x.now) }
+{
+    match tokens {
+        [
+            Token {
+                kind: TokenKind::Mark(Mark::CloseParenthesis),
+                ..
+            },
+            rest @ ..,
+        ] => Ok(rest),
+        _ => Err(ReadError::Unexpected(tokens.len())),
+    }
+}
+
+/// The tokens behind `|` or `UNION`, if one of them is next.
+#[tactic(auto, unfolding(crate::specs::ConstraintReading::next_or))]
+fn or<'a>(text: &[u8], tokens: &'a [Token]) -> Option<&'a [Token]>
+    requires tokens { AreTokens text.now tokens.now }
+    ensures { MatchOption result (next_or (lexemes text.now tokens.now) ≡ None)
+        (λ x. (next_or (lexemes text.now tokens.now) ≡ Some (lexemes text.now x.now)) × AreTokens text.now x.now × (length x.now < length tokens.now)) }
+{
+    match tokens {
+        [
+            Token {
+                kind: TokenKind::Mark(Mark::Bar) | TokenKind::Reserved(Word::Union),
+                ..
+            },
+            rest @ ..,
+        ] => Some(rest),
+        _ => None,
+    }
+}
+
+/// Reads the text behind `..`.
+#[tactic(auto, unfolding(crate::specs::ConstraintReading::last_chars_at))]
+fn last_chars<'a>(
+    alloc: Global,
+    text: &[u8],
+    first: Token,
+    tokens: &'a [Token],
+) -> Result<(CharsSyntax, &'a [Token]), ReadError>
+    requires tokens { AreTokens text.now tokens.now }
+    requires before { IsTokenOf text.now first }
+    requires chars { first.kind ≡ kinds.CharacterString }
+    ensures read { Gives (λ x. (chars_of x.0, lexemes text.now x.1.now)) result (last_chars_at (chars_between text.now first.span.start first.span.end) (lexemes text.now tokens.now)) }
+    ensures rest { IfOk result (λ x. AreTokens text.now x.1.now) }
+{
+    match tokens {
+        [
+            last @ Token {
+                kind: TokenKind::CharacterString,
+                ..
+            },
+            rest @ ..,
+        ] => {
+            let first = chars_of(alloc, text, first)?;
+            let last = chars_of(alloc, text, *last)?;
+            let last = Some(last);
+            Ok((CharsSyntax { first, last }, rest))
+        }
+        _ => Err(ReadError::Unexpected(tokens.len())),
+    }
+}
+
+/// Reads what stands behind a text.
+#[tactic(auto, unfolding(crate::specs::ConstraintReading::more_chars_at))]
+fn more_chars<'a>(
+    alloc: Global,
+    text: &[u8],
+    first: Token,
+    tokens: &'a [Token],
+) -> Result<(CharsSyntax, &'a [Token]), ReadError>
+    requires tokens { AreTokens text.now tokens.now }
+    requires before { IsTokenOf text.now first }
+    requires chars { first.kind ≡ kinds.CharacterString }
+    ensures read { Gives (λ x. (chars_of x.0, lexemes text.now x.1.now)) result (more_chars_at (chars_between text.now first.span.start first.span.end) (lexemes text.now tokens.now)) }
+    ensures rest { IfOk result (λ x. AreTokens text.now x.1.now) }
+{
+    match tokens {
+        [
+            Token {
+                kind: TokenKind::Mark(Mark::Range),
+                ..
+            },
+            rest @ ..,
+        ] => last_chars(alloc, text, first, rest),
+        _ => {
+            let first = chars_of(alloc, text, first)?;
+            Ok((CharsSyntax { first, last: None }, tokens))
+        }
+    }
+}
+
+/// Reads a text or a range of characters.
+#[tactic(auto, unfolding(crate::specs::ConstraintReading::chars_at))]
+fn chars<'a>(
+    alloc: Global,
+    text: &[u8],
+    tokens: &'a [Token],
+) -> Result<(CharsSyntax, &'a [Token]), ReadError>
+    requires tokens { AreTokens text.now tokens.now }
+    ensures read { Gives (λ x. (chars_of x.0, lexemes text.now x.1.now)) result (chars_at (lexemes text.now tokens.now)) }
+    ensures rest { IfOk result (λ x. AreTokens text.now x.1.now) }
+{
+    match tokens {
+        [
+            first @ Token {
+                kind: TokenKind::CharacterString,
+                ..
+            },
+            rest @ ..,
+        ] => more_chars(alloc, text, *first, rest),
+        _ => Err(ReadError::Unexpected(tokens.len())),
+    }
+}
+
+/// Reads texts and ranges of characters with `|` or `UNION` between them.
+fn all_chars<'a>(
+    alloc: Global,
+    text: &[u8],
+    tokens: &'a [Token],
+) -> Result<(Vec<CharsSyntax>, &'a [Token]), ReadError>
+    requires tokens { AreTokens text.now tokens.now }
+    ensures read { Gives (λ x. (map chars_of x.0.items, lexemes text.now x.1.now)) result (by_or_at chars_at (lexemes text.now tokens.now)) }
+    ensures rest { IfOk result (λ x. AreTokens text.now x.1.now) }
+{
+    let mut parts = Vec::new(alloc);
+    let (first, mut rest) = chars(alloc, text, tokens)?;
+    parts.push(first)?;
+    while let Some(after) = or(text, rest) {
+        let (next, after) = chars(alloc, text, after)?;
+        parts.push(next)?;
+        rest = after;
+    }
+    Ok((parts, rest))
+}
+
+/// Reads `FROM` and the characters behind it.
+#[tactic(auto, unfolding(crate::specs::ConstraintReading::from_at, crate::specs::ConstraintReading::parens_at))]
+fn from<'a>(
+    alloc: Global,
+    text: &[u8],
+    tokens: &'a [Token],
+) -> Result<(Vec<CharsSyntax>, &'a [Token]), ReadError>
+    requires tokens { AreTokens text.now tokens.now }
+    ensures read { Gives (λ x. (map chars_of x.0.items, lexemes text.now x.1.now)) result (from_at (lexemes text.now tokens.now)) }
+    ensures rest { IfOk result (λ x. AreTokens text.now x.1.now) }
+{
+    match tokens {
+        [
+            Token {
+                kind: TokenKind::Reserved(Word::From),
+                ..
+            },
+            rest @ ..,
+        ] => {
+            let rest = open(text, rest)?;
+            let (parts, rest) = all_chars(alloc, text, rest)?;
+            Ok((parts, close(text, rest)?))
+        }
+        _ => Err(ReadError::Unexpected(tokens.len())),
+    }
+}
+
+/// Reads the number behind a minus.
+#[tactic(auto, unfolding(crate::specs::ConstraintReading::minus_at))]
+fn negative_end<'a>(text: &[u8], tokens: &'a [Token]) -> Result<(EndSyntax, &'a [Token]), ReadError>
+    requires tokens { AreTokens text.now tokens.now }
+    ensures read { Gives (λ x. (end_of x.0, lexemes text.now x.1.now)) result (minus_at (lexemes text.now tokens.now)) }
+    ensures rest { IfOk result (λ x. AreTokens text.now x.1.now) }
+{
+    match tokens {
+        [
+            number @ Token {
+                kind: TokenKind::Number,
+                ..
+            },
+            rest @ ..,
+        ] => Ok((EndSyntax::Number(true, number_of(text, *number)), rest)),
+        _ => Err(ReadError::Unexpected(tokens.len())),
+    }
+}
+
+/// Reads what stands behind a module's name.
+#[tactic(auto, unfolding(crate::specs::ConstraintReading::end_dot_at, crate::specs::ConstraintReading::end_name_at))]
+fn qualified_end<'a>(
+    alloc: Global,
+    text: &[u8],
+    module_name: Token,
+    tokens: &'a [Token],
+) -> Result<(EndSyntax, &'a [Token]), ReadError>
+    requires tokens { AreTokens text.now tokens.now }
+    requires before { IsTokenOf text.now module_name }
+    requires name { module_name.kind ≡ kinds.TypeReference }
+    ensures read { Gives (λ x. (end_of x.0, lexemes text.now x.1.now)) result (end_dot_at (slice_range text.now module_name.span.start module_name.span.end) (lexemes text.now tokens.now)) }
+    ensures rest { IfOk result (λ x. AreTokens text.now x.1.now) }
+{
+    match tokens {
+        [
+            Token {
+                kind: TokenKind::Mark(Mark::Dot),
+                ..
+            },
+            name @ Token {
+                kind: TokenKind::Identifier,
+                ..
+            },
+            rest @ ..,
+        ] => {
+            let module_name = name_of(alloc, text, module_name)?;
+            let name = name_of(alloc, text, *name)?;
+            Ok((EndSyntax::Reference(Some(module_name), name), rest))
+        }
+        [
+            Token {
+                kind: TokenKind::Mark(Mark::Dot),
+                ..
+            },
+            rest @ ..,
+        ] => Err(ReadError::Unexpected(rest.len())),
+        _ => Err(ReadError::Unexpected(tokens.len())),
+    }
+}
+
+/// Reads an end of a range, or a value alone.
+#[tactic(auto, unfolding(crate::specs::ConstraintReading::end_at))]
+fn end<'a>(
+    alloc: Global,
+    text: &[u8],
+    tokens: &'a [Token],
+) -> Result<(EndSyntax, &'a [Token]), ReadError>
+    requires tokens { AreTokens text.now tokens.now }
+    ensures read { Gives (λ x. (end_of x.0, lexemes text.now x.1.now)) result (end_at small (lexemes text.now tokens.now)) }
+    ensures rest { IfOk result (λ x. AreTokens text.now x.1.now) }
+{
+    let [first, rest @ ..] = tokens else {
+        return Err(ReadError::Unexpected(0));
+    };
+    match first.kind {
+        TokenKind::Number => {
+            let number = small_number(text, *first, tokens.len())?;
+            Ok((EndSyntax::Number(false, number), rest))
+        }
+        TokenKind::Mark(Mark::Minus) => negative_end(text, rest),
+        TokenKind::Identifier => {
+            Ok((
+                EndSyntax::Reference(None, name_of(alloc, text, *first)?),
+                rest,
+            ))
+        }
+        TokenKind::TypeReference => qualified_end(alloc, text, *first, rest),
+        _ => Err(ReadError::Unexpected(tokens.len())),
+    }
+}
+
+/// Reads an end that is not open.
+#[tactic(auto, unfolding(crate::specs::ConstraintReading::some_end_at))]
+fn some_end<'a>(
+    alloc: Global,
+    text: &[u8],
+    tokens: &'a [Token],
+) -> Result<(Option<EndSyntax>, &'a [Token]), ReadError>
+    requires tokens { AreTokens text.now tokens.now }
+    ensures read { Gives (λ x. (option_map end_of x.0, lexemes text.now x.1.now)) result (some_end_at small (lexemes text.now tokens.now)) }
+    ensures rest { IfOk result (λ x. AreTokens text.now x.1.now) }
+{
+    let (end, rest) = end(alloc, text, tokens)?;
+    Ok((Some(end), rest))
+}
+
+/// Reads what stands behind `..`.
+#[tactic(auto, unfolding(crate::specs::ConstraintReading::upper_at))]
+fn upper<'a>(
+    alloc: Global,
+    text: &[u8],
+    tokens: &'a [Token],
+) -> Result<(Option<EndSyntax>, &'a [Token]), ReadError>
+    requires tokens { AreTokens text.now tokens.now }
+    ensures read { Gives (λ x. (option_map end_of x.0, lexemes text.now x.1.now)) result (upper_at small (lexemes text.now tokens.now)) }
+    ensures rest { IfOk result (λ x. AreTokens text.now x.1.now) }
+{
+    match tokens {
+        [
+            Token {
+                kind: TokenKind::Reserved(Word::Max),
+                ..
+            },
+            rest @ ..,
+        ] => Ok((None, rest)),
+        _ => some_end(alloc, text, tokens),
+    }
+}
+
+/// Reads what stands behind `MIN`.
+#[tactic(auto, unfolding(crate::specs::ConstraintReading::behind_min_at))]
+fn behind_min<'a>(
+    alloc: Global,
+    text: &[u8],
+    tokens: &'a [Token],
+) -> Result<(RangeSyntax, &'a [Token]), ReadError>
+    requires tokens { AreTokens text.now tokens.now }
+    ensures read { Gives (λ x. (range_of x.0, lexemes text.now x.1.now)) result (behind_min_at small (lexemes text.now tokens.now)) }
+    ensures rest { IfOk result (λ x. AreTokens text.now x.1.now) }
+{
+    match tokens {
+        [
+            Token {
+                kind: TokenKind::Mark(Mark::Range),
+                ..
+            },
+            rest @ ..,
+        ] => {
+            let (last, rest) = upper(alloc, text, rest)?;
+            Ok((RangeSyntax::Between(None, last), rest))
+        }
+        _ => Err(ReadError::Unexpected(tokens.len())),
+    }
+}
+
+/// Reads what stands behind an end.
+#[tactic(auto, unfolding(crate::specs::ConstraintReading::behind_end_at))]
+fn behind_end<'a>(
+    alloc: Global,
+    text: &[u8],
+    first: EndSyntax,
+    tokens: &'a [Token],
+) -> Result<(RangeSyntax, &'a [Token]), ReadError>
+    requires tokens { AreTokens text.now tokens.now }
+    ensures read { Gives (λ x. (range_of x.0, lexemes text.now x.1.now)) result (behind_end_at small (end_of first) (lexemes text.now tokens.now)) }
+    ensures rest { IfOk result (λ x. AreTokens text.now x.1.now) }
+{
+    match tokens {
+        [
+            Token {
+                kind: TokenKind::Mark(Mark::Range),
+                ..
+            },
+            rest @ ..,
+        ] => {
+            let (last, rest) = upper(alloc, text, rest)?;
+            Ok((RangeSyntax::Between(Some(first), last), rest))
+        }
+        _ => Ok((RangeSyntax::Single(first), tokens)),
+    }
+}
+
+/// Reads a value, or a range that begins with one.
+#[tactic(auto, unfolding(crate::specs::ConstraintReading::single_at))]
+fn single<'a>(
+    alloc: Global,
+    text: &[u8],
+    tokens: &'a [Token],
+) -> Result<(RangeSyntax, &'a [Token]), ReadError>
+    requires tokens { AreTokens text.now tokens.now }
+    ensures read { Gives (λ x. (range_of x.0, lexemes text.now x.1.now)) result (single_at small (lexemes text.now tokens.now)) }
+    ensures rest { IfOk result (λ x. AreTokens text.now x.1.now) }
+{
+    let (first, rest) = end(alloc, text, tokens)?;
+    let (range, rest) = behind_end(alloc, text, first, rest)?;
+    Ok((range, rest))
+}
+
+/// Reads a value or a range.
+#[tactic(auto, unfolding(crate::specs::ConstraintReading::range_at))]
+fn range<'a>(
+    alloc: Global,
+    text: &[u8],
+    tokens: &'a [Token],
+) -> Result<(RangeSyntax, &'a [Token]), ReadError>
+    requires tokens { AreTokens text.now tokens.now }
+    ensures read { Gives (λ x. (range_of x.0, lexemes text.now x.1.now)) result (range_at small (lexemes text.now tokens.now)) }
+    ensures rest { IfOk result (λ x. AreTokens text.now x.1.now) }
+{
+    match tokens {
+        [
+            Token {
+                kind: TokenKind::Reserved(Word::Min),
+                ..
+            },
+            rest @ ..,
+        ] => behind_min(alloc, text, rest),
+        _ => single(alloc, text, tokens),
+    }
+}
+
+/// Reads values and ranges with `|` or `UNION` between them.
+fn range_list<'a>(
+    alloc: Global,
+    text: &[u8],
+    tokens: &'a [Token],
+) -> Result<(Vec<RangeSyntax>, &'a [Token]), ReadError>
+    requires tokens { AreTokens text.now tokens.now }
+    ensures read { Gives (λ x. (map range_of x.0.items, lexemes text.now x.1.now)) result (by_or_at (range_at small) (lexemes text.now tokens.now)) }
+    ensures rest { IfOk result (λ x. AreTokens text.now x.1.now) }
+{
+    let mut parts = Vec::new(alloc);
+    let (first, mut rest) = range(alloc, text, tokens)?;
+    parts.push(first)?;
+    while let Some(after) = or(text, rest) {
+        let (next, after) = range(alloc, text, after)?;
+        parts.push(next)?;
+        rest = after;
+    }
+    Ok((parts, rest))
+}
+
+/// Reads values and ranges with `|` or `UNION` between them.
+#[tactic(auto, unfolding(crate::specs::ConstraintReading::ranges_at))]
+fn ranges<'a>(
+    alloc: Global,
+    text: &[u8],
+    tokens: &'a [Token],
+) -> Result<(RangesSyntax, &'a [Token]), ReadError>
+    requires tokens { AreTokens text.now tokens.now }
+    ensures read { Gives (λ x. (ranges_of x.0, lexemes text.now x.1.now)) result (ranges_at small (lexemes text.now tokens.now)) }
+    ensures rest { IfOk result (λ x. AreTokens text.now x.1.now) }
+{
+    let (ranges, rest) = range_list(alloc, text, tokens)?;
+    Ok((RangesSyntax { ranges }, rest))
+}
+
+/// Reads `SIZE` and the sizes behind it.
+#[tactic(auto, unfolding(crate::specs::ConstraintReading::size_at, crate::specs::ConstraintReading::parens_at))]
+pub fn size<'a>(
+    alloc: Global,
+    text: &[u8],
+    tokens: &'a [Token],
+) -> Result<(SizeSyntax, &'a [Token]), ReadError>
+    requires tokens { AreTokens text.now tokens.now }
+    ensures read { Gives (λ x. (size_of x.0, lexemes text.now x.1.now)) result (size_at small (lexemes text.now tokens.now)) }
+    ensures rest { IfOk result (λ x. AreTokens text.now x.1.now) }
+{
+    match tokens {
+        [
+            Token {
+                kind: TokenKind::Reserved(Word::Size),
+                ..
+            },
+            rest @ ..,
+        ] => {
+            let rest = open(text, rest)?;
+            let (sizes, rest) = ranges(alloc, text, rest)?;
+            Ok((SizeSyntax { sizes }, close(text, rest)?))
+        }
+        _ => Err(ReadError::Unexpected(tokens.len())),
+    }
+}
+
+/// Reads this kind of constraint.
+#[tactic(auto, unfolding(crate::specs::ConstraintReading::size_in_at))]
+fn size_in<'a>(
+    alloc: Global,
+    text: &[u8],
+    tokens: &'a [Token],
+) -> Result<(ConstraintSyntax, &'a [Token]), ReadError>
+    requires tokens { AreTokens text.now tokens.now }
+    ensures read { Gives (λ x. (constraint_of x.0, lexemes text.now x.1.now)) result (size_in_at small (lexemes text.now tokens.now)) }
+    ensures rest { IfOk result (λ x. AreTokens text.now x.1.now) }
+{
+    let (inside, rest) = size(alloc, text, tokens)?;
+    Ok((ConstraintSyntax::Size(inside), rest))
+}
+
+/// Reads this kind of constraint.
+#[tactic(auto, unfolding(crate::specs::ConstraintReading::from_in_at))]
+fn from_in<'a>(
+    alloc: Global,
+    text: &[u8],
+    tokens: &'a [Token],
+) -> Result<(ConstraintSyntax, &'a [Token]), ReadError>
+    requires tokens { AreTokens text.now tokens.now }
+    ensures read { Gives (λ x. (constraint_of x.0, lexemes text.now x.1.now)) result (from_in_at small (lexemes text.now tokens.now)) }
+    ensures rest { IfOk result (λ x. AreTokens text.now x.1.now) }
+{
+    let (inside, rest) = from(alloc, text, tokens)?;
+    Ok((ConstraintSyntax::From(inside), rest))
+}
+
+/// Reads this kind of constraint.
+#[tactic(auto, unfolding(crate::specs::ConstraintReading::values_in_at))]
+fn values_in<'a>(
+    alloc: Global,
+    text: &[u8],
+    tokens: &'a [Token],
+) -> Result<(ConstraintSyntax, &'a [Token]), ReadError>
+    requires tokens { AreTokens text.now tokens.now }
+    ensures read { Gives (λ x. (constraint_of x.0, lexemes text.now x.1.now)) result (values_in_at small (lexemes text.now tokens.now)) }
+    ensures rest { IfOk result (λ x. AreTokens text.now x.1.now) }
+{
+    let (inside, rest) = ranges(alloc, text, tokens)?;
+    Ok((ConstraintSyntax::Values(inside), rest))
+}
+
+/// Reads what stands in the parentheses of a constraint.
+#[tactic(auto, unfolding(crate::specs::ConstraintReading::inside_at))]
+fn inside<'a>(
+    alloc: Global,
+    text: &[u8],
+    tokens: &'a [Token],
+) -> Result<(ConstraintSyntax, &'a [Token]), ReadError>
+    requires tokens { AreTokens text.now tokens.now }
+    ensures read { Gives (λ x. (constraint_of x.0, lexemes text.now x.1.now)) result (inside_at small (lexemes text.now tokens.now)) }
+    ensures rest { IfOk result (λ x. AreTokens text.now x.1.now) }
+{
+    match tokens {
+        [
+            Token {
+                kind: TokenKind::Reserved(Word::Size),
+                ..
+            },
+            ..
+        ] => size_in(alloc, text, tokens),
+        [
+            Token {
+                kind: TokenKind::Reserved(Word::From),
+                ..
+            },
+            ..
+        ] => from_in(alloc, text, tokens),
+        _ => values_in(alloc, text, tokens),
+    }
+}
+
+/// Reads a constraint.
+#[tactic(auto, unfolding(crate::specs::ConstraintReading::constraint_at, crate::specs::ConstraintReading::parens_at))]
+pub fn constraint<'a>(
+    alloc: Global,
+    text: &[u8],
+    tokens: &'a [Token],
+) -> Result<(ConstraintSyntax, &'a [Token]), ReadError>
+    requires tokens { AreTokens text.now tokens.now }
+    ensures read { Gives (λ x. (constraint_of x.0, lexemes text.now x.1.now)) result (constraint_at small (lexemes text.now tokens.now)) }
+    ensures rest { IfOk result (λ x. AreTokens text.now x.1.now) }
+{
+    let rest = open(text, tokens)?;
+    let (inside, rest) = inside(alloc, text, rest)?;
+    Ok((inside, close(text, rest)?))
+}

@@ -1,0 +1,10 @@
+pub mod Walks
+pub mod Tables
+pub mod Meanings
+pub mod Trees
+pub mod Sources
+pub mod Queue
+pub mod PartKinds
+pub mod Linking
+pub mod Entries
+pub mod Assembling

@@ -1,0 +1,31 @@
+-- What stands at a number.
+use Rattle.std.proofs.Common.{◌≡◌, ℕ, ◌<◌, List, length, Some, map, refl, sym, subst, ap, ◌∙◌, option_map, get_or, string_bytes}
+use Rattle.std.specs.Prelude.{slice_get}
+use Rattle.std.proofs.lemmas.Option.{slice_get-map, slice_get_read}
+use Rattle.notation.specs.Tree.{Name}
+use Rattle.syntax.specs.declared.tree.TagDefault.{TagDefault}
+use Rattle.resolve.specs.declared.fault.NameFault.{NameFault}
+use Rattle.resolve.specs.declared.fault.NameFault.TheVariants as faults
+use Rattle.resolve.specs.declared.table.Assignment.{Assignment}
+use Rattle.resolve.specs.declared.table.Header.{Header}
+use Rattle.resolve.specs.Names.{Module}
+use Rattle.resolve.specs.Numbering.{Source, RefersToNothing}
+use Rattle.resolve.specs.Faults.{IsUnknown, IsSourceFault}
+use Rattle.resolve.specs.Seen.{assignment_of, header_of}
+
+pub assignment_at : (gs : List Assignment) (i : ℕ) (g : Assignment) → i < length gs → g ≡ get_or gs i g → slice_get (map assignment_of gs) i ≡ Some (assignment_of g)
+assignment_at gs i g l e = slice_get-map assignment_of gs i ∙ ap (option_map assignment_of) (slice_get_read gs (length gs) i g refl l e)
+
+pub header_at : (hs : List Header) (i : ℕ) (h : Header) → i < length hs → h ≡ get_or hs i h → slice_get (map header_of hs) i ≡ Some (header_of h)
+header_at hs i h l e = slice_get-map header_of hs i ∙ ap (option_map header_of) (slice_get_read hs (length hs) i h refl l e)
+
+pub unknown_source : (ms : List (Name × Module)) (hs : List (Name × TagDefault)) (gs : List (ℕ × Name)) (i n : ℕ) (s : Source) (M : Name) (d : TagDefault) (owner : ℕ) (x : Name) (e : NameFault) →
+    slice_get gs s.assignment ≡ Some (owner, x) → slice_get hs owner ≡ Some (M, d) → IsUnknown ms M s.tree e → IsSourceFault ms hs gs i n s e
+unknown_source ms hs gs i n s M d owner x faults.Memory g h u = tt
+unknown_source ms hs gs i n s M d owner x (faults.UnknownName m y) g h u =
+    (owner, x, d, g, h ∙ ap (λ z. Some (z, d)) (sym u.0), subst (λ z. RefersToNothing ms z s.tree (string_bytes y)) (sym u.0) u.1)
+unknown_source ms hs gs i n s M d owner x (faults.Limit l m y) g h u = absurd u
+unknown_source ms hs gs i n s M d owner x (faults.Twice m y) g h u = absurd u
+unknown_source ms hs gs i n s M d owner x (faults.NotExported m y) g h u = absurd u
+unknown_source ms hs gs i n s M d owner x (faults.Circular m y) g h u = absurd u
+unknown_source ms hs gs i n s M d owner x (faults.UnknownModule m y) g h u = absurd u

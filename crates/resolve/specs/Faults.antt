@@ -1,0 +1,79 @@
+-- What faults say.
+use Rattle.std.specs.Prelude.{◌≡◌, ◌<◌, ◌+◌, ℕ, List, Option, Some, length, string_bytes, slice_get}
+use Rattle.notation.specs.Tree.{Name}
+use Rattle.syntax.specs.Tree.{TypeTree}
+use Rattle.resolve.specs.declared.fault.NameFault.{NameFault}
+use Rattle.resolve.specs.declared.fault.NameFault.TheVariants as faults
+use Rattle.resolve.specs.declared.fault.Limit.TheVariants as limits
+use Rattle.resolve.specs.declared.names.Assigned.TheVariants as assigned
+use Rattle.resolve.specs.Names.{Module, Refers, under}
+use Rattle.syntax.specs.declared.tree.TagDefault.{TagDefault}
+use Rattle.resolve.specs.Numbering.{Source, Occurs, AreMore, AreNumbered, RefersToNothing, parts_of}
+use Rattle.resolve.specs.Table.{Type', IsCircular}
+
+-- memory ran out, or this name stands for no type in module M
+abbrev pub IsNothing : List (Name × Module) → Name → Option Name → Name → NameFault → Type 0
+IsNothing ms M N x faults.Memory = Unit {0}
+IsNothing ms M N x (faults.UnknownName m y) = (string_bytes m ≡ M) × (string_bytes y ≡ x) × ((j : ℕ) → Refers ms M N x (assigned.Type j) → ⊥)
+IsNothing ms M N x e = ⊥
+
+-- memory ran out, or the type is a name that stands for no type in module M
+abbrev pub IsUnknown : List (Name × Module) → Name → TypeTree → NameFault → Type 0
+IsUnknown ms M t faults.Memory = Unit {0}
+IsUnknown ms M t (faults.UnknownName m y) = (string_bytes m ≡ M) × RefersToNothing ms M t (string_bytes y)
+IsUnknown ms M t e = ⊥
+
+-- a name in assignment a stands for no type, and M is the module in which the assignment stands
+pub record HasUnknown (ms : List (Name × Module)) (hs : List (Name × TagDefault)) (gs : List (ℕ × Name)) (roots : List Source) (M x : Name) : Type 0 where
+  pub assignment : ℕ
+  pub owner : ℕ
+  pub assigns : Name
+  pub default : TagDefault
+  pub tree : TypeTree
+  pub occurs : Occurs roots assignment tree
+  pub assigned : slice_get gs assignment ≡ Some (owner, assigns)
+  pub header : slice_get hs owner ≡ Some (M, default)
+  pub unknown : RefersToNothing ms M tree x
+
+-- why types can't be numbered
+abbrev pub IsNumberingFault : List (Name × Module) → List (Name × TagDefault) → List (ℕ × Name) → List Source → NameFault → Type 0
+IsNumberingFault ms hs gs roots faults.Memory = Unit {0}
+IsNumberingFault ms hs gs roots (faults.UnknownName m y) = HasUnknown ms hs gs roots (string_bytes m) (string_bytes y)
+IsNumberingFault ms hs gs roots (faults.Limit limits.Types m y) = AreMore 65536 roots
+IsNumberingFault ms hs gs roots e = ⊥
+
+abbrev pub IsTypesLimit : NameFault → Type 0
+IsTypesLimit faults.Memory = Unit {0}
+IsTypesLimit (faults.Limit limits.Types m y) = Unit {0}
+IsTypesLimit e = ⊥
+
+-- why type i, whose parts would be numbered from n on, can't be numbered
+abbrev pub IsSourceFault : List (Name × Module) → List (Name × TagDefault) → List (ℕ × Name) → ℕ → ℕ → Source → NameFault → Type 0
+IsSourceFault ms hs gs i n s faults.Memory = Unit {0}
+IsSourceFault ms hs gs i n s (faults.UnknownName m y) = (owner : ℕ) × (assigns : Name) × (d : TagDefault) × (slice_get gs s.assignment ≡ Some (owner, assigns)) × (slice_get hs owner ≡ Some (string_bytes m, d)) × RefersToNothing ms (string_bytes m) s.tree (string_bytes y)
+IsSourceFault ms hs gs i n s (faults.Limit limits.Types m y) = 65536 < n + length (parts_of s.assignment i s.tree)
+IsSourceFault ms hs gs i n s e = ⊥
+
+-- memory ran out, or in module M name x already stands in a table of names
+abbrev pub IsTwice : {X : Type 0} → Name → Name → List (Name × X) → NameFault → Type 0
+IsTwice M x es faults.Memory = Unit {0}
+IsTwice {X} M x es (faults.Twice m y) = (string_bytes m ≡ M) × (string_bytes y ≡ x) × (a : X) × (under x es ≡ Some a)
+IsTwice M x es e = ⊥
+
+-- type i comes back to itself; it stands in the assignment of name x in module M
+pub record IsCircularAt (ms : List (Name × Module)) (hs : List (Name × TagDefault)) (gs : List (ℕ × Name)) (roots : List Source) (M x : Name) : Type 0 where
+  pub types : List Type'
+  pub numbered : AreNumbered ms hs gs roots types
+  pub number : ℕ
+  pub written : Type'
+  pub there : slice_get types number ≡ Some written
+  pub circular : IsCircular types number
+  pub owner : ℕ
+  pub default : TagDefault
+  pub assigned : slice_get gs written.assignment ≡ Some (owner, x)
+  pub header : slice_get hs owner ≡ Some (M, default)
+
+-- why types can't be linked
+abbrev pub IsTableFault : List (Name × Module) → List (Name × TagDefault) → List (ℕ × Name) → List Source → NameFault → Type 0
+IsTableFault ms hs gs roots (faults.Circular m y) = IsCircularAt ms hs gs roots (string_bytes m) (string_bytes y)
+IsTableFault ms hs gs roots e = IsNumberingFault ms hs gs roots e

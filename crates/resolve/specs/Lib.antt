@@ -1,0 +1,11 @@
+pub mod Names
+pub mod Table
+pub mod Program
+pub mod Numbering
+pub mod Faults
+pub mod Gathering
+pub mod Scopes
+pub mod Seen
+pub mod Finding
+pub mod Found
+pub mod Codes

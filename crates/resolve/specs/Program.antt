@@ -1,0 +1,43 @@
+-- What linked modules are seen as: their names, and their types and values by number.
+use Rattle.std.specs.Prelude.{◌≡◌, ◌<◌, ℕ, Some, List, slice_get, length}
+use Rattle.notation.specs.Tree.{Name, Tree}
+use Rattle.syntax.specs.declared.tree.TagDefault.{TagDefault}
+use Rattle.resolve.specs.declared.names.Assigned.{Assigned}
+use Rattle.resolve.specs.declared.names.Assigned.TheVariants as assigned
+use Rattle.resolve.specs.Names.{Module, Meaning}
+use Rattle.resolve.specs.Table.{Type', IsLinked}
+
+-- a value assignment: its number, its type's number, and the value as it is written
+pub record Value : Type 0 where
+  pub assignment : ℕ
+  pub ty : ℕ
+  pub notation : Tree
+
+pub record Program : Type 0 where
+  pub modules : List (Name × Module)
+  -- the modules' names and tag defaults, in order
+  pub headers : List (Name × TagDefault)
+  -- each with its module's number and its name
+  pub assignments : List (ℕ × Name)
+  pub types : List Type'
+  pub values : List Value
+
+-- what a name is assigned is there
+abbrev pub IsThere : Program → Assigned → Type 0
+IsThere p (assigned.Type i) = i < length p.types
+IsThere p (assigned.Value i) = i < length p.values
+
+-- there are so many types and values that what a name is assigned is there
+abbrev pub IsGiven : (types values : ℕ) → Assigned → Type 0
+IsGiven n m (assigned.Type i) = i < n
+IsGiven n m (assigned.Value i) = i < m
+
+-- what a linked program keeps
+pub record IsWhole (p : Program) : Type 0 where
+  pub linked : IsLinked p.types
+  -- what a name stands for is there
+  pub names : (M x : Name) (a : Assigned) → Meaning p.modules M x a → IsThere p a
+  -- so are the type of each value, the assignment of each type and value, and the module of each assignment
+  pub valued : (i : ℕ) (v : Value) → slice_get p.values i ≡ Some v → (v.ty < length p.types) × (v.assignment < length p.assignments)
+  pub typed : (i : ℕ) (t : Type') → slice_get p.types i ≡ Some t → t.assignment < length p.assignments
+  pub placed : (i : ℕ) (a : ℕ × Name) → slice_get p.assignments i ≡ Some a → a.0 < length p.headers

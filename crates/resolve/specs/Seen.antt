@@ -1,0 +1,71 @@
+-- The types of a table without where they lie in memory.
+use Rattle.std.specs.Prelude.{ℕ, List, Option, Some, None, map, option_map, string_bytes}
+use Rattle.notation.specs.Tree.{Name, tree_of}
+use Rattle.notation.specs.Constraint.{size_of, constraint_of}
+use Rattle.syntax.specs.Tree.{presence_of, number_of, bit_of, item_of}
+use Rattle.resolve.specs.declared.table.Place.{Place}
+use Rattle.resolve.specs.declared.table.Component.{Component}
+use Rattle.resolve.specs.declared.table.Simple.{Simple}
+use Rattle.resolve.specs.declared.table.Simple.TheVariants as simples
+use Rattle.resolve.specs.declared.table.Shape.{Shape}
+use Rattle.resolve.specs.declared.table.Shape.TheVariants as shapes
+use Rattle.resolve.specs.declared.table.Written.{Written}
+use Rattle.resolve.specs.declared.table.Assignment.{Assignment}
+use Rattle.resolve.specs.declared.table.Header.{Header}
+use Rattle.syntax.specs.declared.tree.TagDefault.{TagDefault}
+use Rattle.resolve.specs.declared.table.ValueAt.{ValueAt}
+use Rattle.resolve.specs.Table.{Plain, a_boolean, an_integer, a_bit_string, an_octet_string, a_null, an_object_identifier, an_enumerated, a_utf8_string, a_numeric_string, a_printable_string, an_ia5_string, a_visible_string, Part, Kind, simple, reference, tagged, members, elements, Type'}
+use Rattle.resolve.specs.Program.{Value}
+use Rattle.resolve.specs.declared.number.Source.{Source as SourceAt}
+use Rattle.resolve.specs.Numbering.{Source}
+use Rattle.syntax.specs.Tree.{type_tree_of}
+
+abbrev pub plain_of : Simple → Plain
+plain_of simples.Boolean = a_boolean
+plain_of (simples.Integer ns) = an_integer (map number_of ns.items)
+plain_of (simples.BitString bs) = a_bit_string (map bit_of bs.items)
+plain_of simples.OctetString = an_octet_string
+plain_of simples.Null = a_null
+plain_of simples.ObjectIdentifier = an_object_identifier
+plain_of (simples.Enumerated is) = an_enumerated (map item_of is.items)
+plain_of simples.Utf8String = a_utf8_string
+plain_of simples.NumericString = a_numeric_string
+plain_of simples.PrintableString = a_printable_string
+plain_of simples.Ia5String = an_ia5_string
+plain_of simples.VisibleString = a_visible_string
+
+abbrev pub part_of : Component → Part
+part_of c = record { name = string_bytes c.name; ty = c.ty; presence = presence_of c.presence }
+
+abbrev pub kind_of : Shape → Kind
+kind_of (shapes.Simple s) = simple (plain_of s)
+kind_of (shapes.Reference j) = reference j
+kind_of (shapes.Tagged t k j) = tagged t k j
+kind_of (shapes.Members k cs) = members k (map part_of cs.items)
+kind_of (shapes.Elements k s j) = elements k (option_map size_of s) j
+
+abbrev pub place_of : Option Place → Option (ℕ × ℕ)
+place_of None = None
+place_of (Some p) = Some (p.list, p.number)
+
+abbrev pub type_of : Written → Type'
+type_of w = record { kind = kind_of w.shape; constraints = map constraint_of w.constraints.items; default = w.default; place = place_of w.place; assignment = w.assignment }
+
+abbrev pub types_of : List Written → List Type'
+types_of = map type_of
+
+abbrev pub value_of : ValueAt → Value
+value_of v = record { assignment = v.assignment; ty = v.ty; notation = tree_of v.syntax }
+
+-- an assignment's module and name
+abbrev pub assignment_of : Assignment → ℕ × Name
+assignment_of a = (a.module, string_bytes a.name)
+
+abbrev pub source_of : SourceAt → Source
+source_of s = record { tree = type_tree_of s.syntax; assignment = s.assignment; place = place_of s.place }
+
+abbrev pub sources_of : List SourceAt → List Source
+sources_of = map source_of
+
+abbrev pub header_of : Header → Name × TagDefault
+header_of h = (string_bytes h.name, h.default)

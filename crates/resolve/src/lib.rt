@@ -1,0 +1,17 @@
+//! What the names of modules stand for, and their types by number.
+#![tactic(auto)]
+
+pub mod fault;
+mod gather;
+pub mod linked;
+pub mod names;
+pub mod number;
+pub mod table;
+pub mod unfolding;
+
+pub use fault::{Limit, NameFault};
+pub use linked::{Found, Linked};
+pub use names::{Assigned, Names, Scope};
+pub use table::{
+    Assignment, Component, ElementsKind, ListKind, Place, Shape, Simple, ValueAt, Written,
+};

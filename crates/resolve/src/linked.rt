@@ -1,0 +1,147 @@
+//! Linked modules.
+
+ghost use Rattle.std.specs.Prelude.{ℕ, ◌≡◌, ◌↔◌, Some, map};
+ghost use Rattle.resolve.specs.Found.{Finds};
+ghost use Rattle.notation.specs.Tree.{Name};
+ghost use Rattle.resolve.specs.Seen.{types_of, value_of, assignment_of, header_of, sources_of};
+ghost use Rattle.std.specs.Prelude.{◌<◌, ◌≤◌, IfOk, IfErr, slice_get, length, string_bytes};
+ghost use Rattle.resolve.specs.declared.names.Assigned.{Assigned};
+ghost use Rattle.resolve.specs.declared.table.Assignment.{Assignment};
+ghost use Rattle.resolve.specs.declared.table.ValueAt.{ValueAt};
+ghost use Rattle.resolve.specs.Names.{Meaning};
+ghost use Rattle.resolve.specs.Numbering.{AllAssigned, HaveNoPlace, AreNumbered};
+ghost use Rattle.resolve.specs.Faults.{IsTableFault};
+ghost use Rattle.resolve.specs.Program.{IsGiven};
+ghost use Rattle.resolve.specs.Table.{IsLinked};
+
+use crate::fault::NameFault;
+use crate::names::{Assigned, Names};
+use crate::number::{Source, number_all};
+use crate::table::{Assignment, Header, ValueAt, Written};
+use crate::unfolding::unfold_all;
+use asn_base::schema::TypeId;
+use notation::ValueSyntax;
+use std::alloc::Global;
+use std::collections::VecDeque;
+use std::marker::Model;
+
+/// What a name stands for.
+#[derive(Debug)]
+pub enum Found<'a> {
+    /// A type, by its number in the table of written types.
+    TypeNamed(TypeId),
+    /// A value, as it is written.
+    ValueNamed(&'a ValueSyntax),
+}
+
+/// Modules whose names have their meanings and whose types unfold.
+#[derive(Drop)]
+pub struct Linked {
+    names: Names,
+    headers: Vec<Header>,
+    assignments: Vec<Assignment>,
+    types: Vec<Written>,
+    values: Vec<ValueAt>,
+}
+
+impl Model for Linked {
+    ghost use Rattle.std.specs.Coded.{codes};
+    ghost use Rattle.resolve.specs.Codes.{tree_code};
+    ghost use Rattle.resolve.specs.Program.{Program};
+
+    ghost coded = { Prim.hlevel (codes, tree_code) };
+
+    ghost Value = { Program };
+
+    ghost use Rattle.std.specs.Prelude.{map};
+    ghost use Rattle.resolve.specs.Seen.{types_of, value_of, assignment_of, header_of, sources_of};
+
+    ghost view = { λ l. record { modules = l.names; headers = map header_of l.headers.items; assignments = map assignment_of l.assignments.items; types = types_of l.types.items; values = map value_of l.values.items } };
+
+    ghost use Rattle.resolve.specs.Program.{IsWhole};
+
+    ghost invariant = { λ l. IsWhole (record { modules = l.names; headers = map header_of l.headers.items; assignments = map assignment_of l.assignments.items; types = types_of l.types.items; values = map value_of l.values.items }) };
+}
+
+impl Linked {
+    /// What a name stands for in a module (X.680, clause 13): what the module assigns it, or the module which it is imported from.
+    /// Nothing where there is no such module, or where the name has no meaning in it.
+    pub fn find(&self, within: &str, name: &str) -> Option<Found<'_>>
+        ensures { Finds self.now within.now name.now result }
+    {
+        match self.names.find(within, name) {
+            None => None,
+            Some(Assigned::Type(index)) => Some(Found::TypeNamed(TypeId { index })),
+            Some(Assigned::Value(number)) => Some(Found::ValueNamed(&self.values[number].syntax)),
+        }
+    }
+
+    /// The modules, in order.
+    pub fn headers(&self) -> &[Header]
+        ensures { map header_of result.now ≡ self.now.headers }
+    {
+        &self.headers
+    }
+
+    /// The written types, each at its number.
+    pub fn types(&self) -> &[Written]
+        ensures types { types_of result.now ≡ self.now.types }
+        ensures linked { IsLinked self.now.types }
+    {
+        &self.types
+    }
+
+    /// The values that have names, each at its number.
+    pub fn values(&self) -> &[ValueAt]
+        ensures { map value_of result.now ≡ self.now.values }
+    {
+        &self.values
+    }
+
+    /// The assignments, in order.
+    pub fn assignments(&self) -> &[Assignment]
+        ensures { map assignment_of result.now ≡ self.now.assignments }
+    {
+        &self.assignments
+    }
+
+    /// The program of these names, assignments, types and values. The type of assignment n is type n.
+    pub fn of(
+        alloc: Global,
+        names: Names,
+        headers: Vec<Header>,
+        assignments: Vec<Assignment>,
+        roots: VecDeque<Source>,
+        values: Vec<ValueAt>,
+    ) -> Result<Linked, NameFault>
+        requires assigned { AllAssigned (length assignments.items) (sources_of roots.items) }
+        requires unplaced { HaveNoPlace (sources_of roots.items) }
+        requires placed { (k : ℕ) (a : Assignment) → slice_get assignments.items k ≡ Some a → a.module < length headers.items }
+        requires few { length roots.items ≤ 65536 }
+        requires named { (M x : Name) (a : Assigned) → Meaning names M x a → IsGiven (length roots.items) (length values.items) a }
+        requires valued { (k : ℕ) (v : ValueAt) → slice_get values.items k ≡ Some v → (v.ty < length roots.items) × (v.assignment < length assignments.items) }
+        ensures names { IfOk result (λ l. (l.modules ≡ names) × (l.headers ≡ map header_of headers.items) × (l.assignments ≡ map assignment_of assignments.items) × (l.values ≡ map value_of values.items)) }
+        ensures types { IfOk result (λ l. AreNumbered names (map header_of headers.items) (map assignment_of assignments.items) (sources_of roots.items) l.types) }
+        ensures fault { IfErr result (IsTableFault names (map header_of headers.items) (map assignment_of assignments.items) (sources_of roots.items)) }
+    {
+        let types = match number_all(alloc, &names, &headers, &assignments, roots) {
+            Ok(types) => types,
+            Err(fault) => return Err(fault),
+        };
+        match unfold_all(&types) {
+            Ok(()) => Ok(Linked {
+                names,
+                headers,
+                assignments,
+                types,
+                values,
+            }),
+            Err(circular) => {
+                let assignment = &assignments[types[circular].assignment];
+                let header = &headers[assignment.module];
+                let module = String::from_str(alloc, header.name.as_str())?;
+                Err(NameFault::Circular(module, String::from_str(alloc, assignment.name.as_str())?))
+            }
+        }
+    }
+}

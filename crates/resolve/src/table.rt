@@ -1,0 +1,106 @@
+//! The written types, each by its number, and the values that have names.
+
+use asn_base::tag::Tag;
+use notation::{ConstraintSyntax, SizeSyntax, ValueSyntax};
+use syntax::{EnumeratedItem, Keyword, NamedBit, NamedNumber, PresenceSyntax, TagDefault};
+
+/// The kinds of lists of members.
+#[derive(Clone, Copy, Debug, PartialEq, Eq)]
+pub enum ListKind {
+    Sequence,
+    Set,
+    Choice,
+}
+
+/// The kinds of types that have elements.
+#[derive(Clone, Copy, Debug, PartialEq, Eq)]
+pub enum ElementsKind {
+    /// `SEQUENCE OF`
+    SequenceOf,
+    /// `SET OF`
+    SetOf,
+}
+
+/// A member of a list: its identifier, its type's number, and whether it may be absent.
+#[derive(Debug, Drop)]
+pub struct Component {
+    pub name: String,
+    pub ty: usize,
+    pub presence: PresenceSyntax,
+}
+
+/// The list that a type is a member of, by its type's number, and which member it is, counted from 0.
+#[derive(Clone, Copy, Debug, PartialEq, Eq)]
+pub struct Place {
+    pub list: usize,
+    pub number: usize,
+}
+
+/// A type that holds no other type.
+#[derive(Debug, Drop)]
+pub enum Simple {
+    Boolean,
+    /// INTEGER with its named numbers, if there are any.
+    Integer(Vec<NamedNumber>),
+    /// BIT STRING with its named bits, if there are any.
+    BitString(Vec<NamedBit>),
+    OctetString,
+    Null,
+    ObjectIdentifier,
+    Enumerated(Vec<EnumeratedItem>),
+    Utf8String,
+    NumericString,
+    PrintableString,
+    Ia5String,
+    VisibleString,
+}
+
+/// What stands at one written type. The types in it are numbers.
+#[derive(Debug, Drop)]
+pub enum Shape {
+    Simple(Simple),
+    /// The type that a name stands for.
+    Reference(usize),
+    /// A tag, the word behind it, and the type.
+    Tagged(Tag, Keyword, usize),
+    /// SEQUENCE, SET or CHOICE with its members, in order.
+    Members(ListKind, Vec<Component>),
+    /// SEQUENCE OF or SET OF with its size, if one is given, and the type of its elements.
+    Elements(ElementsKind, Option<SizeSyntax>, usize),
+}
+
+/// A written type.
+#[derive(Debug, Drop)]
+pub struct Written {
+    pub shape: Shape,
+    /// The constraints behind it, in order.
+    pub constraints: Vec<ConstraintSyntax>,
+    /// The tag default of the module that it stands in.
+    pub default: TagDefault,
+    /// Where it is a member, if it is one.
+    pub place: Option<Place>,
+    /// The number of the assignment that it stands in.
+    pub assignment: usize,
+}
+
+/// A module: its name, and what tags in it are if nothing else stands behind them.
+#[derive(Debug, Drop)]
+pub struct Header {
+    pub name: String,
+    pub default: TagDefault,
+}
+
+/// Where an assignment stands: its module's number and its name.
+#[derive(Debug, Drop)]
+pub struct Assignment {
+    pub module: usize,
+    pub name: String,
+}
+
+/// A value assignment: its number among all assignments, its type's number, and the value as it is written.
+#[derive(Debug, Drop)]
+pub struct ValueAt {
+    pub assignment: usize,
+    pub ty: usize,
+    pub syntax: ValueSyntax,
+}

@@ -1,0 +1,7 @@
+pub mod Walks
+pub mod Tables
+pub mod Paths
+pub mod Fronts
+pub mod Clashes
+pub mod Taggings
+pub mod Rows

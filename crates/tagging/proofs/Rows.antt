@@ -1,0 +1,297 @@
+-- Worked rows: what the definitions say of small tables.
+use Rattle.std.proofs.Common.{◌≡◌, ℕ, zero, suc, ◌<◌, ◌≤◌, List, [], ◌∷◌, Option, Some, None, refl, arith, Bool, true, false, subst, inl, inr}
+use Rattle.std.specs.Prelude.{slice_get, map}
+use Rattle.asn_base.specs.declared.tag.Class.TheVariants.{Universal, Context, Application}
+use Rattle.asn_base.specs.declared.tag.Tag.{Tag}
+use Rattle.syntax.specs.declared.tree.Keyword.{Keyword}
+use Rattle.syntax.specs.declared.tree.Keyword.TheVariants as word
+use Rattle.syntax.specs.declared.tree.TagDefault.{TagDefault}
+use Rattle.syntax.specs.declared.tree.TagDefault.TheVariants as tags
+use Rattle.syntax.specs.Tree.{PresenceTree, mandatory, optional}
+use Rattle.resolve.specs.declared.table.ListKind.{ListKind}
+use Rattle.resolve.specs.declared.table.ListKind.TheVariants.{Sequence, Set, Choice}
+use Rattle.resolve.specs.declared.table.ElementsKind.TheVariants.{SequenceOf, SetOf}
+use Rattle.resolve.specs.Table.{Plain, a_boolean, an_integer, a_bit_string, an_octet_string, a_null, an_object_identifier, an_enumerated, a_utf8_string, a_numeric_string, a_printable_string, an_ia5_string, a_visible_string, Part, Type', Kind, simple, reference, tagged, members, elements, Is, IsCore}
+use Rattle.tagging.specs.declared.path.Form.TheVariants.{Implicit, Explicit}
+use Rattle.tagging.specs.Tags.{Path, own, Written, core, behind, inside, Tags, as_written, numbered, TagCount, none_written, one_more, as_behind, automatic}
+use Rattle.tagging.specs.First.{may_be_absent, First, outermost, alternative, Together}
+use Rattle.tagging.specs.Tagged.{IsOverfull, IsImplicit, IsUntagged, Clash, HasClash}
+
+-- a type of a table, which stands in a module with this tag default
+abbrev written : Kind → TagDefault → Option (ℕ × ℕ) → Type'
+written k d p = record { kind = k; constraints = []; default = d; place = p; assignment = 0 }
+
+abbrev part : ℕ → PresenceTree → Part
+part i o = record { name = []; ty = i; presence = o }
+
+here : {ts : List Type'} {i : ℕ} {k : Kind} {d : TagDefault} {p : Option (ℕ × ℕ)} → slice_get ts i ≡ Some (written k d p) → Is ts i k d p
+here e = record { constraints = []; assignment = 0; found = e }
+
+abbrev context : (n : ℕ) → n < 2147483648 → Tag
+context n l = record { class = Context; number = n; in_range = l }
+
+abbrev int : Kind
+int = simple (an_integer [])
+
+below_0 : 0 < 2147483648
+below_0 = omega arith
+
+below_1 : 1 < 2147483648
+below_1 = omega arith
+
+below_2 : 2 < 2147483648
+below_2 = omega arith
+
+-- a type's own tag
+own_boolean : own (simple a_boolean) ≡ Some (((Universal, 1), Explicit) ∷ [])
+own_boolean = refl
+
+own_integer : own (simple (an_integer [])) ≡ Some (((Universal, 2), Explicit) ∷ [])
+own_integer = refl
+
+own_bits : own (simple (a_bit_string [])) ≡ Some (((Universal, 3), Explicit) ∷ [])
+own_bits = refl
+
+own_octets : own (simple an_octet_string) ≡ Some (((Universal, 4), Explicit) ∷ [])
+own_octets = refl
+
+own_null : own (simple a_null) ≡ Some (((Universal, 5), Explicit) ∷ [])
+own_null = refl
+
+own_oid : own (simple an_object_identifier) ≡ Some (((Universal, 6), Explicit) ∷ [])
+own_oid = refl
+
+own_enumerated : own (simple (an_enumerated [])) ≡ Some (((Universal, 10), Explicit) ∷ [])
+own_enumerated = refl
+
+own_utf8 : own (simple a_utf8_string) ≡ Some (((Universal, 12), Explicit) ∷ [])
+own_utf8 = refl
+
+own_numeric : own (simple a_numeric_string) ≡ Some (((Universal, 18), Explicit) ∷ [])
+own_numeric = refl
+
+own_printable : own (simple a_printable_string) ≡ Some (((Universal, 19), Explicit) ∷ [])
+own_printable = refl
+
+own_ia5 : own (simple an_ia5_string) ≡ Some (((Universal, 22), Explicit) ∷ [])
+own_ia5 = refl
+
+own_visible : own (simple a_visible_string) ≡ Some (((Universal, 26), Explicit) ∷ [])
+own_visible = refl
+
+own_sequence : own (members Sequence []) ≡ Some (((Universal, 16), Explicit) ∷ [])
+own_sequence = refl
+
+own_set : own (members Set []) ≡ Some (((Universal, 17), Explicit) ∷ [])
+own_set = refl
+
+own_sequence_of : own (elements SequenceOf None 0) ≡ Some (((Universal, 16), Explicit) ∷ [])
+own_sequence_of = refl
+
+own_set_of : own (elements SetOf None 0) ≡ Some (((Universal, 17), Explicit) ∷ [])
+own_set_of = refl
+
+own_choice : own (members Choice []) ≡ Some []
+own_choice = refl
+
+-- [1] IMPLICIT [2] IMPLICIT NULL
+abbrev one_two : List Type'
+one_two = written (tagged (context 1 below_1) word.Implicit 1) tags.Explicit None ∷ written (tagged (context 2 below_2) word.Implicit 2) tags.Explicit None ∷ written (simple a_null) tags.Explicit None ∷ []
+
+one_two_tags : Tags one_two 0 (((Context, 1), Implicit) ∷ ((Context, 2), Implicit) ∷ ((Universal, 5), Explicit) ∷ [])
+one_two_tags = as_written refl (inside (here refl) (inside (here refl) (core (here refl) refl) refl) refl)
+
+absent_as : (a c : Part) → Some a ≡ Some c → may_be_absent a.presence ≡ true → may_be_absent c.presence ≡ true
+absent_as a c e t = let s : a ≡ c = cc in subst (λ x. may_be_absent x.presence ≡ true) s t
+
+-- SEQUENCE {a INTEGER OPTIONAL, b BOOLEAN OPTIONAL, c INTEGER}
+abbrev run : List Part
+run = part 1 optional ∷ part 2 optional ∷ part 3 mandatory ∷ []
+
+abbrev run_types : TagDefault → List Type'
+run_types d = written (members Sequence run) d None ∷ written int d (Some (0, 0)) ∷ written (simple a_boolean) d (Some (0, 1)) ∷ written int d (Some (0, 2)) ∷ []
+
+run_clash : HasClash (run_types tags.Explicit) 0
+run_clash = record {
+  kind = Sequence;
+  cs = run;
+  default = tags.Explicit;
+  place = None;
+  is = here refl;
+  one = 0;
+  other = 2;
+  clash = record {
+    first = part 1 optional;
+    second = part 3 mandatory;
+    before = omega arith;
+    at_first = refl;
+    at_second = refl;
+    together = both;
+    tag = (Universal, 2);
+    in_first = outermost (as_written refl (core (here refl) refl));
+    in_second = outermost (as_written refl (core (here refl) refl));
+  };
+}
+  where
+    both : Together Sequence run 0 2
+    both zero c l m e = absent_as (part 1 optional) c e refl
+    both (suc zero) c l m e = absent_as (part 2 optional) c e refl
+    both (suc (suc r)) c l m e = absurd (omega arith)
+
+-- SEQUENCE {a INTEGER OPTIONAL, b BOOLEAN, c INTEGER}: a and c are never next to one another
+abbrev apart_run : List Part
+apart_run = part 1 optional ∷ part 2 mandatory ∷ part 3 mandatory ∷ []
+
+never_together : Together Sequence apart_run 0 2 → ⊥
+never_together t = let e = t 1 (part 2 mandatory) (omega arith) (omega arith) refl in absurd cc
+
+-- SEQUENCE {a INTEGER OPTIONAL, c CHOICE {x INTEGER, y NULL}}
+abbrev choice_parts : List Part
+choice_parts = part 3 mandatory ∷ part 4 mandatory ∷ []
+
+abbrev with_choice : List Part
+with_choice = part 1 optional ∷ part 2 mandatory ∷ []
+
+abbrev choice_types : TagDefault → List Type'
+choice_types d = written (members Sequence with_choice) d None ∷ written int d (Some (0, 0)) ∷ written (members Choice choice_parts) d (Some (0, 1)) ∷
+    written int d (Some (2, 0)) ∷ written (simple a_null) d (Some (2, 1)) ∷ []
+
+choice_clash : HasClash (choice_types tags.Explicit) 0
+choice_clash = record {
+  kind = Sequence;
+  cs = with_choice;
+  default = tags.Explicit;
+  place = None;
+  is = here refl;
+  one = 0;
+  other = 1;
+  clash = record {
+    first = part 1 optional;
+    second = part 2 mandatory;
+    before = omega arith;
+    at_first = refl;
+    at_second = refl;
+    together = both;
+    tag = (Universal, 2);
+    in_first = outermost (as_written refl (core (here refl) refl));
+    in_second = alternative 2 choice_parts 0 (part 3 mandatory) (as_written refl (core (here refl) refl))
+        (record { steps = 0; few = omega arith; leads = refl; ends = refl }) (here refl) refl (outermost (as_written refl (core (here refl) refl)));
+  };
+}
+  where
+    both : Together Sequence with_choice 0 1
+    both zero c l m e = absent_as (part 1 optional) c e refl
+    both (suc r) c l m e = absurd (omega arith)
+
+-- SET {c CHOICE {x NULL}}
+abbrev one_choice : List Part
+one_choice = part 1 mandatory ∷ []
+
+abbrev one_null : List Part
+one_null = part 2 mandatory ∷ []
+
+abbrev set_types : TagDefault → List Type'
+set_types d = written (members Set one_choice) d None ∷ written (members Choice one_null) d (Some (0, 0)) ∷ written (simple a_null) d (Some (1, 0)) ∷ []
+
+set_untagged : IsUntagged (set_types tags.Explicit) 1
+set_untagged = record {
+  list = 0;
+  kind = Set;
+  cs = one_choice;
+  default = tags.Explicit;
+  place = None;
+  is = here refl;
+  within = inr refl;
+  number = 0;
+  member = part 1 mandatory;
+  there = refl;
+  at = refl;
+  untagged = as_written refl (core (here refl) refl);
+}
+
+-- with AUTOMATIC TAGS the component c has context 0, explicit, and the alternative x context 0, implicit
+set_automatic : Tags (set_types tags.Automatic) 1 (((Context, 0), Explicit) ∷ [])
+set_automatic = numbered refl (core (here refl) refl) refl
+
+set_automatic_null : Tags (set_types tags.Automatic) 2 (((Context, 0), Implicit) ∷ ((Universal, 5), Explicit) ∷ [])
+set_automatic_null = numbered refl (core (here refl) refl) refl
+
+-- with IMPLICIT TAGS: SET {a [0] NULL, b [0] BOOLEAN}
+abbrev same_parts : List Part
+same_parts = part 1 mandatory ∷ part 2 mandatory ∷ []
+
+abbrev zero_tag : Tag
+zero_tag = context 0 below_0
+
+abbrev same_types : TagDefault → List Type'
+same_types d = written (members Set same_parts) d None ∷ written (tagged zero_tag word.Absent 3) d (Some (0, 0)) ∷ written (tagged zero_tag word.Absent 4) d (Some (0, 1)) ∷
+    written (simple a_null) d None ∷ written (simple a_boolean) d None ∷ []
+
+same_clash : HasClash (same_types tags.Implicit) 0
+same_clash = record {
+  kind = Set;
+  cs = same_parts;
+  default = tags.Implicit;
+  place = None;
+  is = here refl;
+  one = 0;
+  other = 1;
+  clash = record {
+    first = part 1 mandatory;
+    second = part 2 mandatory;
+    before = omega arith;
+    at_first = refl;
+    at_second = refl;
+    together = tt;
+    tag = (Context, 0);
+    in_first = outermost (as_written refl (inside (here refl) (core (here refl) refl) refl));
+    in_second = outermost (as_written refl (inside (here refl) (core (here refl) refl) refl));
+  };
+}
+
+-- with AUTOMATIC TAGS too, since the members bear written tags
+same_not_automatic : automatic (same_types tags.Automatic) 1 ≡ None
+same_not_automatic = refl
+
+-- [1] [2] [3] [4] [5] NULL
+abbrev tag_before : ℕ → Type'
+tag_before i = written (tagged zero_tag word.Absent i) tags.Explicit None
+
+abbrev five : List Type'
+five = tag_before 1 ∷ tag_before 2 ∷ tag_before 3 ∷ tag_before 4 ∷ tag_before 5 ∷ written (simple a_null) tags.Explicit None ∷ []
+
+five_many : IsOverfull five 0
+five_many = record {
+  count = 5;
+  counts = one_more (here refl) (one_more (here refl) (one_more (here refl) (one_more (here refl) (one_more (here refl) (none_written (here refl) refl)))));
+  many = omega arith;
+}
+
+-- SEQUENCE {a INTEGER OPTIONAL, b INTEGER}, with AUTOMATIC TAGS: context 0 and 1
+abbrev pair : List Part
+pair = part 1 optional ∷ part 2 mandatory ∷ []
+
+abbrev pair_types : TagDefault → List Type'
+pair_types d = written (members Sequence pair) d None ∷ written int d (Some (0, 0)) ∷ written int d (Some (0, 1)) ∷ []
+
+pair_first : Tags (pair_types tags.Automatic) 1 (((Context, 0), Implicit) ∷ ((Universal, 2), Explicit) ∷ [])
+pair_first = numbered refl (core (here refl) refl) refl
+
+pair_second : Tags (pair_types tags.Automatic) 2 (((Context, 1), Implicit) ∷ ((Universal, 2), Explicit) ∷ [])
+pair_second = numbered refl (core (here refl) refl) refl
+
+-- C ::= CHOICE {a NULL, b BOOLEAN}, T ::= [0] C with a word or none: type 0 is T, type 1 the reference to C
+abbrev choice_tagged : Keyword → TagDefault → List Type'
+choice_tagged k d = written (tagged zero_tag k 1) d None ∷ written (reference 2) d None ∷ written (members Choice choice_parts) d None ∷
+    written (simple a_null) d (Some (2, 0)) ∷ written (simple a_boolean) d (Some (2, 1)) ∷ []
+
+through_reference : IsImplicit (choice_tagged word.Implicit tags.Explicit) 0
+through_reference = record { tag = zero_tag; inner = 1; default = tags.Explicit; place = None; is = here refl; untagged = behind (here refl) (core (here refl) refl) }
+
+explicit_there : Tags (choice_tagged word.Absent tags.Implicit) 0 (((Context, 0), Explicit) ∷ [])
+explicit_there = as_written refl (inside (here refl) (behind (here refl) (core (here refl) refl)) refl)
+
+-- a tag behind the reference: no untagged CHOICE
+passing_a_tag : Tags (tag_before 1 ∷ written (reference 2) tags.Explicit None ∷ written (tagged zero_tag word.Implicit 3) tags.Explicit None ∷ written int tags.Explicit None ∷ []) 0
+    (((Context, 0), Explicit) ∷ ((Context, 0), Implicit) ∷ ((Universal, 2), Explicit) ∷ [])
+passing_a_tag = as_written refl (inside (here refl) (behind (here refl) (inside (here refl) (core (here refl) refl) refl)) refl)

@@ -1,0 +1,178 @@
+-- Tables that can be tagged, and faults.
+use Rattle.std.proofs.Common.{◌≡◌, ◌⊎◌, inl, inr, ℕ, zero, suc, ◌+◌, ◌<◌, ◌≤◌, List, [], ◌∷◌, ◌++◌, length, Option, Some, None, refl, sym, ap, ◌∙◌, arith, subst}
+use Rattle.std.specs.Prelude.{slice_get, All, MatchResult, Result, Ok, Err}
+use Rattle.asn_base.specs.declared.tag.Tag.{Tag}
+use Rattle.syntax.specs.declared.tree.Keyword.{Keyword}
+use Rattle.syntax.specs.declared.tree.Keyword.TheVariants.{Absent, Implicit, Explicit}
+use Rattle.syntax.specs.declared.tree.TagDefault.{TagDefault}
+use Rattle.resolve.specs.declared.table.ListKind.{ListKind}
+use Rattle.resolve.specs.declared.table.ListKind.TheVariants.{Sequence, Set, Choice}
+use Rattle.resolve.specs.Table.{Part, Type', Kind, simple, reference, tagged, members, elements, behind_of, Is, IsLinked}
+use Rattle.tagging.specs.declared.check.Rule.{Rule}
+use Rattle.tagging.specs.declared.check.Rule.TheVariants.{Tags as TagsRule, TagNumber, TagClash, ImplicitChoice, UntaggedChoice}
+use Rattle.tagging.specs.Tags.{Label, Path, outermost, own, Tags, as_written, numbered, Written, core, behind, inside, TagCount, none_written, as_behind, one_more, automatic, automatic_of, AreNumbered}
+use Rattle.tagging.specs.First.{Distinct}
+use Rattle.tagging.specs.Heads.{Head, Fronts, none, front, AreFirst}
+use Rattle.tagging.specs.Lists.{Collected, none as nothing, one}
+use Rattle.tagging.specs.Tagged.{OneFirst, HaveOneFirst, BearTags, IsTagged, IsUntagged, IsOverfull, IsImplicit, HasClash, Breaks}
+use Rattle.tagging.specs.Faults.{Stands, StandsIn}
+use Rattle.tagging.specs.declared.fault.TagFault.{TagFault}
+use Rattle.tagging.specs.declared.fault.TagFault.TheVariants as faults
+use Rattle.tagging.specs.declared.fault.Limit.TheVariants as limits
+use Rattle.tagging.specs.Checks.{Suits, SuitsTag, IsGood}
+use Rattle.tagging.specs.Step.{Outermost}
+use Rattle.tagging.proofs.Paths.{written_exists, same_kind, written_unique}
+use Rattle.tagging.proofs.Fronts.{within_all, head_first, first_head, head_unique}
+
+pub collected_push : (ts : List Type') (cs : List Part) (vs : List (List Label)) (c : Part) (us : List Label) → Collected ts cs vs → AreFirst ts c.ty us → Collected ts (cs ++ c ∷ []) (vs ++ us ∷ [])
+collected_push ts cs vs c us nothing a = one a nothing
+collected_push ts cs vs c us (one {cs = cs'} {vs = vs'} b w) a = one b (collected_push ts cs' vs' c us w a)
+
+pub collected_long : (ts : List Type') (cs : List Part) (vs : List (List Label)) → Collected ts cs vs → length vs ≡ length cs
+collected_long ts cs vs nothing = refl
+collected_long ts cs vs (one {cs = cs'} {vs = vs'} b w) = ap suc (collected_long ts cs' vs' w)
+
+front_none : (ts : List Type') (cs : List Part) (us : List Label) (n : ℕ) (c : Part) → Fronts ts cs us → slice_get cs n ≡ Some c → Tags ts c.ty [] → ⊥
+front_none ts cs us n c none e t = absurd cc
+front_none ts cs us zero c (front {c = b} {t = u} h f) e t = let s : b ≡ c = cc in let x = head_unique ts c.ty (Some u) None (subst (λ z. Head ts z.ty (Some u)) s h) (record { path = []; tags = t; is = refl }) in absurd cc
+front_none ts cs us (suc n) c (front {cs = cs'} {us = us'} h f) e t = front_none ts cs' us' n c f e t
+
+pub bear : (ts : List Type') (k : ListKind) (cs : List Part) (us : List Label) → Fronts ts cs us → BearTags ts k cs
+bear ts Sequence cs us f = tt
+bear ts Set cs us f = λ n c e t. front_none ts cs us n c f e t
+bear ts Choice cs us f = λ n c e t. front_none ts cs us n c f e t
+
+written_none : (ts : List Type') (i : ℕ) (p : Path) → Written ts i p → None ≡ outermost p → Written ts i []
+written_none ts i [] w e = w
+written_none ts i (x ∷ p) w e = absurd cc
+
+pub untagged : (ts : List Type') (i : ℕ) → Outermost ts i None → Written ts i []
+untagged ts i o = written_none ts i o.path o.written o.is
+
+pub suits_by : (ts : List Type') (i : ℕ) (k m : Kind) {d e : TagDefault} {p q : Option (ℕ × ℕ)} → Is ts i k d p → Suits ts k → Is ts i m e q → Suits ts m
+suits_by ts i k m h s g = subst (Suits ts) (same_kind h g) s
+
+pub not_sequence : (k : ListKind) → (k ≡ Sequence → ⊥) → (k ≡ Choice) ⊎ (k ≡ Set)
+not_sequence Sequence f = absurd (f refl)
+not_sequence Set f = inr refl
+not_sequence Choice f = inl refl
+
+pub has_tag : (ts : List Type') (i : ℕ) (t : Label) → Outermost ts i (Some t) → Written ts i [] → ⊥
+has_tag ts i t o w = let e = written_unique ts i o.path [] o.written w in let f = o.is ∙ ap outermost e in absurd cc
+
+pub inside_table : (ts : List Type') (i j : ℕ) (t : Tag) (w : Keyword) (d : TagDefault) (p : Option (ℕ × ℕ)) → IsLinked ts → Is ts i (tagged t w j) d p → j < length ts
+inside_table ts i j t w d p k h = k.closed i j (ap behind_of h.found)
+
+-- where each type breaks no rule, the table is tagged
+below : {X : Type 0} (xs : List X) (i : ℕ) (x : X) → slice_get xs i ≡ Some x → i < length xs
+below [] i x e = absurd cc
+below (y ∷ ys) zero x e = omega arith
+below (y ∷ ys) (suc i) x e = let h = below ys i x e in omega arith
+
+count_there : (ts : List Type') (i n : ℕ) → TagCount ts i n → i < length ts
+count_there ts i n (none_written h e) = below ts i _ h.found
+count_there ts i n (as_behind h c) = below ts i _ h.found
+count_there ts i n (one_more h c) = below ts i _ h.found
+
+numbered_at : (ts : List Type') (i n : ℕ) (o : Option Type') → slice_get ts i ≡ o → automatic_of ts o ≡ Some n → i < length ts
+numbered_at ts i n None e f = absurd cc
+numbered_at ts i n (Some t) e f = below ts i t e
+
+-- a type with an automatic tag is one of the table
+pub numbered_there : (ts : List Type') (i n : ℕ) → automatic ts i ≡ Some n → i < length ts
+numbered_there ts i n e = numbered_at ts i n (slice_get ts i) refl e
+
+pub all_good : (ts : List Type') → ((i : ℕ) → i < length ts → IsGood ts i) → IsTagged ts
+all_good ts g = record {
+  numbers = λ i n e. (g i (numbered_there ts i n e)).number n e;
+  few = λ i n c. (g i (count_there ts i n c)).few n c;
+  forms = λ i j t d p h. (g i (below ts i _ h.found)).suits (tagged t Implicit j) d p h;
+  bear = λ i k cs d p h. ((g i (below ts i _ h.found)).suits (members k cs) d p h).0;
+  distinct = λ i k cs d p h. ((g i (below ts i _ h.found)).suits (members k cs) d p h).1;
+}
+
+-- a type has one number of written tags
+pub count_unique : (ts : List Type') (i m n : ℕ) → TagCount ts i m → TagCount ts i n → m ≡ n
+count_unique ts i m n (none_written h e) (none_written g f) = refl
+count_unique ts i m n (none_written h e) (as_behind g w) = let s = same_kind h g in let t = ap own s in absurd cc
+count_unique ts i m n (none_written h e) (one_more g w) = let s = same_kind h g in let t = ap own s in absurd cc
+count_unique ts i m n (as_behind h v) (none_written g f) = let s = same_kind h g in let t = ap own s in absurd cc
+count_unique ts i m n (as_behind {j = j} h v) (as_behind {j = q} g w) = let s = same_kind h g in let t : j ≡ q = cc in count_unique ts q m n (subst (λ z. TagCount ts z m) t v) w
+count_unique ts i m n (as_behind h v) (one_more g w) = let s = same_kind h g in absurd cc
+count_unique ts i m n (one_more h v) (none_written g f) = let s = same_kind h g in let t = ap own s in absurd cc
+count_unique ts i m n (one_more h v) (as_behind g w) = let s = same_kind h g in absurd cc
+count_unique ts i m n (one_more {j = j} {n = m'} h v) (one_more {j = q} {n = n'} g w) =
+    let s = same_kind h g in
+    let t : j ≡ q = cc in
+    ap suc (count_unique ts q m' n' (subst (λ z. TagCount ts z m') t v) w)
+
+bears : (ts : List Type') (k : ListKind) (cs : List Part) (n : ℕ) (c : Part) → (k ≡ Choice) ⊎ (k ≡ Set) → BearTags ts k cs → slice_get cs n ≡ Some c → Tags ts c.ty [] → ⊥
+bears ts Sequence cs n c (inl e) b f t = absurd cc
+bears ts Sequence cs n c (inr e) b f t = absurd cc
+bears ts Set cs n c w b f t = b n c f t
+bears ts Choice cs n c w b f t = b n c f t
+
+-- a table of which a type breaks a rule can't be tagged
+pub none_breaks : (ts : List Type') (r : Rule) (i : ℕ) → Breaks ts r i → IsTagged ts → ⊥
+none_breaks ts TagsRule i s t = let f = t.few i s.count s.counts in absurd (omega (arith, f, s.many))
+none_breaks ts TagNumber i s t = let f = t.numbers i s.number s.is in absurd (omega (arith, f, s.great))
+none_breaks ts UntaggedChoice i s t = bears ts s.kind s.cs s.number s.member s.within (t.bear s.list s.kind s.cs s.default s.place s.is) s.there (subst (λ j. Tags ts j []) (sym s.at) s.untagged)
+none_breaks ts ImplicitChoice i s t = t.forms i s.inner s.tag s.default s.place s.is s.untagged
+none_breaks ts TagClash i s t =
+    let c = s.clash in
+    t.distinct i s.kind s.cs s.default s.place s.is s.one s.other c.first c.second c.before c.at_first c.at_second c.together c.tag c.in_first c.in_second
+
+pub implicit_at : (ts : List Type') (i j : ℕ) (k : Keyword) (t : Tag) (d : TagDefault) (p : Option (ℕ × ℕ)) → k ≡ Implicit → Is ts i (tagged t k j) d p → Written ts j [] → IsImplicit ts i
+implicit_at ts i j k t d p e h w = record { tag = t; inner = j; default = d; place = p; is = subst (λ q. Is ts i (tagged t q j) d p) e h; untagged = w }
+
+pub suits_tag : (ts : List Type') (k : Keyword) (j : ℕ) → (Written ts j [] → ⊥) → SuitsTag ts k j
+suits_tag ts Absent j f = tt
+suits_tag ts Implicit j f = f
+suits_tag ts Explicit j f = tt
+
+-- each type has a list of tags
+pub tags_exist : (ts : List Type') (i : ℕ) → IsLinked ts → i < length ts → (p : Path) × Tags ts i p
+tags_exist ts i k l = tags_by ts i (automatic ts i) (written_exists ts i k l) refl
+  where
+    tags_by : (ts : List Type') (i : ℕ) (o : Option ℕ) → (p : Path) × Written ts i p → automatic ts i ≡ o → (p : Path) × Tags ts i p
+    tags_by ts i None w e = (w.0, as_written e w.1)
+    tags_by ts i (Some n) w e = (_, numbered e w.1 refl)
+
+first_of : (ts : List Type') (i : ℕ) (p : Path) → Tags ts i p → (Tags ts i [] → ⊥) → OneFirst ts i
+first_of ts i [] t f = absurd (f t)
+first_of ts i (x ∷ p) t f = let h : Head ts i (Some x.0) = record { path = x ∷ p; tags = t; is = refl } in record { tag = x.0; stands = head_first ts i x.0 h; only = λ u g. sym (first_head ts i u x.0 h g) }
+
+pub one_each : (ts : List Type') → IsLinked ts → IsTagged ts → HaveOneFirst ts
+one_each ts l t i k cs d p n c h w e =
+    let there = within_all (length ts) cs n c (l.parts i k cs d p h) e in
+    let u = tags_exist ts c.ty l there in
+    first_of ts c.ty u.0 u.1 (bears ts k cs n c w (t.bear i k cs d p h) e)
+
+-- no fault stands in tagged modules
+pub no_other_fault : (hs : List (List ℕ × TagDefault)) (gs : List (ℕ × List ℕ)) (ts : List Type') (e : TagFault) → (e ≡ faults.Memory → ⊥) → Stands hs gs ts e → IsTagged ts → ⊥
+no_other_fault hs gs ts faults.Memory n s t = n refl
+no_other_fault hs gs ts (faults.Limit limits.Tags M x) n s t = none_breaks ts TagsRule s.ty s.has t
+no_other_fault hs gs ts (faults.Limit limits.TagNumber M x) n s t = none_breaks ts TagNumber s.ty s.has t
+no_other_fault hs gs ts (faults.TagClash M x) n s t = none_breaks ts TagClash s.ty s.has t
+no_other_fault hs gs ts (faults.ImplicitChoice M x) n s t = none_breaks ts ImplicitChoice s.ty s.has t
+no_other_fault hs gs ts (faults.UntaggedChoice M x) n s t = none_breaks ts UntaggedChoice s.ty s.has t
+
+untagged_there : (ts : List Type') (i : ℕ) (p : Path) → Written ts i p → i < length ts
+untagged_there ts i p (core h e) = below ts i _ h.found
+untagged_there ts i p (behind h w) = below ts i _ h.found
+untagged_there ts i p (inside h w e) = below ts i _ h.found
+
+tags_there : (ts : List Type') (i : ℕ) (p : Path) → Tags ts i p → i < length ts
+tags_there ts i p (as_written e w) = untagged_there ts i _ w
+tags_there ts i p (numbered e w f) = untagged_there ts i _ w
+
+-- what breaks a rule is a type of the table
+pub breaks_there : (ts : List Type') (r : Rule) (i : ℕ) → Breaks ts r i → i < length ts
+breaks_there ts TagsRule i s = count_there ts i s.count s.counts
+breaks_there ts TagNumber i s = numbered_there ts i s.number s.is
+breaks_there ts TagClash i s = below ts i _ s.is.found
+breaks_there ts ImplicitChoice i s = below ts i _ s.is.found
+breaks_there ts UntaggedChoice i s = tags_there ts i [] s.untagged
+
+pub stands_as : (hs : List (List ℕ × TagDefault)) (gs : List (ℕ × List ℕ)) (ts : List Type') (i : ℕ) (M N x y : List ℕ) → M ≡ N → x ≡ y → StandsIn hs gs ts i M x → StandsIn hs gs ts i N y
+stands_as hs gs ts i M N x y e f s = subst (λ z. StandsIn hs gs ts i N z) f (subst (λ z. StandsIn hs gs ts i z x) e s)

@@ -1,0 +1,7 @@
+use Rattle.std.proofs.Common.{take, map}
+use Rattle.resolve.specs.Seen.{part_of, types_of}
+use Rattle.tagging.specs.Lists.{Collected, tag_lists}
+use Rattle.tagging.proofs.check.collect.Given as goal
+
+abbrev pub invariant-loop-place : goal.invariant-loop-place
+invariant-loop-place l = Collected (types_of l.types) (take l.place (map part_of l.components)) (tag_lists l.lists.items)

@@ -1,0 +1,25 @@
+use Rattle.std.proofs.Common.{◌≡◌, ℕ, Some, ◌<◌, ◌+◌, [], ◌∷◌, ◌++◌, length, refl, sym, ap, ◌∙◌, arith, subst, take}
+use Rattle.std.specs.Prelude.{map}
+use Rattle.resolve.specs.Seen.{types_of, part_of}
+use Rattle.tagging.specs.Heads.{Fronts, none, Head}
+use Rattle.tagging.proofs.Tables.{part_at, part_more}
+use Rattle.tagging.proofs.Fronts.{fronts_push, within_all}
+use Rattle.tagging.proofs.first.fronts.Goals as goal
+
+pub loop-place-init : goal.loop-place-init
+loop-place-init c = rw c.new-tags.ensures.items none
+
+pub head-requires-clause-there : goal.head-requires-clause-there
+head-requires-clause-there c =
+    subst (λ t. t < length c.args.types.now) (sym c.member_type-ty.ensures)
+    (within_all (length c.args.types.now) (map part_of c.args.members.now) c.loop-place.place (part_of c.index-members-place.result) c.requires.parts (part_at c.args.members.now c.loop-place.place c.index-members-place.result c.loop-place-test.true c.index-members-place.is))
+
+pub returns-in-None : goal.returns-in-None
+returns-in-None c =
+    (c.loop-place.place, part_of c.index-members-place.result, part_at c.args.members.now c.loop-place.place c.index-members-place.result c.loop-place-test.true c.index-members-place.is, sym c.member_type-ty.ensures, c.in-None.ensures)
+
+pub loop-place-preserved : goal.loop-place-preserved
+loop-place-preserved c =
+    let e = part_more c.args.members.now c.loop-place.place c.index-members-place.result c.loop-place-test.true c.index-members-place.is in
+    let h = subst (λ t. Head (types_of c.args.types.now) t (Some c.in-Some.tag)) c.member_type-ty.ensures c.in-Some.ensures in
+    rw (e, c.in-Ok.ensures.items) (fronts_push (types_of c.args.types.now) _ _ _ c.in-Some.tag c.loop-place.invariant h)

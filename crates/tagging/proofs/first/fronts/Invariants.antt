@@ -1,0 +1,7 @@
+use Rattle.std.proofs.Common.{take, map}
+use Rattle.resolve.specs.Seen.{part_of, types_of}
+use Rattle.tagging.specs.Heads.{Fronts}
+use Rattle.tagging.proofs.first.fronts.Given as goal
+
+abbrev pub invariant-loop-place : goal.invariant-loop-place
+invariant-loop-place l = Fronts (types_of l.types) (take l.place (map part_of l.members)) l.tags.items

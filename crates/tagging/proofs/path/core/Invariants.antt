@@ -1,0 +1,10 @@
+use Rattle.std.proofs.Common.{◌≡◌, ◌<◌, length, Some}
+use Rattle.resolve.specs.Seen.{types_of}
+use Rattle.resolve.specs.Table.{walk}
+use Rattle.tagging.proofs.path.core.Given as goal
+
+abbrev pub invariant-loop-walked : goal.invariant-loop-walked
+invariant-loop-walked l = record {
+  inside : l.at < length l.types;
+  leads : walk (types_of l.types) l.walked l.start ≡ Some l.at;
+}

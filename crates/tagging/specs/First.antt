@@ -1,0 +1,39 @@
+-- The tags that can stand outermost, and which types of a list have to differ in them.
+use Rattle.std.specs.Prelude.{◌≡◌, ℕ, ◌<◌, ◌≤◌, Bool, true, false, List, [], ◌∷◌, Option, Some, slice_get, Contains}
+use Rattle.syntax.specs.declared.tree.TagDefault.{TagDefault}
+use Rattle.resolve.specs.declared.table.ListKind.{ListKind}
+use Rattle.resolve.specs.declared.table.ListKind.TheVariants.{Sequence, Set, Choice}
+use Rattle.syntax.specs.Tree.{PresenceTree, mandatory, optional, default}
+use Rattle.resolve.specs.Table.{Part, Type', Kind, members, Is, IsCore}
+use Rattle.tagging.specs.declared.path.Form.{Form}
+use Rattle.tagging.specs.Tags.{Path, Label, Tags}
+
+-- tag t can stand outermost in an encoding of type i
+pub data First (ts : List Type') : ℕ → Label → Type 0 where
+  outermost : {i : ℕ} {t : Label} {f : Form} {p : Path} → Tags ts i ((t, f) ∷ p) → First ts i t
+  alternative : {i : ℕ} {t : Label} {d : TagDefault} {l : Option (ℕ × ℕ)} (c : ℕ) (cs : List Part) (n : ℕ) (a : Part) →
+      Tags ts i [] → IsCore ts i c → Is ts c (members Choice cs) d l → slice_get cs n ≡ Some a → First ts a.ty t → First ts i t
+
+-- no tag can stand first in both
+abbrev pub Apart : List Type' → ℕ → ℕ → Type 0
+Apart ts i j = (t : Label) → First ts i t → First ts j t → ⊥
+
+-- a component may be absent where OPTIONAL or DEFAULT stands behind it (X.680, clause 25)
+abbrev pub may_be_absent : PresenceTree → Bool
+may_be_absent mandatory = false
+may_be_absent optional = true
+may_be_absent (default v) = true
+
+-- each member from place p to before place q may be absent
+abbrev pub MayBeAbsent : List Part → ℕ → ℕ → Type 0
+MayBeAbsent cs p q = (r : ℕ) (c : Part) → p ≤ r → r < q → slice_get cs r ≡ Some c → may_be_absent c.presence ≡ true
+
+-- the members at p and, later, q can be the next one that stands: in a SEQUENCE where all from p to before q may be absent
+abbrev pub Together : ListKind → List Part → ℕ → ℕ → Type 0
+Together Sequence cs p q = MayBeAbsent cs p q
+Together Set cs p q = Unit {0}
+Together Choice cs p q = Unit {0}
+
+-- the first tags of a list's members differ wherever they have to
+abbrev pub Distinct : List Type' → ListKind → List Part → Type 0
+Distinct ts k cs = (p q : ℕ) (c d : Part) → p < q → slice_get cs p ≡ Some c → slice_get cs q ≡ Some d → Together k cs p q → Apart ts c.ty d.ty

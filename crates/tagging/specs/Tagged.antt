@@ -1,0 +1,107 @@
+-- Tables whose types have their tags as X.680 asks, and how a type breaks what it asks.
+use Rattle.std.specs.Prelude.{◌≡◌, ◌⊎◌, ℕ, ◌<◌, ◌≤◌, List, [], Option, Some, slice_get}
+use Rattle.asn_base.specs.declared.tag.Tag.{Tag}
+use Rattle.syntax.specs.declared.tree.Keyword.TheVariants.{Absent, Implicit, Explicit}
+use Rattle.syntax.specs.declared.tree.TagDefault.{TagDefault}
+use Rattle.resolve.specs.declared.table.ListKind.{ListKind}
+use Rattle.resolve.specs.declared.table.ListKind.TheVariants.{Sequence, Set, Choice}
+use Rattle.resolve.specs.Table.{Part, Type', Kind, tagged, members, Is}
+use Rattle.tagging.specs.declared.check.Rule.{Rule}
+use Rattle.tagging.specs.declared.check.Rule.TheVariants.{Tags as TagsRule, TagNumber, TagClash, ImplicitChoice, UntaggedChoice}
+use Rattle.tagging.specs.Tags.{Label, Tags, Written, TagCount, automatic, AreNumbered}
+use Rattle.tagging.specs.First.{First, Together, Distinct}
+
+-- no SET component and no CHOICE alternative is an untagged CHOICE
+abbrev pub BearTags : List Type' → ListKind → List Part → Type 0
+BearTags ts Sequence cs = Unit {0}
+BearTags ts k cs = (n : ℕ) (c : Part) → slice_get cs n ≡ Some c → Tags ts c.ty [] → ⊥
+
+-- what tagging asks of a table's types
+pub record IsTagged (ts : List Type') : Type 0 where
+  -- at most four tags are written on a type, through references (a limit of this compiler)
+  pub few : (i n : ℕ) → TagCount ts i n → n ≤ 4
+  pub numbers : AreNumbered ts
+  -- the word IMPLICIT stands before no untagged CHOICE (X.680, clause 31.2)
+  pub forms : (i j : ℕ) (t : Tag) (d : TagDefault) (p : Option (ℕ × ℕ)) → Is ts i (tagged t Implicit j) d p → Written ts j [] → ⊥
+  -- SET components and CHOICE alternatives have a tag of their own (narrower than X.680)
+  pub bear : (i : ℕ) (k : ListKind) (cs : List Part) (d : TagDefault) (p : Option (ℕ × ℕ)) → Is ts i (members k cs) d p → BearTags ts k cs
+  -- first tags differ where they have to (X.680, clauses 25, 27 and 29)
+  pub distinct : (i : ℕ) (k : ListKind) (cs : List Part) (d : TagDefault) (p : Option (ℕ × ℕ)) → Is ts i (members k cs) d p → Distinct ts k cs
+
+-- exactly one tag can stand first in type i
+pub record OneFirst (ts : List Type') (i : ℕ) : Type 0 where
+  pub tag : Label
+  pub stands : First ts i tag
+  pub only : (t : Label) → First ts i t → t ≡ tag
+
+-- that is so of each SET component and each CHOICE alternative
+abbrev pub HaveOneFirst : List Type' → Type 0
+HaveOneFirst ts = (i : ℕ) (k : ListKind) (cs : List Part) (d : TagDefault) (p : Option (ℕ × ℕ)) (n : ℕ) (c : Part) → Is ts i (members k cs) d p →
+    (k ≡ Choice) ⊎ (k ≡ Set) → slice_get cs n ≡ Some c → OneFirst ts c.ty
+
+-- more than four tags are written on type i
+pub record IsOverfull (ts : List Type') (i : ℕ) : Type 0 where
+  pub count : ℕ
+  pub counts : TagCount ts i count
+  pub many : 4 < count
+
+-- the automatic tag of type i has too great a number
+pub record IsTooGreat (ts : List Type') (i : ℕ) : Type 0 where
+  pub number : ℕ
+  pub is : automatic ts i ≡ Some number
+  pub great : 2147483648 ≤ number
+
+-- type i is tagged with the word IMPLICIT before an untagged CHOICE
+pub record IsImplicit (ts : List Type') (i : ℕ) : Type 0 where
+  pub tag : Tag
+  pub inner : ℕ
+  pub default : TagDefault
+  pub place : Option (ℕ × ℕ)
+  pub is : Is ts i (tagged tag Implicit inner) default place
+  pub untagged : Written ts inner []
+
+-- type i is an untagged CHOICE, and directly an alternative of a CHOICE or a component of a SET
+pub record IsUntagged (ts : List Type') (i : ℕ) : Type 0 where
+  pub list : ℕ
+  pub kind : ListKind
+  pub cs : List Part
+  pub default : TagDefault
+  pub place : Option (ℕ × ℕ)
+  pub is : Is ts list (members kind cs) default place
+  pub within : (kind ≡ Choice) ⊎ (kind ≡ Set)
+  pub number : ℕ
+  pub member : Part
+  pub there : slice_get cs number ≡ Some member
+  pub at : member.ty ≡ i
+  pub untagged : Tags ts i []
+
+-- the members at p and q can be the next one that stands, and one tag can stand first in both
+pub record Clash (ts : List Type') (k : ListKind) (cs : List Part) (p q : ℕ) : Type 0 where
+  pub first : Part
+  pub second : Part
+  pub before : p < q
+  pub at_first : slice_get cs p ≡ Some first
+  pub at_second : slice_get cs q ≡ Some second
+  pub together : Together k cs p q
+  pub tag : Label
+  pub in_first : First ts first.ty tag
+  pub in_second : First ts second.ty tag
+
+-- type i is a list of which two members clash
+pub record HasClash (ts : List Type') (i : ℕ) : Type 0 where
+  pub kind : ListKind
+  pub cs : List Part
+  pub default : TagDefault
+  pub place : Option (ℕ × ℕ)
+  pub is : Is ts i (members kind cs) default place
+  pub one : ℕ
+  pub other : ℕ
+  pub clash : Clash ts kind cs one other
+
+-- type i breaks the rule
+abbrev pub Breaks : List Type' → Rule → ℕ → Type 0
+Breaks ts TagsRule i = IsOverfull ts i
+Breaks ts TagNumber i = IsTooGreat ts i
+Breaks ts TagClash i = HasClash ts i
+Breaks ts ImplicitChoice i = IsImplicit ts i
+Breaks ts UntaggedChoice i = IsUntagged ts i

@@ -1,0 +1,15 @@
+//! Tags of linked types.
+#![tactic(auto)]
+
+mod automatic;
+mod check;
+mod fault;
+mod first;
+pub mod law;
+mod lists;
+mod path;
+mod tagged;
+
+pub use fault::{Limit, TagFault};
+pub use path::{Form, FormedTag, TagPath};
+pub use tagged::{Tagged, tag, tags_of};
