@@ -14,7 +14,7 @@ use Rattle.resolve.specs.Table.{Type', AllUnfold, IsClosed}
 use Rattle.resolve.specs.Numbering.{AreNumbered, HaveNoPlace}
 use Rattle.resolve.specs.Program.{IsGiven, IsThere, IsWhole}
 use Rattle.resolve.specs.Seen.{header_of, assignment_of, value_of, source_of, sources_of}
-use Rattle.resolve.proofs.Linking.{roots_there, assignment_there, is_closed, is_linked}
+use Rattle.resolve.proofs.Numbered.{roots_there, assignment_there, is_closed, is_linked}
 use Rattle.resolve.proofs.Meanings.{refers_meaning}
 
 record Of {X Y : Type 0} (f : X → Y) (xs : List X) (i : ℕ) (y : Y) : Type 0 where

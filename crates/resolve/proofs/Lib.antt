@@ -5,6 +5,6 @@ pub mod Trees
 pub mod Sources
 pub mod Queue
 pub mod PartKinds
-pub mod Linking
+pub mod Numbered
 pub mod Entries
 pub mod Assembling

@@ -9,3 +9,7 @@ pub mod Seen
 pub mod Finding
 pub mod Found
 pub mod Codes
+pub mod Modules
+pub mod Sound
+pub mod SoundFaults
+pub mod Links

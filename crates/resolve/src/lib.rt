@@ -4,6 +4,7 @@
 pub mod fault;
 mod gather;
 pub mod linked;
+pub mod linking;
 pub mod names;
 pub mod number;
 pub mod table;
@@ -11,6 +12,7 @@ pub mod unfolding;
 
 pub use fault::{Limit, NameFault};
 pub use linked::{Found, Linked};
+pub use linking::link;
 pub use names::{Assigned, Names, Scope};
 pub use table::{
     Assignment, Component, ElementsKind, ListKind, Place, Shape, Simple, ValueAt, Written,

@@ -4,14 +4,14 @@ ghost use Rattle.std.specs.Prelude.{ℕ, ◌≡◌, ◌↔◌, Some, map};
 ghost use Rattle.resolve.specs.Found.{Finds};
 ghost use Rattle.notation.specs.Tree.{Name};
 ghost use Rattle.resolve.specs.Seen.{types_of, value_of, assignment_of, header_of, sources_of};
-ghost use Rattle.std.specs.Prelude.{◌<◌, ◌≤◌, IfOk, IfErr, slice_get, length, string_bytes};
+ghost use Rattle.std.specs.Prelude.{◌<◌, ◌≤◌, IfOk, IfErr, slice_get, length, string_bytes, option_map};
 ghost use Rattle.resolve.specs.declared.names.Assigned.{Assigned};
 ghost use Rattle.resolve.specs.declared.table.Assignment.{Assignment};
 ghost use Rattle.resolve.specs.declared.table.ValueAt.{ValueAt};
-ghost use Rattle.resolve.specs.Names.{Meaning};
+ghost use Rattle.resolve.specs.Names.{Meaning, Refers};
 ghost use Rattle.resolve.specs.Numbering.{AllAssigned, HaveNoPlace, AreNumbered};
 ghost use Rattle.resolve.specs.Faults.{IsTableFault};
-ghost use Rattle.resolve.specs.Program.{IsGiven};
+ghost use Rattle.resolve.specs.Program.{IsGiven, IsWhole};
 ghost use Rattle.resolve.specs.Table.{IsLinked};
 
 use crate::fault::NameFault;
@@ -74,6 +74,28 @@ impl Linked {
             Some(Assigned::Type(index)) => Some(Found::TypeNamed(TypeId { index })),
             Some(Assigned::Value(number)) => Some(Found::ValueNamed(&self.values[number].syntax)),
         }
+    }
+
+    /// What a name stands for in a module, by number: what [`Linked::find`] answers without the value's notation.
+    pub fn meaning(&self, within: &str, name: &str) -> Option<Assigned>
+        ensures { (a : Assigned) → (result ≡ Some a ↔ Meaning self.now.modules within.now name.now a) }
+    {
+        self.names.find(within, name)
+    }
+
+    /// What a name, behind the name of a module if one is given, stands for in a module, by number. `M.x` may stand in M itself, or
+    /// where x is imported from M (X.680, clause 14.2).
+    pub fn refers(&self, within: &str, owner: &Option<String>, name: &str) -> Option<Assigned>
+        ensures { (a : Assigned) → (result ≡ Some a ↔ Refers self.now.modules within.now (option_map string_bytes owner.now) name.now a) }
+    {
+        self.names.refers(within, owner, name)
+    }
+
+    /// What every linked program keeps: all that names and types refer to is there, and types unfold.
+    pub fn whole(&self)
+        ensures { IsWhole self.now }
+    {
+        let _types = &self.types;
     }
 
     /// The modules, in order.
