@@ -130,6 +130,10 @@ fn of_tree(
             String::from_str(alloc, "2 Limit(Integer)")?,
             String::from_str(alloc, "numbers are at most 2 to the 127 minus 1")?,
         )),
+        SyntaxFault::Limit(notation::Limit::TagNumber, _) => Ok((
+            String::from_str(alloc, "2 Limit(TagNumber)")?,
+            String::from_str(alloc, "numbers of tags are at most 2 to the 31 minus 1")?,
+        )),
         SyntaxFault::OutOfProfile(place) => {
             let spelled = match tokens.get(*place) {
                 Some(token) => std::str::from_utf8(spelling(text, *token)).unwrap_or("?"),

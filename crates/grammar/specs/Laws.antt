@@ -4,7 +4,7 @@ use Rattle.std.proofs.lemmas.List.{append-nil}
 use Rattle.text.specs.declared.token.Mark.TheVariants.{Comma}
 use Rattle.grammar.specs.Lexeme.{Lexeme, Mark}
 use Rattle.grammar.specs.Grammar.{Grammar, ◌∙◌, ◌⇒◌, only, IsMany, many, behind}
-use Rattle.grammar.specs.Reading.{Limit, Nesting, Integer, Fault, Unexpected, Beyond, Read, Reader, ◌>>=◌, behind_commas_at}
+use Rattle.grammar.specs.Reading.{Limit, Nesting, Integer, TagNumber, Fault, Unexpected, Beyond, Read, Reader, ◌>>=◌, behind_commas_at}
 
 -- The number of lexemes from the fault on.
 abbrev pub left_of : Fault → ℕ
@@ -29,10 +29,12 @@ nowhere l = 0
 abbrev pub deeper : Limit → ℕ
 deeper Nesting = 1
 deeper Integer = 0
+deeper TagNumber = 0
 
 abbrev pub wider : Limit → ℕ
 wider Nesting = 0
 wider Integer = 1
+wider TagNumber = 1
 
 -- What is read is so, and the lexemes before a fault can go on.
 abbrev pub Sound : {A : Type 0} → (Limit → ℕ) → Grammar A → List Lexeme → Read A → Type 0

@@ -6,6 +6,7 @@ use Rattle.grammar.specs.Lexeme.{Lexeme, Ident, Number, Mark}
 pub data Limit : Type 0 where
   Nesting : Limit
   Integer : Limit
+  TagNumber : Limit
 
 -- What is wrong, with the number of lexemes from there on.
 pub data Fault : Type 0 where

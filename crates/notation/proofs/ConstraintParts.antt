@@ -424,7 +424,7 @@ module _ (over : Limit → ℕ) (within : Bool) (fits fits' : ℕ → Bool) (gro
   lower = end fits' ⇒ Some ∣ word Min ⇒ (λ _. None)
 
   end_part : (a : EndTree) (u : List Lexeme) → (end fits').Is a u → (end fits').CanGoOn u
-  end_part = rule_end.finds.part
+  end_part = (rule_end.finds tt).part
 
   range_is_split : Same split_range (range fits')
   range_is_split = record { to = record { is = to_is; on = to_on }; back = record { is = back_is; on = back_on } }
@@ -564,7 +564,7 @@ module _ (over : Limit → ℕ) (within : Bool) (fits fits' : ℕ → Bool) (gro
 -- ---- what the loops need
 
 pub chars_shrinks : Shrinks chars_at
-chars_shrinks = record { shorter = λ ts x e. sound_short chars ts (chars_at ts) x e ((rule_chars {over = nowhere} {within = false}).sound ts) }
+chars_shrinks = record { shorter = λ ts x e. sound_short chars ts (chars_at ts) x e ((rule_chars {over = nowhere} {within = false}).sound tt ts) }
 
 pub range_shrinks : (fits : ℕ → Bool) → Shrinks (range_at fits)
-range_shrinks fits = record { shorter = λ ts x e. sound_short (range fits) ts (range_at fits ts) x e ((rule_range nowhere true fits fits (λ n h. h) tt (λ n h t. h)).sound ts) }
+range_shrinks fits = record { shorter = λ ts x e. sound_short (range fits) ts (range_at fits ts) x e ((rule_range nowhere true fits fits (λ n h. h) tt (λ n h t. h)).sound tt ts) }

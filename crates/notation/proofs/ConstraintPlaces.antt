@@ -71,7 +71,7 @@ all_follow (t ∷ us) = refl
 module _ {A : Type 0} (g : (ℕ → Bool) → Grammar A) (starts : Lexeme → Bool) (read : (ℕ → Bool) → Reader A) (ruled : Ruled g starts read) (grows : Grows (g small) (g any)) where
   -- of the reader under the limit, with the grammar under none
   free_finds : Finds false (g any) starts no_lexeme (read small)
-  free_finds = (ruled nowhere false small any (λ n e. refl) tt (λ n e t. absurd cc)).finds
+  free_finds = (ruled nowhere false small any (λ n e. refl) tt (λ n e t. absurd cc)).finds tt
 
   limited_rules : (over : Limit → ℕ) → over Integer ≡ 0 → Rules over true (g small) starts no_lexeme (read small)
   limited_rules over e = ruled over true small small (λ n e. e) (past (over Integer) e) (λ n e t. e)
@@ -83,23 +83,23 @@ module _ {A : Type 0} (g : (ℕ → Bool) → Grammar A) (starts : Lexeme → Bo
   pub flat_reads : Reads (g small) (free (flat g)) (read small)
   flat_reads = record {
     weaker = λ u h. (0, grows.on u h);
-    sound = (limited_rules nowhere refl).sound;
+    sound = (limited_rules nowhere refl).sound tt;
     front = λ u us h. free_finds.front u us h.1;
-    front_within = λ u us h. (limited_rules nowhere refl).finds.front u us h;
+    front_within = λ u us h. ((limited_rules nowhere refl).finds tt).front u us h;
     whole = λ x u h. free_finds.whole x u [] h.1 tt;
-    closed = λ x u us h c. (limited_rules nowhere refl).finds.whole x u us h (all_follow us);
+    closed = λ x u us h c. ((limited_rules nowhere refl).finds tt).whole x u us h (all_follow us);
   }
 
   pub flat_deeper : (ts : List Lexeme) → Sound deeper (unbounded (flat g small)) ts (read small ts)
-  flat_deeper ts = unbound (flat g small) 0 deeper ts (read small ts) ((limited_rules deeper refl).sound ts)
+  flat_deeper ts = unbound (flat g small) 0 deeper ts (read small ts) ((limited_rules deeper refl).sound tt ts)
 
   pub flat_wider : (ts : List Lexeme) → Sound wider (free (flat g)) ts (read small ts)
-  flat_wider ts = unbound (flat g any) 0 wider ts (read small ts) ((ruled wider false small any (λ n e. refl) (λ n. refl) (λ n e t. absurd cc)).sound ts)
+  flat_wider ts = unbound (flat g any) 0 wider ts (read small ts) ((ruled wider false small any (λ n e. refl) (λ n. refl) (λ n e t. absurd cc)).sound tt ts)
 
   -- a list of lexemes is one tree at most
   pub flat_one : (u : List Lexeme) (v w : A) → (g any).Is v u → (g any).Is w u → v ≡ w
   flat_one u v w h k =
-      let f = (ruled nowhere true any any (λ n e. e) tt (λ n e t. refl)).finds in
+      let f = (ruled nowhere true any any (λ n e. e) tt (λ n e t. refl)).finds tt in
       same (f.whole v u [] h tt) (f.whole w u [] k tt)
     where
       one_result : (x y : A × List Lexeme) (r : Read A) → r ≡ Ok x → r ≡ Ok y → x ≡ y

@@ -77,3 +77,4 @@ Stands g ts start n (faults.Unexpected i) = IsFirst (free g) ts start i × (is_r
 Stands g ts start n (faults.OutOfProfile i) = IsFirst (free g) ts start i × (is_refused_at (slice_get ts i) ≡ true)
 Stands g ts start n (faults.Limit limits.Nesting i) = PassesLimit (g small n) (unbounded (g small)) ts start i
 Stands g ts start n (faults.Limit limits.Integer i) = PassesLimit (g small n) (free g) ts start i
+Stands g ts start n (faults.Limit limits.TagNumber i) = PassesLimit (g small n) (free g) ts start i

@@ -4,7 +4,7 @@ use Rattle.std.specs.List.{AllByRecursion}
 use Rattle.text.specs.declared.token.Token.{Token}
 use Rattle.text.specs.Items.{IsToken}
 use Rattle.text.specs.Text.{IsText, IsWithinLimits, IsSmall, IsSpanWithin}
-use Rattle.grammar.specs.Reading.{Fault, Unexpected, Beyond, Limit as Limit', Nesting, Integer}
+use Rattle.grammar.specs.Reading.{Fault, Unexpected, Beyond, Limit as Limit', Nesting, Integer, TagNumber}
 use Rattle.notation.specs.declared.fault.Limit.{Limit}
 use Rattle.notation.specs.declared.fault.Limit.TheVariants as limits
 use Rattle.notation.specs.declared.fault.ReadError.{ReadError}
@@ -22,6 +22,7 @@ AreTokens x = AllByRecursion (IsTokenOf x)
 abbrev pub limit_of : Limit → Limit'
 limit_of limits.Nesting = Nesting
 limit_of limits.Integer = Integer
+limit_of limits.TagNumber = TagNumber
 
 -- What a function returned, seen by view, is what reading gives, unless memory ran out.
 abbrev pub Fails : {Y : Type 0} → ReadError → Result Y Fault → Type 0

@@ -6,7 +6,7 @@ use Rattle.grammar.specs.Grammar.{Grammar, mark, only as lexeme}
 use Rattle.grammar.specs.Reading.{Limit, Read, Reader, ◌>>=◌}
 use Rattle.grammar.specs.Laws.{then_read, after_read}
 use Rattle.grammar.specs.Lists.{no_lexeme}
-use Rattle.notation.specs.Rules.{Rules, rule_token, rule_seq, rule_pair, rule_read, made, one_at, one_is}
+use Rattle.notation.specs.Rules.{Owes, rule_token, rule_seq, rule_pair, rule_read, made, one_at, one_is}
 use Rattle.notation.specs.ConstraintGrammar.{parens}
 use Rattle.notation.specs.ConstraintReading.{is_open, open_at, close_at, parens_at}
 
@@ -37,14 +37,14 @@ close_same (t ∷ ts) = refl
 close_only : (ends : Lexeme → Bool) → ends (Mark CloseParenthesis) ≡ false → (t : Lexeme) → is_close t ≡ true → ends t ≡ false
 close_only ends e t h = subst (λ (t : Lexeme). ends t ≡ false) (sym (close_one t h)) e
 
-module _ {over : Limit → ℕ} {within : Bool} where
-  rule_open : Rules over within (lexeme (Mark OpenParenthesis)) is_open no_lexeme (one_at is_open)
+module _ {s f : Type 0} {over : Limit → ℕ} {within : Bool} where
+  rule_open : Owes s f over within (lexeme (Mark OpenParenthesis)) is_open no_lexeme (one_at is_open)
   rule_open = rule_token (one_is (Mark OpenParenthesis) is_open refl open_one)
 
-  rule_close : Rules over within (lexeme (Mark CloseParenthesis)) is_close no_lexeme (one_at is_close)
+  rule_close : Owes s f over within (lexeme (Mark CloseParenthesis)) is_close no_lexeme (one_at is_close)
   rule_close = rule_token (one_is (Mark CloseParenthesis) is_close refl close_one)
 
-  pub rule_parens : {A : Type 0} {a : Grammar A} {starts ends : Lexeme → Bool} {read : Reader A} → Rules over within a starts ends read → ends (Mark CloseParenthesis) ≡ false → Rules over within (parens a) is_open no_lexeme (parens_at read)
+  pub rule_parens : {A : Type 0} {a : Grammar A} {starts ends : Lexeme → Bool} {read : Reader A} → Owes s f over within a starts ends read → ends (Mark CloseParenthesis) ≡ false → Owes s f over within (parens a) is_open no_lexeme (parens_at read)
   unfolding parens_at
   rule_parens {A} {a} {starts} {ends} {read} k e =
       rule_read (parens_at read) same

@@ -11,16 +11,27 @@ use Rattle.grammar.specs.Numbers.{Past, fitting_sound, fitting_passes, fitting_s
 use Rattle.grammar.specs.Parts.{SoundReader, IsKind, token_sound, token_finds, token_solid, made_sound, made_finds, made_solid, seq_finds, open_finds, open_solid, pair_sound, pair_finds, pair_solid, pick, pick_sound, pick_finds, either_solid, perhaps, optional_sound, optional_finds, same_sound, same_finds}
 use Rattle.grammar.specs.Manies.{many_sound, many_finds}
 
--- what is read is so, no front is refused and each whole is read
-pub record Loose {A : Type 0} (over : Limit → ℕ) (within : Bool) (g : Grammar A) (starts ends : Lexeme → Bool) (read : Reader A) : Type 0 where
-  pub sound : SoundReader over g read
-  pub finds : Finds within g starts ends read
+-- What a reader owes a production: where s is asked, what is read is so; where f is asked, no front is refused and each whole is read.
+pub record OwesLoosely {A : Type 0} (s f : Type 0) (over : Limit → ℕ) (within : Bool) (g : Grammar A) (starts ends : Lexeme → Bool) (read : Reader A) : Type 0 where
+  pub sound : s → SoundReader over g read
+  pub finds : f → Finds within g starts ends read
 
 -- and no whole is empty
-pub record Rules {A : Type 0} (over : Limit → ℕ) (within : Bool) (g : Grammar A) (starts ends : Lexeme → Bool) (read : Reader A) : Type 0 where
-  pub sound : SoundReader over g read
-  pub finds : Finds within g starts ends read
+pub record Owes {A : Type 0} (s f : Type 0) (over : Limit → ℕ) (within : Bool) (g : Grammar A) (starts ends : Lexeme → Bool) (read : Reader A) : Type 0 where
+  pub sound : s → SoundReader over g read
+  pub finds : f → Finds within g starts ends read
   pub solid : IsSolid g
+
+-- both are asked
+abbrev pub Loose : {A : Type 0} → (Limit → ℕ) → Bool → Grammar A → (Lexeme → Bool) → (Lexeme → Bool) → Reader A → Type 0
+Loose over within g starts ends read = OwesLoosely (Unit {0}) (Unit {0}) over within g starts ends read
+
+abbrev pub Rules : {A : Type 0} → (Limit → ℕ) → Bool → Grammar A → (Lexeme → Bool) → (Lexeme → Bool) → Reader A → Type 0
+Rules over within g starts ends read = Owes (Unit {0}) (Unit {0}) over within g starts ends read
+
+-- what is owed where both are asked is owed where less is
+pub asked : {A : Type 0} {s f : Type 0} {over : Limit → ℕ} {within : Bool} {g : Grammar A} {starts ends : Lexeme → Bool} {read : Reader A} → Rules over within g starts ends read → Owes s f over within g starts ends read
+asked k = record { sound = λ q. k.sound tt; finds = λ q. k.finds tt; solid = k.solid }
 
 -- one test or the other
 abbrev pub bor : Bool → Bool → Bool
@@ -51,129 +62,134 @@ pub record Same {A : Type 0} (a b : Grammar A) : Type 0 where
   pub to : Grows a b
   pub back : Grows b a
 
-module _ {over : Limit → ℕ} {within : Bool} where
-  pub rule_token : {A : Type 0} {kind : A → Lexeme} {test : Lexeme → Bool} {read : Reader A} → IsKind kind test read → Rules over within (token kind) test no_lexeme read
-  rule_token {A} {kind} {test} {read} is = record { sound = token_sound kind test read is over; finds = token_finds kind test read is within; solid = token_solid kind }
+module _ {s f : Type 0} {over : Limit → ℕ} {within : Bool} where
+  pub rule_token : {A : Type 0} {kind : A → Lexeme} {test : Lexeme → Bool} {read : Reader A} → IsKind kind test read → Owes s f over within (token kind) test no_lexeme read
+  rule_token {A} {kind} {test} {read} is = record { sound = λ q. token_sound kind test read is over; finds = λ q. token_finds kind test read is within; solid = token_solid kind }
 
-  pub rule_made : {A B : Type 0} {a : Grammar A} {starts ends : Lexeme → Bool} {read : Reader A} (f : A → B) → Rules over within a starts ends read → Rules over within (a ⇒ f) starts ends (λ ts. read ts >>= λ x. Ok (f x.0, x.1))
-  rule_made {A} {B} {a} {starts} {ends} {read} f r = record { sound = made_sound over a f read r.sound; finds = made_finds within a f starts ends read r.finds; solid = made_solid a f r.solid }
+  pub rule_made : {A B : Type 0} {a : Grammar A} {starts ends : Lexeme → Bool} {read : Reader A} (g : A → B) → Owes s f over within a starts ends read → Owes s f over within (a ⇒ g) starts ends (λ ts. read ts >>= λ x. Ok (g x.0, x.1))
+  rule_made {A} {B} {a} {starts} {ends} {read} g r = record { sound = λ q. made_sound over a g read (r.sound q); finds = λ q. made_finds within a g starts ends read (r.finds q); solid = made_solid a g r.solid }
 
-  pub rule_seq : {A B C : Type 0} {a : Grammar A} {b : Grammar B} {starts-a ends-a starts-b ends-b : Lexeme → Bool} {ra : Reader A} {rb : Reader B} (f : A × B → C)
-      → Rules over within a starts-a ends-a ra → Rules over within b starts-b ends-b rb → ((t : Lexeme) → starts-b t ≡ true → ends-a t ≡ false) → Rules over within ((a ∙ b) ⇒ f) starts-a ends-b (then_read f ra rb)
-  rule_seq {A} {B} {C} {a} {b} {starts-a} {ends-a} {starts-b} {ends-b} {ra} {rb} f ka kb apart = record {
-    sound = λ ts. seq_sound over a b f ts (ra ts) rb (ka.sound ts) kb.sound;
-    finds = seq_finds within a b f starts-a ends-a starts-b ends-b ra rb ka.finds kb.finds ka.solid kb.solid apart;
-    solid = seq_solid a b f ka.solid;
+  pub rule_seq : {A B C : Type 0} {a : Grammar A} {b : Grammar B} {starts-a ends-a starts-b ends-b : Lexeme → Bool} {ra : Reader A} {rb : Reader B} (g : A × B → C)
+      → Owes s f over within a starts-a ends-a ra → Owes s f over within b starts-b ends-b rb → ((t : Lexeme) → starts-b t ≡ true → ends-a t ≡ false) → Owes s f over within ((a ∙ b) ⇒ g) starts-a ends-b (then_read g ra rb)
+  rule_seq {A} {B} {C} {a} {b} {starts-a} {ends-a} {starts-b} {ends-b} {ra} {rb} g ka kb apart = record {
+    sound = λ q ts. seq_sound over a b g ts (ra ts) rb (ka.sound q ts) (kb.sound q);
+    finds = λ q. seq_finds within a b g starts-a ends-a starts-b ends-b ra rb (ka.finds q) (kb.finds q) ka.solid kb.solid apart;
+    solid = seq_solid a b g ka.solid;
   }
 
   -- behind a lexeme that nothing else goes on with
-  pub rule_behind : {A : Type 0} {s : Lexeme} {a : Grammar A} {test starts ends : Lexeme → Bool} {rs : Reader (Unit {0})} {ra : Reader A} → Rules over within (only s) test no_lexeme rs → Rules over within a starts ends ra → Rules over within (behind s a) test ends (then_read (λ p. p.1) rs ra)
+  pub rule_behind : {A : Type 0} {l : Lexeme} {a : Grammar A} {test starts ends : Lexeme → Bool} {rs : Reader (Unit {0})} {ra : Reader A} → Owes s f over within (only l) test no_lexeme rs → Owes s f over within a starts ends ra → Owes s f over within (behind l a) test ends (then_read (λ p. p.1) rs ra)
   rule_behind ks ka = rule_seq (λ p. p.1) ks ka (λ t e. refl)
 
   -- what may be empty behind what is not
-  pub rule_tail : {A B C : Type 0} {a : Grammar A} {b : Grammar B} {starts-a ends-a starts-b ends-b : Lexeme → Bool} {ra : Reader A} {rb : Reader B} (f : A × B → C)
-      → Rules over within a starts-a ends-a ra → Loose over within b starts-b ends-b rb → ((t : Lexeme) → starts-b t ≡ true → ends-a t ≡ false) → Rules over within ((a ∙ b) ⇒ f) starts-a (either ends-a ends-b) (then_read f ra rb)
-  rule_tail {A} {B} {C} {a} {b} {starts-a} {ends-a} {starts-b} {ends-b} {ra} {rb} f ka kb apart = record {
-    sound = λ ts. seq_sound over a b f ts (ra ts) rb (ka.sound ts) kb.sound;
-    finds = record {
-      nil = inl ka.finds.nil;
-      part = seq_part within a b f starts-a ends-a starts-b ends-b (either ends-a ends-b) ra rb ka.finds kb.finds;
-      first = seq_first a b starts-a ka.solid ka.finds.part ka.finds.first;
-      whole = seq_whole within a b f starts-a ends-a starts-b ends-b (either ends-a ends-b) ra rb ka.finds kb.finds after last;
-      front = seq_front within a b f starts-a ends-a starts-b ends-b (either ends-a ends-b) ra rb ka.finds kb.finds apart;
-    };
-    solid = seq_solid a b f ka.solid;
+  pub rule_tail : {A B C : Type 0} {a : Grammar A} {b : Grammar B} {starts-a ends-a starts-b ends-b : Lexeme → Bool} {ra : Reader A} {rb : Reader B} (g : A × B → C)
+      → Owes s f over within a starts-a ends-a ra → OwesLoosely s f over within b starts-b ends-b rb → ((t : Lexeme) → starts-b t ≡ true → ends-a t ≡ false) → Owes s f over within ((a ∙ b) ⇒ g) starts-a (either ends-a ends-b) (then_read g ra rb)
+  rule_tail {A} {B} {C} {a} {b} {starts-a} {ends-a} {starts-b} {ends-b} {ra} {rb} g ka kb apart = record {
+    sound = λ q ts. seq_sound over a b g ts (ra ts) rb (ka.sound q ts) (kb.sound q);
+    finds = λ q. all (ka.finds q) (kb.finds q);
+    solid = seq_solid a b g ka.solid;
   }
     where
-      after : (y : B) (v us : List Lexeme) → b.Is y v → Follows (either ends-a ends-b) us → Follows ends-a (v ++ us)
-      after y [] [] h g = tt
-      after y [] (t ∷ us) h g = no_left (ends-a t) (ends-b t) g
-      after y (t ∷ v) us h g = apart t (kb.finds.first t v (kb.finds.part y (t ∷ v) h))
-
       last : (us : List Lexeme) → Follows (either ends-a ends-b) us → Follows ends-b us
-      last [] g = tt
-      last (t ∷ us) g = no_right (ends-a t) (ends-b t) g
+      last [] h = tt
+      last (t ∷ us) h = no_right (ends-a t) (ends-b t) h
 
-  pub rule_pair : {A B : Type 0} (a : Grammar A) (b : Grammar B) {starts ends : Lexeme → Bool} {read : Reader (A × B)} → IsSolid a → Rules over within ((a ∙ b) ⇒ (λ p. p)) starts ends read → Rules over within (a ∙ b) starts ends read
-  rule_pair {A} {B} a b {starts} {ends} {read} s k = record { sound = pair_sound over a b read k.sound; finds = pair_finds within a b starts ends read k.finds; solid = pair_solid a b s }
+      after : Finds within b starts-b ends-b rb → (y : B) (v us : List Lexeme) → b.Is y v → Follows (either ends-a ends-b) us → Follows ends-a (v ++ us)
+      after fb y [] [] h e = tt
+      after fb y [] (t ∷ us) h e = no_left (ends-a t) (ends-b t) e
+      after fb y (t ∷ v) us h e = apart t (fb.first t v (fb.part y (t ∷ v) h))
 
-  pub rule_pick : {A : Type 0} {a b : Grammar A} {starts-a ends-a starts-b ends-b : Lexeme → Bool} {ra rb : Reader A} → Rules over within a starts-a ends-a ra → Rules over within b starts-b ends-b rb → ((t : Lexeme) → starts-b t ≡ true → starts-a t ≡ false)
-      → Rules over within (a ∣ b) (either starts-a starts-b) (either ends-a ends-b) (pick starts-a ra rb)
+      all : Finds within a starts-a ends-a ra → Finds within b starts-b ends-b rb → Finds within ((a ∙ b) ⇒ g) starts-a (either ends-a ends-b) (then_read g ra rb)
+      all fa fb = record {
+        nil = inl fa.nil;
+        part = seq_part within a b g starts-a ends-a starts-b ends-b (either ends-a ends-b) ra rb fa fb;
+        first = seq_first a b starts-a ka.solid fa.part fa.first;
+        whole = seq_whole within a b g starts-a ends-a starts-b ends-b (either ends-a ends-b) ra rb fa fb (after fb) last;
+        front = seq_front within a b g starts-a ends-a starts-b ends-b (either ends-a ends-b) ra rb fa fb apart;
+      }
+
+  pub rule_pair : {A B : Type 0} (a : Grammar A) (b : Grammar B) {starts ends : Lexeme → Bool} {read : Reader (A × B)} → IsSolid a → Owes s f over within ((a ∙ b) ⇒ (λ p. p)) starts ends read → Owes s f over within (a ∙ b) starts ends read
+  rule_pair {A} {B} a b {starts} {ends} {read} solid k = record { sound = λ q. pair_sound over a b read (k.sound q); finds = λ q. pair_finds within a b starts ends read (k.finds q); solid = pair_solid a b solid }
+
+  pub rule_pick : {A : Type 0} {a b : Grammar A} {starts-a ends-a starts-b ends-b : Lexeme → Bool} {ra rb : Reader A} → Owes s f over within a starts-a ends-a ra → Owes s f over within b starts-b ends-b rb → ((t : Lexeme) → starts-b t ≡ true → starts-a t ≡ false)
+      → Owes s f over within (a ∣ b) (either starts-a starts-b) (either ends-a ends-b) (pick starts-a ra rb)
   rule_pick {A} {a} {b} {starts-a} {ends-a} {starts-b} {ends-b} {ra} {rb} ka kb apart = record {
-    sound = pick_sound over a b starts-a ra rb ka.sound kb.sound;
-    finds = pick_finds within a b starts-a starts-b (either starts-a starts-b) ends-a ends-b (either ends-a ends-b) ra rb ka.finds kb.finds apart ka.solid kb.solid
+    sound = λ q. pick_sound over a b starts-a ra rb (ka.sound q) (kb.sound q);
+    finds = λ q. pick_finds within a b starts-a starts-b (either starts-a starts-b) ends-a ends-b (either ends-a ends-b) ra rb (ka.finds q) (kb.finds q) apart ka.solid kb.solid
         (λ t. bor_left (starts-a t) (starts-b t)) (λ t. bor_right (starts-a t) (starts-b t)) (λ t. no_left (ends-a t) (ends-b t)) (λ t. no_right (ends-a t) (ends-b t));
     solid = either_solid a b ka.solid kb.solid;
   }
 
-  pub loose_optional : {A : Type 0} {a : Grammar A} {starts ends : Lexeme → Bool} {read : Reader A} → Rules over within a starts ends read → Loose over within (optional a) starts (either starts ends) (perhaps starts read)
+  pub loose_optional : {A : Type 0} {a : Grammar A} {starts ends : Lexeme → Bool} {read : Reader A} → Owes s f over within a starts ends read → OwesLoosely s f over within (optional a) starts (either starts ends) (perhaps starts read)
   loose_optional {A} {a} {starts} {ends} {read} k = record {
-    sound = optional_sound over a starts read k.sound;
-    finds = optional_finds within a starts ends (either starts ends) read k.finds k.solid (λ t. no_left (starts t) (ends t)) (λ t. no_right (starts t) (ends t));
+    sound = λ q. optional_sound over a starts read (k.sound q);
+    finds = λ q. optional_finds within a starts ends (either starts ends) read (k.finds q) k.solid (λ t. no_left (starts t) (ends t)) (λ t. no_right (starts t) (ends t));
   }
 
-  pub loose_many : {A : Type 0} {a : Grammar A} {starts ends : Lexeme → Bool} {read : Reader A} → Rules over within a starts ends read → ((t : Lexeme) → starts t ≡ true → ends t ≡ false) → Loose over within (many a) starts (either starts ends) (λ us. many_at starts read (length us) us)
+  pub loose_many : {A : Type 0} {a : Grammar A} {starts ends : Lexeme → Bool} {read : Reader A} → Owes s f over within a starts ends read → ((t : Lexeme) → starts t ≡ true → ends t ≡ false) → OwesLoosely s f over within (many a) starts (either starts ends) (λ us. many_at starts read (length us) us)
   loose_many {A} {a} {starts} {ends} {read} k apart = record {
-    sound = λ ts. many_sound over a starts read k.sound (length ts) ts;
-    finds = many_finds within a starts ends (either starts ends) read k.finds k.solid apart (λ t. no_left (starts t) (ends t)) (λ t. no_right (starts t) (ends t));
+    sound = λ q ts. many_sound over a starts read (k.sound q) (length ts) ts;
+    finds = λ q. many_finds within a starts ends (either starts ends) read (k.finds q) k.solid apart (λ t. no_left (starts t) (ends t)) (λ t. no_right (starts t) (ends t));
   }
+
+  -- the tree made of what may be empty
+  pub loose_made : {A B : Type 0} {a : Grammar A} {starts ends : Lexeme → Bool} {read : Reader A} (g : A → B) → OwesLoosely s f over within a starts ends read → OwesLoosely s f over within (a ⇒ g) starts ends (λ ts. read ts >>= λ x. Ok (g x.0, x.1))
+  loose_made {A} {B} {a} {starts} {ends} {read} g r = record { sound = λ q. made_sound over a g read (r.sound q); finds = λ q. made_finds within a g starts ends read (r.finds q) }
 
   -- what may be empty before what is not
-  pub rule_lead : {A B C : Type 0} {a : Grammar A} {b : Grammar B} {starts-a ends-a starts-b ends-b : Lexeme → Bool} {ra : Reader A} {rb : Reader B} (f : A × B → C)
-      → Loose over within a starts-a ends-a ra → Rules over within b starts-b ends-b rb → ((t : Lexeme) → starts-b t ≡ true → ends-a t ≡ false) → Rules over within ((a ∙ b) ⇒ f) (either starts-a starts-b) ends-b (then_read f ra rb)
-  rule_lead {A} {B} {C} {a} {b} {starts-a} {ends-a} {starts-b} {ends-b} {ra} {rb} f ka kb apart = record {
-    sound = λ ts. seq_sound over a b f ts (ra ts) rb (ka.sound ts) kb.sound;
-    finds = open_finds within a b f (either starts-a starts-b) starts-a ends-a starts-b ends-b ra rb ka.finds kb.finds kb.solid apart (λ t. bor_left (starts-a t) (starts-b t)) (λ t. bor_right (starts-a t) (starts-b t));
-    solid = open_solid a b f kb.solid;
+  pub rule_lead : {A B C : Type 0} {a : Grammar A} {b : Grammar B} {starts-a ends-a starts-b ends-b : Lexeme → Bool} {ra : Reader A} {rb : Reader B} (g : A × B → C)
+      → OwesLoosely s f over within a starts-a ends-a ra → Owes s f over within b starts-b ends-b rb → ((t : Lexeme) → starts-b t ≡ true → ends-a t ≡ false) → Owes s f over within ((a ∙ b) ⇒ g) (either starts-a starts-b) ends-b (then_read g ra rb)
+  rule_lead {A} {B} {C} {a} {b} {starts-a} {ends-a} {starts-b} {ends-b} {ra} {rb} g ka kb apart = record {
+    sound = λ q ts. seq_sound over a b g ts (ra ts) rb (ka.sound q ts) (kb.sound q);
+    finds = λ q. open_finds within a b g (either starts-a starts-b) starts-a ends-a starts-b ends-b ra rb (ka.finds q) (kb.finds q) kb.solid apart (λ t. bor_left (starts-a t) (starts-b t)) (λ t. bor_right (starts-a t) (starts-b t));
+    solid = open_solid a b g kb.solid;
   }
 
   -- with commas between
-  pub rule_listed : {A : Type 0} {a : Grammar A} {starts ends : Lexeme → Bool} {read : Reader A} → Rules over within a starts ends read → ends (Mark Comma) ≡ false → Rules over within (listed a) starts (with_comma ends) (listed_at read)
+  pub rule_listed : {A : Type 0} {a : Grammar A} {starts ends : Lexeme → Bool} {read : Reader A} → Owes s f over within a starts ends read → ends (Mark Comma) ≡ false → Owes s f over within (listed a) starts (with_comma ends) (listed_at read)
   rule_listed {A} {a} {starts} {ends} {read} k e = record {
-    sound = listed_sound over a read k.sound;
-    finds = finds_listed within a starts ends read k.finds e k.solid;
+    sound = λ q. listed_sound over a read (k.sound q);
+    finds = λ q. finds_listed within a starts ends read (k.finds q) e k.solid;
     solid = seq_solid a (many (behind (Mark Comma) a)) (λ p. p.0 ∷ p.1) k.solid;
   }
 
   -- by a reader that answers the same
-  pub rule_read : {A : Type 0} {a : Grammar A} {starts ends : Lexeme → Bool} {r : Reader A} (r' : Reader A) → ((ts : List Lexeme) → r ts ≡ r' ts) → Rules over within a starts ends r → Rules over within a starts ends r'
-  rule_read {A} {a} {starts} {ends} {r} r' e k = record { sound = same_sound over a r r' e k.sound; finds = same_finds within a starts ends r r' e k.finds; solid = k.solid }
+  pub rule_read : {A : Type 0} {a : Grammar A} {starts ends : Lexeme → Bool} {r : Reader A} (r' : Reader A) → ((ts : List Lexeme) → r ts ≡ r' ts) → Owes s f over within a starts ends r → Owes s f over within a starts ends r'
+  rule_read {A} {a} {starts} {ends} {r} r' e k = record { sound = λ q. same_sound over a r r' e (k.sound q); finds = λ q. same_finds within a starts ends r r' e (k.finds q); solid = k.solid }
 
   -- with tests that tell no more
-  pub rule_tests : {A : Type 0} {a : Grammar A} {starts ends : Lexeme → Bool} {read : Reader A} (starts' ends' : Lexeme → Bool) → ((t : Lexeme) → starts t ≡ true → starts' t ≡ true) → ((t : Lexeme) → ends' t ≡ false → ends t ≡ false) → Rules over within a starts ends read → Rules over within a starts' ends' read
-  rule_tests {A} {a} {starts} {ends} {read} starts' ends' gs ge k = record {
-    sound = k.sound;
-    finds = record {
-      nil = k.finds.nil;
-      part = k.finds.part;
-      first = λ t u h. gs t (k.finds.first t u h);
-      whole = λ x u us h f. k.finds.whole x u us h (go us f);
-      front = k.finds.front;
-    };
-    solid = k.solid;
-  }
+  pub rule_tests : {A : Type 0} {a : Grammar A} {starts ends : Lexeme → Bool} {read : Reader A} (starts' ends' : Lexeme → Bool) → ((t : Lexeme) → starts t ≡ true → starts' t ≡ true) → ((t : Lexeme) → ends' t ≡ false → ends t ≡ false) → Owes s f over within a starts ends read → Owes s f over within a starts' ends' read
+  rule_tests {A} {a} {starts} {ends} {read} starts' ends' gs ge k = record { sound = k.sound; finds = λ q. all (k.finds q); solid = k.solid }
     where
       go : (us : List Lexeme) → Follows ends' us → Follows ends us
-      go [] f = tt
-      go (t ∷ us) f = ge t f
+      go [] h = tt
+      go (t ∷ us) h = ge t h
+
+      all : Finds within a starts ends read → Finds within a starts' ends' read
+      all fa = record {
+        nil = fa.nil;
+        part = fa.part;
+        first = λ t u h. gs t (fa.first t u h);
+        whole = λ x u us h e. fa.whole x u us h (go us e);
+        front = fa.front;
+      }
 
   -- of a grammar that says the same
-  pub rule_same : {A : Type 0} {a : Grammar A} (b : Grammar A) {starts ends : Lexeme → Bool} {read : Reader A} → Same a b → Rules over within a starts ends read → Rules over within b starts ends read
-  rule_same {A} {a} b {starts} {ends} {read} same k = record {
-    sound = λ ts. go ts (read ts) (k.sound ts);
-    finds = record {
-      nil = same.to.on [] k.finds.nil;
-      part = λ x u h. same.to.on u (k.finds.part x u (same.back.is x u h));
-      first = λ t u h. k.finds.first t u (same.back.on (t ∷ u) h);
-      whole = λ x u us h f. k.finds.whole x u us (same.back.is x u h) f;
-      front = λ u us h. k.finds.front u us (same.back.on u h);
-    };
-    solid = record { no_empty = λ x h. k.solid.no_empty x (same.back.is x [] h) };
-  }
+  pub rule_same : {A : Type 0} {a : Grammar A} (b : Grammar A) {starts ends : Lexeme → Bool} {read : Reader A} → Same a b → Owes s f over within a starts ends read → Owes s f over within b starts ends read
+  rule_same {A} {a} b {starts} {ends} {read} same k = record { sound = λ q ts. go ts (read ts) (k.sound q ts); finds = λ q. all (k.finds q); solid = record { no_empty = λ x h. k.solid.no_empty x (same.back.is x [] h) } }
     where
       go : (ts : List Lexeme) (r : Read A) → Sound over a ts r → Sound over b ts r
-      go ts (Ok x) s = (s.0, s.1, same.to.is x.0 s.0 s.2)
-      go ts (Err f) s = (s.0, s.1, s.2, s.3, same.to.on s.0 s.4)
+      go ts (Ok x) h = (h.0, h.1, same.to.is x.0 h.0 h.2)
+      go ts (Err e) h = (h.0, h.1, h.2, h.3, same.to.on h.0 h.4)
+
+      all : Finds within a starts ends read → Finds within b starts ends read
+      all fa = record {
+        nil = same.to.on [] fa.nil;
+        part = λ x u h. same.to.on u (fa.part x u (same.back.is x u h));
+        first = λ t u h. fa.first t u (same.back.on (t ∷ u) h);
+        whole = λ x u us h e. fa.whole x u us (same.back.is x u h) e;
+        front = λ u us h. fa.front u us (same.back.on u h);
+      }
 
 -- ---- a number under a limit
 
@@ -218,8 +234,8 @@ module _ (over : Limit → ℕ) (within : Bool) (fits fits' : ℕ → Bool) (gro
 
   pub rule_number : Rules over within (number_of fits') is_number no_lexeme (number_at fits)
   rule_number = record {
-    sound = number_sound;
-    finds = record { nil = inl refl; part = λ n u h. inr (n, h.0, h.1); first = number_first; whole = λ n u us h f. number_whole n u us h; front = number_front };
+    sound = λ q. number_sound;
+    finds = λ q. record { nil = inl refl; part = λ n u h. inr (n, h.0, h.1); first = number_first; whole = λ n u us h f. number_whole n u us h; front = number_front };
     solid = record { no_empty = λ n h. let e = h.1 in absurd cc };
   }
 

@@ -14,6 +14,8 @@ pub enum Limit {
     Nesting,
     /// A number with no minus before it is less than 2 to the 127.
     Integer,
+    /// The number of a tag is less than 2 to the 31.
+    TagNumber,
 }
 
 /// What is wrong, and at which token, counted from 0; the number of tokens stands for their end.

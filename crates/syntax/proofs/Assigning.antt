@@ -19,10 +19,14 @@ use Rattle.notation.specs.Laws.{starts, goes_on, ValueLaws}
 use Rattle.syntax.specs.declared.tree.TagDefault.{TagDefault}
 use Rattle.syntax.specs.declared.tree.TagDefault.TheVariants as defaults
 use Rattle.syntax.specs.Tree.{TypeTree, AssignmentTree, assigns_type, assigns_value, ModuleTree}
-use Rattle.syntax.specs.Syntax.{type, module_text}
-use Rattle.syntax.specs.Reading.{definitions_at, explicit_at, tags_at, assign_at, begin_at, end_at, module_name_at, then_at, type_at, typed_at, begins_assignment, assignment_at, tag_default_at, assignments_at, defined_at, module_at}
+use Rattle.syntax.specs.Types.{type}
+use Rattle.syntax.specs.TypeReading.{type_at}
+use Rattle.syntax.specs.Syntax.{module_text}
+use Rattle.syntax.specs.Reading.{definitions_at, explicit_at, tags_at, assign_at, begin_at, end_at, module_name_at, then_at, typed_at, begins_assignment, assignment_at, tag_default_at, assignments_at, defined_at, module_at}
 use Rattle.syntax.proofs.Items.{is_assign, assign_is, is_definitions, definitions_is, is_explicit, explicit_is, is_tags, tags_is, is_begin, begin_is, is_end, end_is, is_typeref, typeref_is, ident_at, is_ident, ident_is}
-use Rattle.syntax.proofs.Typing.{or_left, or_right, one_of, type_starts, type_sound, type_deeper, type_finds, type_solid}
+use Rattle.syntax.proofs.TypeSteps.{type_starts, type_ends}
+use Rattle.syntax.specs.PartLaws.{PartLaws}
+use Rattle.syntax.proofs.Typing.{type_sound, type_wider, type_deeper, type_finds, type_finds_any, type_finds_free, type_solid, type_solid_any, type_grows}
 
 -- ---- the productions, of given types and values
 
@@ -67,13 +71,13 @@ module_part t v = (token TypeRef ∙ behind (Word Definitions) (defined_part t v
 abbrev second : {A : Type 0} → Unit {0} × A → A
 second p = p.1
 
-abbrev type_read : ℕ → Reader AssignmentTree
-type_read n = then_read (λ p. assigns_type p.0 p.1) module_name_at (then_at assign_at (type_at n))
+abbrev type_read : (ℕ → Bool) → ℕ → Reader AssignmentTree
+type_read fits n = then_read (λ p. assigns_type p.0 p.1) module_name_at (then_at assign_at (type_at fits n))
 
 abbrev value_read : (ℕ → Bool) → ℕ → Reader AssignmentTree
 value_read fits n = then_read (λ p. assigns_value p.0 p.1.0 p.1.1) ident_at (typed_at fits n)
 
-assignment_same : (fits : ℕ → Bool) (n : ℕ) (ts : List Lexeme) → pick is_typeref (type_read n) (value_read fits n) ts ≡ assignment_at fits n ts
+assignment_same : (fits : ℕ → Bool) (n : ℕ) (ts : List Lexeme) → pick is_typeref (type_read fits n) (value_read fits n) ts ≡ assignment_at fits n ts
 unfolding assignment_at module_name_at ident_at
 assignment_same fits n [] = refl
 assignment_same fits n (TypeRef x ∷ ts) = refl
@@ -129,18 +133,18 @@ module _ (fits : ℕ → Bool) (n : ℕ) where
 behind_sound : {A : Type 0} (over : Limit → ℕ) (m : Lexeme) (mark : Reader (Unit {0})) (a : Grammar A) (read : Reader A) → SoundReader over (token (λ (x : Unit {0}). m)) mark → SoundReader over a read → SoundReader over (behind m a) (then_at mark read)
 behind_sound over m mark a read sm s ts = seq_sound over (token (λ (x : Unit {0}). m)) a second ts (mark ts) read (sm ts) s
 
-module _ (over : Limit → ℕ) (fits : ℕ → Bool) (n : ℕ) (t : Grammar TypeTree) (v : Grammar Tree) (st : SoundReader over t (type_at n)) (sv : SoundReader over v (value_at fits n)) where
+module _ (over : Limit → ℕ) (fits : ℕ → Bool) (n : ℕ) (t : Grammar TypeTree) (v : Grammar Tree) (st : SoundReader over t (type_at fits n)) (sv : SoundReader over v (value_at fits n)) where
   assigned_sound : {A : Type 0} (a : Grammar A) (read : Reader A) → SoundReader over a read → SoundReader over (behind (Mark Assign) a) (then_at assign_at read)
   assigned_sound a read s = behind_sound over (Mark Assign) assign_at a read (token_sound (λ (x : Unit {0}). Mark Assign) is_assign assign_at assign_is over) s
 
   pub assignment_sound : SoundReader over (assigns t v) (assignment_at fits n)
   assignment_sound =
-      same_sound over (assigns t v) (pick is_typeref (type_read n) (value_read fits n)) (assignment_at fits n) (assignment_same fits n)
-      (pick_sound over (assigns_a_type t) (assigns_a_value t v) is_typeref (type_read n) (value_read fits n)
-      (λ ts. seq_sound over (token TypeRef) (behind (Mark Assign) t) (λ p. assigns_type p.0 p.1) ts (module_name_at ts) (then_at assign_at (type_at n)) (token_sound TypeRef is_typeref module_name_at typeref_is over ts) (assigned_sound t (type_at n) st))
+      same_sound over (assigns t v) (pick is_typeref (type_read fits n) (value_read fits n)) (assignment_at fits n) (assignment_same fits n)
+      (pick_sound over (assigns_a_type t) (assigns_a_value t v) is_typeref (type_read fits n) (value_read fits n)
+      (λ ts. seq_sound over (token TypeRef) (behind (Mark Assign) t) (λ p. assigns_type p.0 p.1) ts (module_name_at ts) (then_at assign_at (type_at fits n)) (token_sound TypeRef is_typeref module_name_at typeref_is over ts) (assigned_sound t (type_at fits n) st))
       (λ ts. seq_sound over (token Ident) (typed t v) (λ p. assigns_value p.0 p.1.0 p.1.1) ts (ident_at ts) (typed_at fits n) (token_sound Ident is_ident ident_at ident_is over ts)
       (pair_sound over t (behind (Mark Assign) v) (typed_at fits n)
-      (λ us. seq_sound over t (behind (Mark Assign) v) (λ p. p) us (type_at n us) (then_at assign_at (value_at fits n)) (st us) (assigned_sound v (value_at fits n) sv)))))
+      (λ us. seq_sound over t (behind (Mark Assign) v) (λ p. p) us (type_at fits n us) (then_at assign_at (value_at fits n)) (st us) (assigned_sound v (value_at fits n) sv)))))
 
   listed_sound : SoundReader over (listed_part t v) (assignments_at fits n)
   listed_sound =
@@ -167,6 +171,25 @@ module _ (over : Limit → ℕ) (fits : ℕ → Bool) (n : ℕ) (t : Grammar Typ
 
 -- ---- no front is refused, and each whole is read
 
+abbrev one_of : (Lexeme → Bool) → (Lexeme → Bool) → Lexeme → Bool
+one_of a b t = a t || b t
+
+or_left : (a b : Bool) → a ≡ true → (a || b) ≡ true
+or_left true b e = refl
+or_left false b e = absurd cc
+
+or_right : (a b : Bool) → b ≡ true → (a || b) ≡ true
+or_right true b e = refl
+or_right false b e = e
+
+-- what goes on with an assignment
+abbrev assigned_ends : Lexeme → Bool
+assigned_ends = one_of type_ends goes_on
+
+assign_no_type : (t : Lexeme) → is_assign t ≡ true → type_ends t ≡ false
+assign_no_type (Mark Assign) e = refl
+assign_no_type t e = absurd cc
+
 begins_type : (t : Lexeme) → is_typeref t ≡ true → begins_assignment t ≡ true
 begins_type (TypeRef x) e = refl
 begins_type t e = absurd cc
@@ -179,14 +202,14 @@ no_type : (t : Lexeme) → is_ident t ≡ true → is_typeref t ≡ false
 no_type (Ident x) e = refl
 no_type t e = absurd cc
 
-no_colon : (t : Lexeme) → begins_assignment t ≡ true → goes_on t ≡ false
+no_colon : (t : Lexeme) → begins_assignment t ≡ true → assigned_ends t ≡ false
 no_colon (TypeRef x) e = refl
 no_colon (Ident x) e = refl
 no_colon t e = absurd cc
 
 -- what may stand behind an assignment, that is no end
 abbrev more : Lexeme → Bool
-more = one_of begins_assignment goes_on
+more = one_of begins_assignment assigned_ends
 
 ends_first : (a b : Bool) → (a || b) ≡ false → a ≡ false
 ends_first true b e = absurd cc
@@ -215,7 +238,7 @@ assigns_solid t v =
     either_solid (assigns_a_type t) (assigns_a_value t v) (seq_solid (token TypeRef) (behind (Mark Assign) t) (λ p. assigns_type p.0 p.1) (token_solid TypeRef)) (seq_solid (token Ident) (typed t v) (λ p. assigns_value p.0 p.1.0 p.1.1) (token_solid Ident))
 
 module _ (within : Bool) (fits : ℕ → Bool) (n : ℕ) (t : Grammar TypeTree) (v : Grammar Tree) (value_starts : Lexeme → Bool)
-    (ft : Finds within t type_starts no_lexeme (type_at n)) (fv : Finds within v value_starts goes_on (value_at fits n)) (solid_t : IsSolid t) (solid_v : IsSolid v) where
+    (ft : Finds within t type_starts type_ends (type_at fits n)) (fv : Finds within v value_starts goes_on (value_at fits n)) (solid_t : IsSolid t) (solid_v : IsSolid v) where
   behind_finds : {A : Type 0} (m : Lexeme) (test : Lexeme → Bool) (mark : Reader (Unit {0})) (a : Grammar A) (starts ends : Lexeme → Bool) (read : Reader A)
       → Finds within (token (λ (x : Unit {0}). m)) test no_lexeme mark → Finds within a starts ends read → IsSolid a → Finds within (behind m a) test ends (then_at mark read)
   behind_finds m test mark a starts ends read fm fa sa = seq_finds within (token (λ (x : Unit {0}). m)) a second test no_lexeme starts ends mark read fm fa (token_solid (λ (x : Unit {0}). m)) sa (λ t e. refl)
@@ -223,21 +246,21 @@ module _ (within : Bool) (fits : ℕ → Bool) (n : ℕ) (t : Grammar TypeTree) 
   assigned_finds : {A : Type 0} (a : Grammar A) (starts ends : Lexeme → Bool) (read : Reader A) → Finds within a starts ends read → IsSolid a → Finds within (behind (Mark Assign) a) is_assign ends (then_at assign_at read)
   assigned_finds a starts ends read fa sa = behind_finds (Mark Assign) is_assign assign_at a starts ends read (token_finds (λ (x : Unit {0}). Mark Assign) is_assign assign_at assign_is within) fa sa
 
-  assignment_finds : Finds within (assigns t v) begins_assignment goes_on (assignment_at fits n)
+  assignment_finds : Finds within (assigns t v) begins_assignment assigned_ends (assignment_at fits n)
   assignment_finds =
-      let f1 = seq_finds within (token TypeRef) (behind (Mark Assign) t) (λ p. assigns_type p.0 p.1) is_typeref no_lexeme is_assign no_lexeme module_name_at (then_at assign_at (type_at n)) (token_finds TypeRef is_typeref module_name_at typeref_is within) (assigned_finds t type_starts no_lexeme (type_at n) ft solid_t) (token_solid TypeRef) (behind_solid (Mark Assign) t) (λ t e. refl) in
+      let f1 = seq_finds within (token TypeRef) (behind (Mark Assign) t) (λ p. assigns_type p.0 p.1) is_typeref no_lexeme is_assign type_ends module_name_at (then_at assign_at (type_at fits n)) (token_finds TypeRef is_typeref module_name_at typeref_is within) (assigned_finds t type_starts type_ends (type_at fits n) ft solid_t) (token_solid TypeRef) (behind_solid (Mark Assign) t) (λ t e. refl) in
       let fp = pair_finds within t (behind (Mark Assign) v) type_starts goes_on (typed_at fits n)
-      (seq_finds within t (behind (Mark Assign) v) (λ p. p) type_starts no_lexeme is_assign goes_on (type_at n) (then_at assign_at (value_at fits n)) ft (assigned_finds v value_starts goes_on (value_at fits n) fv solid_v) solid_t (behind_solid (Mark Assign) v) (λ t e. refl)) in
+      (seq_finds within t (behind (Mark Assign) v) (λ p. p) type_starts type_ends is_assign goes_on (type_at fits n) (then_at assign_at (value_at fits n)) ft (assigned_finds v value_starts goes_on (value_at fits n) fv solid_v) solid_t (behind_solid (Mark Assign) v) assign_no_type) in
       let f2 = seq_finds within (token Ident) (typed t v) (λ p. assigns_value p.0 p.1.0 p.1.1) is_ident no_lexeme type_starts goes_on ident_at (typed_at fits n) (token_finds Ident is_ident ident_at ident_is within) fp (token_solid Ident) (pair_solid t (behind (Mark Assign) v) solid_t) (λ t e. refl) in
-      same_finds within (assigns t v) begins_assignment goes_on (pick is_typeref (type_read n) (value_read fits n)) (assignment_at fits n) (assignment_same fits n)
-      (pick_finds within (assigns_a_type t) (assigns_a_value t v) is_typeref is_ident begins_assignment no_lexeme goes_on goes_on (type_read n) (value_read fits n) f1 f2 no_type
-      (seq_solid (token TypeRef) (behind (Mark Assign) t) (λ p. assigns_type p.0 p.1) (token_solid TypeRef)) (seq_solid (token Ident) (typed t v) (λ p. assigns_value p.0 p.1.0 p.1.1) (token_solid Ident)) begins_type begins_value (λ t e. refl) (λ t e. e))
+      same_finds within (assigns t v) begins_assignment assigned_ends (pick is_typeref (type_read fits n) (value_read fits n)) (assignment_at fits n) (assignment_same fits n)
+      (pick_finds within (assigns_a_type t) (assigns_a_value t v) is_typeref is_ident begins_assignment type_ends goes_on assigned_ends (type_read fits n) (value_read fits n) f1 f2 no_type
+      (seq_solid (token TypeRef) (behind (Mark Assign) t) (λ p. assigns_type p.0 p.1) (token_solid TypeRef)) (seq_solid (token Ident) (typed t v) (λ p. assigns_value p.0 p.1.0 p.1.1) (token_solid Ident)) begins_type begins_value (λ t e. ends_first (type_ends t) (goes_on t) e) (λ t e. ends_second (type_ends t) (goes_on t) e))
 
   listed_finds : Finds within (listed_part t v) (one_of begins_assignment is_end) no_lexeme (assignments_at fits n)
   listed_finds =
       same_finds within (listed_part t v) (one_of begins_assignment is_end) no_lexeme (then_read (λ p. p.0) (many_read fits n) end_at) (assignments_at fits n) (listed_same fits n)
       (open_finds within (many (assigns t v)) (word End) (λ p. p.0) (one_of begins_assignment is_end) begins_assignment more is_end no_lexeme (many_read fits n) end_at
-      (many_finds within (assigns t v) begins_assignment goes_on more (assignment_at fits n) assignment_finds (assigns_solid t v) no_colon (λ t e. ends_first (begins_assignment t) (goes_on t) e) (λ t e. ends_second (begins_assignment t) (goes_on t) e))
+      (many_finds within (assigns t v) begins_assignment assigned_ends more (assignment_at fits n) assignment_finds (assigns_solid t v) no_colon (λ t e. ends_first (begins_assignment t) (assigned_ends t) e) (λ t e. ends_second (begins_assignment t) (assigned_ends t) e))
       (token_finds (λ (x : Unit {0}). Word End) is_end end_at end_is within) (token_solid (λ (x : Unit {0}). Word End)) end_apart (λ t e. or_left (begins_assignment t) (is_end t) e) (λ t e. or_right (begins_assignment t) (is_end t) e))
 
   listed_solid : IsSolid (listed_part t v)
@@ -290,29 +313,28 @@ module_grows t t' v v' gt gv =
         (made_grows (token TypeRef ∙ behind (Mark Assign) t) (token TypeRef ∙ behind (Mark Assign) t') (λ p. assigns_type p.0 p.1) (seq_grows (token TypeRef) (token TypeRef) (behind (Mark Assign) t) (behind (Mark Assign) t') (same_grows (token TypeRef)) (behind_grows (Mark Assign) t t' gt)))
         (made_grows (token Ident ∙ typed t v) (token Ident ∙ typed t' v') (λ p. assigns_value p.0 p.1.0 p.1.1) (seq_grows (token Ident) (token Ident) (typed t v) (typed t' v') (same_grows (token Ident)) (seq_grows t t' (behind (Mark Assign) v) (behind (Mark Assign) v') gt (behind_grows (Mark Assign) v v' gv))))
 
--- limits on numbers say nothing of types
-types_grow : (n : ℕ) → Grows (type small n) (type any n)
-types_grow n = same_grows (type any n)
+module _ (all : PartLaws) where
+  laws : ValueLaws
+  laws = all.values
 
-module _ (laws : ValueLaws) where
   pub assignment_consumes : (n : ℕ) → Consumes (assignment_at small n)
-  assignment_consumes n = consumes (assigns (type small n) (value small n)) (assignment_at small n) (assigns_solid (type small n) (value small n)) (assignment_sound nowhere small n (type small n) (value small n) (type_sound nowhere refl small n) (laws.sound n))
+  assignment_consumes n = consumes (assigns (type small n) (value small n)) (assignment_at small n) (assigns_solid (type small n) (value small n)) (assignment_sound nowhere small n (type small n) (value small n) (type_sound all n) (laws.sound n))
 
   within_finds : (n m : ℕ) → m ≤ n → Finds true (module_text small m) is_typeref no_lexeme (module_at small n)
-  within_finds n m le = module_finds true small n (type small m) (value small m) (starts small) (type_finds true small n m (λ e. le)) (laws.finds n m le) (type_solid small m) (laws.solid small m)
+  within_finds n m le = module_finds true small n (type small m) (value small m) (starts small) (type_finds all n m le) (laws.finds n m le) (type_solid all m) (laws.solid small m)
 
   free_finds : (n m : ℕ) → Finds false (module_text any m) is_typeref no_lexeme (module_at small n)
-  free_finds n m = module_finds false small n (type any m) (value any m) (starts any) (type_finds false any n m (λ e. absurd cc)) (laws.finds_free n m) (type_solid any m) (laws.solid any m)
+  free_finds n m = module_finds false small n (type any m) (value any m) (starts any) (type_finds_free all n m) (laws.finds_free n m) (type_solid_any all m) (laws.solid any m)
 
   any_finds : (n m : ℕ) → m ≤ n → Finds true (module_text any m) is_typeref no_lexeme (module_at any n)
-  any_finds n m le = module_finds true any n (type any m) (value any m) (starts any) (type_finds true any n m (λ e. le)) (laws.finds_any n m le) (type_solid any m) (laws.solid any m)
+  any_finds n m le = module_finds true any n (type any m) (value any m) (starts any) (type_finds_any all n m le) (laws.finds_any n m le) (type_solid_any all m) (laws.solid any m)
 
   no_end : (us : List Lexeme) → Follows no_lexeme us
   no_end [] = tt
   no_end (t ∷ us) = refl
 
   weaker : (n : ℕ) (u : List Lexeme) → (module_text small n).CanGoOn u → (free module_text).CanGoOn u
-  weaker n u h = (n, (module_grows (type small n) (type any n) (value small n) (value any n) (types_grow n) (laws.grows n)).on u h)
+  weaker n u h = (n, (module_grows (type small n) (type any n) (value small n) (value any n) (type_grows all n) (laws.grows n)).on u h)
 
   pub module_part_goes : (n : ℕ) (x : ModuleTree) (u : List Lexeme) → (module_text small n).Is x u → (free module_text).CanGoOn u
   module_part_goes n x u h = weaker n u ((within_finds n n (omega arith)).part x u h)
@@ -320,7 +342,7 @@ module _ (laws : ValueLaws) where
   pub module_reads : (n : ℕ) → Reads (module_text small n) (free module_text) (module_at small n)
   module_reads n = record {
     weaker = weaker n;
-    sound = module_sound nowhere small n (type small n) (value small n) (type_sound nowhere refl small n) (laws.sound n);
+    sound = module_sound nowhere small n (type small n) (value small n) (type_sound all n) (laws.sound n);
     front = λ u us h. (free_finds n h.0).front u us h.1;
     front_within = λ u us h. (within_finds n n (omega arith)).front u us h;
     whole = λ x u h. (free_finds n h.0).whole x u [] h.1 tt;
@@ -328,10 +350,10 @@ module _ (laws : ValueLaws) where
   }
 
   pub deeper_modules : (n : ℕ) (ts : List Lexeme) → Sound deeper (unbounded (module_text small)) ts (module_at small n ts)
-  deeper_modules n ts = unbound (module_text small) (suc n) deeper ts (module_at small n ts) (module_sound deeper small n (type small (suc n)) (value small (suc n)) (type_deeper small n) (laws.sound_deeper n) ts)
+  deeper_modules n ts = unbound (module_text small) (suc n) deeper ts (module_at small n ts) (module_sound deeper small n (type small (suc n)) (value small (suc n)) (type_deeper all n) (laws.sound_deeper n) ts)
 
   pub wider_modules : (n : ℕ) (ts : List Lexeme) → Sound wider (free module_text) ts (module_at small n ts)
-  wider_modules n ts = unbound (module_text any) n wider ts (module_at small n ts) (module_sound wider small n (type any n) (value any n) (type_sound wider refl any n) (laws.sound_any n) ts)
+  wider_modules n ts = unbound (module_text any) n wider ts (module_at small n ts) (module_sound wider small n (type any n) (value any n) (type_wider all n) (laws.sound_any n) ts)
 
   -- A list of lexemes is one module at most.
   pub one_tree : (u : List Lexeme) (v w : ModuleTree) → (free module_text).Is v u → (free module_text).Is w u → v ≡ w

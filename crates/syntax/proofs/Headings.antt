@@ -216,4 +216,4 @@ module _ {over : Limit → ℕ} {within : Bool} where
   rule_exports = rule_read exports_at exports_same (rule_behind rule_exports_word rule_exported)
 
 pub symbol_shrinks : Shrinks symbol_at
-symbol_shrinks = record { shorter = λ ts x e. sound_short symbol ts (symbol_at ts) x e ((rule_symbol {over = nowhere} {within = false}).sound ts) }
+symbol_shrinks = record { shorter = λ ts x e. sound_short symbol ts (symbol_at ts) x e ((rule_symbol {over = nowhere} {within = false}).sound tt ts) }

@@ -245,10 +245,10 @@ module _ (over : Limit → ℕ) (within : Bool) (fits fits' : ℕ → Bool) (gro
 -- ---- what the loops keep
 
 pub arc_consumes : Consumes (arc_at small)
-arc_consumes = let k = rule_arc nowhere true small small (λ n e. e) tt (λ n e t. e) in consumes (arc small) (arc_at small) k.solid k.sound
+arc_consumes = let k = rule_arc nowhere true small small (λ n e. e) tt (λ n e t. e) in consumes (arc small) (arc_at small) k.solid (k.sound tt)
 
 pub import_consumes : Consumes (import_from_at small)
-import_consumes = let k = rule_import nowhere true small small (λ n e. e) tt (λ n e t. e) in consumes (import_from small) (import_from_at small) k.solid k.sound
+import_consumes = let k = rule_import nowhere true small small (λ n e. e) tt (λ n e t. e) in consumes (import_from small) (import_from_at small) k.solid (k.sound tt)
 
 -- arcs, which leave nothing behind
 abbrev skipped : Read (List (Unit {0})) → Read (Unit {0})

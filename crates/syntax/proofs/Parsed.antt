@@ -3,7 +3,7 @@ use Rattle.std.proofs.lemmas.Bool.Decides.{nat_tests}
 use Rattle.std.proofs.Common.{◌==◌, suc, true, false, ◌≡◌, ℕ, ◌-◌, ◌≤◌, List, [], ◌∷◌, length, Ok, Err, refl, sym, ap, ◌∙◌ as ◌⋆◌, arith}
 use Rattle.text.specs.declared.token.Token.{Token}
 use Rattle.grammar.specs.Lexeme.{Lexeme, lexemes}
-use Rattle.grammar.specs.Reading.{Nesting, Integer, Fault, Unexpected, Beyond, Read}
+use Rattle.grammar.specs.Reading.{Nesting, Integer, TagNumber, Fault, Unexpected, Beyond, Read}
 use Rattle.grammar.specs.Laws.{left_of, deeper, wider}
 use Rattle.grammar.specs.Places.{small, free, unbounded, IsFirst}
 use Rattle.grammar.specs.Answers.{whole_is, whole_read}
@@ -13,13 +13,13 @@ use Rattle.notation.specs.declared.fault.Limit.TheVariants as limits
 use Rattle.notation.specs.declared.fault.SyntaxFault.TheVariants as faults
 use Rattle.notation.specs.Given.{limit_of}
 use Rattle.notation.specs.Answer.{Stands}
-use Rattle.notation.specs.Laws.{ValueLaws}
 use Rattle.syntax.specs.Tree.{ModuleTree}
 use Rattle.syntax.specs.Syntax.{module_text}
 use Rattle.syntax.specs.Reading.{module_at}
+use Rattle.syntax.specs.PartLaws.{PartLaws}
 use Rattle.syntax.proofs.Assigning.{module_reads, module_part_goes, deeper_modules, wider_modules}
 
-module _ (laws : ValueLaws) (n : ℕ) (x : List ℕ) (ts : List Token) where
+module _ (laws : PartLaws) (n : ℕ) (x : List ℕ) (ts : List Token) where
   none : 0 ≤ length ts
   none = omega arith
 
@@ -67,6 +67,7 @@ module _ (laws : ValueLaws) (n : ℕ) (x : List ℕ) (ts : List Token) where
   pub limit_stands : (l : Limit) (k : ℕ) → module_at small n (lexemes x ts) ≡ Err (Beyond (limit_of l) k) → Stands module_text (lexemes x ts) 0 n (faults.Limit l (length ts - k))
   limit_stands limits.Nesting k e = passes (module_text small n) (free module_text) (module_at small n) (module_reads laws n) x ts 0 none deeper (unbounded (module_text small)) Nesting k refl (deeper_modules laws n) (from_whole (module_at small n) x ts (Err (Beyond Nesting k)) e)
   limit_stands limits.Integer k e = passes (module_text small n) (free module_text) (module_at small n) (module_reads laws n) x ts 0 none wider (free module_text) Integer k refl (wider_modules laws n) (from_whole (module_at small n) x ts (Err (Beyond Integer k)) e)
+  limit_stands limits.TagNumber k e = passes (module_text small n) (free module_text) (module_at small n) (module_reads laws n) x ts 0 none wider (free module_text) TagNumber k refl (wider_modules laws n) (from_whole (module_at small n) x ts (Err (Beyond TagNumber k)) e)
 
 not_zero : (n : ℕ) → (suc n == 0) ≡ true → ⊥
 not_zero n e = grind (arith, nat_tests)

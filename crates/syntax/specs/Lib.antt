@@ -1,4 +1,7 @@
 pub mod Tree
+pub mod Types
+pub mod TypeReading
+pub mod PartLaws
 pub mod Syntax
 pub mod Reading
 pub mod Heading

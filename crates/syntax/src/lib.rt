@@ -1,10 +1,14 @@
 //! The notation of ASN.1 modules.
 #![tactic(auto)]
 
+pub mod constrained;
 pub mod heading;
 pub mod importing;
+pub mod law;
 pub mod modules;
+pub mod named;
 pub mod parsing;
+pub mod tags;
 pub mod tree;
 pub mod types;
 
@@ -17,3 +21,5 @@ pub use tree::{
 
 #[cfg(test)]
 mod tests;
+#[cfg(test)]
+mod type_tests;

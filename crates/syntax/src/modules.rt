@@ -126,7 +126,7 @@ fn type_assignment<'a>(
     requires tokens { AreTokens text.now tokens.now }
     requires before { IsTokenOf text.now name }
     requires name { name.kind ≡ kinds.TypeReference }
-    ensures read { Gives (λ x. (assignment_of x.0, lexemes text.now x.1.now)) result (type_assigned_at depth (slice_range text.now name.span.start name.span.end) (lexemes text.now tokens.now)) }
+    ensures read { Gives (λ x. (assignment_of x.0, lexemes text.now x.1.now)) result (type_assigned_at small depth (slice_range text.now name.span.start name.span.end) (lexemes text.now tokens.now)) }
     ensures rest { IfOk result (λ x. AreTokens text.now x.1.now) }
 {
     let rest = assign(text, tokens)?;
@@ -221,7 +221,7 @@ fn many<'a>(
     ensures read { Gives (λ x. (map assignment_of x.0.items, lexemes text.now x.1.now)) result (many_at begins_assignment (assignment_at small depth) (length (lexemes text.now tokens.now)) (lexemes text.now tokens.now)) }
     ensures rest { IfOk result (λ x. AreTokens text.now x.1.now) }
 {
-    notation::law::values_are_read();
+    crate::law::parts_are_read();
     let mut assignments = Vec::new(alloc);
     let mut rest = tokens;
     while begins(text, rest) {

@@ -19,13 +19,13 @@ use text::Token;
 ///
 /// In go a text and its tokens, as [`text::lex`] gives them. Out comes the module as it is written
 /// (X.680, clause 13.1): a name, `DEFINITIONS`, `EXPLICIT TAGS` or nothing, `::=`, `BEGIN`, assignments of types
-/// (BOOLEAN, INTEGER, OCTET STRING, references, SEQUENCE) and values, and `END`.
+/// (extension markers apart) and values, and `END`.
 ///
 /// # Errors
 /// - [`SyntaxFault::Unexpected`] and [`SyntaxFault::OutOfProfile`] at the first token with which no module can go on,
 ///   or at the end of the tokens; `OutOfProfile` where that token is a word or mark of a construct that is left out.
-/// - [`SyntaxFault::Limit`] at the brace or colon that opens more than 128 things, and at a number of 2 to the 127
-///   with no minus before it.
+/// - [`SyntaxFault::Limit`] at the brace, bracket, `OF` or colon that opens more than 128 things, at a number of 2 to the
+///   127 with no minus before it, and at a tag's number of 2 to the 31.
 /// - [`SyntaxFault::Memory`] if there is not enough memory.
 pub fn parse(alloc: Global, text: &[u8], tokens: &[Token]) -> Result<Module, SyntaxFault>
     requires { IsLexed text.now tokens.now }
@@ -38,7 +38,7 @@ pub fn parse(alloc: Global, text: &[u8], tokens: &[Token]) -> Result<Module, Syn
     ensures fault { IfErr result (Stands module_text (lexemes text.now tokens.now) 0 128) }
 {
     notation::law::lexed_tokens();
-    notation::law::values_are_read();
+    crate::law::parts_are_read();
     match module(alloc, text, tokens, MAX_NESTING) {
         Ok((module, rest)) => {
             if rest.is_empty() {
@@ -57,5 +57,5 @@ pub fn parse(alloc: Global, text: &[u8], tokens: &[Token]) -> Result<Module, Syn
 pub fn one_module()
     ensures { (ts : List Lexeme) (m n : ModuleTree) → (free module_text).Is m ts → (free module_text).Is n ts → m ≡ n }
 {
-    notation::law::values_are_read();
+    crate::law::parts_are_read();
 }

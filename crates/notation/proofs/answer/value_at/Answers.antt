@@ -1,6 +1,6 @@
 use Rattle.std.proofs.Common.{◌≡◌, ℕ, ◌-◌, ◌≤◌, List, length, take, drop, Err, refl}
 use Rattle.grammar.specs.Lexeme.{lexemes}
-use Rattle.grammar.specs.Reading.{Unexpected, Beyond, Nesting, Integer}
+use Rattle.grammar.specs.Reading.{Unexpected, Beyond, Nesting, Integer, TagNumber}
 use Rattle.grammar.specs.Laws.{deeper, wider}
 use Rattle.grammar.specs.Places.{small, free, unbounded}
 use Rattle.grammar.specs.Texts.{found, rest_fits, left_fits, first, passes, same_found, never_found}
@@ -76,6 +76,7 @@ stands : (x : List ℕ) (ts : List Token) (place n : ℕ) (le : place ≤ length
     → Stands value (lexemes x ts) place n (faults.Limit l (length ts - left))
 stands x ts place n le limits.Nesting left h = passes (value small n) (free value) (value_at small n) (value_reads n) x ts place le deeper (unbounded (value small)) Nesting left refl (deeper_values n) h
 stands x ts place n le limits.Integer left h = passes (value small n) (free value) (value_at small n) (value_reads n) x ts place le wider (free value) Integer left refl (wider_values n) h
+stands x ts place n le limits.TagNumber left h = passes (value small n) (free value) (value_at small n) (value_reads n) x ts place le wider (free value) TagNumber left refl (wider_values n) h
 
 pub returns-in-Err-Limit-clause-fault : goal.returns-in-Err-Limit-clause-fault
 returns-in-Err-Limit-clause-fault c =

@@ -1,6 +1,6 @@
 use Rattle.std.proofs.Common.{◌≡◌, ℕ, ◌-◌, ◌≤◌, List, length, take, drop, Err, refl}
 use Rattle.grammar.specs.Lexeme.{lexemes}
-use Rattle.grammar.specs.Reading.{Unexpected, Beyond, Nesting, Integer}
+use Rattle.grammar.specs.Reading.{Unexpected, Beyond, Nesting, Integer, TagNumber}
 use Rattle.grammar.specs.Laws.{deeper, wider}
 use Rattle.grammar.specs.Places.{small, free, unbounded}
 use Rattle.grammar.specs.Answers.{Reads}
@@ -69,6 +69,7 @@ stands : (x : List ℕ) (ts : List Token) (place : ℕ) (le : place ≤ length t
     → Stands (flat size) (lexemes x ts) place 0 (faults.Limit l (length ts - left))
 stands x ts place le limits.Nesting left h = passes (size small) (free (flat size)) (size_at small) size_reads x ts place le deeper (unbounded (flat size small)) Nesting left refl (flat_deeper size is_size size_at size_ruled size_more) h
 stands x ts place le limits.Integer left h = passes (size small) (free (flat size)) (size_at small) size_reads x ts place le wider (free (flat size)) Integer left refl (flat_wider size is_size size_at size_ruled size_more) h
+stands x ts place le limits.TagNumber left h = passes (size small) (free (flat size)) (size_at small) size_reads x ts place le wider (free (flat size)) TagNumber left refl (flat_wider size is_size size_at size_ruled size_more) h
 
 pub returns-in-Err-Limit-clause-fault : goal.returns-in-Err-Limit-clause-fault
 returns-in-Err-Limit-clause-fault c =
