@@ -35,7 +35,7 @@ from_word_one : (t : Lexeme) → is_from_word t ≡ true → t ≡ Word From
 from_word_one (Word From) e = refl
 from_word_one t e = absurd cc
 
-abbrev is_imports_word : Lexeme → Bool
+abbrev pub is_imports_word : Lexeme → Bool
 is_imports_word (Word Imports) = true
 is_imports_word t = false
 
@@ -43,7 +43,7 @@ imports_word_one : (t : Lexeme) → is_imports_word t ≡ true → t ≡ Word Im
 imports_word_one (Word Imports) e = refl
 imports_word_one t e = absurd cc
 
-abbrev is_open_brace : Lexeme → Bool
+abbrev pub is_open_brace : Lexeme → Bool
 is_open_brace (Mark OpenBrace) = true
 is_open_brace t = false
 
@@ -190,7 +190,7 @@ module _ (over : Limit → ℕ) (within : Bool) (fits fits' : ℕ → Bool) (gro
   module_same (TypeRef m ∷ ts) = behind_module_same m ts
   module_same (t ∷ ts) = refl
 
-  rule_module : Rules over within ((token TypeRef ∙ optional (oid fits')) ⇒ (λ p. p.0)) is_typeref (either no_lexeme (either is_open_brace no_lexeme)) (module_ref_at fits)
+  pub rule_module : Rules over within ((token TypeRef ∙ optional (oid fits')) ⇒ (λ p. p.0)) is_typeref (either no_lexeme (either is_open_brace no_lexeme)) (module_ref_at fits)
   rule_module = rule_read (module_ref_at fits) module_same (rule_tail (λ p. p.0) (rule_token typeref_is) (loose_optional rule_oid) (λ t e. refl))
 
   from_same : (ts : List Lexeme) → then_read (λ (p : Unit {0} × Name). p.1) (one_at is_from_word) (module_ref_at fits) ts ≡ from_module_at fits ts

@@ -1,7 +1,10 @@
 pub mod Items
 pub mod Typing
 pub mod Assigning
+pub mod Assigned
 pub mod Loop
 pub mod Parsed
 pub mod Headings
 pub mod Imported
+pub mod Heads
+pub mod ModuleText

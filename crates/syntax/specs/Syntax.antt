@@ -1,13 +1,13 @@
 -- The grammar of types and modules (X.680, clauses 13, 16, 17 and 25).
 use Rattle.std.specs.Prelude.{ℕ, zero, suc, Bool, List, [], Option, Some, None}
 use Rattle.text.specs.declared.token.Mark.TheVariants.{Assign}
-use Rattle.text.specs.declared.reserved.Word.TheVariants.{Definitions, Explicit, Tags, Begin, End, Boolean, Integer, Octet, String, Sequence}
+use Rattle.text.specs.declared.reserved.Word.TheVariants.{End, Boolean, Integer, Octet, String, Sequence}
 use Rattle.grammar.specs.Lexeme.{TypeRef, Ident, Word, Mark}
 use Rattle.grammar.specs.Grammar.{Grammar, token, word, ◌∙◌, ◌∣◌, ◌⇒◌, many, optional, behind, listed, braces, cut_off}
 use Rattle.notation.specs.Tree.{Name}
 use Rattle.notation.specs.Value.{value}
-use Rattle.syntax.specs.declared.tree.TagDefault.TheVariants as defaults
 use Rattle.syntax.specs.Tree.{PresenceTree, mandatory, TypeTree, a_boolean, an_integer, an_octet_string, type_reference, a_sequence, TypeMembers, no_member, type_members, AssignmentTree, assigns_type, assigns_value, ModuleTree}
+use Rattle.syntax.specs.Heading.{HeadTree, head}
 
 -- the members that may stand in braces
 abbrev pub members_of : Option (List (Name × (TypeTree × PresenceTree))) → TypeMembers
@@ -17,6 +17,10 @@ members_of (Some ms) = type_members ms
 -- a member's type, with nothing behind it
 abbrev pub component : Grammar TypeTree → Grammar (TypeTree × PresenceTree)
 component t = t ⇒ (λ t. (t, mandatory))
+
+-- a module, of its head and its assignments
+abbrev pub module_of : HeadTree → List AssignmentTree → ModuleTree
+module_of h xs = record { name = h.name; tag_default = h.tag_default; exports = h.exports; imports = h.imports; assignments = xs }
 
 -- A limit on numbers is a test that numbers with no minus meet.
 module _ (fits : ℕ → Bool) where
@@ -39,10 +43,7 @@ module _ (fits : ℕ → Bool) where
       (token TypeRef ∙ behind (Mark Assign) (type n)) ⇒ (λ p. assigns_type p.0 p.1)
       ∣ (token Ident ∙ (type n ∙ behind (Mark Assign) (value fits n))) ⇒ (λ p. assigns_value p.0 p.1.0 p.1.1)
 
-  -- a module with at most n things open at one place
+  -- A module with at most n things open at one place, n being one or more: where an object identifier's braces are open,
+  -- at the head, nothing else is.
   abbrev pub module_text : ℕ → Grammar ModuleTree
-  module_text n =
-      (token TypeRef ∙ behind (Word Definitions) (
-      (optional (word Explicit ∙ word Tags) ⇒ (λ _. defaults.Explicit)) ∙ behind (Mark Assign) (behind (Word Begin) (
-      (many (assignment n) ∙ word End) ⇒ (λ p. p.0)))))
-      ⇒ (λ p. record { name = p.0; tag_default = p.1.0; exports = None; imports = []; assignments = p.1.1 })
+  module_text n = (head fits ∙ ((many (assignment n) ∙ word End) ⇒ (λ p. p.0))) ⇒ (λ p. module_of p.0 p.1)
