@@ -16,4 +16,6 @@ pub use tree::{
 };
 
 #[cfg(test)]
+mod heading_tests;
+#[cfg(test)]
 mod tests;
