@@ -1,28 +1,24 @@
 -- What is read as an assignment is one; the reader refuses no front of an assignment, and reads each whole one.
-use Rattle.std.proofs.Common.{◌≡◌, ℕ, suc, ◌≤◌, ◌+◌, inl, inr, Bool, true, false, ◌||◌, List, [], ◌∷◌, ◌++◌, length, Option, Some, None, Ok, Err, refl, sym, ap, ◌∙◌ as ◌⋆◌, arith}
+use Rattle.std.proofs.Common.{◌≡◌, ℕ, Bool, true, false, List, [], ◌∷◌, refl}
 use Rattle.text.specs.declared.token.Mark.TheVariants.{Assign}
-use Rattle.text.specs.declared.reserved.Word.TheVariants.{Definitions, Explicit, Tags, Begin, End}
-use Rattle.grammar.specs.Lexeme.{Lexeme, TypeRef, Ident, Word, Mark}
-use Rattle.grammar.specs.Grammar.{Grammar, token, mark, word, ◌∙◌, ◌∣◌, ◌⇒◌, many, behind, optional}
-use Rattle.grammar.specs.Reading.{Limit, Read, Reader, ◌>>=◌, many_at}
-use Rattle.grammar.specs.Laws.{nowhere, deeper, wider, seq_sound, Sound, Follows, Stands, Finds, then_read}
+use Rattle.grammar.specs.Lexeme.{Lexeme, TypeRef, Ident, Mark}
+use Rattle.grammar.specs.Grammar.{Grammar, token, mark, ◌∙◌, ◌∣◌, ◌⇒◌, behind}
+use Rattle.grammar.specs.Reading.{Limit, Reader}
+use Rattle.grammar.specs.Laws.{nowhere, seq_sound, Finds, then_read}
 use Rattle.grammar.specs.Lists.{IsSolid, no_lexeme, seq_solid}
-use Rattle.grammar.specs.Manies.{many_sound, many_finds, Consumes, consumes}
-use Rattle.grammar.specs.Places.{any, small, free, unbounded}
-use Rattle.grammar.specs.Answers.{Reads, unbound}
-use Rattle.grammar.specs.Grows.{Grows, same_grows, seq_grows, made_grows, either_grows, many_grows, behind_grows}
-use Rattle.grammar.specs.Parts.{SoundReader, token_sound, token_finds, token_solid, made_sound, made_finds, seq_finds, open_finds, open_solid, pair_sound, pair_finds, pair_solid, pick, pick_sound, pick_finds, either_solid, perhaps, optional_sound, optional_finds, same_sound, same_finds}
-use Rattle.notation.specs.Tree.{Name, Tree}
+use Rattle.grammar.specs.Manies.{Consumes, consumes}
+use Rattle.grammar.specs.Places.{any, small}
+use Rattle.grammar.specs.Grows.{Grows, same_grows, seq_grows, made_grows, either_grows, behind_grows}
+use Rattle.grammar.specs.Parts.{SoundReader, token_sound, token_finds, token_solid, seq_finds, pair_sound, pair_finds, pair_solid, pick, pick_sound, pick_finds, either_solid, same_sound, same_finds}
+use Rattle.notation.specs.Tree.{Tree}
 use Rattle.notation.specs.Value.{value}
 use Rattle.notation.specs.Reading.{value_at}
 use Rattle.notation.specs.Laws.{starts, goes_on, ValueLaws}
-use Rattle.syntax.specs.declared.tree.TagDefault.{TagDefault}
-use Rattle.syntax.specs.declared.tree.TagDefault.TheVariants as defaults
-use Rattle.syntax.specs.Tree.{TypeTree, AssignmentTree, assigns_type, assigns_value, ModuleTree}
-use Rattle.syntax.specs.Syntax.{type, module_text}
+use Rattle.syntax.specs.Tree.{TypeTree, AssignmentTree, assigns_type, assigns_value}
+use Rattle.syntax.specs.Syntax.{type}
 use Rattle.syntax.specs.Reading.{assign_at, module_name_at, then_at, type_at, typed_at, begins_assignment, assignment_at}
 use Rattle.syntax.proofs.Items.{is_assign, assign_is, is_typeref, typeref_is, ident_at, is_ident, ident_is}
-use Rattle.syntax.proofs.Typing.{or_left, or_right, one_of, type_starts, type_sound, type_deeper, type_finds, type_solid}
+use Rattle.syntax.proofs.Typing.{type_starts, type_sound}
 
 -- ---- the productions, of given types and values
 
@@ -88,11 +84,6 @@ begins_value t e = absurd cc
 no_type : (t : Lexeme) → is_ident t ≡ true → is_typeref t ≡ false
 no_type (Ident x) e = refl
 no_type t e = absurd cc
-
-no_colon : (t : Lexeme) → begins_assignment t ≡ true → goes_on t ≡ false
-no_colon (TypeRef x) e = refl
-no_colon (Ident x) e = refl
-no_colon t e = absurd cc
 
 behind_solid : {A : Type 0} (m : Lexeme) (a : Grammar A) → IsSolid (behind m a)
 behind_solid m a = seq_solid (token (λ (x : Unit {0}). m)) a second (token_solid (λ (x : Unit {0}). m))

@@ -1,23 +1,20 @@
 -- The reader of a module's head, and what its productions are owed.
-use Rattle.std.proofs.Common.{◌≡◌, ℕ, inl, inr, Bool, true, false, List, [], ◌∷◌, Option, Some, None, Ok, Err, refl, sym, subst}
-use Rattle.text.specs.declared.token.Mark.TheVariants.{Assign, Comma, OpenBrace, OpenParenthesis, CloseParenthesis, Semicolon}
+use Rattle.std.proofs.Common.{◌≡◌, ℕ, inl, inr, Bool, true, false, List, [], ◌∷◌, Option, Some, None, Ok, Err, refl, subst}
+use Rattle.text.specs.declared.token.Mark.TheVariants.{Assign, OpenParenthesis, CloseParenthesis, Semicolon}
 use Rattle.text.specs.declared.reserved.Word.TheVariants.{Explicit, Implicit, Automatic, Definitions, Begin, Exports, Imports, From}
 use Rattle.grammar.specs.Lexeme.{Lexeme, TypeRef, Ident, Word, Mark}
-use Rattle.grammar.specs.Grammar.{Grammar, token, mark, word, only as lexeme, number_of, ◌∙◌, ◌∣◌, ◌⇒◌, many, optional, behind, braces}
+use Rattle.grammar.specs.Grammar.{Grammar, token, mark, word, only as lexeme, number_of, ◌∙◌, ◌⇒◌, many, optional, behind}
 use Rattle.grammar.specs.Grows.{Grows, same_grows, number_grows, seq_grows, made_grows, either_grows, many_grows, behind_grows, braces_grows}
 use Rattle.grammar.specs.Numbers.{Past}
-use Rattle.grammar.specs.Reading.{Limit, Integer, Read, Reader, ◌>>=◌}
+use Rattle.grammar.specs.Reading.{Limit, Integer, Read, Reader}
 use Rattle.grammar.specs.Lists.{no_lexeme}
 use Rattle.grammar.specs.Parts.{perhaps, made_sound, made_finds, same_sound, same_finds}
 use Rattle.notation.specs.ConstraintGrammar.{parens}
 use Rattle.notation.specs.Rules.{Rules, Loose, either, rule_token, rule_seq, rule_behind, rule_tail, rule_lead, rule_pair, loose_optional, rule_tests, made}
-use Rattle.notation.specs.Tree.{Name}
-use Rattle.syntax.specs.declared.tree.TagDefault.{TagDefault}
-use Rattle.syntax.specs.Tree.{ImportTree}
-use Rattle.syntax.specs.Reading.{definitions_at, assign_at, begin_at, then_at}
-use Rattle.syntax.specs.Heading.{default_or, tag_default, exports_or, exports, export_list, imports_or, imports, import_list, symbols, arc, oid, module_ref, import_from, heading, HeadTree, head_of, head}
+use Rattle.syntax.specs.Reading.{definitions_at, assign_at, begin_at}
+use Rattle.syntax.specs.Heading.{default_or, tag_default, exports_or, export_list, imports_or, imports, import_list, symbols, arc, oid, module_ref, import_from, heading, head_of, head}
 use Rattle.syntax.specs.HeadingReading.{default_words_at, exports_at}
-use Rattle.syntax.specs.ImportReading.{module_ref_at, imports_at}
+use Rattle.syntax.specs.ImportReading.{imports_at}
 use Rattle.syntax.specs.ModuleReading.{tag_default_at, begun_at, export_list_at, import_list_at, heading_at, exporting_at, head_at}
 use Rattle.syntax.proofs.Items.{is_assign, assign_is, is_definitions, definitions_is, is_begin, begin_is, is_typeref}
 use Rattle.syntax.proofs.Headings.{is_explicit_word, is_implicit_word, is_automatic_word, is_exports_word, rule_default_words, rule_exports}

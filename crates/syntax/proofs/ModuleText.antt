@@ -1,7 +1,7 @@
 -- What is read as a module is one; the reader refuses no front of a module, and reads each whole one.
 use Rattle.std.proofs.Common.{◌≡◌, ℕ, suc, ◌≤◌, ◌+◌, inl, inr, Bool, true, false, List, [], ◌∷◌, ◌++◌, length, Ok, refl, sym, ap, ◌∙◌ as ◌⋆◌, arith}
 use Rattle.text.specs.declared.reserved.Word.TheVariants.{Exports, Imports, End}
-use Rattle.grammar.specs.Lexeme.{Lexeme, TypeRef, Ident, Word}
+use Rattle.grammar.specs.Lexeme.{Lexeme, Word}
 use Rattle.grammar.specs.Grammar.{Grammar, word, ◌∙◌, ◌⇒◌, many}
 use Rattle.grammar.specs.Grows.{Grows, same_grows, seq_grows, made_grows, many_grows}
 use Rattle.grammar.specs.Numbers.{Past}

@@ -1,5 +1,5 @@
 -- Reading a module from left to right.
-use Rattle.std.specs.Prelude.{ℕ, Bool, List, [], ◌∷◌, Option, Some, None, Ok}
+use Rattle.std.specs.Prelude.{ℕ, Bool, List, [], ◌∷◌, Option, None, Ok}
 use Rattle.text.specs.declared.reserved.Word.TheVariants.{Explicit, Implicit, Automatic, Exports, Imports}
 use Rattle.grammar.specs.Lexeme.{Word}
 use Rattle.grammar.specs.Reading.{Reader, ◌>>=◌}

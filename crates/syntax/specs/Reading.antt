@@ -1,5 +1,5 @@
 -- Reading types and assignments from left to right.
-use Rattle.std.specs.Prelude.{ℕ, zero, suc, Bool, true, false, List, [], ◌∷◌, length, None, Ok}
+use Rattle.std.specs.Prelude.{ℕ, zero, suc, Bool, true, false, List, ◌∷◌, length, None, Ok}
 use Rattle.text.specs.declared.token.Mark.TheVariants.{Assign, OpenBrace}
 use Rattle.text.specs.declared.reserved.Word.TheVariants.{Definitions, Tags, Begin, End, Boolean, Integer, Octet, String, Sequence}
 use Rattle.grammar.specs.Lexeme.{Lexeme, TypeRef, Ident, Word, Mark}

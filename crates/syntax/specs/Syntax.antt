@@ -1,8 +1,8 @@
 -- The grammar of types and modules (X.680, clauses 13, 16, 17 and 25).
-use Rattle.std.specs.Prelude.{ℕ, zero, suc, Bool, List, [], Option, Some, None}
+use Rattle.std.specs.Prelude.{ℕ, zero, suc, Bool, List, Option, Some, None}
 use Rattle.text.specs.declared.token.Mark.TheVariants.{Assign}
 use Rattle.text.specs.declared.reserved.Word.TheVariants.{End, Boolean, Integer, Octet, String, Sequence}
-use Rattle.grammar.specs.Lexeme.{TypeRef, Ident, Word, Mark}
+use Rattle.grammar.specs.Lexeme.{TypeRef, Ident, Mark}
 use Rattle.grammar.specs.Grammar.{Grammar, token, word, ◌∙◌, ◌∣◌, ◌⇒◌, many, optional, behind, listed, braces, cut_off}
 use Rattle.notation.specs.Tree.{Name}
 use Rattle.notation.specs.Value.{value}
