@@ -41,7 +41,7 @@ exports =
     (word All ∙ mark Semicolon) ⇒ (λ _. None)
     ∣ (optional symbols ∙ mark Semicolon) ⇒ (λ p. Some (names_in p.0)))
 
--- all names, where none are listed
+-- None, for all names that are assigned, where no exports are written
 abbrev pub exports_or : Option (Option (List Name)) → Option (List Name)
 exports_or None = None
 exports_or (Some e) = e
@@ -49,7 +49,7 @@ exports_or (Some e) = e
 abbrev pub export_list : Grammar (Option (List Name))
 export_list = optional exports ⇒ exports_or
 
--- no imports, where none are listed
+-- no imports, where none are written
 abbrev pub imports_or : Option (List ImportTree) → List ImportTree
 imports_or None = []
 imports_or (Some is) = is
@@ -75,7 +75,7 @@ module _ (fits : ℕ → Bool) where
   abbrev pub oid : Grammar (Unit {0})
   oid = braces (arc ∙ many arc) ⇒ (λ _. tt)
 
-  -- a module's name
+  -- a module's name, with an object identifier behind it or none
   abbrev pub module_ref : Grammar Name
   module_ref = (token TypeRef ∙ optional oid) ⇒ (λ p. p.0)
 
