@@ -1,11 +1,11 @@
 -- The readers of one lexeme.
 use Rattle.std.proofs.Common.{◌≡◌, ℕ, Bool, true, false, List, ◌∷◌, Ok, refl}
 use Rattle.text.specs.declared.token.Mark.TheVariants.{Assign, CloseBrace}
-use Rattle.text.specs.declared.reserved.Word.TheVariants.{Definitions, Explicit, Tags, Begin, End}
+use Rattle.text.specs.declared.reserved.Word.TheVariants.{Definitions, Tags, Begin, End}
 use Rattle.grammar.specs.Lexeme.{Lexeme, TypeRef, Ident, Word, Mark}
 use Rattle.grammar.specs.Reading.{Reader, stop, closed_at}
 use Rattle.grammar.specs.Parts.{IsKind}
-use Rattle.syntax.specs.Reading.{definitions_at, explicit_at, tags_at, assign_at, begin_at, end_at, module_name_at}
+use Rattle.syntax.specs.Reading.{definitions_at, tags_at, assign_at, begin_at, end_at, module_name_at}
 
 abbrev pub is_closed : Lexeme → Bool
 is_closed (Mark CloseBrace) = true
@@ -57,23 +57,6 @@ definitions_miss s ts e = refl
 pub definitions_is : IsKind (λ (x : Unit {0}). Word Definitions) is_definitions definitions_at
 unfolding definitions_at
 definitions_is = record { yes = λ x. refl; one = definitions_one; nil = refl; hit = λ x ts. refl; miss = definitions_miss }
-
-abbrev pub is_explicit : Lexeme → Bool
-is_explicit (Word Explicit) = true
-is_explicit t = false
-
-explicit_one : (s : Lexeme) → is_explicit s ≡ true → (x : Unit {0}) × (s ≡ Word Explicit)
-explicit_one (Word Explicit) e = (tt, refl)
-explicit_one s e = absurd cc
-
-explicit_miss : (s : Lexeme) (ts : List Lexeme) → is_explicit s ≡ false → explicit_at (s ∷ ts) ≡ stop (s ∷ ts)
-unfolding explicit_at
-explicit_miss (Word Explicit) ts e = absurd cc
-explicit_miss s ts e = refl
-
-pub explicit_is : IsKind (λ (x : Unit {0}). Word Explicit) is_explicit explicit_at
-unfolding explicit_at
-explicit_is = record { yes = λ x. refl; one = explicit_one; nil = refl; hit = λ x ts. refl; miss = explicit_miss }
 
 abbrev pub is_tags : Lexeme → Bool
 is_tags (Word Tags) = true

@@ -8,7 +8,10 @@ pub mod TypeParts
 pub mod TypeSteps
 pub mod TypeGrows
 pub mod Tagging
+pub mod Assigned
 pub mod Loop
 pub mod Parsed
 pub mod Headings
 pub mod Imported
+pub mod Heads
+pub mod ModuleText

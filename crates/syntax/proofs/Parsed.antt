@@ -15,11 +15,11 @@ use Rattle.notation.specs.Given.{limit_of}
 use Rattle.notation.specs.Answer.{Stands}
 use Rattle.syntax.specs.Tree.{ModuleTree}
 use Rattle.syntax.specs.Syntax.{module_text}
-use Rattle.syntax.specs.Reading.{module_at}
-use Rattle.syntax.specs.PartLaws.{PartLaws}
-use Rattle.syntax.proofs.Assigning.{module_reads, module_part_goes, deeper_modules, wider_modules}
+use Rattle.syntax.specs.ModuleReading.{module_at}
+use Rattle.syntax.proofs.Assigned.{AssignmentLaws}
+use Rattle.syntax.proofs.ModuleText.{module_reads, module_part_goes, deeper_modules, wider_modules}
 
-module _ (laws : PartLaws) (n : ℕ) (x : List ℕ) (ts : List Token) where
+module _ (laws : AssignmentLaws) (n : ℕ) (x : List ℕ) (ts : List Token) where
   none : 0 ≤ length ts
   none = omega arith
 

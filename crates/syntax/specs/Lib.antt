@@ -7,3 +7,4 @@ pub mod Reading
 pub mod Heading
 pub mod HeadingReading
 pub mod ImportReading
+pub mod ModuleReading

@@ -1,25 +1,19 @@
--- Reading modules from left to right.
-use Rattle.std.specs.Prelude.{ℕ, Bool, true, false, List, [], ◌∷◌, length, None, Ok}
+-- Reading assignments from left to right.
+use Rattle.std.specs.Prelude.{ℕ, Bool, true, false, List, ◌∷◌, length, Ok}
 use Rattle.text.specs.declared.token.Mark.TheVariants.{Assign}
-use Rattle.text.specs.declared.reserved.Word.TheVariants.{Definitions, Explicit, Tags, Begin, End}
+use Rattle.text.specs.declared.reserved.Word.TheVariants.{Definitions, Tags, Begin, End}
 use Rattle.grammar.specs.Lexeme.{Lexeme, TypeRef, Ident, Word, Mark}
 use Rattle.grammar.specs.Reading.{Reader, ◌>>=◌, stop, many_at}
 use Rattle.notation.specs.Tree.{Tree}
 use Rattle.notation.specs.Reading.{value_at}
 use Rattle.syntax.specs.TypeReading.{type_at}
-use Rattle.syntax.specs.declared.tree.TagDefault.{TagDefault}
-use Rattle.syntax.specs.declared.tree.TagDefault.TheVariants as defaults
-use Rattle.syntax.specs.Tree.{TypeTree, AssignmentTree, assigns_type, assigns_value, ModuleTree}
+use Rattle.syntax.specs.Tree.{TypeTree, AssignmentTree, assigns_type, assigns_value}
 
 -- ---- lexemes alone
 
 unfoldable pub definitions_at : Reader (Unit {0})
 definitions_at (Word Definitions ∷ rest) = Ok (tt, rest)
 definitions_at ts = stop ts
-
-unfoldable pub explicit_at : Reader (Unit {0})
-explicit_at (Word Explicit ∷ rest) = Ok (tt, rest)
-explicit_at ts = stop ts
 
 unfoldable pub tags_at : Reader (Unit {0})
 tags_at (Word Tags ∷ rest) = Ok (tt, rest)
@@ -70,19 +64,6 @@ module _ (fits : ℕ → Bool) where
   assignment_at n (Ident x ∷ rest) = value_assigned_at n x rest
   assignment_at n ts = stop ts
 
-  -- ---- modules
-
-  unfoldable pub tag_default_at : Reader TagDefault
-  tag_default_at (Word Explicit ∷ rest) = tags_at rest >>= λ t. Ok (defaults.Explicit, t.1)
-  tag_default_at ts = Ok (defaults.Explicit, ts)
-
-  -- behind BEGIN
+  -- behind the head of a module
   unfoldable pub assignments_at : ℕ → Reader (List AssignmentTree)
   assignments_at n ts = many_at begins_assignment (assignment_at n) (length ts) ts >>= λ xs. end_at xs.1 >>= λ e. Ok (xs.0, e.1)
-
-  -- behind DEFINITIONS
-  abbrev pub defined_at : ℕ → Reader (TagDefault × List AssignmentTree)
-  defined_at n ts = tag_default_at ts >>= λ d. then_at assign_at (then_at begin_at (assignments_at n)) d.1 >>= λ xs. Ok ((d.0, xs.0), xs.1)
-
-  unfoldable pub module_at : ℕ → Reader ModuleTree
-  module_at n ts = module_name_at ts >>= λ x. then_at definitions_at (defined_at n) x.1 >>= λ p. Ok (record { name = x.0; tag_default = p.0.0; exports = None; imports = []; assignments = p.0.1 }, p.1)

@@ -1,13 +1,17 @@
--- The grammar of modules (X.680, clauses 13 and 16).
-use Rattle.std.specs.Prelude.{ℕ, Bool, List, [], None}
+-- The grammar of assignments and modules (X.680, clauses 13 and 16).
+use Rattle.std.specs.Prelude.{ℕ, Bool, List}
 use Rattle.text.specs.declared.token.Mark.TheVariants.{Assign}
-use Rattle.text.specs.declared.reserved.Word.TheVariants.{Definitions, Explicit, Tags, Begin, End}
-use Rattle.grammar.specs.Lexeme.{TypeRef, Ident, Word, Mark}
-use Rattle.grammar.specs.Grammar.{Grammar, token, word, ◌∙◌, ◌∣◌, ◌⇒◌, many, optional, behind}
+use Rattle.text.specs.declared.reserved.Word.TheVariants.{End}
+use Rattle.grammar.specs.Lexeme.{TypeRef, Ident, Mark}
+use Rattle.grammar.specs.Grammar.{Grammar, token, word, ◌∙◌, ◌∣◌, ◌⇒◌, many, behind}
 use Rattle.notation.specs.Value.{value}
-use Rattle.syntax.specs.declared.tree.TagDefault.TheVariants as defaults
 use Rattle.syntax.specs.Types.{type}
 use Rattle.syntax.specs.Tree.{AssignmentTree, assigns_type, assigns_value, ModuleTree}
+use Rattle.syntax.specs.Heading.{HeadTree, head}
+
+-- a module, of its head and its assignments
+abbrev pub module_of : HeadTree → List AssignmentTree → ModuleTree
+module_of h xs = record { name = h.name; tag_default = h.tag_default; exports = h.exports; imports = h.imports; assignments = xs }
 
 -- A limit on numbers is a test that numbers with no minus meet.
 module _ (fits : ℕ → Bool) where
@@ -16,10 +20,7 @@ module _ (fits : ℕ → Bool) where
       (token TypeRef ∙ behind (Mark Assign) (type fits n)) ⇒ (λ p. assigns_type p.0 p.1)
       ∣ (token Ident ∙ (type fits n ∙ behind (Mark Assign) (value fits n))) ⇒ (λ p. assigns_value p.0 p.1.0 p.1.1)
 
-  -- a module with at most n things open at one place
+  -- A module with at most n things open at one place, n being one or more: where an object identifier's braces are open,
+  -- at the head, nothing else is.
   abbrev pub module_text : ℕ → Grammar ModuleTree
-  module_text n =
-      (token TypeRef ∙ behind (Word Definitions) (
-      (optional (word Explicit ∙ word Tags) ⇒ (λ _. defaults.Explicit)) ∙ behind (Mark Assign) (behind (Word Begin) (
-      (many (assignment n) ∙ word End) ⇒ (λ p. p.0)))))
-      ⇒ (λ p. record { name = p.0; tag_default = p.1.0; exports = None; imports = []; assignments = p.1.1 })
+  module_text n = (head fits ∙ ((many (assignment n) ∙ word End) ⇒ (λ p. p.0))) ⇒ (λ p. module_of p.0 p.1)

@@ -4,9 +4,10 @@ ghost use Rattle.std.specs.Prelude.{◌≡◌, map, option_map, IfOk, string_byt
 ghost use Rattle.grammar.specs.Lexeme.{lexemes};
 ghost use Rattle.grammar.specs.Reading.{listed_at};
 ghost use Rattle.notation.specs.Given.{Gives, AreTokens};
+ghost use Rattle.syntax.specs.Reading.{tags_at};
 ghost use Rattle.syntax.specs.HeadingReading.{tag_word_at, default_words_at, semicolon_at, symbol_at, some_exports_at, all_exports_at, no_exports_at, exported_at, exports_at};
+ghost use Rattle.syntax.specs.ModuleReading.{tag_default_at, export_list_at};
 
-use crate::modules::tags;
 use crate::tree::TagDefault;
 use notation::ReadError;
 use notation::decode::name_of;
@@ -14,6 +15,25 @@ use notation::reading::comma;
 use std::alloc::Global;
 use text::reserved::Word;
 use text::{Mark, Token, TokenKind};
+
+/// The tokens behind `TAGS`.
+#[tactic(auto, unfolding(crate::specs::Reading::tags_at))]
+fn tags<'a>(text: &[u8], tokens: &'a [Token]) -> Result<&'a [Token], ReadError>
+    requires tokens { AreTokens text.now tokens.now }
+    ensures read { Gives (λ x. (tt, lexemes text.now x.now)) result (tags_at (lexemes text.now tokens.now)) }
+    ensures rest { IfOk result (λ x. AreTokens text.now x.now) }
+{
+    match tokens {
+        [
+            Token {
+                kind: TokenKind::Reserved(Word::Tags),
+                ..
+            },
+            rest @ ..,
+        ] => Ok(rest),
+        _ => Err(ReadError::Unexpected(tokens.len())),
+    }
+}
 
 /// Reads the word before `TAGS`.
 #[tactic(auto, unfolding(crate::specs::HeadingReading::tag_word_at))]
@@ -48,9 +68,9 @@ fn tag_word<'a>(text: &[u8], tokens: &'a [Token]) -> Result<(TagDefault, &'a [To
     }
 }
 
-/// Reads the default for tags (X.680, clause 13.2).
+/// Reads a default for tags (X.680, clause 13.2).
 #[tactic(auto, unfolding(crate::specs::HeadingReading::default_words_at))]
-pub fn default_words<'a>(
+fn default_words<'a>(
     text: &[u8],
     tokens: &'a [Token],
 ) -> Result<(TagDefault, &'a [Token]), ReadError>
@@ -60,6 +80,28 @@ pub fn default_words<'a>(
 {
     let (tag_default, rest) = tag_word(text, tokens)?;
     Ok((tag_default, tags(text, rest)?))
+}
+
+/// Reads what tags in a module are if nothing else is written: explicit, where no default stands there.
+#[tactic(auto, unfolding(crate::specs::ModuleReading::tag_default_at))]
+pub fn tag_default<'a>(
+    text: &[u8],
+    tokens: &'a [Token],
+) -> Result<(TagDefault, &'a [Token]), ReadError>
+    requires tokens { AreTokens text.now tokens.now }
+    ensures read { Gives (λ x. (x.0, lexemes text.now x.1.now)) result (tag_default_at (lexemes text.now tokens.now)) }
+    ensures rest { IfOk result (λ x. AreTokens text.now x.1.now) }
+{
+    match tokens {
+        [
+            Token {
+                kind: TokenKind::Reserved(Word::Explicit | Word::Implicit | Word::Automatic),
+                ..
+            },
+            ..
+        ] => default_words(text, tokens),
+        _ => Ok((TagDefault::Explicit, tokens)),
+    }
 }
 
 /// The tokens behind a semicolon.
@@ -172,7 +214,7 @@ fn exported<'a>(
 
 /// Reads `EXPORTS` and the names behind it (X.680, clause 13.7); None where `ALL` stands there.
 #[tactic(auto, unfolding(crate::specs::HeadingReading::exports_at))]
-pub fn exports<'a>(
+fn exports<'a>(
     alloc: Global,
     text: &[u8],
     tokens: &'a [Token],
@@ -190,5 +232,28 @@ pub fn exports<'a>(
             rest @ ..,
         ] => exported(alloc, text, rest),
         _ => Err(ReadError::Unexpected(tokens.len())),
+    }
+}
+
+/// Reads the names that are exported; None where none are listed or `ALL` stands there.
+#[tactic(auto, unfolding(crate::specs::ModuleReading::export_list_at))]
+pub fn export_list<'a>(
+    alloc: Global,
+    text: &[u8],
+    tokens: &'a [Token],
+) -> Result<(Option<Vec<String>>, &'a [Token]), ReadError>
+    requires tokens { AreTokens text.now tokens.now }
+    ensures read { Gives (λ x. (option_map (λ xs. map string_bytes xs.items) x.0, lexemes text.now x.1.now)) result (export_list_at (lexemes text.now tokens.now)) }
+    ensures rest { IfOk result (λ x. AreTokens text.now x.1.now) }
+{
+    match tokens {
+        [
+            Token {
+                kind: TokenKind::Reserved(Word::Exports),
+                ..
+            },
+            ..
+        ] => exports(alloc, text, tokens),
+        _ => Ok((None, tokens)),
     }
 }

@@ -10,6 +10,7 @@ ghost use Rattle.notation.specs.Given.{Gives, IsTokenOf, AreTokens};
 ghost use Rattle.notation.specs.Rules.{number_at};
 ghost use Rattle.syntax.specs.Tree.{import_of};
 ghost use Rattle.syntax.specs.ImportReading.{begins_arc, begins_symbol, arc_number_at, behind_arc_at, arc_at, more_arcs_at, arcs_at, oid_at, behind_module_at, module_ref_at, from_module_at, import_from_at, imported_at, imports_at};
+ghost use Rattle.syntax.specs.ModuleReading.{import_list_at};
 
 use crate::heading::{semicolon, symbols};
 use crate::tree::Import;
@@ -163,7 +164,7 @@ fn arcs<'a>(text: &[u8], tokens: &'a [Token]) -> Result<&'a [Token], ReadError>
 
 /// Reads an object identifier, which says nothing here.
 #[tactic(auto, unfolding(crate::specs::ImportReading::oid_at))]
-pub fn oid<'a>(text: &[u8], tokens: &'a [Token]) -> Result<&'a [Token], ReadError>
+fn oid<'a>(text: &[u8], tokens: &'a [Token]) -> Result<&'a [Token], ReadError>
     requires tokens { AreTokens text.now tokens.now }
     ensures read { Gives (λ x. (tt, lexemes text.now x.now)) result (oid_at small (lexemes text.now tokens.now)) }
     ensures rest { IfOk result (λ x. AreTokens text.now x.now) }
@@ -212,9 +213,9 @@ fn behind_module<'a>(
     }
 }
 
-/// Reads a module's name.
+/// Reads a module's name, and an object identifier if one stands behind it (X.680, clause 13.1).
 #[tactic(auto, unfolding(crate::specs::ImportReading::module_ref_at))]
-fn module_ref<'a>(
+pub fn module_ref<'a>(
     alloc: Global,
     text: &[u8],
     tokens: &'a [Token],
@@ -311,7 +312,7 @@ fn imported<'a>(
 
 /// Reads `IMPORTS` and what is imported (X.680, clause 13.12).
 #[tactic(auto, unfolding(crate::specs::ImportReading::imports_at))]
-pub fn imports<'a>(
+fn imports<'a>(
     alloc: Global,
     text: &[u8],
     tokens: &'a [Token],
@@ -329,5 +330,28 @@ pub fn imports<'a>(
             rest @ ..,
         ] => imported(alloc, text, rest),
         _ => Err(ReadError::Unexpected(tokens.len())),
+    }
+}
+
+/// Reads what is imported, which is nothing where no imports stand there.
+#[tactic(auto, unfolding(crate::specs::ModuleReading::import_list_at))]
+pub fn import_list<'a>(
+    alloc: Global,
+    text: &[u8],
+    tokens: &'a [Token],
+) -> Result<(Vec<Import>, &'a [Token]), ReadError>
+    requires tokens { AreTokens text.now tokens.now }
+    ensures read { Gives (λ x. (map import_of x.0.items, lexemes text.now x.1.now)) result (import_list_at small (lexemes text.now tokens.now)) }
+    ensures rest { IfOk result (λ x. AreTokens text.now x.1.now) }
+{
+    match tokens {
+        [
+            Token {
+                kind: TokenKind::Reserved(Word::Imports),
+                ..
+            },
+            ..
+        ] => imports(alloc, text, tokens),
+        _ => Ok((Vec::new(alloc), tokens)),
     }
 }

@@ -20,6 +20,8 @@ pub use tree::{
 };
 
 #[cfg(test)]
+mod heading_tests;
+#[cfg(test)]
 mod tests;
 #[cfg(test)]
 mod type_tests;

@@ -9,8 +9,11 @@ ghost use Rattle.grammar.specs.Places.{small};
 ghost use Rattle.notation.specs.Given.{Gives, IsTokenOf, AreTokens};
 ghost use Rattle.notation.specs.Reading.{value_at};
 ghost use Rattle.syntax.specs.Tree.{assignment_of, module_tree_of};
-ghost use Rattle.syntax.specs.Reading.{definitions_at, tags_at, assign_at, begin_at, end_at, type_assigned_at, value_assigned_at, begins_assignment, assignment_at, tag_default_at, assignments_at, defined_at, module_at};
+ghost use Rattle.syntax.specs.Reading.{definitions_at, assign_at, begin_at, end_at, type_assigned_at, value_assigned_at, begins_assignment, assignment_at, assignments_at};
+ghost use Rattle.syntax.specs.ModuleReading.{begun_at, heading_at, module_at};
 
+use crate::heading::{export_list, tag_default};
+use crate::importing::{import_list, module_ref};
 use crate::tree::{Assignment, Module, TagDefault, TypeAssignment, ValueAssignment};
 use crate::types::type_syntax;
 use notation::ReadError;
@@ -31,25 +34,6 @@ fn definitions<'a>(text: &[u8], tokens: &'a [Token]) -> Result<&'a [Token], Read
         [
             Token {
                 kind: TokenKind::Reserved(Word::Definitions),
-                ..
-            },
-            rest @ ..,
-        ] => Ok(rest),
-        _ => Err(ReadError::Unexpected(tokens.len())),
-    }
-}
-
-/// The tokens behind `TAGS`.
-#[tactic(auto, unfolding(crate::specs::Reading::tags_at))]
-pub fn tags<'a>(text: &[u8], tokens: &'a [Token]) -> Result<&'a [Token], ReadError>
-    requires tokens { AreTokens text.now tokens.now }
-    ensures read { Gives (λ x. (tt, lexemes text.now x.now)) result (tags_at (lexemes text.now tokens.now)) }
-    ensures rest { IfOk result (λ x. AreTokens text.now x.now) }
-{
-    match tokens {
-        [
-            Token {
-                kind: TokenKind::Reserved(Word::Tags),
                 ..
             },
             rest @ ..,
@@ -248,45 +232,37 @@ fn assignments<'a>(
     Ok((assignments, end(text, rest)?))
 }
 
-/// Reads what tags in a module are if nothing else is written.
-#[tactic(auto, unfolding(crate::specs::Reading::tag_default_at))]
-fn tag_default<'a>(text: &[u8], tokens: &'a [Token]) -> Result<(TagDefault, &'a [Token]), ReadError>
+/// Reads what stands behind `DEFINITIONS`, as far as `BEGIN`.
+#[tactic(auto, unfolding(crate::specs::ModuleReading::begun_at))]
+fn begun<'a>(text: &[u8], tokens: &'a [Token]) -> Result<(TagDefault, &'a [Token]), ReadError>
     requires tokens { AreTokens text.now tokens.now }
-    ensures read { Gives (λ x. (x.0, lexemes text.now x.1.now)) result (tag_default_at small (lexemes text.now tokens.now)) }
-    ensures rest { IfOk result (λ x. AreTokens text.now x.1.now) }
-{
-    match tokens {
-        [
-            Token {
-                kind: TokenKind::Reserved(Word::Explicit),
-                ..
-            },
-            rest @ ..,
-        ] => { Ok((TagDefault::Explicit, tags(text, rest)?)) }
-        _ => Ok((TagDefault::Explicit, tokens)),
-    }
-}
-
-/// Reads what stands behind `DEFINITIONS`.
-fn defined<'a>(
-    alloc: Global,
-    text: &[u8],
-    tokens: &'a [Token],
-    depth: usize,
-) -> Result<((TagDefault, Vec<Assignment>), &'a [Token]), ReadError>
-    requires tokens { AreTokens text.now tokens.now }
-    ensures read { Gives (λ x. ((x.0.0, map assignment_of x.0.1.items), lexemes text.now x.1.now)) result (defined_at small depth (lexemes text.now tokens.now)) }
+    ensures read { Gives (λ x. (x.0, lexemes text.now x.1.now)) result (begun_at (lexemes text.now tokens.now)) }
     ensures rest { IfOk result (λ x. AreTokens text.now x.1.now) }
 {
     let (tag_default, rest) = tag_default(text, tokens)?;
     let rest = assign(text, rest)?;
-    let rest = begin(text, rest)?;
-    let (assignments, rest) = assignments(alloc, text, rest, depth)?;
-    Ok(((tag_default, assignments), rest))
+    Ok((tag_default, begin(text, rest)?))
+}
+
+/// Reads a module's name and its default for tags, as far as `BEGIN`.
+#[tactic(auto, unfolding(crate::specs::ModuleReading::heading_at))]
+fn heading<'a>(
+    alloc: Global,
+    text: &[u8],
+    tokens: &'a [Token],
+) -> Result<((String, TagDefault), &'a [Token]), ReadError>
+    requires tokens { AreTokens text.now tokens.now }
+    ensures read { Gives (λ x. ((string_bytes x.0.0, x.0.1), lexemes text.now x.1.now)) result (heading_at small (lexemes text.now tokens.now)) }
+    ensures rest { IfOk result (λ x. AreTokens text.now x.1.now) }
+{
+    let (name, rest) = module_ref(alloc, text, tokens)?;
+    let rest = definitions(text, rest)?;
+    let (tag_default, rest) = begun(text, rest)?;
+    Ok(((name, tag_default), rest))
 }
 
 /// Reads a module, where so many things may be open at one place.
-#[tactic(auto, unfolding(crate::specs::Reading::module_at, crate::specs::Reading::module_name_at))]
+#[tactic(auto, unfolding(crate::specs::ModuleReading::module_at, crate::specs::ModuleReading::head_at, crate::specs::ModuleReading::exporting_at))]
 pub fn module<'a>(
     alloc: Global,
     text: &[u8],
@@ -297,28 +273,18 @@ pub fn module<'a>(
     ensures read { Gives (λ x. (module_tree_of x.0, lexemes text.now x.1.now)) result (module_at small depth (lexemes text.now tokens.now)) }
     ensures rest { IfOk result (λ x. AreTokens text.now x.1.now) }
 {
-    match tokens {
-        [
-            name @ Token {
-                kind: TokenKind::TypeReference,
-                ..
-            },
-            rest @ ..,
-        ] => {
-            let rest = definitions(text, rest)?;
-            let ((tag_default, assignments), rest) = defined(alloc, text, rest, depth)?;
-            let name = name_of(alloc, text, *name)?;
-            Ok((
-                Module {
-                    name,
-                    tag_default,
-                    exports: None,
-                    imports: Vec::new(alloc),
-                    assignments,
-                },
-                rest,
-            ))
-        }
-        _ => Err(ReadError::Unexpected(tokens.len())),
-    }
+    let ((name, tag_default), rest) = heading(alloc, text, tokens)?;
+    let (exports, rest) = export_list(alloc, text, rest)?;
+    let (imports, rest) = import_list(alloc, text, rest)?;
+    let (assignments, rest) = assignments(alloc, text, rest, depth)?;
+    Ok((
+        Module {
+            name,
+            tag_default,
+            exports,
+            imports,
+            assignments,
+        },
+        rest,
+    ))
 }

@@ -18,14 +18,15 @@ use text::Token;
 /// Reads the module that a text is.
 ///
 /// In go a text and its tokens, as [`text::lex`] gives them. Out comes the module as it is written
-/// (X.680, clause 13.1): a name, `DEFINITIONS`, `EXPLICIT TAGS` or nothing, `::=`, `BEGIN`, assignments of types
-/// (extension markers apart) and values, and `END`.
+/// (X.680, clause 13.1): a name, behind it an object identifier or none, `DEFINITIONS`, a default for tags or none,
+/// `::=`, `BEGIN`, exports and imports if there are any, assignments of types (extension markers apart) and values,
+/// and `END`.
 ///
 /// # Errors
 /// - [`SyntaxFault::Unexpected`] and [`SyntaxFault::OutOfProfile`] at the first token with which no module can go on,
 ///   or at the end of the tokens; `OutOfProfile` where that token is a word or mark of a construct that is left out.
 /// - [`SyntaxFault::Limit`] at the brace, bracket, `OF` or colon that opens more than 128 things, at a number of 2 to the
-///   127 with no minus before it, and at a tag's number of 2 to the 31.
+///   127 with no minus before it, one in an object identifier too, and at a tag's number of 2 to the 31.
 /// - [`SyntaxFault::Memory`] if there is not enough memory.
 pub fn parse(alloc: Global, text: &[u8], tokens: &[Token]) -> Result<Module, SyntaxFault>
     requires { IsLexed text.now tokens.now }
