@@ -285,23 +285,41 @@ fn members(rt: HostRuntime) -> Result<(), Fail> {
 }
 
 #[test]
-fn names_with_numbers(rt: HostRuntime) -> Result<(), Fail> {
+fn named_numbers(rt: HostRuntime) -> Result<(), Fail> {
     let TypeSyntax::NamedInteger(numbers) = read(rt.alloc(), "INTEGER { a (1), b (-2) }")? else {
         return Err(Fail::from("numbers"));
     };
     assert_eq!(rt; numbers.len(), 2);
     assert!(rt; numbers[1].minus);
     assert_eq!(rt; numbers[1].number, 2);
+    Ok(())
+}
+
+#[test]
+fn named_bits(rt: HostRuntime) -> Result<(), Fail> {
     let TypeSyntax::BitString(bits) = read(rt.alloc(), "BIT STRING { a (0), b (7) }")? else {
         return Err(Fail::from("bits"));
     };
+    assert_eq!(rt; bits.len(), 2);
     assert_eq!(rt; bits[1].place, 7);
+    Ok(())
+}
+
+#[test]
+fn items(rt: HostRuntime) -> Result<(), Fail> {
     let TypeSyntax::Enumerated(items) = read(rt.alloc(), "ENUMERATED { a, b (-1) }")? else {
         return Err(Fail::from("items"));
     };
+    assert_eq!(rt; items.len(), 2);
     assert!(rt; items[0].number.is_none());
     assert!(rt; matches!(items[1].number, Some((true, 1))));
+    Ok(())
+}
+
+#[test]
+fn names(rt: HostRuntime) -> Result<(), Fail> {
     assert!(rt; matches!(read(rt.alloc(), "N.U")?, TypeSyntax::Reference(Some(_), _)));
+    assert!(rt; matches!(read(rt.alloc(), "U")?, TypeSyntax::Reference(None, _)));
     assert!(rt; matches!(read(rt.alloc(), "ISO646String")?, TypeSyntax::VisibleString));
     Ok(())
 }
