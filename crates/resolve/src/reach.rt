@@ -101,20 +101,20 @@ fn mark_parts(
 {
     match &written.shape {
         Shape::Simple(_) => Ok(()),
-        Shape::Reference(j) => {
-            mark(*j, search, marks, waiting)?;
+        Shape::Reference(meant) => {
+            mark(*meant, search, marks, waiting)?;
             Ok(())
         }
-        Shape::Tagged(_, _, j) => {
-            mark(*j, search, marks, waiting)?;
+        Shape::Tagged(_, _, inner) => {
+            mark(*inner, search, marks, waiting)?;
             Ok(())
         }
         Shape::Members(_, components) => {
             mark_members(components, search, marks, waiting)?;
             Ok(())
         }
-        Shape::Elements(_, _, j) => {
-            mark(*j, search, marks, waiting)?;
+        Shape::Elements(_, _, element) => {
+            mark(*element, search, marks, waiting)?;
             Ok(())
         }
     }

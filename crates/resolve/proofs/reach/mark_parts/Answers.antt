@@ -17,28 +17,28 @@ returns-in-Simple c =
     (marks_simple c.args.search (plain_of c.in-Simple.field-0) c.args.marks.now c.args.waiting.now.items)
 
 pub mark-requires : goal.mark-requires
-mark-requires c = c.requires c.in-Reference.j (subst (λ z. IsPart c.in-Reference.j z) (sym (ap kind_of c.in-Reference.is)) referred)
+mark-requires c = c.requires c.in-Reference.meant (subst (λ z. IsPart c.in-Reference.meant z) (sym (ap kind_of c.in-Reference.is)) referred)
 
 pub returns-in_ok-mark-in-Reference : goal.returns-in_ok-mark-in-Reference
 returns-in_ok-mark-in-Reference c =
-    of_kind c.args.search (kind_of c.args.written.now.shape) (reference c.in-Reference.j) c.args.marks.now c.mark.new.marks c.args.waiting.now.items c.mark.new.waiting.items (ap kind_of c.in-Reference.is)
-    (marks_reference c.args.search c.in-Reference.j c.args.marks.now c.mark.new.marks c.args.waiting.now.items c.mark.new.waiting.items c.in_ok-mark-in-Reference.ensures)
+    of_kind c.args.search (kind_of c.args.written.now.shape) (reference c.in-Reference.meant) c.args.marks.now c.mark.new.marks c.args.waiting.now.items c.mark.new.waiting.items (ap kind_of c.in-Reference.is)
+    (marks_reference c.args.search c.in-Reference.meant c.args.marks.now c.mark.new.marks c.args.waiting.now.items c.mark.new.waiting.items c.in_ok-mark-in-Reference.ensures)
 
 pub mark-requires-in-Tagged : goal.mark-requires-in-Tagged
-mark-requires-in-Tagged c = c.requires c.in-Tagged.j (subst (λ z. IsPart c.in-Tagged.j z) (sym (ap kind_of c.in-Tagged.is)) behind_tag)
+mark-requires-in-Tagged c = c.requires c.in-Tagged.inner (subst (λ z. IsPart c.in-Tagged.inner z) (sym (ap kind_of c.in-Tagged.is)) behind_tag)
 
 pub returns-in_ok-mark-in-Tagged : goal.returns-in_ok-mark-in-Tagged
 returns-in_ok-mark-in-Tagged c =
-    of_kind c.args.search (kind_of c.args.written.now.shape) (tagged c.in-Tagged.field-0 c.in-Tagged.field-1 c.in-Tagged.j) c.args.marks.now c.mark-in-Tagged.new.marks c.args.waiting.now.items c.mark-in-Tagged.new.waiting.items (ap kind_of c.in-Tagged.is)
-    (marks_tagged c.args.search c.in-Tagged.j c.in-Tagged.field-0 c.in-Tagged.field-1 c.args.marks.now c.mark-in-Tagged.new.marks c.args.waiting.now.items c.mark-in-Tagged.new.waiting.items c.in_ok-mark-in-Tagged.ensures)
+    of_kind c.args.search (kind_of c.args.written.now.shape) (tagged c.in-Tagged.field-0 c.in-Tagged.field-1 c.in-Tagged.inner) c.args.marks.now c.mark-in-Tagged.new.marks c.args.waiting.now.items c.mark-in-Tagged.new.waiting.items (ap kind_of c.in-Tagged.is)
+    (marks_tagged c.args.search c.in-Tagged.inner c.in-Tagged.field-0 c.in-Tagged.field-1 c.args.marks.now c.mark-in-Tagged.new.marks c.args.waiting.now.items c.mark-in-Tagged.new.waiting.items c.in_ok-mark-in-Tagged.ensures)
 
 pub mark-requires-in-Elements : goal.mark-requires-in-Elements
-mark-requires-in-Elements c = c.requires c.in-Elements.j (subst (λ z. IsPart c.in-Elements.j z) (sym (ap kind_of c.in-Elements.is)) element)
+mark-requires-in-Elements c = c.requires c.in-Elements.element (subst (λ z. IsPart c.in-Elements.element z) (sym (ap kind_of c.in-Elements.is)) element)
 
 pub returns-in_ok-mark-in-Elements : goal.returns-in_ok-mark-in-Elements
 returns-in_ok-mark-in-Elements c =
-    of_kind c.args.search (kind_of c.args.written.now.shape) (elements c.in-Elements.field-0 (option_map size_of c.in-Elements.field-1) c.in-Elements.j) c.args.marks.now c.mark-in-Elements.new.marks c.args.waiting.now.items c.mark-in-Elements.new.waiting.items (ap kind_of c.in-Elements.is)
-    (marks_elements c.args.search c.in-Elements.j c.in-Elements.field-0 (option_map size_of c.in-Elements.field-1) c.args.marks.now c.mark-in-Elements.new.marks c.args.waiting.now.items c.mark-in-Elements.new.waiting.items c.in_ok-mark-in-Elements.ensures)
+    of_kind c.args.search (kind_of c.args.written.now.shape) (elements c.in-Elements.field-0 (option_map size_of c.in-Elements.field-1) c.in-Elements.element) c.args.marks.now c.mark-in-Elements.new.marks c.args.waiting.now.items c.mark-in-Elements.new.waiting.items (ap kind_of c.in-Elements.is)
+    (marks_elements c.args.search c.in-Elements.element c.in-Elements.field-0 (option_map size_of c.in-Elements.field-1) c.args.marks.now c.mark-in-Elements.new.marks c.args.waiting.now.items c.mark-in-Elements.new.waiting.items c.in_ok-mark-in-Elements.ensures)
 
 pub mark_members-requires : goal.mark_members-requires
 mark_members-requires c = λ l k p.
