@@ -6,5 +6,7 @@ pub mod Sources
 pub mod Queue
 pub mod PartKinds
 pub mod Numbered
+pub mod Marking
+pub mod Circling
 pub mod Entries
 pub mod Assembling

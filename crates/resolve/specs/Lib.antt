@@ -11,5 +11,6 @@ pub mod Found
 pub mod Codes
 pub mod Modules
 pub mod Sound
+pub mod Reach
 pub mod SoundFaults
 pub mod Links

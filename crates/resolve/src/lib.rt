@@ -1,12 +1,14 @@
 //! What the names of modules stand for, and their types by number.
 #![tactic(auto)]
 
+pub mod circles;
 pub mod fault;
 mod gather;
 pub mod linked;
 pub mod linking;
 pub mod names;
 pub mod number;
+pub mod reach;
 pub mod table;
 pub mod unfolding;
 

@@ -1,0 +1,17 @@
+use Rattle.std.proofs.Common.{◌≡◌, ◌∙◌, length, replicate, sym, subst, ap, arith}
+use Rattle.std.proofs.lemmas.List.{length-replicate}
+use Rattle.resolve.specs.Reach.{AreUpTo}
+use Rattle.resolve.proofs.Marking.{no_marks}
+use Rattle.resolve.proofs.circles.circle_of.Goals as goal
+
+pub first_circle-requires : goal.first_circle-requires
+first_circle-requires c =
+    let zeros : c.deref_mut.result.now ≡ replicate (length c.args.types.now) 0 = c.deref_mut.ensures.value ∙ c.in_ok-marks.ensures.items_if_clones_equal (λ y h. h) in
+    record {
+      parts = c.requires;
+      long = ap length zeros ∙ length-replicate (length c.args.types.now) 0;
+      earlier = subst (λ z. AreUpTo 0 z) (sym zeros) (no_marks (length c.args.types.now));
+    }
+
+pub returns : goal.returns
+returns c = c.in_ok-circle.ensures

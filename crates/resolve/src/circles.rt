@@ -1,0 +1,113 @@
+//! Components with a DEFAULT whose types lead back to the lists that hold them.
+
+ghost use Rattle.std.specs.Prelude.{ℕ, ◌≡◌, ◌<◌, ◌+◌, ◌↔◌, length, slice_get, map, Some, None, IfOk, IfErr, OnOk, IsTrue, MatchOption};
+ghost use Rattle.resolve.specs.declared.table.Assignment.{Assignment};
+ghost use Rattle.resolve.specs.Program.{Program};
+ghost use Rattle.resolve.specs.Seen.{types_of, header_of, assignment_of};
+ghost use Rattle.resolve.specs.Table.{Type', IsClosed, HasMembers, HasElements};
+ghost use Rattle.resolve.specs.Sound.{IsDefaultCircle, NoDefaultCircles};
+ghost use Rattle.resolve.specs.SoundFaults.{IsSoundFault};
+ghost use Rattle.resolve.specs.Reach.{HasParts, AreUpTo};
+
+use crate::fault::NameFault;
+use crate::reach::lead_to;
+use crate::table::{Assignment, Header, Shape, Written};
+use std::alloc::{AllocError, Global};
+
+/// Whether a type is a list that its own components with a DEFAULT lead back to.
+fn is_in_circle(
+    alloc: Global,
+    types: &[Written],
+    list: usize,
+    marks: &mut [usize],
+) -> Result<bool, AllocError>
+    requires parts { HasParts (types_of types.now) }
+    requires long { length marks.old ≡ length types.now }
+    requires there { list < length types.now }
+    requires earlier { AreUpTo list marks.old }
+    ensures circle { IfOk result (λ b. IsTrue b ↔ IsDefaultCircle (types_of types.now) list) }
+    ensures marks { OnOk result (AreUpTo (list + 1) marks.new) }
+{
+    match &types[list].shape {
+        Shape::Members(_, components) => {
+            let back = lead_to(alloc, types, components, list, list + 1, marks)?;
+            Ok(back)
+        }
+        _ => Ok(false),
+    }
+}
+
+/// The first list in a circle, if there is one.
+fn first_circle(
+    alloc: Global,
+    types: &[Written],
+    marks: &mut [usize],
+) -> Result<Option<usize>, AllocError>
+    requires parts { HasParts (types_of types.now) }
+    requires long { length marks.old ≡ length types.now }
+    requires earlier { AreUpTo 0 marks.old }
+    ensures { IfOk result (λ o. MatchOption o (NoDefaultCircles (types_of types.now)) (λ i. (i < length types.now) × IsDefaultCircle (types_of types.now) i)) }
+{
+    for list in 0..types.len() {
+        if is_in_circle(alloc, types, list, marks)? {
+            return Ok(Some(list));
+        }
+    }
+    Ok(None)
+}
+
+/// The first list in a circle, if there is one.
+fn circle_of(alloc: Global, types: &[Written]) -> Result<Option<usize>, AllocError>
+    requires { HasParts (types_of types.now) }
+    ensures { IfOk result (λ o. MatchOption o (NoDefaultCircles (types_of types.now)) (λ i. (i < length types.now) × IsDefaultCircle (types_of types.now) i)) }
+{
+    let mut marks = vec![in alloc; 0; types.len()]?;
+    let circle = first_circle(alloc, types, &mut marks)?;
+    Ok(circle)
+}
+
+/// The fault that a list is in a circle.
+fn circular(
+    alloc: Global,
+    headers: &[Header],
+    assignments: &[Assignment],
+    types: &[Written],
+    list: usize,
+) -> Result<NameFault, AllocError>
+    requires there { list < length types.now }
+    requires assigned { (i : ℕ) (t : Type') → slice_get (types_of types.now) i ≡ Some t → t.assignment < length assignments.now }
+    requires placed { (k : ℕ) (a : Assignment) → slice_get assignments.now k ≡ Some a → a.module < length headers.now }
+    requires circle { IsDefaultCircle (types_of types.now) list }
+    ensures { (p : Program) → p.headers ≡ map header_of headers.now → p.assignments ≡ map assignment_of assignments.now → p.types ≡ types_of types.now → IfOk result (IsSoundFault p) }
+{
+    let written = &types[list];
+    let assignment = &assignments[written.assignment];
+    let header = &headers[assignment.module];
+    let module = String::from_str(alloc, header.name.as_str())?;
+    let name = String::from_str(alloc, assignment.name.as_str())?;
+    Ok(NameFault::Circular(module, name))
+}
+
+/// Refuses a component with a DEFAULT whose type leads back to the list that holds it (X.680, clause 25.7).
+pub fn no_default_circles(
+    alloc: Global,
+    headers: &[Header],
+    assignments: &[Assignment],
+    types: &[Written],
+) -> Result<(), NameFault>
+    requires closed { IsClosed (types_of types.now) }
+    requires parts { HasMembers (types_of types.now) }
+    requires inner { HasElements (types_of types.now) }
+    requires assigned { (i : ℕ) (t : Type') → slice_get (types_of types.now) i ≡ Some t → t.assignment < length assignments.now }
+    requires placed { (k : ℕ) (a : Assignment) → slice_get assignments.now k ≡ Some a → a.module < length headers.now }
+    ensures ok { OnOk result (NoDefaultCircles (types_of types.now)) }
+    ensures fault { (p : Program) → p.headers ≡ map header_of headers.now → p.assignments ≡ map assignment_of assignments.now → p.types ≡ types_of types.now → IfErr result (IsSoundFault p) }
+{
+    match circle_of(alloc, types)? {
+        None => Ok(()),
+        Some(list) => {
+            let fault = circular(alloc, headers, assignments, types, list)?;
+            Err(fault)
+        }
+    }
+}
