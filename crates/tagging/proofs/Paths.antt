@@ -6,12 +6,14 @@ use Rattle.asn_base.specs.declared.tag.Tag.{Tag}
 use Rattle.syntax.specs.declared.tree.Keyword.{Keyword}
 use Rattle.syntax.specs.declared.tree.TagDefault.{TagDefault}
 use Rattle.resolve.specs.declared.table.ListKind.TheVariants.{Sequence, Set, Choice}
-use Rattle.resolve.specs.Table.{Type', Kind, simple, reference, tagged, members, elements, behind as behind_kind, behind_of, next, onward, walk, Is, IsCore, IsClosed, IsLinked}
+use Rattle.resolve.specs.declared.table.ElementsKind.{ElementsKind}
+use Rattle.resolve.specs.declared.table.ElementsKind.TheVariants.{SequenceOf, SetOf}
+use Rattle.resolve.specs.Table.{Plain, a_boolean, an_integer, a_bit_string, an_octet_string, a_null, an_object_identifier, an_enumerated, a_utf8_string, a_numeric_string, a_printable_string, an_ia5_string, a_visible_string, universal, Type', Kind, simple, reference, tagged, members, elements, behind as behind_kind, behind_of, next, onward, walk, Is, IsCore, IsClosed, IsLinked}
 use Rattle.tagging.specs.declared.path.FormedTag.{FormedTag}
 use Rattle.tagging.specs.declared.path.Form.{Form}
 use Rattle.tagging.specs.declared.path.Step.{Step}
 use Rattle.tagging.specs.declared.path.Step.TheVariants.{Ends, Behind, Inside}
-use Rattle.tagging.specs.Tags.{Label, label, Path, path_of, universal_tag, outermost, own, form_of, Written, core, behind, inside, TagCount, none_written, as_behind, one_more}
+use Rattle.tagging.specs.Tags.{Label, label, Path, path_of, universal_tag, elements_number, outermost, own, form_of, Written, core, behind, inside, TagCount, none_written, as_behind, one_more}
 use Rattle.tagging.proofs.Walks.{stops}
 use Rattle.tagging.specs.Step.{step_of, form_before, Outermost, Adds, ending}
 use Rattle.std.specs.Prelude.{is_none}
@@ -121,6 +123,34 @@ own_ends (members Choice cs) o e = ap (λ x. Some (ending x)) (ap ended e)
 own_ends (elements y z j) o e = ap (λ x. Some (ending x)) (ap ended e)
 own_ends (reference j) o e = absurd cc
 own_ends (tagged t w j) o e = absurd cc
+
+universal_above : (s : Plain) → 0 < universal s
+universal_above a_boolean = omega arith
+universal_above (an_integer ns) = omega arith
+universal_above (a_bit_string bs) = omega arith
+universal_above an_octet_string = omega arith
+universal_above a_null = omega arith
+universal_above an_object_identifier = omega arith
+universal_above (an_enumerated is) = omega arith
+universal_above a_utf8_string = omega arith
+universal_above a_numeric_string = omega arith
+universal_above a_printable_string = omega arith
+universal_above an_ia5_string = omega arith
+universal_above a_visible_string = omega arith
+
+elements_above : (y : ElementsKind) → 0 < elements_number y
+elements_above SequenceOf = omega arith
+elements_above SetOf = omega arith
+
+pub ends_above : (k : Kind) (n : ℕ) → step_of k ≡ Ends (Some n) → 0 < n
+unfolding step_of
+ends_above (simple s) n e = let q : universal s ≡ n = cc in subst (λ m. 0 < m) q (universal_above s)
+ends_above (reference j) n e = absurd cc
+ends_above (tagged t k j) n e = absurd cc
+ends_above (members Sequence cs) n e = let q : 16 ≡ n = cc in omega (arith, q)
+ends_above (members Set cs) n e = let q : 17 ≡ n = cc in omega (arith, q)
+ends_above (members Choice cs) n e = absurd cc
+ends_above (elements y z j) n e = let q : elements_number y ≡ n = cc in subst (λ m. 0 < m) q (elements_above y)
 
 pub ends_written : (ts : List Type') (i : ℕ) (k : Kind) (d : TagDefault) (l : Option (ℕ × ℕ)) (o : Option ℕ) → Is ts i k d l → step_of k ≡ Ends o → Written ts i (ending o)
 ends_written ts i k d l o h e = core h (own_ends k o e)

@@ -28,7 +28,7 @@ here : {ts : List Type'} {i : ℕ} {k : Kind} {d : TagDefault} {p : Option (ℕ 
 here e = record { constraints = []; assignment = 0; found = e }
 
 abbrev context : (n : ℕ) → n < 2147483648 → Tag
-context n l = record { class = Context; number = n; in_range = l }
+context n l = record { class = Context; number = n; in_range = l; not_reserved = λ e. absurd cc }
 
 abbrev int : Kind
 int = simple (an_integer [])

@@ -32,7 +32,10 @@ pub struct FormedTag {
 impl Default for FormedTag {
     fn default() -> FormedTag {
         FormedTag {
-            tag: universal_tag(0),
+            tag: Tag {
+                class: Class::Context,
+                number: 0,
+            },
             form: Form::Explicit,
         }
     }
@@ -53,6 +56,7 @@ pub(crate) enum Step {
 }
 
 fn universal_tag(number: u8) -> Tag
+    requires { 0 < number }
     ensures { label result ≡ Rattle.tagging.specs.Tags.universal_tag number }
 {
     Tag {
@@ -202,6 +206,7 @@ fn form_at(types: &[Written], written: &Written, keyword: Keyword, inner: usize)
 }
 
 fn own_tag(number: u8) -> FormedTag
+    requires { 0 < number }
     ensures { path_of (result ∷ []) ≡ ending (Some number) }
 {
     FormedTag {

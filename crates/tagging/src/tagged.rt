@@ -4,7 +4,6 @@ ghost use Rattle.std.specs.Prelude.{ℕ, ◌≡◌, ◌<◌, ◌≤◌, length, 
 ghost use Rattle.syntax.specs.declared.tree.TagDefault.{TagDefault};
 ghost use Rattle.resolve.specs.Seen.{type_of, types_of, header_of, assignment_of};
 ghost use Rattle.resolve.specs.Table.{Type'};
-ghost use Rattle.resolve.specs.Program.{IsWhole};
 ghost use Rattle.tagging.specs.Tags.{Path, path_of, Tags};
 ghost use Rattle.tagging.specs.Tagged.{Breaks, IsTagged, HaveOneFirst};
 ghost use Rattle.tagging.specs.Faults.{Stands, StandsIn};
@@ -138,9 +137,9 @@ fn tag_with<'a>(
 /// the name of the assignment: `TagClash`, `ImplicitChoice` and `UntaggedChoice`, `Limit(Tags)` where more than four tags are
 /// written on a type, those behind its references with them, `Limit(TagNumber)`, or `Memory`.
 pub fn tag(alloc: Global, linked: &Linked) -> Result<Tagged<'_>, TagFault>
-    requires { IsWhole linked.now }
     ensures { MatchResult result (λ t. (t ≡ linked.now) × IsTagged linked.now.types) (Stands linked.now.headers linked.now.assignments linked.now.types) }
 {
+    linked.whole();
     tag_with(alloc, linked, linked.headers())
 }
 

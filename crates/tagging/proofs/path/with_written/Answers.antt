@@ -9,7 +9,7 @@ use Rattle.tagging.specs.Step.{step_of, form_before, ending}
 use Rattle.std.specs.Prelude.{is_none}
 use Rattle.tagging.specs.declared.path.Form.TheVariants.{Explicit}
 use Rattle.tagging.specs.declared.path.Step.TheVariants.{Ends, Behind, Inside}
-use Rattle.tagging.proofs.Paths.{ends_written, path_long, pushed_last, inside_path, next_inside, from_behind, next_behind, never_long, same_kind, written_exists, added_long, pushed}
+use Rattle.tagging.proofs.Paths.{ends_above, ends_written, path_long, pushed_last, inside_path, next_inside, from_behind, next_behind, never_long, same_kind, written_exists, added_long, pushed}
 use Rattle.tagging.proofs.path.with_written.Goals as goal
 use Rattle.tagging.proofs.path.with_written.Goals.{in-Behind, in-Inside+in_ok-push-in-Inside}
 
@@ -47,6 +47,13 @@ returns-in_err-push-in-Ends-Some-clause-short c = λ p v l.
     let b2 = length-append (path_of c.args.before.items) [] in
     let z = c.in_err-push-in-Ends-Some.ensures.succeeds (omega (arith, n, m, l, b, b2, c.loop-walked.invariant.room)) in
     absurd cc
+
+pub own_tag-requires : goal.own_tag-requires
+own_tag-requires c =
+    let w = c.index-types-at.result in
+    let x = c.in-Ends-Some in
+    let e : step_of (kind_of w.shape) ≡ Ends (Some x.number) = sym x.ensures ∙ ap Ends x.field-0-is in
+    subst (λ m. 0 < m) (sym x.number-is) (ends_above (kind_of w.shape) x.number e)
 
 pub form_at-form-requires-clause-there : goal.form_at-form-requires-clause-there
 form_at-form-requires-clause-there c =
