@@ -1,22 +1,22 @@
 -- The readers of a module's head, and what their productions are owed.
 use Rattle.std.proofs.Common.{◌≡◌, ℕ, Bool, true, false, List, [], ◌∷◌, Option, Some, None, Ok, Err, refl, sym, subst}
-use Rattle.text.specs.declared.token.Mark.TheVariants.{Semicolon, Comma}
-use Rattle.text.specs.declared.reserved.Word.TheVariants.{Explicit, Implicit, Automatic, Tags, Exports, All}
+use Rattle.text.specs.declared.token.Mark.TheVariants.{Semicolon}
+use Rattle.text.specs.declared.reserved.Word.TheVariants.{Explicit, Implicit, Automatic, Exports, All}
 use Rattle.grammar.specs.Lexeme.{Lexeme, TypeRef, Ident, Word, Mark}
-use Rattle.grammar.specs.Grammar.{Grammar, token, mark, word, only as lexeme, ◌∙◌, ◌∣◌, ◌⇒◌, optional, behind}
+use Rattle.grammar.specs.Grammar.{Grammar, mark, word, only as lexeme, ◌∙◌, ◌∣◌, ◌⇒◌, optional}
 use Rattle.grammar.specs.Reading.{Limit, Read, Reader, ◌>>=◌, stop, listed_at}
 use Rattle.grammar.specs.Laws.{nowhere, then_read, after_read}
 use Rattle.grammar.specs.Lists.{no_lexeme, is_ident, with_comma}
 use Rattle.grammar.specs.Loops.{Shrinks, sound_short}
 use Rattle.grammar.specs.Parts.{IsKind, pick, perhaps}
-use Rattle.notation.specs.Rules.{Rules, Loose, either, rule_token, rule_made, rule_seq, rule_behind, rule_lead, rule_pick, rule_listed, loose_optional, rule_read, rule_tests, made, read_again, one_at, one_is}
+use Rattle.notation.specs.Rules.{Rules, either, rule_token, rule_made, rule_seq, rule_behind, rule_lead, rule_pick, rule_listed, loose_optional, rule_read, made, read_again, one_at, one_is}
 use Rattle.notation.specs.Tree.{Name}
 use Rattle.syntax.specs.declared.tree.TagDefault.{TagDefault}
 use Rattle.syntax.specs.declared.tree.TagDefault.TheVariants as defaults
 use Rattle.syntax.specs.Reading.{tags_at, module_name_at}
 use Rattle.syntax.specs.Heading.{default_words, symbol, symbols, names_in, exports}
 use Rattle.syntax.specs.HeadingReading.{tag_word_at, default_words_at, semicolon_at, symbol_at, some_exports_at, all_exports_at, no_exports_at, exported_at, exports_at}
-use Rattle.syntax.proofs.Items.{is_tags, tags_is, is_typeref, typeref_is}
+use Rattle.syntax.proofs.Items.{tags_is, is_typeref, typeref_is}
 
 -- ---- lexemes
 

@@ -1,10 +1,10 @@
 -- The readers of imports, and what their productions are owed.
-use Rattle.std.proofs.Common.{◌≡◌, ℕ, Bool, true, false, List, [], ◌∷◌, length, Option, Some, None, Ok, Err, refl, sym, ap, subst, ◌++◌, ◌∙◌ as ◌⋆◌}
-use Rattle.text.specs.declared.token.Mark.TheVariants.{OpenBrace, CloseBrace, OpenParenthesis, Comma, Semicolon}
+use Rattle.std.proofs.Common.{◌≡◌, ℕ, Bool, true, false, List, [], ◌∷◌, length, Option, Some, Ok, Err, refl, sym, ap, subst, ◌++◌, ◌∙◌ as ◌⋆◌}
+use Rattle.text.specs.declared.token.Mark.TheVariants.{OpenBrace, CloseBrace, OpenParenthesis, Semicolon}
 use Rattle.text.specs.declared.reserved.Word.TheVariants.{Imports, From}
 use Rattle.grammar.specs.Lexeme.{Lexeme, TypeRef, Ident, Number, Word, Mark}
-use Rattle.grammar.specs.Grammar.{Grammar, token, mark, word, only as lexeme, number_of, ◌∙◌, ◌∣◌, ◌⇒◌, many, optional, behind, braces}
-use Rattle.grammar.specs.Reading.{Limit, Integer, Fault, Read, Reader, ◌>>=◌, stop, fitting, closed_at, listed_at, many_at, with_front}
+use Rattle.grammar.specs.Grammar.{token, mark, only as lexeme, number_of, ◌∙◌, ◌⇒◌, many, optional, behind}
+use Rattle.grammar.specs.Reading.{Limit, Integer, Fault, Read, Reader, ◌>>=◌, closed_at, many_at, with_front}
 use Rattle.grammar.specs.Laws.{nowhere, then_read, after_read}
 use Rattle.grammar.specs.Manies.{Consumes, consumes, is_begun_by, many_more, many_end, many_fail}
 use Rattle.grammar.specs.Places.{small}
@@ -13,16 +13,15 @@ use Rattle.notation.specs.declared.fault.ReadError.TheVariants as errors
 use Rattle.notation.specs.Given.{Fails}
 use Rattle.grammar.specs.Lists.{no_lexeme, is_ident, with_comma}
 use Rattle.grammar.specs.Numbers.{Past}
-use Rattle.grammar.specs.Parts.{pick, perhaps, token_solid}
+use Rattle.grammar.specs.Parts.{pick, perhaps}
 use Rattle.notation.specs.Parens.{rule_parens}
-use Rattle.notation.specs.Rules.{Rules, Loose, either, rule_token, rule_made, rule_seq, rule_behind, rule_tail, rule_lead, rule_pair, rule_pick, loose_optional, loose_many, rule_read, rule_tests, is_number, number_at, rule_number, fitting_made, made, read_again, one_at, one_is}
-use Rattle.notation.specs.ConstraintReading.{is_open, parens_at, open_at}
+use Rattle.notation.specs.Rules.{Rules, either, rule_token, rule_made, rule_seq, rule_behind, rule_tail, rule_lead, rule_pair, rule_pick, loose_optional, loose_many, rule_read, rule_tests, is_number, number_at, rule_number, fitting_made, made, read_again, one_at, one_is}
+use Rattle.notation.specs.ConstraintReading.{is_open, parens_at}
 use Rattle.notation.specs.ConstraintGrammar.{parens}
 use Rattle.notation.specs.Tree.{Name}
 use Rattle.syntax.specs.Tree.{ImportTree}
 use Rattle.syntax.specs.Reading.{module_name_at}
-use Rattle.syntax.specs.Heading.{symbols, arc, oid, import_from, imports}
-use Rattle.syntax.specs.HeadingReading.{semicolon_at, symbol_at}
+use Rattle.syntax.specs.Heading.{arc, oid, import_from, imports}
 use Rattle.syntax.specs.ImportReading.{begins_arc, begins_symbol, arc_number_at, behind_arc_at, arc_at, more_arcs_at, arcs_at, oid_at, behind_module_at, module_ref_at, from_module_at, import_from_at, imported_at, imports_at}
 use Rattle.syntax.proofs.Items.{is_typeref, typeref_is}
 use Rattle.syntax.proofs.Headings.{name_at, name_is, is_semicolon, rule_end, rule_symbols, is_symbol}

@@ -1,15 +1,12 @@
 -- Reading the head of a module from left to right.
-use Rattle.std.specs.Prelude.{ℕ, Bool, true, false, List, [], ◌∷◌, length, Option, Some, None, Ok}
-use Rattle.text.specs.declared.token.Mark.TheVariants.{Semicolon, OpenBrace, OpenParenthesis}
-use Rattle.text.specs.declared.reserved.Word.TheVariants.{Explicit, Implicit, Automatic, Tags, Exports, All, Imports, From}
-use Rattle.grammar.specs.Lexeme.{Lexeme, TypeRef, Ident, Number, Word, Mark}
-use Rattle.grammar.specs.Reading.{Reader, ◌>>=◌, stop, fitting, closed_at, listed_at, many_at}
+use Rattle.std.specs.Prelude.{List, [], ◌∷◌, Option, Some, None, Ok}
+use Rattle.text.specs.declared.token.Mark.TheVariants.{Semicolon}
+use Rattle.text.specs.declared.reserved.Word.TheVariants.{Explicit, Implicit, Automatic, Exports, All}
+use Rattle.grammar.specs.Lexeme.{TypeRef, Ident, Word, Mark}
+use Rattle.grammar.specs.Reading.{Reader, ◌>>=◌, stop, listed_at}
 use Rattle.notation.specs.Tree.{Name}
-use Rattle.notation.specs.Rules.{number_at}
-use Rattle.notation.specs.ConstraintReading.{close_at, parens_at}
 use Rattle.syntax.specs.declared.tree.TagDefault.{TagDefault}
 use Rattle.syntax.specs.declared.tree.TagDefault.TheVariants as defaults
-use Rattle.syntax.specs.Tree.{ImportTree}
 use Rattle.syntax.specs.Reading.{tags_at}
 
 unfoldable pub tag_word_at : Reader TagDefault

@@ -1,5 +1,5 @@
 -- The grammar of modules (X.680, clauses 13 and 16).
-use Rattle.std.specs.Prelude.{ℕ, Bool, List, [], None}
+use Rattle.std.specs.Prelude.{ℕ, Bool, [], None}
 use Rattle.text.specs.declared.token.Mark.TheVariants.{Assign}
 use Rattle.text.specs.declared.reserved.Word.TheVariants.{Definitions, Explicit, Tags, Begin, End}
 use Rattle.grammar.specs.Lexeme.{TypeRef, Ident, Word, Mark}
