@@ -17,7 +17,7 @@ use Rattle.notation.specs.declared.fault.ReadError.TheVariants as errors
 use Rattle.notation.specs.Given.{Fails}
 use Rattle.notation.specs.Constraint.{RangeTree, ConstraintTree}
 use Rattle.notation.specs.ConstraintGrammar.{parens, constraint}
-use Rattle.notation.specs.ConstraintReading.{parens_at, is_open, constraint_at}
+use Rattle.notation.specs.ConstraintReading.{parens_at, constraint_at}
 use Rattle.notation.specs.Rules.{number_at, made}
 use Rattle.notation.specs.Tree.{Name, Tree}
 use Rattle.notation.specs.Value.{value}
@@ -31,7 +31,7 @@ use Rattle.syntax.specs.declared.tree.TypeSyntax.TheFolds.{fold-roll-TypeSyntax}
 use Rattle.syntax.specs.declared.tree.Member.{Member}
 use Rattle.syntax.specs.Tree.{PresenceTree, presence_of, TypeTree, a_sequence, a_set, a_choice, a_constrained, type_members, type_layer, type_tree_of, type_member_of}
 use Rattle.syntax.specs.Types.{list_of, constrained, signed, member, alternative, type}
-use Rattle.syntax.specs.TypeReading.{component_at, bare_at, body_at, choice_at, tagged_at, signed_at, item_number_at, one_type_at, constraints_at, with_constraints_at, plain_at, list_size_at, of_at, list_at, structure_at, behind_at, type_step, type_at}
+use Rattle.syntax.specs.TypeReading.{component_at, bare_at, body_at, choice_at, tagged_at, signed_at, item_number_at, one_type_at, with_constraints_at, plain_at, list_size_at, of_at, list_at, structure_at, behind_at, type_step, type_at}
 use Rattle.syntax.specs.PartLaws.{PartLaws}
 use Rattle.syntax.proofs.TypeParts.{rule_number_named, rule_bit_named, rule_item}
 use Rattle.syntax.proofs.TypeSteps.{rule_member, rule_alternative}

@@ -1,15 +1,14 @@
 -- What is owed where something is opened, and small rules that types need.
-use Rattle.std.proofs.Common.{◌≡◌, ℕ, zero, suc, ◌+◌, ◌≤◌, inl, inr, Bool, true, false, List, [], ◌∷◌, ◌++◌, length, Option, Some, None, Ok, Err, refl, sym, ap, subst, ◌∙◌ as ◌⋆◌, arith}
+use Rattle.std.proofs.Common.{◌≡◌, ℕ, zero, suc, ◌+◌, ◌≤◌, inl, inr, Bool, true, false, List, [], ◌∷◌, ◌++◌, length, Option, Some, Ok, Err, refl, sym, ap, subst, ◌∙◌ as ◌⋆◌, arith}
 use Rattle.text.specs.declared.token.Mark.TheVariants.{OpenBrace, CloseBrace}
 use Rattle.grammar.specs.Lexeme.{Lexeme, Ident, Mark}
-use Rattle.grammar.specs.Grammar.{Grammar, token, mark, only, ◌∙◌, ◌⇒◌, optional, behind, braces, cut_off}
-use Rattle.grammar.specs.Grows.{Grows, same_grows}
-use Rattle.grammar.specs.Reading.{Limit, Nesting, Beyond, Read, Reader, ◌>>=◌, stop, opened, closed_at, named_at}
+use Rattle.grammar.specs.Grammar.{Grammar, token, mark, only, ◌∙◌, ◌⇒◌, behind, braces, cut_off}
+use Rattle.grammar.specs.Grows.{same_grows}
+use Rattle.grammar.specs.Reading.{Limit, Nesting, Read, Reader, stop, opened, named_at}
 use Rattle.grammar.specs.Laws.{more, Sound, Follows, Passes, Stands, Finds, passes_on, then_read, after_read}
-use Rattle.grammar.specs.Lists.{IsSolid, no_lexeme, is_ident, seq_first, seq_solid, named_sound, finds_named}
+use Rattle.grammar.specs.Lists.{is_ident, seq_first, seq_solid, named_sound, finds_named}
 use Rattle.grammar.specs.Parts.{SoundReader, token_finds, token_solid, cut_off_finds, cut_off_solid, pair_sound, pair_finds, pair_solid, same_sound, same_finds}
 use Rattle.notation.specs.Rules.{Owes, OwesLoosely, Same, rule_token, rule_behind, rule_read, rule_same, made, read_again, taken, one_at, one_is}
-use Rattle.notation.specs.Tree.{Name}
 use Rattle.syntax.specs.Types.{opens}
 
 -- ---- small rules

@@ -1,17 +1,15 @@
 -- Where more numbers are allowed, more types are.
-use Rattle.std.proofs.Common.{◌≡◌, ◌^◌, ℕ, zero, suc, inl, inr, Bool, true, false, List, [], ◌∷◌, Option, Some, None, refl}
+use Rattle.std.proofs.Common.{◌≡◌, ◌^◌, ℕ, zero, suc, inl, inr, Bool, true, false, List, Option, Some, None, refl}
 use Rattle.std.specs.Prelude.{nat_lt}
-use Rattle.text.specs.declared.token.Mark.TheVariants.{Dot, OpenBracket, CloseBracket, OpenParenthesis, CloseParenthesis, Minus}
-use Rattle.text.specs.declared.reserved.Word.TheVariants as words
-use Rattle.grammar.specs.Lexeme.{Lexeme, Ident, Number, Word, Mark}
-use Rattle.grammar.specs.Grammar.{Grammar, token, mark, word, number_of, ◌∙◌, ◌∣◌, ◌⇒◌, many, optional, behind, listed, braces, cut_off}
+use Rattle.grammar.specs.Lexeme.{Lexeme}
+use Rattle.grammar.specs.Grammar.{Grammar, number_of, ◌∙◌, ◌∣◌, ◌⇒◌, many, optional, behind, listed, braces, cut_off}
 use Rattle.grammar.specs.Grows.{Grows, same_grows, number_grows, seq_grows, made_grows, either_grows, many_grows, behind_grows, listed_grows, braces_grows}
 use Rattle.notation.specs.Rules.{bor}
 use Rattle.notation.specs.ConstraintGrammar.{parens, size, constraint}
 use Rattle.notation.specs.Tree.{Tree}
 use Rattle.notation.specs.Value.{value}
 use Rattle.syntax.specs.Tree.{TypeTree}
-use Rattle.syntax.specs.Types.{opens, presence, member, alternative, members, choice, tag_fits, signed, integer, bit_string, enumerated, tag_number, tag_end, tag, tagged, one_type, plain, list, type_with, type}
+use Rattle.syntax.specs.Types.{opens, members, choice, signed, integer, bit_string, enumerated, tag_number, tag_end, tag, tagged, one_type, list, type_with, type}
 
 same : {A : Type 0} {a : Grammar A} → Grows a a
 same {A} {a} = same_grows a

@@ -1,30 +1,30 @@
 -- What is owed for the parts of types that hold no type.
-use Rattle.std.proofs.Common.{◌≡◌, ℕ, zero, suc, ◌+◌, ◌≤◌, Bool, true, false, List, [], ◌∷◌, length, Option, Some, None, Ok, Err, refl, sym, ap, subst, ◌∙◌ as ◌⋆◌}
+use Rattle.std.proofs.Common.{◌≡◌, ℕ, ◌+◌, ◌≤◌, Bool, true, false, List, [], ◌∷◌, Option, Some, Ok, refl, sym, ap, subst, ◌∙◌ as ◌⋆◌}
 use Rattle.text.specs.declared.token.Mark.TheVariants.{Comma, CloseBrace, OpenBrace, OpenParenthesis, Dot, Minus}
 use Rattle.text.specs.declared.reserved.Word.TheVariants as words
 use Rattle.asn_base.specs.declared.tag.Tag.{Tag}
 use Rattle.grammar.specs.Lexeme.{Lexeme, TypeRef, Ident, Number, Word, Mark}
-use Rattle.grammar.specs.Grammar.{Grammar, token, mark, only, number_of, ◌∙◌, ◌∣◌, ◌⇒◌, many, optional, behind, listed, braces}
-use Rattle.grammar.specs.Reading.{Limit, Nesting, Integer, TagNumber as TagLimit, Read, Reader, ◌>>=◌, stop, opened, closed_at, listed_at, named_at, many_at}
-use Rattle.grammar.specs.Laws.{then_read, after_read}
+use Rattle.grammar.specs.Grammar.{Grammar, token, number_of, ◌∙◌, optional, listed}
+use Rattle.grammar.specs.Reading.{Limit, Nesting, Integer, TagNumber as TagLimit, Read, Reader, ◌>>=◌, opened, named_at}
+use Rattle.grammar.specs.Laws.{then_read}
 use Rattle.grammar.specs.Lists.{no_lexeme, is_ident, with_comma}
 use Rattle.grammar.specs.Numbers.{Past}
 use Rattle.grammar.specs.Parts.{pick, perhaps}
 use Rattle.notation.specs.Parens.{rule_parens}
-use Rattle.notation.specs.Rules.{Owes, OwesLoosely, Rules, Loose, asked, either, rule_token, rule_made, rule_seq, rule_behind, rule_tail, rule_lead, rule_pick, rule_listed, loose_optional, loose_many, loose_made, rule_read, rule_tests, is_number, number_at, rule_number, fitting_made, made, read_again, one_at}
+use Rattle.notation.specs.Rules.{Owes, OwesLoosely, Rules, asked, either, rule_token, rule_made, rule_seq, rule_behind, rule_tail, rule_pick, rule_listed, loose_optional, loose_made, rule_read, is_number, number_at, rule_number, fitting_made, made, read_again, one_at}
 use Rattle.notation.specs.Tree.{Name}
 use Rattle.notation.specs.ConstraintGrammar.{parens}
 use Rattle.notation.specs.ConstraintReading.{is_open, parens_at}
 use Rattle.syntax.specs.declared.tree.Keyword.{Keyword}
 use Rattle.syntax.specs.declared.tree.Keyword.TheVariants as keywords
-use Rattle.syntax.specs.Tree.{TypeTree, an_enumerated, a_named_integer, a_bit_string, an_object_identifier, an_octet_string}
-use Rattle.syntax.specs.Types.{opens, referred, integer_with, bits_with, keyword_of, TagNumber, application_tag, private_tag, context_tag, ref, sequence_or_set, keyword, tag_fits, signed, integer, bit_string, enumerated, tag_end, tag}
+use Rattle.syntax.specs.Tree.{TypeTree, an_enumerated, a_named_integer}
+use Rattle.syntax.specs.Types.{referred, integer_with, bits_with, keyword_of, TagNumber, application_tag, private_tag, context_tag, ref, sequence_or_set, keyword, tag_fits, signed, integer, bit_string, enumerated, tag_end, tag}
 use Rattle.syntax.specs.Reading.{module_name_at}
-use Rattle.syntax.specs.TypeReading.{string_at, identifier_at, type_in_at, ref_at, keyword_at, list_in_at, tag_number_at, bracket_at, tag_end_at, application_at, private_at, context_at, tag_at, negative_at, signed_at, given_at, item_number_at, numbers_in_at, bits_in_at, items_in_at, integer_at, bits_at, bit_string_at, enumerated_at}
+use Rattle.syntax.specs.TypeReading.{string_at, type_in_at, ref_at, keyword_at, list_in_at, tag_end_at, application_at, private_at, context_at, tag_at, negative_at, signed_at, given_at, item_number_at, numbers_in_at, bits_in_at, items_in_at, integer_at, bits_at, bit_string_at, enumerated_at}
 use Rattle.syntax.proofs.Items.{is_closed, closed_is, is_typeref, typeref_is}
 use Rattle.syntax.proofs.TypeLexemes.{is_bit_word, is_integer_word, is_string_word, is_enumerated_word, is_sequence_word, is_set_word, is_implicit_word, is_explicit_word, is_application_word, is_private_word, is_dot, is_minus, rule_bit_word, rule_integer_word, rule_string_word, rule_enumerated_word, rule_sequence_word, rule_set_word, rule_implicit_word, rule_explicit_word, rule_application_word, rule_private_word, rule_dot, rule_minus, digits_at, rule_digits, rule_bracket}
 use Rattle.syntax.proofs.TypeWords.{rule_tag_number}
-use Rattle.syntax.proofs.Openings.{loosely, loose_read, rule_named, after_made, after_some, made_made, opened_made, rule_both, IsOpenable, opened_by, is_lbrace, inside, rule_braces}
+use Rattle.syntax.proofs.Openings.{loosely, loose_read, rule_named, made_made, opened_made, rule_both, opened_by, is_lbrace, inside, rule_braces}
 
 -- ---- lists as far as a brace
 

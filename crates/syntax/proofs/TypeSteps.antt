@@ -1,32 +1,31 @@
 -- What is owed for types, of what is owed for the types and values inside.
-use Rattle.std.proofs.Common.{◌≡◌, ℕ, zero, suc, ◌+◌, ◌≤◌, inl, inr, Bool, true, false, List, [], ◌∷◌, ◌++◌, length, Option, Some, None, Ok, Err, refl, sym, ap, subst, ◌∙◌ as ◌⋆◌, append_assoc}
-use Rattle.text.specs.declared.token.Mark.TheVariants.{CloseBrace, OpenBrace, OpenParenthesis, OpenBracket, Dot}
+use Rattle.std.proofs.Common.{◌≡◌, ℕ, ◌+◌, ◌≤◌, inl, inr, Bool, true, false, List, [], ◌∷◌, ◌++◌, Option, Some, None, Ok, Err, refl, sym, ap, ◌∙◌ as ◌⋆◌, append_assoc}
+use Rattle.text.specs.declared.token.Mark.TheVariants.{OpenBrace, OpenParenthesis, OpenBracket, Dot}
 use Rattle.text.specs.declared.reserved.Word.TheVariants as words
 use Rattle.asn_base.specs.declared.tag.Tag.{Tag}
-use Rattle.grammar.specs.Lexeme.{Lexeme, TypeRef, Ident, Number, Word, Mark}
-use Rattle.grammar.specs.Grammar.{Grammar, token, mark, word, only, ◌∙◌, ◌∣◌, ◌⇒◌, many, optional, behind, listed, braces}
-use Rattle.grammar.specs.Reading.{Limit, Nesting, Integer, TagNumber as TagLimit, Read, Reader, ◌>>=◌, stop, opened, closed_at, listed_at, named_at, many_at}
+use Rattle.grammar.specs.Lexeme.{Lexeme, TypeRef, Ident, Word, Mark}
+use Rattle.grammar.specs.Grammar.{Grammar, ◌∙◌, ◌∣◌, ◌⇒◌, many, optional, behind, listed}
+use Rattle.grammar.specs.Reading.{Limit, Nesting, Integer, TagNumber as TagLimit, Read, Reader, ◌>>=◌, opened, closed_at, listed_at, named_at}
 use Rattle.grammar.specs.Laws.{then_read, after_read}
 use Rattle.grammar.specs.Lists.{no_lexeme, is_ident, with_comma}
 use Rattle.grammar.specs.Numbers.{Past}
 use Rattle.grammar.specs.Parts.{pick, perhaps}
 use Rattle.notation.specs.Laws.{goes_on}
 use Rattle.notation.specs.Parens.{rule_parens}
-use Rattle.notation.specs.Rules.{Owes, OwesLoosely, Rules, Same, Ruled, asked, either, rule_token, rule_made, rule_seq, rule_behind, rule_tail, rule_lead, rule_pick, rule_listed, loose_optional, loose_many, loose_made, rule_read, rule_tests, rule_same, is_number, made, read_again, one_at}
+use Rattle.notation.specs.Rules.{Owes, OwesLoosely, Rules, Same, Ruled, asked, either, rule_token, rule_made, rule_seq, rule_behind, rule_tail, rule_lead, rule_pick, rule_listed, loose_optional, loose_many, loose_made, rule_read, rule_tests, rule_same, is_number, made, one_at}
 use Rattle.notation.specs.Tree.{Name, Tree}
 use Rattle.notation.specs.Constraint.{RangeTree, ConstraintTree}
 use Rattle.notation.specs.ConstraintGrammar.{parens, size, constraint}
 use Rattle.notation.specs.ConstraintReading.{is_open, is_size, parens_at, size_at, constraint_at}
 use Rattle.syntax.specs.declared.tree.Keyword.{Keyword}
 use Rattle.syntax.specs.Tree.{PresenceTree, mandatory, optional as may_be_absent, default, TypeTree, an_object_identifier, an_octet_string, a_choice, a_tagged, TypeMembers, type_members}
-use Rattle.syntax.specs.Types.{opens, members_of, with_members, list_of, present, constrained, one_word, ref, sequence_or_set, keyword, presence, member, alternative, members, choice, tag_fits, integer, bit_string, enumerated, tag, tagged, one_type, plain, list, type_with}
+use Rattle.syntax.specs.Types.{opens, members_of, with_members, list_of, present, constrained, sequence_or_set, keyword, presence, member, alternative, members, choice, tag_fits, tag, tagged, one_type, type_with}
 use Rattle.syntax.specs.TypeReading.{identifier_at, string_at, one_word_at, keyword_at, default_at, presence_at, component_at, bare_at, list_in_at, some_members_at, members_at, body_at, alternatives_at, choice_at, tag_at, inside_tag_at, tagged_at, object_at, octets_at, one_type_at, constraints_at, with_constraints_at, plain_at, some_size_at, size_in_parens_at, list_size_at, of_at, list_at, structure_at, behind_at, type_step}
-use Rattle.syntax.specs.Reading.{module_name_at}
 use Rattle.syntax.proofs.Items.{is_closed, closed_is, is_typeref}
 use Rattle.syntax.proofs.TypeLexemes.{is_object_word, is_octet_word, is_bit_word, is_integer_word, is_enumerated_word, is_choice_word, is_sequence_word, is_set_word, is_of_word, of_word_one, is_optional_word, is_default_word, is_open_bracket, open_bracket_one, is_application_word, is_private_word, is_dot, rule_object_word, rule_octet_word, rule_choice_word, rule_optional_word, rule_default_word, rule_string, rule_identifier}
 use Rattle.syntax.proofs.TypeWords.{is_type_word, rule_one_word}
 use Rattle.syntax.proofs.TypeParts.{close_apart, rule_list_in, which_read, rule_which, is_keyword, loose_keyword, ref_read, ref_same, rule_ref, integer_read, integer_same, rule_integer, bits_read, bits_same, rule_bit_string, items_read, items_same, rule_enumerated, rule_tag}
-use Rattle.syntax.proofs.Openings.{loosely, loose_read, rule_both, rule_named, after_made, after_some, made_made, opened_made, IsOpenable, opened_by, is_lbrace, inside, rule_opens, rule_braces}
+use Rattle.syntax.proofs.Openings.{loosely, loose_read, rule_both, rule_named, after_made, after_some, opened_made, IsOpenable, opened_by, is_lbrace, inside, rule_opens, rule_braces}
 
 -- ---- what a type begins with, and what goes on with it
 

@@ -1,9 +1,9 @@
 -- What is read as a type is one; the reader refuses no front of a type, and reads each whole one.
 use Rattle.std.proofs.Common.{◌≡◌, ℕ, zero, suc, ◌+◌, ◌≤◌, Bool, true, false, List, length, refl, sym, subst, arith}
 use Rattle.grammar.specs.Lexeme.{Lexeme}
-use Rattle.grammar.specs.Grammar.{Grammar, cut_off}
+use Rattle.grammar.specs.Grammar.{cut_off}
 use Rattle.grammar.specs.Grows.{Grows}
-use Rattle.grammar.specs.Reading.{Limit, Nesting, Integer, TagNumber as TagLimit, Reader, stop}
+use Rattle.grammar.specs.Reading.{Limit, Nesting, Integer, TagNumber as TagLimit, stop}
 use Rattle.grammar.specs.Laws.{nowhere, deeper, wider, Finds}
 use Rattle.grammar.specs.Lists.{IsSolid}
 use Rattle.grammar.specs.Numbers.{Past}
@@ -18,7 +18,6 @@ use Rattle.notation.specs.Reading.{value_at}
 use Rattle.syntax.specs.Types.{tag_fits, type}
 use Rattle.syntax.specs.TypeReading.{type_at}
 use Rattle.syntax.specs.PartLaws.{PartLaws}
-use Rattle.syntax.proofs.Openings.{IsOpenable}
 use Rattle.syntax.proofs.TypeSteps.{type_starts, type_ends, rule_step}
 use Rattle.syntax.proofs.TypeGrows.{types_grow}
 

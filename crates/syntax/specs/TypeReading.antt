@@ -3,7 +3,6 @@ use Rattle.std.specs.Prelude.{◌≡◌, ◌<◌, ◌^◌, ℕ, zero, suc, Bool,
 use Rattle.std.proofs.Common.{refl, arith}
 use Rattle.std.proofs.lemmas.Bool.Decides.{nat_tests}
 use Rattle.text.specs.declared.token.Mark.TheVariants.{Dot, Minus, OpenBrace, OpenParenthesis, OpenBracket, CloseBracket}
-use Rattle.text.specs.declared.reserved.Word.{Word as Word'}
 use Rattle.text.specs.declared.reserved.Word.TheVariants as words
 use Rattle.asn_base.specs.declared.tag.Tag.{Tag}
 use Rattle.grammar.specs.Lexeme.{Lexeme, TypeRef, Ident, Number, Word, Mark}

@@ -3,10 +3,9 @@ use Rattle.std.specs.Prelude.{◌≡◌, ◌⊎◌, ◌<◌, ◌^◌, ℕ, zero,
 use Rattle.text.specs.declared.token.Mark.TheVariants.{Dot, Minus, OpenBracket, CloseBracket}
 use Rattle.text.specs.declared.reserved.Word.{Word as Word'}
 use Rattle.text.specs.declared.reserved.Word.TheVariants as words
-use Rattle.asn_base.specs.declared.tag.Class.{Class}
 use Rattle.asn_base.specs.declared.tag.Class.TheVariants as classes
 use Rattle.asn_base.specs.declared.tag.Tag.{Tag}
-use Rattle.grammar.specs.Lexeme.{Lexeme, TypeRef, Ident, Number, Word, Mark}
+use Rattle.grammar.specs.Lexeme.{TypeRef, Ident, Number, Word, Mark}
 use Rattle.grammar.specs.Grammar.{Grammar, token, mark, word, number_of, ◌∙◌, ◌∣◌, ◌⇒◌, many, optional, behind, listed, braces, cut_off}
 use Rattle.notation.specs.Rules.{bor}
 use Rattle.notation.specs.Tree.{Name, Tree}

@@ -8,8 +8,7 @@ use Rattle.grammar.specs.Reading.{named_at}
 use Rattle.notation.specs.ConstraintReading.{parens_at}
 use Rattle.notation.specs.Rules.{number_at}
 use Rattle.syntax.specs.Tree.{bit_of}
-use Rattle.syntax.specs.TypeReading.{signed_at, item_number_at}
-use Rattle.syntax.proofs.Loop.{listed_gives_up, commas_give_up, number_shrinks, bit_shrinks, item_shrinks}
+use Rattle.syntax.proofs.Loop.{listed_gives_up, commas_give_up, bit_shrinks}
 use Rattle.syntax.proofs.named.named_bits.Goals as goal
 
 pub returns-in_err-first-clause-read : goal.returns-in_err-first-clause-read

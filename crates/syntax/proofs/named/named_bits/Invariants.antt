@@ -6,7 +6,6 @@ use Rattle.notation.specs.Given.{AreTokens}
 use Rattle.notation.specs.ConstraintReading.{parens_at}
 use Rattle.notation.specs.Rules.{number_at}
 use Rattle.syntax.specs.Tree.{bit_of}
-use Rattle.syntax.specs.TypeReading.{signed_at, item_number_at}
 use Rattle.syntax.proofs.named.named_bits.Given as goal
 
 abbrev pub invariant-loop-after : goal.invariant-loop-after
