@@ -8,3 +8,8 @@ pub mod PartKinds
 pub mod Numbered
 pub mod Entries
 pub mod Assembling
+pub mod Halfway
+pub mod ListFaults
+pub mod Standing
+pub mod Exclusion
+pub mod Below

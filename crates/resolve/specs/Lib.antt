@@ -12,4 +12,5 @@ pub mod Codes
 pub mod Modules
 pub mod Sound
 pub mod SoundFaults
+pub mod Soundness
 pub mod Links
