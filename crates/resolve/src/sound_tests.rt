@@ -1,4 +1,4 @@
-ghost use Rattle.std.specs.Prelude.{ℕ, ◌≡◌, ◌<◌, Some, true, length, slice_get};
+ghost use Rattle.std.specs.Prelude.{ℕ, ◌≡◌, ◌<◌, Some, false, slice_get};
 ghost use Rattle.resolve.specs.declared.table.Assignment.{Assignment};
 ghost use Rattle.resolve.specs.declared.table.Written.{Written};
 
@@ -172,28 +172,47 @@ fn items_of_an_enumeration(rt: HostRuntime) -> Result<(), Fail> {
     Ok(())
 }
 
-/// Whether each type's assignment is there.
-fn are_typed(types: &[Written], count: usize) -> bool
-    ensures { result ≡ true → (k : ℕ) (w : Written) → slice_get types.now k ≡ Some w → w.assignment < count }
+/// Whether the assignment of a type is not there.
+fn lacks_assignment(types: &[Written], count: usize) -> bool
+    ensures { result ≡ false → (k : ℕ) (w : Written) → slice_get types.now k ≡ Some w → w.assignment < count }
 {
     for written in types {
         if written.assignment >= count {
-            return false;
+            return true;
         }
     }
-    true
+    false
 }
 
-/// Whether each assignment's module is there.
-fn are_placed(assignments: &[Assignment], count: usize) -> bool
-    ensures { result ≡ true → (k : ℕ) (a : Assignment) → slice_get assignments.now k ≡ Some a → a.module < count }
+/// Whether the module of an assignment is not there.
+fn lacks_module(assignments: &[Assignment], count: usize) -> bool
+    ensures { result ≡ false → (k : ℕ) (a : Assignment) → slice_get assignments.now k ≡ Some a → a.module < count }
 {
     for assignment in assignments {
         if assignment.module >= count {
-            return false;
+            return true;
         }
     }
-    true
+    false
+}
+
+/// What the check of all lists says of a table.
+fn said_of_table(
+    alloc: Global,
+    headers: &[Header],
+    assignments: &[Assignment],
+    types: &[Written],
+) -> Result<String, AllocError> {
+    if lacks_assignment(types, assignments.len()) {
+        return String::from_str(alloc, "no assignment");
+    }
+    if lacks_module(assignments, headers.len()) {
+        return String::from_str(alloc, "no module");
+    }
+    match sound_lists(alloc, headers, assignments, types) {
+        Ok(()) => String::from_str(alloc, "sound"),
+        Err(fault) => format!(in alloc; "{fault}"),
+    }
 }
 
 fn header(alloc: Global, name: &str) -> Result<Header, AllocError> {
@@ -203,9 +222,9 @@ fn header(alloc: Global, name: &str) -> Result<Header, AllocError> {
     })
 }
 
-fn assignment(alloc: Global, module: usize, name: &str) -> Result<Assignment, AllocError> {
+fn assignment(alloc: Global, owner: usize, name: &str) -> Result<Assignment, AllocError> {
     Ok(Assignment {
-        module,
+        module: owner,
         name: String::from_str(alloc, name)?,
     })
 }
@@ -231,13 +250,7 @@ fn said_of(alloc: Global, first: Shape, second: Shape) -> Result<String, AllocEr
     let mut types = Vec::new(alloc);
     types.push(written(alloc, first, 0))?;
     types.push(written(alloc, second, 1))?;
-    if !are_typed(&types, assignments.len()) || !are_placed(&assignments, headers.len()) {
-        return String::from_str(alloc, "not there");
-    }
-    match sound_lists(alloc, &headers, &assignments, &types) {
-        Ok(()) => String::from_str(alloc, "sound"),
-        Err(fault) => format!(in alloc; "{fault}"),
-    }
+    said_of_table(alloc, &headers, &assignments, &types)
 }
 
 #[test]
