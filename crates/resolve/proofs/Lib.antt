@@ -10,3 +10,8 @@ pub mod Marking
 pub mod Circling
 pub mod Entries
 pub mod Assembling
+pub mod Halfway
+pub mod ListFaults
+pub mod Standing
+pub mod Exclusion
+pub mod Below

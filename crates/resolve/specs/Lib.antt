@@ -13,4 +13,5 @@ pub mod Modules
 pub mod Sound
 pub mod Reach
 pub mod SoundFaults
+pub mod Soundness
 pub mod Links

@@ -6,9 +6,12 @@ pub mod fault;
 mod gather;
 pub mod linked;
 pub mod linking;
+mod lists;
 pub mod names;
 pub mod number;
+mod qualified;
 pub mod reach;
+mod sound;
 pub mod table;
 pub mod unfolding;
 
@@ -16,6 +19,10 @@ pub use fault::{Limit, NameFault};
 pub use linked::{Found, Linked};
 pub use linking::link;
 pub use names::{Assigned, Names, Scope};
+pub use sound::faults_exclude_sound;
 pub use table::{
     Assignment, Component, ElementsKind, ListKind, Place, Shape, Simple, ValueAt, Written,
 };
+
+#[cfg(test)]
+mod sound_tests;

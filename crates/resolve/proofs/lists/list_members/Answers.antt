@@ -1,0 +1,38 @@
+use Rattle.std.proofs.Common.{◌≡◌, ℕ, ◌+◌, ◌<◌, ◌≤◌, List, [], length, map, drop, refl, sym, subst, ap, ◌∙◌, inl, arith, string_bytes}
+use Rattle.std.proofs.lemmas.Option.{slice_get-map}
+use Rattle.std.proofs.lemmas.List.{length-map}
+use Rattle.std.proofs.lemmas.Result.{err_from_is_err_and}
+use Rattle.asn_base.specs.Typed.{IsWithinLimit}
+use Rattle.syntax.specs.Tree.{number_of, bit_of, item_of}
+use Rattle.resolve.specs.Seen.{part_of}
+use Rattle.resolve.specs.Sound.{signed, given_numbers}
+use Rattle.resolve.specs.Soundness.{texts}
+use Rattle.resolve.specs.Table.{Part, simple, an_integer, a_bit_string, an_enumerated, members}
+use Rattle.resolve.proofs.Halfway.{Halfway, halfway_start, halfway_step, halfway_distinct, halfway_each, turn, item_at, drop_at, none_left, map_get}
+use Rattle.resolve.proofs.ListFaults.{names_fault, integer_fault, bit_fault, item_fault, item_step}
+use Rattle.resolve.proofs.lists.list_members.Goals as goal
+
+pub loop-component-init : goal.loop-component-init
+loop-component-init c = halfway_start (λ _. Unit {0}) _ (texts c.new-names.result.keys) (ap texts c.new-names.ensures.empty)
+
+pub loop-component-preserved : goal.loop-component-preserved
+loop-component-preserved c =
+    let gs = c.args.given.now in
+    let l : c.loop-component.component-index < length gs = omega arith in
+    let h = turn (λ _. Unit {0}) (λ (p : Part). p.name) part_of _ (texts c.loop-component.names.keys) gs c.loop-component.component-index c.component-item.result c.as_str.result.now l c.component-item.is c.as_str.ensures.value c.loop-component.invariant in
+    halfway_step (λ _. Unit {0}) _ (texts c.loop-component.names.keys) _ (texts c.name_once.new.names.keys) c.as_str.result.now h c.in_ok-name_once.ensures.added c.in_ok-name_once.ensures.fresh tt
+
+pub returns-in_err-name_once : goal.returns-in_err-name_once
+returns-in_err-name_once c =
+    let gs = c.args.given.now in
+    let l : c.loop-component.component-index < length gs = omega arith in
+    let h = turn (λ _. Unit {0}) (λ (p : Part). p.name) part_of _ (texts c.loop-component.names.keys) gs c.loop-component.component-index c.component-item.result c.as_str.result.now l c.component-item.is c.as_str.ensures.value c.loop-component.invariant in
+    let p = err_from_is_err_and c.from_residual-in_err-name_once.result c.from_residual-in_err-name_once.ensures.1 in
+    rw (p.1, p.2) (names_fault c.args.within.now c.args.assigns.now (members c.args.kind (map part_of gs)) (λ _. Unit {0}) (map (λ (p : Part). p.name) (map part_of gs)) (texts c.loop-component.names.keys) _ c.as_str.result.now c.in_err-name_once.field-0.0 (λ y t. t) h c.in_err-name_once.ensures.fault)
+
+pub returns : goal.returns
+returns c =
+    let gs = c.args.given.now in
+    let l : length gs ≤ c.loop-component.component-index = omega arith in
+    let e = ap (λ r. map (λ (p : Part). p.name) (map part_of r)) (none_left gs c.loop-component.component-index l) in
+    (halfway_distinct (λ _. Unit {0}) _ (texts c.loop-component.names.keys) _ e c.loop-component.invariant, omega (arith, length-map gs part_of))

@@ -1,0 +1,13 @@
+use Rattle.std.proofs.Common.{map, drop}
+use Rattle.syntax.specs.Tree.{number_of, bit_of, item_of}
+use Rattle.asn_base.specs.Typed.{IsWithinLimit}
+use Rattle.std.proofs.Common.{◌≤◌}
+use Rattle.resolve.specs.Seen.{part_of}
+use Rattle.resolve.specs.Sound.{signed, given_numbers}
+use Rattle.resolve.specs.Soundness.{texts}
+use Rattle.resolve.specs.Table.{Part}
+use Rattle.resolve.proofs.Halfway.{Halfway}
+use Rattle.resolve.proofs.lists.list_members.Given as goal
+
+abbrev pub invariant-loop-component : goal.invariant-loop-component
+invariant-loop-component l = Halfway (λ _. Unit {0}) (map (λ (c : Part). c.name) (map part_of l.given)) (texts l.names.keys) (map (λ (c : Part). c.name) (map part_of (drop l.component-index l.given)))

@@ -1,0 +1,16 @@
+use Rattle.std.proofs.Common.{map, drop}
+use Rattle.syntax.specs.Tree.{number_of, bit_of, item_of}
+use Rattle.asn_base.specs.Typed.{IsWithinLimit}
+use Rattle.std.proofs.Common.{◌≤◌}
+use Rattle.resolve.specs.Seen.{part_of}
+use Rattle.resolve.specs.Sound.{signed, given_numbers}
+use Rattle.resolve.specs.Soundness.{texts}
+use Rattle.resolve.specs.Table.{Part}
+use Rattle.resolve.proofs.Halfway.{Halfway}
+use Rattle.resolve.proofs.lists.named_numbers.Given as goal
+
+abbrev pub invariant-loop-item : goal.invariant-loop-item
+invariant-loop-item l = record {
+  names : Halfway (λ _. Unit {0}) (map (λ n. n.0) (map number_of l.given)) (texts l.names.keys) (map (λ n. n.0) (map number_of (drop l.item-index l.given)));
+  numbers : Halfway IsWithinLimit (map (λ n. signed n.1) (map number_of l.given)) l.numbers.keys (map (λ n. signed n.1) (map number_of (drop l.item-index l.given)));
+}

@@ -1,0 +1,25 @@
+use Rattle.std.proofs.Common.{map, sym, subst, ap, ◌∙◌, option_map, string_bytes, Some}
+use Rattle.std.proofs.lemmas.Result.{err_from_is_err_and}
+use Rattle.notation.specs.Constraint.{end_of, range_of, ranges_of, size_of, constraint_of}
+use Rattle.resolve.specs.Seen.{plain_of, kind_of, type_of, part_of}
+use Rattle.resolve.specs.Sound.{qualified_end, qualified_bound, qualified_ranges, qualified_constraints, qualified_kind, qualified_members, qualified_in}
+use Rattle.resolve.specs.Soundness.{behind_module, qualified_range, qualified_constraint, IsUnknownIn}
+use Rattle.resolve.specs.Table.{simple, an_integer, a_bit_string, an_enumerated, members}
+use Rattle.syntax.specs.Tree.{number_of, bit_of, item_of}
+use Rattle.resolve.proofs.ListFaults.{Tells}
+use Rattle.resolve.proofs.lists.simple_list.Goals as goal
+
+pub returns-in-Integer : goal.returns-in-Integer
+returns-in-Integer c =
+    let e = ap (λ s. simple (plain_of s)) c.in-Integer.is ∙ ap (λ l. simple (an_integer (map number_of l))) (sym c.deref.ensures.value) in
+    subst (λ k. Tells c.args.within.now c.args.assigns.now k c.named_numbers.result) (sym e) c.named_numbers.ensures
+
+pub returns-in-BitString : goal.returns-in-BitString
+returns-in-BitString c =
+    let e = ap (λ s. simple (plain_of s)) c.in-BitString.is ∙ ap (λ l. simple (a_bit_string (map bit_of l))) (sym c.deref-in-BitString.ensures.value) in
+    subst (λ k. Tells c.args.within.now c.args.assigns.now k c.named_bits.result) (sym e) c.named_bits.ensures
+
+pub returns-in-Enumerated : goal.returns-in-Enumerated
+returns-in-Enumerated c =
+    let e = ap (λ s. simple (plain_of s)) c.in-Enumerated.is ∙ ap (λ l. simple (an_enumerated (map item_of l))) (sym c.deref-in-Enumerated.ensures.value) in
+    subst (λ k. Tells c.args.within.now c.args.assigns.now k c.enumerated.result) (sym e) c.enumerated.ensures

@@ -1,0 +1,9 @@
+use Rattle.std.proofs.Common.{map, drop}
+use Rattle.notation.specs.Constraint.{range_of, constraint_of}
+use Rattle.resolve.specs.Seen.{part_of}
+use Rattle.resolve.specs.Sound.{qualified_ranges, qualified_constraints, qualified_members}
+use Rattle.resolve.proofs.Standing.{Left}
+use Rattle.resolve.proofs.qualified.names_in_constraints.Given as goal
+
+abbrev pub invariant-loop-constraint : goal.invariant-loop-constraint
+invariant-loop-constraint l = Left l.names l.within (qualified_constraints (map constraint_of l.constraints)) (qualified_constraints (map constraint_of (drop l.constraint-index l.constraints)))

@@ -1,0 +1,9 @@
+use Rattle.std.proofs.Common.{map, drop}
+use Rattle.notation.specs.Constraint.{range_of, constraint_of}
+use Rattle.resolve.specs.Seen.{part_of}
+use Rattle.resolve.specs.Sound.{qualified_ranges, qualified_constraints, qualified_members}
+use Rattle.resolve.proofs.Standing.{Left}
+use Rattle.resolve.proofs.qualified.names_in_ranges.Given as goal
+
+abbrev pub invariant-loop-range : goal.invariant-loop-range
+invariant-loop-range l = Left l.names l.within (qualified_ranges (map range_of l.ranges)) (qualified_ranges (map range_of (drop l.range-index l.ranges)))
