@@ -1,5 +1,5 @@
 -- Types and values of a program, gone through from the front.
-use Rattle.std.proofs.Common.{◌≡◌, ℕ, ◌+◌, ◌<◌, List, Some, subst, sym, ap, ◌∙◌, below_more}
+use Rattle.std.proofs.Common.{◌≡◌, ℕ, ◌<◌, List, Some, subst, sym, ◌∙◌}
 use Rattle.std.specs.Prelude.{slice_get}
 use Rattle.notation.specs.Tree.{Name}
 use Rattle.resolve.specs.Program.{Program, Value}

@@ -1,8 +1,7 @@
 -- Faults of types and names in a program, and that they exclude a sound one.
-use Rattle.std.proofs.Common.{◌≡◌, ℕ, zero, suc, ◌+◌, ◌<◌, List, [], ◌∷◌, length, map, Some, None, refl, sym, subst, ap, ◌∙◌, inl, inr, get_or, string_bytes, arith}
+use Rattle.std.proofs.Common.{◌≡◌, ℕ, zero, suc, ◌<◌, List, [], ◌∷◌, length, map, Some, refl, sym, subst, ap, ◌∙◌, inl, inr, get_or, string_bytes, arith}
 use Rattle.std.specs.Prelude.{◌⊎◌, slice_get}
-use Rattle.std.proofs.lemmas.Option.{slice_get_within, slice_get_read}
-use Rattle.notation.specs.Tree.{Name, Tree}
+use Rattle.notation.specs.Tree.{Name}
 use Rattle.syntax.specs.declared.tree.TagDefault.{TagDefault}
 use Rattle.resolve.specs.declared.fault.NameFault.{NameFault}
 use Rattle.resolve.specs.declared.fault.NameFault.TheVariants as faults
@@ -14,10 +13,10 @@ use Rattle.resolve.specs.Names.{Module, Refers}
 use Rattle.resolve.specs.Modules.{StandsIn, StandsTwice}
 use Rattle.resolve.specs.Program.{Program, Value}
 use Rattle.resolve.specs.Seen.{assignment_of, header_of}
-use Rattle.resolve.specs.Sound.{qualified, qualified_in, IsSoundPlain, IsSoundKind, IsAssignment, MeanValues, IsSound}
-use Rattle.resolve.specs.SoundFaults.{IsTwicePlain, IsTwiceIn, IsNumberTwice, HasManyMembers, HasManyItems, HasFarBit, HasGreatNumber, IsTypeIn, IsValueIn, IsNoValue, IsSoundFault}
+use Rattle.resolve.specs.Sound.{qualified, qualified_in, IsSoundPlain, IsSoundKind, IsAssignment, IsSound}
+use Rattle.resolve.specs.SoundFaults.{IsTwicePlain, IsTwiceIn, IsNumberTwice, HasManyMembers, HasManyItems, HasFarBit, HasGreatNumber, IsTypeIn, IsValueIn, IsSoundFault}
 use Rattle.resolve.specs.Soundness.{IsKindFault, IsUnknownIn, program}
-use Rattle.resolve.specs.Table.{Plain, an_integer, a_bit_string, an_enumerated, Kind, simple, reference, tagged, members, elements, Type'}
+use Rattle.resolve.specs.Table.{Plain, an_integer, a_bit_string, an_enumerated, Kind, simple, members, Type'}
 use Rattle.resolve.proofs.Sources.{assignment_at, header_at}
 
 -- ---- where an assignment stands

@@ -1,5 +1,5 @@
 -- Lists that are gone through from the front, each element put behind those before it.
-use Rattle.std.proofs.Common.{◌≡◌, ℕ, zero, suc, ◌+◌, ◌<◌, ◌||◌, Bool, true, false, List, [], ◌∷◌, ◌++◌, length, map, drop, get_or, Some, None, refl, sym, subst, ap, ◌∙◌, ◌≤◌, option_map, arith, true≢false}
+use Rattle.std.proofs.Common.{◌≡◌, ℕ, zero, suc, ◌+◌, ◌<◌, ◌||◌, Bool, true, false, List, [], ◌∷◌, ◌++◌, length, map, drop, get_or, Some, refl, sym, subst, ap, ◌∙◌, ◌≤◌, option_map, arith, true≢false}
 use Rattle.std.specs.Prelude.{slice_get, String, bytes_eq, string_bytes, if◌then◌else◌}
 use Rattle.std.specs.Global.{Global}
 use Rattle.std.specs.String.{string_eq}

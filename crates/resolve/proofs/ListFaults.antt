@@ -1,5 +1,5 @@
 -- What the faults of one name or number say of its list.
-use Rattle.std.proofs.Common.{◌≡◌, ℕ, ℤ, ◌<◌, ◌≤◌, Bool, List, [], ◌∷◌, map, Option, Some, None, refl, sym, subst, ap, ◌∙◌, inl, inr, string_bytes}
+use Rattle.std.proofs.Common.{◌≡◌, ℕ, ℤ, ◌<◌, ◌≤◌, Bool, List, ◌∷◌, map, Option, Some, None, refl, sym, subst, ap, ◌∙◌, inr, string_bytes}
 use Rattle.std.specs.Prelude.{slice_get, Result, MatchResult}
 use Rattle.asn_base.specs.Typed.{IsWithinLimit}
 use Rattle.notation.specs.Tree.{Name}
@@ -11,7 +11,7 @@ use Rattle.resolve.specs.Sound.{signed, given_numbers, IsSoundKind}
 use Rattle.resolve.specs.SoundFaults.{IsTwiceIn, HasFarBit, HasGreatNumber}
 use Rattle.resolve.specs.Soundness.{AddsGiven, IsRepeated, IsNumberFault, IsPlaceFault, IsItemFault, IsKindFault}
 use Rattle.resolve.specs.Table.{Kind, simple, an_integer, a_bit_string, an_enumerated}
-use Rattle.resolve.proofs.Halfway.{Halfway, halfway_step, halfway_twice, halfway_here, halfway_distinct, halfway_each, map_get}
+use Rattle.resolve.proofs.Halfway.{Halfway, halfway_step, halfway_twice, halfway_here, map_get}
 
 -- what a check of the list of this kind answers
 abbrev pub Tells : Name → Name → Kind → Result (Unit {0}) NameFault → Type 0

@@ -1,8 +1,8 @@
 -- Names behind modules' names, gone through from the front.
-use Rattle.std.proofs.Common.{◌≡◌, ℕ, zero, suc, ◌+◌, Bool, List, [], ◌∷◌, ◌++◌, map, Option, Some, None, refl, sym, subst, ap, ◌∙◌, append_assoc, option_map, string_bytes}
+use Rattle.std.proofs.Common.{◌≡◌, ℕ, zero, suc, List, [], ◌∷◌, ◌++◌, map, Option, Some, None, refl, sym, subst, ap, ◌∙◌, append_assoc, option_map, string_bytes}
 use Rattle.std.specs.Prelude.{slice_get, Vec, Box, String, Result, MatchResult}
 use Rattle.std.specs.Global.{Global}
-use Rattle.notation.specs.Constraint.{EndTree, name_end, RangeTree, only, between, ConstraintTree, values_in, sizes_in, chars_in}
+use Rattle.notation.specs.Constraint.{name_end, RangeTree, only, between, ConstraintTree, values_in, sizes_in, chars_in}
 use Rattle.notation.specs.Tree.{Name, Tree, reference, chosen, trees, members, member_of, tree_of, layer}
 use Rattle.notation.specs.Tree as notations
 use Rattle.notation.specs.declared.tree.Named.{Named}

@@ -1,17 +1,15 @@
-use Rattle.std.proofs.Common.{◌≡◌, ℕ, ◌+◌, ◌<◌, ◌≤◌, List, [], length, map, drop, refl, sym, subst, ap, ◌∙◌, inl, arith, string_bytes}
+use Rattle.std.proofs.Common.{◌≡◌, ℕ, ◌+◌, ◌<◌, ◌≤◌, [], length, map, drop, subst, ap, inl, arith, string_bytes}
 use Rattle.std.specs.Prelude.{Bool, Option}
 use Rattle.notation.specs.Tree.{Name}
-use Rattle.std.proofs.lemmas.Option.{slice_get-map}
 use Rattle.std.proofs.lemmas.List.{length-map}
 use Rattle.std.proofs.lemmas.Result.{err_from_is_err_and}
 use Rattle.asn_base.specs.Typed.{IsWithinLimit}
-use Rattle.syntax.specs.Tree.{number_of, bit_of, item_of}
-use Rattle.resolve.specs.Seen.{part_of}
-use Rattle.resolve.specs.Sound.{signed, given_numbers}
+use Rattle.syntax.specs.Tree.{item_of}
+use Rattle.resolve.specs.Sound.{given_numbers}
 use Rattle.resolve.specs.Soundness.{texts}
-use Rattle.resolve.specs.Table.{Part, simple, an_integer, a_bit_string, an_enumerated, members}
-use Rattle.resolve.proofs.Halfway.{Halfway, halfway_start, halfway_step, halfway_distinct, halfway_each, turn, item_at, drop_at, none_left, map_get}
-use Rattle.resolve.proofs.ListFaults.{names_fault, integer_fault, bit_fault, item_fault, item_step}
+use Rattle.resolve.specs.Table.{simple, an_enumerated}
+use Rattle.resolve.proofs.Halfway.{Halfway, halfway_start, halfway_step, halfway_distinct, halfway_each, turn, item_at, drop_at, none_left}
+use Rattle.resolve.proofs.ListFaults.{names_fault, item_fault, item_step}
 use Rattle.resolve.proofs.lists.enumerated.Goals as goal
 
 pub loop-item-init : goal.loop-item-init

@@ -1,15 +1,11 @@
-use Rattle.std.proofs.Common.{◌≡◌, ℕ, ◌+◌, ◌<◌, ◌≤◌, List, [], length, map, drop, refl, sym, subst, ap, ◌∙◌, inl, arith, string_bytes}
-use Rattle.std.proofs.lemmas.Option.{slice_get-map}
+use Rattle.std.proofs.Common.{◌<◌, ◌≤◌, length, map, ap, arith}
 use Rattle.std.proofs.lemmas.List.{length-map}
 use Rattle.std.proofs.lemmas.Result.{err_from_is_err_and}
-use Rattle.asn_base.specs.Typed.{IsWithinLimit}
-use Rattle.syntax.specs.Tree.{number_of, bit_of, item_of}
 use Rattle.resolve.specs.Seen.{part_of}
-use Rattle.resolve.specs.Sound.{signed, given_numbers}
 use Rattle.resolve.specs.Soundness.{texts}
-use Rattle.resolve.specs.Table.{Part, simple, an_integer, a_bit_string, an_enumerated, members}
-use Rattle.resolve.proofs.Halfway.{Halfway, halfway_start, halfway_step, halfway_distinct, halfway_each, turn, item_at, drop_at, none_left, map_get}
-use Rattle.resolve.proofs.ListFaults.{names_fault, integer_fault, bit_fault, item_fault, item_step}
+use Rattle.resolve.specs.Table.{Part, members}
+use Rattle.resolve.proofs.Halfway.{halfway_start, halfway_step, halfway_distinct, turn, none_left}
+use Rattle.resolve.proofs.ListFaults.{names_fault}
 use Rattle.resolve.proofs.lists.list_members.Goals as goal
 
 pub loop-component-init : goal.loop-component-init

@@ -1,11 +1,8 @@
 use Rattle.std.proofs.Common.{map, drop}
-use Rattle.syntax.specs.Tree.{number_of, bit_of, item_of}
+use Rattle.syntax.specs.Tree.{number_of}
 use Rattle.asn_base.specs.Typed.{IsWithinLimit}
-use Rattle.std.proofs.Common.{◌≤◌}
-use Rattle.resolve.specs.Seen.{part_of}
-use Rattle.resolve.specs.Sound.{signed, given_numbers}
+use Rattle.resolve.specs.Sound.{signed}
 use Rattle.resolve.specs.Soundness.{texts}
-use Rattle.resolve.specs.Table.{Part}
 use Rattle.resolve.proofs.Halfway.{Halfway}
 use Rattle.resolve.proofs.lists.named_numbers.Given as goal
 

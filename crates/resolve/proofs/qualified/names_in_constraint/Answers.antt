@@ -1,10 +1,7 @@
-use Rattle.std.proofs.Common.{map, sym, subst, ap, ◌∙◌, option_map, string_bytes, Some}
-use Rattle.std.proofs.lemmas.Result.{err_from_is_err_and}
-use Rattle.notation.specs.Constraint.{end_of, range_of, ranges_of, size_of, constraint_of}
-use Rattle.resolve.specs.Seen.{plain_of, kind_of, type_of, part_of}
-use Rattle.resolve.specs.Sound.{qualified_end, qualified_bound, qualified_ranges, qualified_constraints, qualified_kind, qualified_members, qualified_in}
-use Rattle.resolve.specs.Soundness.{behind_module, qualified_range, qualified_constraint, IsUnknownIn}
-use Rattle.resolve.specs.Table.{simple, an_integer, a_bit_string, an_enumerated, members}
+use Rattle.std.proofs.Common.{map, sym, subst, ap, ◌∙◌}
+use Rattle.notation.specs.Constraint.{range_of, constraint_of}
+use Rattle.resolve.specs.Sound.{qualified_ranges}
+use Rattle.resolve.specs.Soundness.{qualified_constraint}
 use Rattle.resolve.proofs.Standing.{Answers}
 use Rattle.resolve.proofs.qualified.names_in_constraint.Goals as goal
 

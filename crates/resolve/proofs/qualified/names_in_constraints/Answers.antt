@@ -1,12 +1,10 @@
-use Rattle.std.proofs.Common.{◌≡◌, ◌+◌, ◌++◌, ◌∷◌, ◌<◌, ◌≤◌, List, [], length, map, drop, refl, sym, ap, ◌∙◌, arith, option_map, string_bytes}
+use Rattle.std.proofs.Common.{◌≡◌, ◌+◌, ◌++◌, ◌<◌, ◌≤◌, length, map, drop, ap, ◌∙◌, arith}
 use Rattle.std.proofs.lemmas.Result.{err_from_is_err_and}
-use Rattle.notation.specs.Constraint.{range_of, constraint_of}
-use Rattle.syntax.specs.Tree.{presence_of}
-use Rattle.resolve.specs.Seen.{part_of}
-use Rattle.resolve.specs.Sound.{qualified_ranges, qualified_constraints, qualified_default, qualified_members}
-use Rattle.resolve.specs.Soundness.{qualified_range, qualified_constraint}
+use Rattle.notation.specs.Constraint.{constraint_of}
+use Rattle.resolve.specs.Sound.{qualified_constraints}
+use Rattle.resolve.specs.Soundness.{qualified_constraint}
 use Rattle.resolve.proofs.Halfway.{drop_at, none_left}
-use Rattle.resolve.proofs.Standing.{left_start, left_step, left_fault, left_end, range_front, constraint_front}
+use Rattle.resolve.proofs.Standing.{left_start, left_step, left_fault, left_end, constraint_front}
 use Rattle.resolve.proofs.qualified.names_in_constraints.Goals as goal
 
 pub loop-constraint-init : goal.loop-constraint-init

@@ -1,7 +1,6 @@
 use Rattle.std.proofs.Common.{map, drop}
-use Rattle.notation.specs.Constraint.{range_of, constraint_of}
-use Rattle.resolve.specs.Seen.{part_of}
-use Rattle.resolve.specs.Sound.{qualified_ranges, qualified_constraints, qualified_members}
+use Rattle.notation.specs.Constraint.{range_of}
+use Rattle.resolve.specs.Sound.{qualified_ranges}
 use Rattle.resolve.proofs.Standing.{Left}
 use Rattle.resolve.proofs.qualified.names_in_ranges.Given as goal
 

@@ -1,8 +1,4 @@
-use Rattle.std.proofs.Common.{◌≡◌, ℕ, Some, refl, sym, subst, ap, ◌∙◌, option_map, string_bytes}
-use Rattle.std.specs.Prelude.{Option, slice_get}
-use Rattle.notation.specs.Tree.{Name}
-use Rattle.resolve.specs.declared.names.Assigned.TheVariants as assigned
-use Rattle.resolve.specs.Names.{Refers}
+use Rattle.std.proofs.Common.{refl, ap, option_map, string_bytes}
 use Rattle.resolve.proofs.Standing.{behind_none}
 use Rattle.resolve.proofs.qualified.qualified_name.Goals as goal
 

@@ -1,17 +1,12 @@
-use Rattle.std.proofs.Common.{◌≡◌, ℕ, ◌<◌, length, map, Some, refl, sym, subst, ap, ◌∙◌, arith, below_more, string_bytes}
-use Rattle.std.specs.Prelude.{slice_get}
-use Rattle.std.proofs.lemmas.List.{length-map}
+use Rattle.std.proofs.Common.{◌<◌, length, map, refl, subst, arith, below_more, string_bytes}
 use Rattle.std.proofs.lemmas.Option.{slice_get_within, slice_get_read}
 use Rattle.std.proofs.lemmas.Result.{err_from_is_err_and}
-use Rattle.notation.specs.Tree.{tree_of}
-use Rattle.resolve.specs.Seen.{types_of, type_of, kind_of, value_of, header_of, assignment_of}
-use Rattle.resolve.specs.Sound.{qualified, qualified_in, IsAssignment, IsSoundKind, MeanValues}
-use Rattle.resolve.specs.Soundness.{program, IsKindFault, IsUnknownIn}
-use Rattle.resolve.specs.Table.{Type'}
+use Rattle.resolve.specs.Seen.{types_of, type_of, header_of, assignment_of}
+use Rattle.resolve.specs.Sound.{qualified_in, MeanValues}
+use Rattle.resolve.specs.Soundness.{program, IsUnknownIn}
 use Rattle.resolve.proofs.Tables.{type_at, as_long}
-use Rattle.resolve.proofs.Halfway.{item_at}
-use Rattle.resolve.proofs.Exclusion.{assignment_is, kind_fault, type_fault, value_fault}
-use Rattle.resolve.proofs.Below.{TypeMeans, ValueMeans, SoundAt, sound_at, type_means, value_means}
+use Rattle.resolve.proofs.Exclusion.{assignment_is, type_fault}
+use Rattle.resolve.proofs.Below.{TypeMeans, type_means}
 use Rattle.resolve.proofs.sound.names_in_types.Goals as goal
 
 pub returns-in_err-names_in_type-clause-fault : goal.returns-in_err-names_in_type-clause-fault

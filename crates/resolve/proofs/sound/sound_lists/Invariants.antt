@@ -1,11 +1,8 @@
-use Rattle.std.proofs.Common.{◌≡◌, ℕ, ◌<◌, List, Some, map}
+use Rattle.std.proofs.Common.{◌≡◌, ℕ, ◌<◌, Some}
 use Rattle.std.specs.Prelude.{slice_get}
-use Rattle.resolve.specs.Program.{Value}
-use Rattle.resolve.specs.Seen.{types_of, header_of, assignment_of, value_of}
+use Rattle.resolve.specs.Seen.{types_of}
 use Rattle.resolve.specs.Sound.{IsSoundKind}
-use Rattle.resolve.specs.Soundness.{program}
 use Rattle.resolve.specs.Table.{Type'}
-use Rattle.resolve.proofs.Below.{TypesBelow, ValuesBelow}
 use Rattle.resolve.proofs.sound.sound_lists.Given as goal
 
 abbrev pub invariant-loop-written : goal.invariant-loop-written
