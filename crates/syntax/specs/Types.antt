@@ -130,7 +130,7 @@ choice n t = (word words.Choice ∙ opens n (braces (listed (alternative t)))) �
 
 -- ---- productions that hold numbers
 
--- the numbers of tags under a limit: those below 2 to the 31, and any where numbers may have any size
+-- the test on the numbers of tags that goes with a test on numbers: they are below 2 to the 31, or of any size where numbers are not limited to 2 to the 127
 abbrev pub tag_fits : (ℕ → Bool) → ℕ → Bool
 tag_fits fits n = bor (nat_lt n 2147483648) (fits (2 ^ 127))
 
@@ -148,7 +148,7 @@ module _ (fits : ℕ → Bool) where
   abbrev pub enumerated : ℕ → Grammar TypeTree
   enumerated n = (word words.Enumerated ∙ opens n (braces (listed (token Ident ∙ optional (parens signed))))) ⇒ (λ p. an_enumerated p.1)
 
-  -- the number of a tag: none that is greater is whole
+  -- the number of a tag; one that no tag can have may stand where nothing limits numbers, and is never whole
   abbrev pub tag_number : Grammar TagNumber
   tag_number = record {
     Is = λ x ts. ts ≡ Number x.0 ∷ [];

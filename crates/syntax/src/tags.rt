@@ -13,7 +13,7 @@ use notation::{Limit, ReadError};
 use text::reserved::Word;
 use text::{Mark, Token, TokenKind};
 
-/// The numbers of tags are less than this (X.680, clause 31.2.4 leaves the limit open).
+/// The numbers of tags are less than this.
 const LIMIT: u128 = 1 << 31;
 
 /// The tokens behind a closing bracket.
