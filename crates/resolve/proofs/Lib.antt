@@ -8,3 +8,11 @@ pub mod PartKinds
 pub mod Numbered
 pub mod Entries
 pub mod Assembling
+pub mod Distinct
+pub mod Behind
+pub mod Gatherings
+pub mod Listing
+pub mod Counting
+pub mod Standings
+pub mod Ready
+pub mod Slices

@@ -1,4 +1,5 @@
 pub mod Names
+pub mod Listed
 pub mod Table
 pub mod Program
 pub mod Numbering
@@ -12,4 +13,6 @@ pub mod Codes
 pub mod Modules
 pub mod Sound
 pub mod SoundFaults
+pub mod Soundness
 pub mod Links
+pub mod Gathered

@@ -1,12 +1,17 @@
 //! What the names of modules stand for, and their types by number.
 #![tactic(auto)]
 
+mod circles;
+mod exports;
 pub mod fault;
 mod gather;
+mod limits;
 pub mod linked;
 pub mod linking;
 pub mod names;
 pub mod number;
+mod sound;
+mod standing;
 pub mod table;
 pub mod unfolding;
 
