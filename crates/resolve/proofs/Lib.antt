@@ -15,3 +15,11 @@ pub mod ListFaults
 pub mod Standing
 pub mod Exclusion
 pub mod Below
+pub mod Distinct
+pub mod Behind
+pub mod Gatherings
+pub mod Listing
+pub mod Counting
+pub mod Standings
+pub mod Ready
+pub mod Slices

@@ -1,4 +1,5 @@
 pub mod Names
+pub mod Listed
 pub mod Table
 pub mod Program
 pub mod Numbering
@@ -15,3 +16,4 @@ pub mod Reach
 pub mod SoundFaults
 pub mod Soundness
 pub mod Links
+pub mod Gathered

@@ -1,5 +1,5 @@
 -- Tables of names without where they lie in memory.
-use Rattle.std.specs.Prelude.{List, map, option_map, string_bytes, String}
+use Rattle.std.specs.Prelude.{List, map, string_bytes, String}
 use Rattle.std.specs.Global.{Global}
 use Rattle.notation.specs.Tree.{Name}
 use Rattle.resolve.specs.declared.names.Scope.{Scope}
@@ -13,5 +13,5 @@ abbrev pub module_of : Scope → Module
 module_of s = record {
   assigned = seen (λ i. i) s.assigned.entries;
   imports = seen string_bytes s.imports.entries;
-  exports = option_map (λ xs. map string_bytes xs.items) s.exports;
+  exports = s.exports;
 }

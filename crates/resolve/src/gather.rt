@@ -1,23 +1,25 @@
 //! What modules give: their names, and the types and values of their assignments, numbered in order.
 
-ghost use Rattle.std.specs.Prelude.{◌≡◌, ◌≤◌, ◌++◌, ◌∷◌, [], IfOk, IfErr, OnOk, length, map, None, string_bytes};
-ghost use Rattle.std.specs.HashMap.{IsUnique};
-ghost use Rattle.syntax.specs.Tree.{assignment_of as given_of};
-ghost use Rattle.resolve.specs.Scopes.{seen};
+ghost use Rattle.std.specs.Prelude.{◌≡◌, ◌++◌, ◌∷◌, [], IfOk, IfErr, OnOk, length, map, option_map, None, List, string_bytes};
+ghost use Rattle.syntax.specs.Tree.{AssignmentTree, ModuleTree, assignment_of as given_of, import_of, module_tree_of, type_tree_of};
+ghost use Rattle.resolve.specs.declared.fault.NameFault.TheVariants as faults;
+ghost use Rattle.resolve.specs.Scopes.{seen, module_of};
 ghost use Rattle.resolve.specs.Names.{under};
 ghost use Rattle.resolve.specs.Seen.{assignment_of, value_of, sources_of};
 ghost use Rattle.resolve.specs.Faults.{IsTwice};
-ghost use Rattle.resolve.specs.Gathering.{named_from, roots_from, values_from, owned_by};
+ghost use Rattle.resolve.specs.Gathering.{name_of, named_from, imports_of};
+ghost use Rattle.resolve.specs.Gathered.{names_of, Adds, HasGathered, IsTaken, IsRepeated, IsNamingFault};
+ghost use Rattle.resolve.specs.Modules.{AreDistinct};
 
-use crate::fault::{Limit, NameFault};
-use crate::names::Assigned;
+use crate::exports::Exports;
+use crate::fault::NameFault;
+use crate::names::{Assigned, Scope, scope_of};
 use crate::number::Source;
-use crate::table::{Assignment, ValueAt};
+use crate::table::{Assignment, Header, ValueAt};
 use indexmap::IndexMap;
-use notation::ValueSyntax;
-use std::alloc::{AllocError, Global};
+use std::alloc::Global;
 use std::collections::VecDeque;
-use syntax::{Assignment as Given, TypeSyntax};
+use syntax::{Assignment as Given, Import, Module, TypeAssignment, TypeSyntax, ValueAssignment};
 
 /// The assignments of modules, with their types and values.
 #[derive(Drop)]
@@ -25,6 +27,14 @@ pub struct Tables {
     pub assignments: Vec<Assignment>,
     pub roots: VecDeque<Source>,
     pub values: Vec<ValueAt>,
+}
+
+/// What modules give.
+#[derive(Drop)]
+pub struct Gathered {
+    pub modules: IndexMap<String, Scope>,
+    pub headers: Vec<Header>,
+    pub tables: Tables,
 }
 
 /// What a name is assigned.
@@ -59,41 +69,314 @@ fn name_once(
     }
 }
 
-/// Adds an assignment behind the others.
-fn add(
-    alloc: Global,
-    module: usize,
-    within: &str,
+/// Adds an assignment, with its type, behind the others.
+fn place(
+    owner: usize,
     name: String,
     syntax: TypeSyntax,
-    value: Option<ValueSyntax>,
+    tables: &mut Tables,
+) -> Result<(), NameFault>
+    ensures owned { OnOk result (map assignment_of tables.new.assignments.items ≡ map assignment_of tables.old.assignments.items ++ (owner, string_bytes name) ∷ []) }
+    ensures roots { OnOk result (sources_of tables.new.roots.items ≡ sources_of tables.old.roots.items ++ record { tree = type_tree_of syntax; assignment = length tables.old.assignments.items; place = None } ∷ []) }
+    ensures values { tables.new.values.items ≡ tables.old.values.items }
+    ensures fault { IfErr result (λ e. e ≡ faults.Memory) }
+{
+    let assignment = tables.assignments.len();
+    tables.roots.push_back(Source {
+        syntax,
+        assignment,
+        place: None,
+    })?;
+    tables.assignments.push(Assignment {
+        module: owner,
+        name,
+    })?;
+    Ok(())
+}
+
+/// Adds an assignment to the names and tables.
+fn add(
+    alloc: Global,
+    owner: usize,
+    within: &str,
+    given: Given,
     assigned: &mut IndexMap<String, Assigned>,
     tables: &mut Tables,
 ) -> Result<(), NameFault>
-    requires same { length tables.old.assignments.items ≡ length tables.old.roots.items }
-    ensures same { OnOk result (length tables.new.assignments.items ≡ length tables.new.roots.items) }
+    ensures named { OnOk result (seen (λ a. a) assigned.new.entries ≡ seen (λ a. a) assigned.old.entries ++ named_from (length tables.old.assignments.items) (length tables.old.values.items) (given_of given ∷ [])) }
+    ensures fresh { OnOk result (under (name_of (given_of given)) (seen (λ a. a) assigned.old.entries) ≡ None) }
+    ensures adds { OnOk result (Adds owner (given_of given ∷ []) tables.old tables.new) }
+    ensures fault { IfErr result (IsTwice within.now (name_of (given_of given)) (seen (λ a. a) assigned.old.entries)) }
 {
     let number = tables.assignments.len();
-    if number >= 65536 {
-        return Err(NameFault::Limit(Limit::Types, String::from_str(alloc, within)?, name));
+    match given {
+        Given::Type(TypeAssignment { name, syntax }) => {
+            match name_once(
+                alloc,
+                within,
+                name.as_str(),
+                Assigned::Type(number),
+                assigned,
+            ) {
+                Ok(()) => {}
+                Err(fault) => return Err(fault),
+            }
+            place(owner, name, syntax, tables)?;
+            Ok(())
+        }
+        Given::Value(
+            ValueAssignment {
+                name,
+                syntax,
+                value,
+            },
+        ) => {
+            let meaning = Assigned::Value(tables.values.len());
+            match name_once(alloc, within, name.as_str(), meaning, assigned) {
+                Ok(()) => {}
+                Err(fault) => return Err(fault),
+            }
+            tables.values.push(ValueAt {
+                assignment: number,
+                ty: number,
+                syntax: value,
+            })?;
+            place(owner, name, syntax, tables)?;
+            Ok(())
+        }
     }
-    let meaning = match &value {
-        None => Assigned::Type(number),
-        Some(_) => Assigned::Value(tables.values.len()),
-    };
-    name_once(alloc, within, name.as_str(), meaning, assigned)?;
-    if let Some(notation) = value {
-        tables.values.push(ValueAt {
-            assignment: number,
-            ty: number,
-            syntax: notation,
-        })?;
+}
+
+/// Adds the assignments of a module.
+fn add_all(
+    alloc: Global,
+    owner: usize,
+    within: &str,
+    givens: Vec<Given>,
+    assigned: &mut IndexMap<String, Assigned>,
+    tables: &mut Tables,
+) -> Result<(), NameFault>
+    requires empty { assigned.old.entries ≡ [] }
+    ensures named { OnOk result (seen (λ a. a) assigned.new.entries ≡ named_from (length tables.old.assignments.items) (length tables.old.values.items) (map given_of givens.items)) }
+    ensures distinct { OnOk result (AreDistinct (map name_of (map given_of givens.items))) }
+    ensures adds { OnOk result (Adds owner (map given_of givens.items) tables.old tables.new) }
+    ensures fault { IfErr result (IsRepeated within.now (map name_of (map given_of givens.items))) }
+{
+    for given in givens {
+        match add(alloc, owner, within, given, assigned, tables) {
+            Ok(()) => {}
+            Err(fault) => return Err(fault),
+        }
     }
-    tables.roots.push_back(Source {
-        syntax,
-        assignment: number,
-        place: None,
-    })?;
-    tables.assignments.push(Assignment { module, name })?;
     Ok(())
+}
+
+/// The module that a name is imported from.
+#[tactic(auto, using(crate::proofs::Meanings::under_seen))]
+fn origin_in<'a>(imports: &'a IndexMap<String, String>, name: &str) -> Option<&'a String>
+    ensures { option_map (λ t. string_bytes t.now) result ≡ under name.now (seen string_bytes imports.now.entries) }
+{
+    imports.get(name)
+}
+
+/// Imports a name from a module, or refuses to give it a second meaning.
+fn import_once(
+    alloc: Global,
+    within: &str,
+    name: String,
+    from: &str,
+    assigned: &IndexMap<String, Assigned>,
+    imports: &mut IndexMap<String, String>,
+) -> Result<(), NameFault>
+    ensures ok { OnOk result (seen string_bytes imports.new.entries ≡ seen string_bytes imports.old.entries ++ (string_bytes name, from.now) ∷ []) }
+    ensures unassigned { OnOk result (under (string_bytes name) (seen (λ a. a) assigned.now.entries) ≡ None) }
+    ensures fresh { OnOk result (under (string_bytes name) (seen string_bytes imports.old.entries) ≡ None) }
+    ensures fault { IfErr result (IsTaken within.now (string_bytes name) (names_of (seen (λ a. a) assigned.now.entries) ++ names_of (seen string_bytes imports.old.entries))) }
+{
+    match meaning_in(assigned, name.as_str()) {
+        Some(_) => return Err(NameFault::Twice(String::from_str(alloc, within)?, name)),
+        None => {}
+    }
+    match origin_in(imports, name.as_str()) {
+        Some(_) => Err(NameFault::Twice(String::from_str(alloc, within)?, name)),
+        None => {
+            imports.insert(name, String::from_str(alloc, from)?)?;
+            Ok(())
+        }
+    }
+}
+
+/// Imports names from one module.
+fn import_names(
+    alloc: Global,
+    within: &str,
+    names: Vec<String>,
+    from: &str,
+    assigned: &IndexMap<String, Assigned>,
+    imports: &mut IndexMap<String, String>,
+) -> Result<(), NameFault>
+    requires distinct { AreDistinct (names_of (seen (λ a. a) assigned.now.entries) ++ names_of (seen string_bytes imports.old.entries)) }
+    ensures ok { OnOk result (seen string_bytes imports.new.entries ≡ seen string_bytes imports.old.entries ++ map (λ x. (x, from.now)) (map string_bytes names.items)) }
+    ensures distinct { OnOk result (AreDistinct (names_of (seen (λ a. a) assigned.now.entries) ++ names_of (seen string_bytes imports.new.entries))) }
+    ensures fault { IfErr result (IsRepeated within.now (names_of (seen (λ a. a) assigned.now.entries) ++ names_of (seen string_bytes imports.old.entries ++ map (λ x. (x, from.now)) (map string_bytes names.items)))) }
+{
+    for name in names {
+        match import_once(alloc, within, name, from, assigned, imports) {
+            Ok(()) => {}
+            Err(fault) => return Err(fault),
+        }
+    }
+    Ok(())
+}
+
+/// Imports names from modules, in order.
+fn import_all(
+    alloc: Global,
+    within: &str,
+    given: Vec<Import>,
+    assigned: &IndexMap<String, Assigned>,
+    imports: &mut IndexMap<String, String>,
+) -> Result<(), NameFault>
+    requires distinct { AreDistinct (names_of (seen (λ a. a) assigned.now.entries)) }
+    requires empty { imports.old.entries ≡ [] }
+    ensures ok { OnOk result (seen string_bytes imports.new.entries ≡ imports_of (map import_of given.items)) }
+    ensures distinct { OnOk result (AreDistinct (names_of (seen (λ a. a) assigned.now.entries) ++ names_of (imports_of (map import_of given.items)))) }
+    ensures fault { IfErr result (IsRepeated within.now (names_of (seen (λ a. a) assigned.now.entries) ++ names_of (imports_of (map import_of given.items)))) }
+{
+    for Import {
+        names,
+        module: from,
+    } in given {
+        match import_names(alloc, within, names, from.as_str(), assigned, imports) {
+            Ok(()) => {}
+            Err(fault) => return Err(fault),
+        }
+    }
+    Ok(())
+}
+
+/// The exports of a module, ready for look-ups.
+fn exports_of(alloc: Global, given: Option<Vec<String>>) -> Result<Option<Exports>, NameFault>
+    ensures ok { IfOk result (λ e. e ≡ option_map (λ xs. map string_bytes xs.items) given) }
+    ensures fault { IfErr result (λ e. e ≡ faults.Memory) }
+{
+    match given {
+        None => Ok(None),
+        Some(names) => match Exports::of(alloc, names) {
+            Ok(exports) => Ok(Some(exports)),
+            Err(fault) => Err(fault),
+        },
+    }
+}
+
+/// The names of a module, whose types and values go behind the others.
+fn scope_from(
+    alloc: Global,
+    owner: usize,
+    within: &str,
+    exports: Option<Vec<String>>,
+    given: Vec<Import>,
+    assignments: Vec<Given>,
+    tables: &mut Tables,
+) -> Result<Scope, NameFault>
+    ensures scope { IfOk result (λ s. module_of s ≡ record { assigned = named_from (length tables.old.assignments.items) (length tables.old.values.items) (map given_of assignments.items); imports = imports_of (map import_of given.items); exports = option_map (λ xs. map string_bytes xs.items) exports }) }
+    ensures distinct { OnOk result (AreDistinct (map name_of (map given_of assignments.items) ++ names_of (imports_of (map import_of given.items)))) }
+    ensures adds { OnOk result (Adds owner (map given_of assignments.items) tables.old tables.new) }
+    ensures fault { IfErr result (IsRepeated within.now (map name_of (map given_of assignments.items) ++ names_of (imports_of (map import_of given.items)))) }
+{
+    let mut assigned = IndexMap::new(alloc);
+    match add_all(alloc, owner, within, assignments, &mut assigned, tables) {
+        Ok(()) => {}
+        Err(fault) => return Err(fault),
+    }
+    let mut imports = IndexMap::new(alloc);
+    match import_all(alloc, within, given, &assigned, &mut imports) {
+        Ok(()) => {}
+        Err(fault) => return Err(fault),
+    }
+    match exports_of(alloc, exports) {
+        Ok(exports) => Ok(Scope {
+            assigned,
+            imports,
+            exports,
+        }),
+        Err(fault) => Err(fault),
+    }
+}
+
+/// Adds a module behind the others.
+fn add_module(alloc: Global, given: Module, gathered: &mut Gathered) -> Result<(), NameFault>
+    ensures ok { OnOk result ((ms : List ModuleTree) → HasGathered ms gathered.old → HasGathered (ms ++ module_tree_of given ∷ []) gathered.new) }
+    ensures fault { IfErr result (λ e. (ms rest : List ModuleTree) → HasGathered ms gathered.old → IsNamingFault (ms ++ module_tree_of given ∷ rest) e) }
+{
+    let Module {
+        name,
+        tag_default,
+        exports,
+        imports,
+        assignments,
+    } = given;
+    match scope_of(&gathered.modules, name.as_str()) {
+        Some(_) => return Err(NameFault::Twice(String::from_str(alloc, name.as_str())?, name)),
+        None => {}
+    }
+    let number = gathered.headers.len();
+    match scope_from(
+        alloc,
+        number,
+        name.as_str(),
+        exports,
+        imports,
+        assignments,
+        &mut gathered.tables,
+    ) {
+        Ok(scope) => {
+            gathered.headers.push(Header {
+                name: String::from_str(alloc, name.as_str())?,
+                default: tag_default,
+            })?;
+            gathered.modules.insert(name, scope)?;
+            Ok(())
+        }
+        Err(fault) => Err(fault),
+    }
+}
+
+/// Adds modules, in order.
+fn add_modules(
+    alloc: Global,
+    modules: Vec<Module>,
+    gathered: &mut Gathered,
+) -> Result<(), NameFault>
+    requires { HasGathered [] gathered.old }
+    ensures ok { OnOk result (HasGathered (map module_tree_of modules.items) gathered.new) }
+    ensures fault { IfErr result (IsNamingFault (map module_tree_of modules.items)) }
+{
+    for given in modules {
+        match add_module(alloc, given, gathered) {
+            Ok(()) => {}
+            Err(fault) => return Err(fault),
+        }
+    }
+    Ok(())
+}
+
+/// What these modules give.
+pub fn gather(alloc: Global, modules: Vec<Module>) -> Result<Gathered, NameFault>
+    ensures ok { IfOk result (HasGathered (map module_tree_of modules.items)) }
+    ensures fault { IfErr result (IsNamingFault (map module_tree_of modules.items)) }
+{
+    let mut gathered = Gathered {
+        modules: IndexMap::new(alloc),
+        headers: Vec::new(alloc),
+        tables: Tables {
+            assignments: Vec::new(alloc),
+            roots: VecDeque::new(alloc),
+            values: Vec::new(alloc),
+        },
+    };
+    match add_modules(alloc, modules, &mut gathered) {
+        Ok(()) => Ok(gathered),
+        Err(fault) => Err(fault),
+    }
 }

@@ -1,17 +1,20 @@
 //! What the names of modules stand for, and their types by number.
 #![tactic(auto)]
 
-pub mod circles;
+mod circles;
+mod exports;
 pub mod fault;
 mod gather;
+mod limits;
 pub mod linked;
 pub mod linking;
 mod lists;
 pub mod names;
 pub mod number;
 mod qualified;
-pub mod reach;
+mod reach;
 mod sound;
+mod standing;
 pub mod table;
 pub mod unfolding;
 

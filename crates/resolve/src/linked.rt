@@ -4,7 +4,7 @@ ghost use Rattle.std.specs.Prelude.{ℕ, ◌≡◌, ◌↔◌, Some, map};
 ghost use Rattle.resolve.specs.Found.{Finds};
 ghost use Rattle.notation.specs.Tree.{Name};
 ghost use Rattle.resolve.specs.Seen.{types_of, value_of, assignment_of, header_of, sources_of};
-ghost use Rattle.std.specs.Prelude.{◌<◌, ◌≤◌, IfOk, IfErr, slice_get, length, string_bytes, option_map};
+ghost use Rattle.std.specs.Prelude.{◌<◌, ◌≤◌, IfOk, IfErr, OnOk, slice_get, length, string_bytes, option_map};
 ghost use Rattle.resolve.specs.declared.names.Assigned.{Assigned};
 ghost use Rattle.resolve.specs.declared.table.Assignment.{Assignment};
 ghost use Rattle.resolve.specs.declared.table.ValueAt.{ValueAt};
@@ -12,11 +12,15 @@ ghost use Rattle.resolve.specs.Names.{Meaning, Refers};
 ghost use Rattle.resolve.specs.Numbering.{AllAssigned, HaveNoPlace, AreNumbered};
 ghost use Rattle.resolve.specs.Faults.{IsTableFault};
 ghost use Rattle.resolve.specs.Program.{IsGiven, IsWhole};
+ghost use Rattle.resolve.specs.Sound.{IsSound};
+ghost use Rattle.resolve.specs.SoundFaults.{IsSoundFault};
 ghost use Rattle.resolve.specs.Table.{IsLinked};
 
+use crate::circles::no_default_circles;
 use crate::fault::NameFault;
 use crate::names::{Assigned, Names};
 use crate::number::{Source, number_all};
+use crate::sound::{sound_lists, sound_names};
 use crate::table::{Assignment, Header, ValueAt, Written};
 use crate::unfolding::unfold_all;
 use asn_base::schema::TypeId;
@@ -128,7 +132,7 @@ impl Linked {
     }
 
     /// The program of these names, assignments, types and values. The type of assignment n is type n.
-    pub fn of(
+    pub(crate) fn of(
         alloc: Global,
         names: Names,
         headers: Vec<Header>,
@@ -144,6 +148,7 @@ impl Linked {
         requires valued { (k : ℕ) (v : ValueAt) → slice_get values.items k ≡ Some v → (v.ty < length roots.items) × (v.assignment < length assignments.items) }
         ensures names { IfOk result (λ l. (l.modules ≡ names) × (l.headers ≡ map header_of headers.items) × (l.assignments ≡ map assignment_of assignments.items) × (l.values ≡ map value_of values.items)) }
         ensures types { IfOk result (λ l. AreNumbered names (map header_of headers.items) (map assignment_of assignments.items) (sources_of roots.items) l.types) }
+        ensures few { IfOk result (λ l. length l.types ≤ 65536) }
         ensures fault { IfErr result (IsTableFault names (map header_of headers.items) (map assignment_of assignments.items) (sources_of roots.items)) }
     {
         let types = match number_all(alloc, &names, &headers, &assignments, roots) {
@@ -164,6 +169,29 @@ impl Linked {
                 let module = String::from_str(alloc, header.name.as_str())?;
                 Err(NameFault::Circular(module, String::from_str(alloc, assignment.name.as_str())?))
             }
+        }
+    }
+    /// Are the lists and names in types and values as they have to be?
+    pub(crate) fn all_sound(&self, alloc: Global) -> Result<(), NameFault>
+        ensures ok { OnOk result (IsSound self.now) }
+        ensures fault { IfErr result (IsSoundFault self.now) }
+    {
+        let headers = self.headers();
+        let assignments = self.assignments();
+        let types = self.types();
+        let values = self.values();
+        self.whole();
+        match sound_lists(alloc, headers, assignments, types) {
+            Ok(()) => {}
+            Err(fault) => return Err(fault),
+        }
+        match no_default_circles(alloc, headers, assignments, types) {
+            Ok(()) => {}
+            Err(fault) => return Err(fault),
+        }
+        match sound_names(alloc, &self.names, headers, assignments, types, values) {
+            Ok(()) => Ok(()),
+            Err(fault) => Err(fault),
         }
     }
 }

@@ -2,18 +2,78 @@
 
 ghost use Rattle.std.specs.Prelude.{map, IfOk, IfErr};
 ghost use Rattle.syntax.specs.Tree.{module_tree_of};
+ghost use Rattle.resolve.specs.Gathered.{IsReady, IsAssembled, IsAssemblyFault};
 ghost use Rattle.resolve.specs.Links.{Links, IsLinkFault};
 
 use crate::fault::NameFault;
+use crate::gather::{Gathered, Tables, gather};
+use crate::limits::within_limits;
 use crate::linked::Linked;
+use crate::names::Names;
+use crate::number::too_many;
+use crate::standing::all_stand;
 use std::alloc::Global;
 use syntax::Module;
+
+/// The program of what is gathered.
+fn assemble(alloc: Global, gathered: Gathered) -> Result<Linked, NameFault>
+    requires ready { IsReady gathered }
+    ensures assembled { IfOk result (IsAssembled gathered) }
+    ensures fault { IfErr result (IsAssemblyFault gathered) }
+{
+    let Gathered {
+        modules,
+        headers,
+        tables,
+    } = gathered;
+    let Tables {
+        assignments,
+        roots,
+        values,
+    } = tables;
+    if roots.len() > 65536 {
+        let assignment = &assignments[65536];
+        let header = &headers[assignment.module];
+        return Err(too_many(alloc, header, assignment));
+    }
+    match Linked::of(
+        alloc,
+        Names::of(modules),
+        headers,
+        assignments,
+        roots,
+        values,
+    ) {
+        Ok(linked) => {
+            linked.whole();
+            match linked.all_sound(alloc) {
+                Ok(()) => Ok(linked),
+                Err(fault) => Err(fault),
+            }
+        }
+        Err(fault) => Err(fault),
+    }
+}
 
 /// Gives the names of modules their meanings, and their types numbers.
 pub fn link(alloc: Global, modules: Vec<Module>) -> Result<Linked, NameFault>
     ensures linked { IfOk result (Links (map module_tree_of modules.items)) }
     ensures fault { IfErr result (IsLinkFault (map module_tree_of modules.items)) }
 {
-    drop(modules);
-    Err(NameFault::Memory)
+    match within_limits(alloc, &modules) {
+        Ok(()) => {}
+        Err(fault) => return Err(fault),
+    }
+    let gathered = match gather(alloc, modules) {
+        Ok(gathered) => gathered,
+        Err(fault) => return Err(fault),
+    };
+    match all_stand(alloc, &gathered.modules) {
+        Ok(()) => {}
+        Err(fault) => return Err(fault),
+    }
+    match assemble(alloc, gathered) {
+        Ok(linked) => Ok(linked),
+        Err(fault) => Err(fault),
+    }
 }

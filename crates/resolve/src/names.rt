@@ -2,10 +2,11 @@
 
 ghost use Rattle.std.specs.Prelude.{ℕ, ◌≡◌, ◌↔◌, Some, option_map, string_bytes};
 ghost use Rattle.resolve.specs.declared.names.Assigned.{Assigned};
-ghost use Rattle.resolve.specs.Names.{Meaning, Refers, under};
+ghost use Rattle.resolve.specs.Names.{Meaning, Refers, IsApart, under};
 ghost use Rattle.resolve.specs.Scopes.{seen, module_of};
 ghost use Rattle.resolve.specs.Finding.{found, assigned_in, imported_in};
 
+use crate::exports::Exports;
 use indexmap::IndexMap;
 use std::marker::Model;
 
@@ -21,7 +22,7 @@ pub enum Assigned {
 pub struct Scope {
     pub assigned: IndexMap<String, Assigned>,
     pub imports: IndexMap<String, String>,
-    pub exports: Option<Vec<String>>,
+    pub exports: Option<Exports>,
 }
 
 /// The names of all modules.
@@ -47,6 +48,14 @@ impl Model for Names {
 }
 
 impl Names {
+    /// The names of these modules. No module imports a name that it assigns.
+    pub(crate) fn of(modules: IndexMap<String, Scope>) -> Names
+        requires { IsApart (seen module_of modules.entries) }
+        ensures { result ≡ seen module_of modules.entries }
+    {
+        Names { modules }
+    }
+
     /// What a name stands for in a module.
     #[tactic(auto, using(crate::proofs::Meanings::found_meaning, crate::proofs::Meanings::meaning_found))]
     pub fn find(&self, within: &str, name: &str) -> Option<Assigned>
@@ -84,14 +93,14 @@ impl Names {
 }
 
 #[tactic(auto, using(crate::proofs::Meanings::under_seen))]
-fn scope_of<'a>(modules: &'a IndexMap<String, Scope>, name: &str) -> Option<&'a Scope>
+pub(crate) fn scope_of<'a>(modules: &'a IndexMap<String, Scope>, name: &str) -> Option<&'a Scope>
     ensures { option_map (λ s. module_of s.now) result ≡ under name.now (seen module_of modules.now.entries) }
 {
     modules.get(name)
 }
 
 #[tactic(auto, using(crate::proofs::Meanings::under_seen))]
-fn assigned_to(scope: &Scope, name: &str) -> Option<Assigned>
+pub(crate) fn assigned_to(scope: &Scope, name: &str) -> Option<Assigned>
     ensures { result ≡ under name.now (module_of scope.now).assigned }
 {
     scope.assigned.get(name).copied()

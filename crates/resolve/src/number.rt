@@ -228,7 +228,7 @@ fn take_apart(
 }
 
 /// The fault that more types are written than may be, at an assignment.
-fn too_many(alloc: Global, header: &Header, assignment: &Assignment) -> NameFault
+pub(crate) fn too_many(alloc: Global, header: &Header, assignment: &Assignment) -> NameFault
     ensures { IsTypesLimit result }
 {
     let module = String::from_str(alloc, header.name.as_str());
@@ -301,6 +301,7 @@ pub fn number_all(
     requires placed { (k : ℕ) (a : Assignment) → slice_get assignments.now k ≡ Some a → a.module < length headers.now }
     requires few { length roots.items ≤ 65536 }
     ensures ok { IfOk result (λ v. AreNumbered names.now (map header_of headers.now) (map assignment_of assignments.now) (sources_of roots.items) (types_of v.items)) }
+    ensures few { IfOk result (λ v. length v.items ≤ 65536) }
     ensures fault { IfErr result (IsNumberingFault names.now (map header_of headers.now) (map assignment_of assignments.now) (sources_of roots.items)) }
 {
     let mut sources = roots;

@@ -1,4 +1,4 @@
-use Rattle.std.proofs.Common.{arith, ◌+◌, ◌∷◌, [], map, subst, sym, ap, ◌∙◌}
+use Rattle.std.proofs.Common.{length, length-append, arith, ◌+◌, ◌∷◌, [], map, subst, sym, ap, ◌∙◌}
 use Rattle.std.proofs.lemmas.List.{length-map, map-append}
 use Rattle.resolve.specs.Seen.{header_of, assignment_of, source_of, sources_of, type_of, types_of}
 use Rattle.resolve.specs.Numbering.{AllAssigned, IsTop}
@@ -11,6 +11,7 @@ loop-number-init c =
     record {
       halfway = subst (λ l. IsHalfway c.args.names.now (map header_of c.args.headers.now) (map assignment_of c.args.assignments.now) (sources_of c.args.roots.items) (types_of l) (sources_of c.args.roots.items) 0) (sym c.new-types.ensures.items) (halfway_start c.args.names.now (map header_of c.args.headers.now) (map assignment_of c.args.assignments.now) (sources_of c.args.roots.items)
           (subst (λ n. AllAssigned n (sources_of c.args.roots.items)) (sym (length-map c.args.assignments.now assignment_of)) c.requires.assigned));
+      count = omega arith;
       few = omega (arith, c.requires.few);
     }
 
@@ -35,5 +36,6 @@ loop-number-preserved c =
     c.in-Ok.ensures.parts in
     record {
       halfway = subst (λ l. IsHalfway c.args.names.now (map header_of c.args.headers.now) (map assignment_of c.args.assignments.now) (sources_of c.args.roots.items) l (sources_of c.written_of.new.parts.items) (c.loop-number.number + 1)) (sym (ap types_of c.in_ok-push-in-Ok.ensures.items ∙ map-append type_of c.loop-number.types.items (c.in-Ok.written ∷ []))) step;
+      count = omega (arith, ap length c.in_ok-push-in-Ok.ensures.items, length-append c.loop-number.types.items (c.in-Ok.written ∷ []), c.loop-number.invariant.count);
       few = c.in-Ok.ensures.few;
     }

@@ -1,4 +1,4 @@
-use Rattle.std.proofs.Common.{◌≤◌, ◌+◌, length, map}
+use Rattle.std.proofs.Common.{◌≡◌, ◌≤◌, ◌+◌, length, map}
 use Rattle.resolve.specs.Seen.{types_of, sources_of, header_of, assignment_of}
 use Rattle.resolve.proofs.Queue.{IsHalfway}
 use Rattle.resolve.proofs.number.number_all.Given as goal
@@ -7,5 +7,6 @@ abbrev pub invariant-loop-number : goal.invariant-loop-number
 invariant-loop-number l =
     record {
       halfway : IsHalfway l.names (map header_of l.headers) (map assignment_of l.assignments) (sources_of l.fn.roots.items) (types_of l.types.items) (sources_of l.sources.items) l.number;
+      count : length l.types.items ≡ l.number;
       few : l.number + length l.sources.items ≤ 65536;
     }

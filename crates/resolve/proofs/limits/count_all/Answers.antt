@@ -1,0 +1,27 @@
+use Rattle.std.proofs.Common.{◌≡◌, ◌≤◌, arith, sym, subst, ap, ◌∙◌, map}
+use Rattle.syntax.specs.Tree.{assignment_of as given_of, module_tree_of}
+use Rattle.resolve.specs.Gathered.{IsPastCount}
+use Rattle.resolve.specs.Modules.{type_count, value_count, all_assignments}
+use Rattle.resolve.proofs.Counting.{types_drop_module, values_drop_module, past_more}
+use Rattle.resolve.proofs.limits.count_all.Goals as goal
+
+pub loop-given-preserved : goal.loop-given-preserved
+loop-given-preserved c =
+    let t = types_drop_module c.args.modules.now c.loop-given.given-index c.given-item.result c.loop-given-test.true c.given-item.is in
+    let v = values_drop_module c.args.modules.now c.loop-given.given-index c.given-item.result c.loop-given-test.true c.given-item.is in
+    let d = ap (λ l. type_count (map given_of l)) c.deref.ensures.value in
+    let w = ap (λ l. value_count (map given_of l)) c.deref.ensures.value in
+    record {
+      types = omega (arith, t, d, c.in-Ok.ensures.counted_types, c.loop-given.invariant.types);
+      values = omega (arith, v, w, c.in-Ok.ensures.counted_values, c.loop-given.invariant.values);
+      few_types = c.in-Ok.ensures.types;
+      few_values = c.in-Ok.ensures.values;
+    }
+
+pub returns-in-Err-clause-fault : goal.returns-in-Err-clause-fault
+returns-in-Err-clause-fault c =
+    let t = types_drop_module c.args.modules.now c.loop-given.given-index c.given-item.result c.loop-given-test.true c.given-item.is in
+    let v = values_drop_module c.args.modules.now c.loop-given.given-index c.given-item.result c.loop-given-test.true c.given-item.is in
+    let d = ap (λ l. type_count (map given_of l)) c.deref.ensures.value in
+    let w = ap (λ l. value_count (map given_of l)) c.deref.ensures.value in
+    past_more _ _ _ _ c.in-Err.fault (omega (arith, t, d, c.loop-given.invariant.types)) (omega (arith, v, w, c.loop-given.invariant.values)) c.in-Err.ensures.fault

@@ -1,0 +1,10 @@
+use Rattle.std.proofs.Common.{◌≡◌, ℕ, ◌<◌, Some}
+use Rattle.std.specs.Prelude.{slice_get}
+use Rattle.notation.specs.Tree.{Name}
+use Rattle.resolve.specs.Gathered.{ExportAssigned, ImportOffered}
+use Rattle.resolve.specs.Names.{Module}
+use Rattle.resolve.specs.Scopes.{seen, module_of}
+use Rattle.resolve.proofs.standing.all_stand.Given as goal
+
+abbrev pub invariant-loop-i : goal.invariant-loop-i
+invariant-loop-i l = (k : ℕ) (m : Name × Module) → k < l.i → slice_get (seen module_of l.modules.entries) k ≡ Some m → ExportAssigned m.1 × ImportOffered (seen module_of l.modules.entries) m.1.imports

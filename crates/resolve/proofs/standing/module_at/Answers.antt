@@ -1,0 +1,11 @@
+use Rattle.std.proofs.Common.{◌≡◌, Some, sym, ap, ◌∙◌, string_bytes, option_map}
+use Rattle.std.specs.Prelude.{slice_get}
+use Rattle.std.specs.Map.Iter.{deref_pair}
+use Rattle.resolve.specs.Scopes.{module_of}
+use Rattle.resolve.proofs.Distinct.{stands_map}
+use Rattle.resolve.proofs.standing.module_at.Goals as goal
+
+pub returns : goal.returns
+returns c =
+    let e = sym c.get_index.ensures.entry ∙ ap (option_map deref_pair) c.unwrap.ensures in
+    stands_map (λ p. (string_bytes p.0, module_of p.1)) c.args.modules.now.entries c.args.i (c.unwrap.result.0.now, c.unwrap.result.1.now) e

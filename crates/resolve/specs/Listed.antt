@@ -1,0 +1,12 @@
+-- Names with a table of them.
+use Rattle.std.specs.Prelude.{◌≡◌, List, String}
+use Rattle.std.specs.Global.{Global}
+use Rattle.std.specs.List.{list_any}
+use Rattle.std.specs.Str.{bytes_eq}
+use Rattle.std.specs.Prelude.{string_bytes}
+use Rattle.indexmap.specs.IndexSet.{IndexSet, contains_text}
+use Rattle.notation.specs.Tree.{Name}
+
+-- the table has just these names
+abbrev pub IsTableOf : {S : Type 0} → List (String Global) → IndexSet (String Global) S → Type 0
+IsTableOf names table = (x : Name) → contains_text table x ≡ list_any (λ n. bytes_eq x (string_bytes n)) names
