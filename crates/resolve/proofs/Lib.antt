@@ -12,7 +12,7 @@ pub mod Entries
 pub mod Assembling
 pub mod Halfway
 pub mod ListFaults
-pub mod Standing
+pub mod Sounds
 pub mod Exclusion
 pub mod Below
 pub mod Distinct

@@ -1,7 +1,7 @@
 use Rattle.std.proofs.Common.{map, drop}
 use Rattle.notation.specs.Tree.{tree_of, member_of, trees, members}
 use Rattle.resolve.specs.Sound.{qualified_each, qualified_fields}
-use Rattle.resolve.proofs.Standing.{Left}
+use Rattle.resolve.proofs.Sounds.{Left}
 use Rattle.resolve.proofs.qualified.+values.Given as goal
 
 abbrev pub invariant-names_in_fields-loop-field : goal.invariant-names_in_fields-loop-field

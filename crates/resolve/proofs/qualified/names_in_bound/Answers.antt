@@ -1,7 +1,7 @@
 use Rattle.std.proofs.Common.{sym, subst, ap, option_map}
 use Rattle.notation.specs.Constraint.{end_of}
 use Rattle.resolve.specs.Sound.{qualified_bound}
-use Rattle.resolve.proofs.Standing.{Answers}
+use Rattle.resolve.proofs.Sounds.{Answers}
 use Rattle.resolve.proofs.qualified.names_in_bound.Goals as goal
 
 pub returns-in-Some : goal.returns-in-Some

@@ -2,7 +2,7 @@ use Rattle.std.proofs.Common.{map, sym, subst, ap, ◌∙◌}
 use Rattle.notation.specs.Constraint.{range_of, constraint_of}
 use Rattle.resolve.specs.Sound.{qualified_ranges}
 use Rattle.resolve.specs.Soundness.{qualified_constraint}
-use Rattle.resolve.proofs.Standing.{Answers}
+use Rattle.resolve.proofs.Sounds.{Answers}
 use Rattle.resolve.proofs.qualified.names_in_constraint.Goals as goal
 
 pub returns-in-Values : goal.returns-in-Values

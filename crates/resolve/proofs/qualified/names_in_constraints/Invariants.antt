@@ -1,7 +1,7 @@
 use Rattle.std.proofs.Common.{map, drop}
 use Rattle.notation.specs.Constraint.{constraint_of}
 use Rattle.resolve.specs.Sound.{qualified_constraints}
-use Rattle.resolve.proofs.Standing.{Left}
+use Rattle.resolve.proofs.Sounds.{Left}
 use Rattle.resolve.proofs.qualified.names_in_constraints.Given as goal
 
 abbrev pub invariant-loop-constraint : goal.invariant-loop-constraint

@@ -2,7 +2,7 @@ use Rattle.std.proofs.Common.{sym, subst, ap, ◌∙◌, option_map, string_byte
 use Rattle.notation.specs.Constraint.{end_of}
 use Rattle.resolve.specs.Sound.{qualified_end}
 use Rattle.resolve.specs.Soundness.{behind_module}
-use Rattle.resolve.proofs.Standing.{Answers, end_names}
+use Rattle.resolve.proofs.Sounds.{Answers, end_names}
 use Rattle.resolve.proofs.qualified.names_in_end.Goals as goal
 
 pub returns-in-Reference : goal.returns-in-Reference

@@ -4,7 +4,7 @@ use Rattle.syntax.specs.Tree.{presence_of}
 use Rattle.resolve.specs.Seen.{part_of}
 use Rattle.resolve.specs.Sound.{qualified_default, qualified_members}
 use Rattle.resolve.proofs.Halfway.{drop_at, none_left}
-use Rattle.resolve.proofs.Standing.{left_start, left_step, left_fault, left_end}
+use Rattle.resolve.proofs.Sounds.{left_start, left_step, left_fault, left_end}
 use Rattle.resolve.proofs.qualified.names_in_members.Goals as goal
 
 pub loop-component-init : goal.loop-component-init

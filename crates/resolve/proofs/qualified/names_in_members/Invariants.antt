@@ -1,7 +1,7 @@
 use Rattle.std.proofs.Common.{map, drop}
 use Rattle.resolve.specs.Seen.{part_of}
 use Rattle.resolve.specs.Sound.{qualified_members}
-use Rattle.resolve.proofs.Standing.{Left}
+use Rattle.resolve.proofs.Sounds.{Left}
 use Rattle.resolve.proofs.qualified.names_in_members.Given as goal
 
 abbrev pub invariant-loop-component : goal.invariant-loop-component

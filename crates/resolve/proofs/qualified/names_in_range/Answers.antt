@@ -4,7 +4,7 @@ use Rattle.notation.specs.Constraint.{end_of, range_of}
 use Rattle.resolve.specs.Sound.{qualified_bound}
 use Rattle.resolve.specs.Soundness.{qualified_range, IsUnknownIn}
 use Rattle.resolve.specs.Sound.{MeanValues}
-use Rattle.resolve.proofs.Standing.{Answers, mean_both, unknown_front, unknown_behind}
+use Rattle.resolve.proofs.Sounds.{Answers, mean_both, unknown_front, unknown_behind}
 use Rattle.resolve.proofs.qualified.names_in_range.Goals as goal
 
 pub returns-in_err-names_in_bound-in-Between : goal.returns-in_err-names_in_bound-in-Between

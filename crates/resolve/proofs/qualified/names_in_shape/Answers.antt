@@ -1,7 +1,7 @@
 use Rattle.std.proofs.Common.{map, sym, subst, ap, ◌∙◌}
 use Rattle.resolve.specs.Seen.{kind_of, part_of}
 use Rattle.resolve.specs.Sound.{qualified_kind, qualified_members}
-use Rattle.resolve.proofs.Standing.{Answers, elements_names}
+use Rattle.resolve.proofs.Sounds.{Answers, elements_names}
 use Rattle.resolve.proofs.qualified.names_in_shape.Goals as goal
 
 pub returns-in-Members : goal.returns-in-Members

@@ -2,7 +2,7 @@ use Rattle.std.proofs.Common.{map, sym, subst, ap, ◌∙◌, option_map}
 use Rattle.notation.specs.Constraint.{range_of, size_of}
 use Rattle.resolve.specs.Sound.{qualified_ranges}
 use Rattle.resolve.specs.Soundness.{qualified_size}
-use Rattle.resolve.proofs.Standing.{Answers}
+use Rattle.resolve.proofs.Sounds.{Answers}
 use Rattle.resolve.proofs.qualified.names_in_size.Goals as goal
 
 pub returns-in-Some : goal.returns-in-Some

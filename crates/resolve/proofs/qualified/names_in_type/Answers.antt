@@ -5,7 +5,7 @@ use Rattle.resolve.specs.Seen.{type_of}
 use Rattle.resolve.specs.Sound.{qualified_constraints, qualified_kind}
 use Rattle.resolve.specs.Soundness.{IsUnknownIn}
 use Rattle.resolve.specs.Sound.{MeanValues}
-use Rattle.resolve.proofs.Standing.{mean_both, unknown_front, unknown_behind}
+use Rattle.resolve.proofs.Sounds.{mean_both, unknown_front, unknown_behind}
 use Rattle.resolve.proofs.qualified.names_in_type.Goals as goal
 
 pub returns-in_err-names_in_shape : goal.returns-in_err-names_in_shape

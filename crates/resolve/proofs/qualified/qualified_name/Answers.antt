@@ -1,5 +1,5 @@
 use Rattle.std.proofs.Common.{refl, ap, option_map, string_bytes}
-use Rattle.resolve.proofs.Standing.{behind_none}
+use Rattle.resolve.proofs.Sounds.{behind_none}
 use Rattle.resolve.proofs.qualified.qualified_name.Goals as goal
 
 pub returns-in_ok-from_str-in-Some-2 : goal.returns-in_ok-from_str-in-Some-2
