@@ -1,14 +1,11 @@
-pub mod Cores
 mod Found
-pub mod Meanings
 mod Groups
-mod Members
+mod Lasts
+mod Leading
+mod Lists
 pub mod Notated
-mod Places
 mod Refused
-mod Settled
-mod Simple
-pub mod Totals
+mod Types
 mod Typings
+mod Unfoldings
 mod Walks
-mod Dots

@@ -36,15 +36,15 @@ fn raw_arg<'a>(alloc: Global) -> Arg<'a>
         .help("Write the octets themselves, not hexadecimal")
 }
 
-/// The one file.
+/// The files, one at least.
 fn file_arg<'a>(alloc: Global) -> Arg<'a>
     ensures rule { rule_of result ≡ file_rule }
     ensures local { result.global ≡ false }
 {
     Arg::new(alloc, "FILE")
         .required(true)
-        .action(ArgAction::Set)
-        .help("The module's text")
+        .action(ArgAction::Append)
+        .help("The modules' texts")
 }
 
 fn der_command<'a>(alloc: Global) -> Result<Command<'a>, AllocError>
@@ -65,7 +65,7 @@ fn asnc_command<'a>(alloc: Global) -> Result<Command<'a>, AllocError>
     ensures wants { IfOk result (λ c. (out-Command c).subcommand_required ≡ true) }
 {
     Command::new(alloc, "asnc")
-        .about("An ASN.1 compiler: from a module's text to octets")
+        .about("An ASN.1 compiler: from modules' texts to octets")
         .subcommand_required(true)
         .disable_help_subcommand(true)
         .subcommand(der_command(alloc)?)

@@ -1,5 +1,0 @@
-use Rattle.asnc.proofs.Settled.{excludes}
-use Rattle.asnc.proofs.kit.faults_exclude.Goals as goal
-
-pub returns : goal.returns
-returns c = excludes
