@@ -1,10 +1,13 @@
+mod Dots
 mod Found
 mod Groups
 mod Lasts
 mod Leading
 mod Lists
 pub mod Notated
+mod Openings
 mod Refused
+mod Simple
 mod Types
 mod Typings
 mod Unfoldings

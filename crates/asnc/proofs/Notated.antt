@@ -1,6 +1,6 @@
 -- Trees of notations.
-use Rattle.std.proofs.Common.{◌≡◌, List, [], ◌∷◌, map, Option, Some, None, refl, sym, ap, ◌∙◌, option_map, string_bytes}
-use Rattle.std.specs.Prelude.{Vec, String}
+use Rattle.std.proofs.Common.{◌≡◌, ℕ, zero, suc, ◌+◌, ◌<◌, List, [], ◌∷◌, ◌++◌, length, map, take, Option, Some, None, refl, sym, ap, ◌∙◌, option_map, string_bytes, subst, get_or}
+use Rattle.std.specs.Prelude.{slice_get, Vec, String}
 use Rattle.std.specs.Global.{Global}
 use Rattle.notation.specs.Tree.{Name, Tree, reference, Members, members, member_of, tree_of, layer}
 use Rattle.notation.specs.Tree as trees
@@ -10,7 +10,9 @@ use Rattle.notation.specs.declared.tree.ValueSyntax.TheVariants as values
 use Rattle.notation.specs.declared.tree.ValueSyntax.TheOpen as open_
 use Rattle.notation.specs.declared.tree.ValueSyntax.TheShapes.{former-ValueSyntax-Fields-0-at-2}
 use Rattle.notation.specs.declared.tree.ValueSyntax.TheFolds.{fold-roll-ValueSyntax}
+use Rattle.asnc.specs.FirstPath.{IsFirstNotation, AreFirstFields}
 use Rattle.asnc.specs.Notations.{named, fields_in}
+use Rattle.asnc.proofs.Lists.{one_taken, seen_here}
 
 same_members : (xs : List (Named ValueSyntax)) → map (λ f. (string_bytes f.name, f.value)) (map (former-ValueSyntax-Fields-0-at-2.map ValueSyntax Tree tree_of) xs) ≡ map member_of xs
 same_members [] = refl
@@ -41,3 +43,18 @@ behind_other q x y n e g = (string_bytes q, ap tree_of e ∙ some_tree q x ∙ a
 pub reference_tree : (q : Option (String Global)) (x : String Global) → tree_of (values.Reference q x) ≡ reference (option_map string_bytes q) (string_bytes x)
 reference_tree None x = none_tree x
 reference_tree (Some q) x = some_tree q x
+
+fields_push : (fs : List (Name × Tree)) (f : Name × Tree) → AreFirstFields (members fs) → IsFirstNotation f.1 → AreFirstFields (members (fs ++ f ∷ []))
+fields_push [] f h n = (n, tt)
+fields_push (g ∷ fs) f h n = (h.0, fields_push fs f h.1 n)
+
+pub fields_more : (xs : List (Named ValueSyntax)) (k : ℕ) (x : Named ValueSyntax) → k < length xs → x ≡ get_or xs k x → AreFirstFields (members (map member_of (take k xs))) → IsFirstNotation (tree_of x.value) → AreFirstFields (members (map member_of (take (k + 1) xs)))
+fields_more xs k x l e h n = rw (one_taken member_of xs k x l e) (fields_push (map member_of (take k xs)) (member_of x) h n)
+
+first_at : (fs : List (Name × Tree)) (k : ℕ) (f : Name × Tree) → AreFirstFields (members fs) → slice_get fs k ≡ Some f → IsFirstNotation f.1
+first_at [] k f h e = absurd cc
+first_at (g ∷ fs) zero f h e = let q : g ≡ f = cc in subst (λ z. IsFirstNotation z.1) q h.0
+first_at (g ∷ fs) (suc k) f h e = first_at fs k f h.1 e
+
+pub no_field_at : (xs : List (Named ValueSyntax)) (k : ℕ) (x : Named ValueSyntax) → k < length xs → x ≡ get_or xs k x → (IsFirstNotation (tree_of x.value) → ⊥) → AreFirstFields (members (map member_of xs)) → ⊥
+no_field_at xs k x l e n h = n (first_at (map member_of xs) k (member_of x) h (seen_here member_of xs k x l e))

@@ -1,6 +1,6 @@
 -- Types of the table, and the types of the schema that they are.
 use Rattle.std.proofs.Common.{◌≡◌, ◌⊎◌, inl, inr, ℕ, zero, suc, ◌+◌, ◌<◌, ◌≤◌, false, List, [], ◌∷◌, ◌++◌, length, map, Option, Some, None, refl, sym, ap, ◌∙◌, arith, subst}
-use Rattle.std.specs.Prelude.{slice_get, IsSomeAnd, Vec}
+use Rattle.std.specs.Prelude.{slice_get, IsSomeAnd, Vec, Result, Ok, Err, IfOk}
 use Rattle.std.specs.Global.{Global}
 use Rattle.std.specs.List.{AllZip, AllByRecursion}
 use Rattle.std.proofs.lemmas.List.{map-append, length-map}
@@ -37,21 +37,19 @@ no_numbers : (ns : List NamedNumber) → length ns ≡ 0 → map number_of ns �
 no_numbers [] e = refl
 no_numbers (n ∷ ns) e = absurd cc
 
-pub basic_integer : (s : Shape) (x : Simple) (v : Vec NamedNumber Global) (c : Constraint') → s ≡ shapes.Simple x → x ≡ simples.Integer v → length v.items ≡ 0 → c.allowed ≡ None → IsKind (kind_of s) 2 (core_kind_of (cores.Integer c))
+pub basic_integer : (s : Shape) (x : Simple) (v : Vec NamedNumber Global) (c : Constraint') → s ≡ shapes.Simple x → x ≡ simples.Integer v → length v.items ≡ 0 → IsUnconstrained (constraint_of c) → IsKind (kind_of s) 2 (core_kind_of (cores.Integer c))
 basic_integer s x v c e f l n =
-    subst (λ k. IsKind k 2 (core_kind_of (cores.Integer c))) (sym (ap kind_of e ∙ ap (λ y. simple (plain_of y)) f ∙ ap (λ ns. simple (an_integer ns)) (no_numbers v.items l))) (integer (unconstrained c n))
-  where
-    unconstrained : (c : Constraint') → c.allowed ≡ None → IsUnconstrained (constraint_of c)
-    unconstrained c n = rw n refl
+    subst (λ k. IsKind k 2 (core_kind_of (cores.Integer c))) (sym (ap kind_of e ∙ ap (λ y. simple (plain_of y)) f ∙ ap (λ ns. simple (an_integer ns)) (no_numbers v.items l))) (integer n)
 
-pub basic_octets : (s : Shape) (x : Simple) (c : Constraint') → s ≡ shapes.Simple x → x ≡ simples.OctetString → c.allowed ≡ None → IsKind (kind_of s) 4 (core_kind_of (cores.OctetString c))
-basic_octets s x c e f n = subst (λ k. IsKind k 4 (core_kind_of (cores.OctetString c))) (sym (ap kind_of e ∙ ap (λ y. simple (plain_of y)) f)) (octet_string (unconstrained c n))
-  where
-    unconstrained : (c : Constraint') → c.allowed ≡ None → IsUnconstrained (constraint_of c)
-    unconstrained c n = rw n refl
+pub basic_octets : (s : Shape) (x : Simple) (c : Constraint') → s ≡ shapes.Simple x → x ≡ simples.OctetString → IsUnconstrained (constraint_of c) → IsKind (kind_of s) 4 (core_kind_of (cores.OctetString c))
+basic_octets s x c e f n = subst (λ k. IsKind k 4 (core_kind_of (cores.OctetString c))) (sym (ap kind_of e ∙ ap (λ y. simple (plain_of y)) f)) (octet_string n)
 
 pub type_is : (ts : List Type') (i : ℕ) (t : Type') (n : ℕ) (core : Core) (r : Resolved') → Unfolds ts i t → IsKind t.kind n (core_kind_of core) → r.core ≡ core → IsUniversal n r.tags.items → IsTypeOf ts i (resolved_of r)
 type_is ts i t n core r u k e g = record { behind = t; unfolds = u; universal = n; kind = subst (λ x. IsKind t.kind n (core_kind_of x)) (sym e) k; tags = g }
+
+pub type_ok : {E : Type 0} (ts : List Type') (i : ℕ) (t : Type') (n : ℕ) (core : Core) (r : Result Resolved' E) → Unfolds ts i t → IsKind t.kind n (core_kind_of core) → IfOk r (λ x. (x.core ≡ core) × IsUniversal n x.tags.items) → IfOk r (λ x. IsTypeOf ts i (resolved_of x))
+type_ok ts i t n core (Ok x) u k h = type_is ts i t n core x u k h.0 h.1
+type_ok ts i t n core (Err e) u k h = tt
 
 no_other : (ts : List Type') (k : Kind) → IsFirstKind ts k → behind k ≡ None → (IsBasic k → ⊥) → ((ps : List Part) → k ≡ members lists.Sequence ps → ⊥) → ⊥
 no_other ts (simple s) f e nb ns = nb f

@@ -3,7 +3,7 @@
 ghost use Rattle.std.specs.Prelude.{◌≡◌, IfOk, IfErr, Some, codes, false, true, map, string_bytes, unwrap_or, if◌then◌else◌};
 ghost use Rattle.clap.specs.Words.{app_of, first_of, kind_of, found_of, one_of, rows_of, rule_of};
 ghost use Rattle.clap.specs.declared.builder.command.Command.TheViews.{out-Command};
-ghost use Rattle.asnc.specs.CommandLine.{asnc_app, der_app, file_rule, raw_rule, text_in, text_rule, IsAsked, IsFaultOf, IsRefused, IsDerOf};
+ghost use Rattle.asnc.specs.CommandLine.{asnc_app, der_app, files_rule, raw_rule, text_in, text_rule, texts_in, IsAsked, IsFaultOf, IsRefused, IsDerOf};
 
 use crate::fault::Fault;
 use crate::line::on_one_line;
@@ -37,8 +37,8 @@ fn raw_arg<'a>(alloc: Global) -> Arg<'a>
 }
 
 /// The files, one at least.
-fn file_arg<'a>(alloc: Global) -> Arg<'a>
-    ensures rule { rule_of result ≡ file_rule }
+fn files_arg<'a>(alloc: Global) -> Arg<'a>
+    ensures rule { rule_of result ≡ files_rule }
     ensures local { result.global ≡ false }
 {
     Arg::new(alloc, "FILE")
@@ -56,7 +56,7 @@ fn der_command<'a>(alloc: Global) -> Result<Command<'a>, AllocError>
         .arg(text_arg(alloc, "type", "MODULE.TYPE", "The type"))?
         .arg(text_arg(alloc, "value", "MODULE.VALUE", "The value"))?
         .arg(raw_arg(alloc))?
-        .arg(file_arg(alloc))
+        .arg(files_arg(alloc))
 }
 
 fn asnc_command<'a>(alloc: Global) -> Result<Command<'a>, AllocError>
@@ -112,6 +112,24 @@ fn text_of(alloc: Global, found: &ArgMatches<'_>, id: &str) -> Result<String, Al
     String::from_str(alloc, found.get_str(id).unwrap_or(""))
 }
 
+fn files_of(alloc: Global, found: &ArgMatches<'_>) -> Result<Vec<String>, AllocError>
+    ensures { IfOk result (λ v. map string_bytes v.items ≡ texts_in (rows_of (found_of found.now)) (codes "FILE")) }
+{
+    let names = found.get_strs("FILE").unwrap_or(&[]);
+    texts_of(alloc, names)
+}
+
+/// Texts of one's own.
+fn texts_of(alloc: Global, texts: &[&str]) -> Result<Vec<String>, AllocError>
+    ensures { IfOk result (λ v. map string_bytes v.items ≡ map (λ t. t.now) texts.now) }
+{
+    let mut all = Vec::new(alloc);
+    for text in texts {
+        all.push(String::from_str(alloc, text)?)?;
+    }
+    Ok(all)
+}
+
 fn der_job(alloc: Global, found: &ArgMatches<'_>) -> Result<Job, AllocError>
     ensures { IfOk result (IsDerOf (rows_of (found_of found.now))) }
 {
@@ -124,7 +142,7 @@ fn der_job(alloc: Global, found: &ArgMatches<'_>) -> Result<Job, AllocError>
         octets: Given::Nothing,
         raw,
         strict: false,
-        files: vec![in alloc; text_of(alloc, found, "FILE")?]?,
+        files: files_of(alloc, found)?,
     })
 }
 
