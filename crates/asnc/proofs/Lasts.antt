@@ -63,9 +63,10 @@ at_once p i N m K l a v =
     subst (λ z. IsLast p z m K l) e.0 (subst (λ t. IsLast p v.within t K l) e.1 v.last)
 
 pub same_behind : (p : Program) (M : Name) (n : Tree) (start end_ : ℕ) (N : Name) (m : Tree) → ((j : ℕ) → (Some start ≡ Some j ↔ MeansValue p M n j)) → ((K : Name) (l : Tree) → (IsValueLast p start K l ↔ IsValueLast p end_ K l)) → IsValueAt p end_ N m → IsSame p M n N m
-same_behind p M n start end_ N m h s a K l =
-    (λ k. at_once p end_ N m K l a ((s K l).0 (begins p M n start h K l k)),
-    λ k. back_by p start M n K l ((h start).0 refl) ((s K l).1 (record { within = N; notation = m; at = a; last = k })))
+same_behind p M n start end_ N m h s a K l = (
+  λ k. at_once p end_ N m K l a ((s K l).0 (begins p M n start h K l k)),
+  λ k. back_by p start M n K l ((h start).0 refl) ((s K l).1 (record { within = N; notation = m; at = a; last = k })),
+)
 
 pub circle_none : (p : Program) (M : Name) (n : Tree) (start : ℕ) (fault : ValueFault) → ((j : ℕ) → (Some start ≡ Some j ↔ MeansValue p M n j)) → ((K : Name) (l : Tree) → IsValueLast p start K l → ⊥) → Lacks (λ (w : Name × Tree). IsLast p M n w.0 w.1) fault
 circle_none p M n start fault h z = inr (λ w k. z w.0 w.1 (begins p M n start h w.0 w.1 k))

@@ -26,6 +26,7 @@ means_value p M n q x y r i e s h f j = subst (λ t. Some i ≡ Some j ↔ Means
   where
     on : Some i ≡ Some j → Refers p.modules M q x (assigned.Value j)
     on g = subst (λ z. Refers p.modules M q z (assigned.Value j)) s ((h (assigned.Value j)).0 (f ∙ ap (λ k. Some (assigned.Value k)) (some_same i j g)))
+
     off : Refers p.modules M q x (assigned.Value j) → Some i ≡ Some j
     off m =
         let g = (h (assigned.Value j)).1 (subst (λ z. Refers p.modules M q z (assigned.Value j)) (sym s) m) in
@@ -204,6 +205,7 @@ first_all p os n a e = record { all = a.long ∙ e; each = λ i j. go i j (under
   where
     go : (i j : ℕ) → (i < n) ⊎ (n ≤ i) → (listed os i ≡ Some j ↔ RefersTo p i j)
     go i j (inl l) = a.each i j l
-    go i j (inr l) =
-        (λ f. (let g : None ≡ Some j = sym (listed_over os i (omega (arith, l, a.long))) ∙ f in absurd cc),
-        λ r. absurd (let w = slice_get_within p.values i r.at.value r.at.there in omega (arith, w, l, e)))
+    go i j (inr l) = (
+      λ f. (let g : None ≡ Some j = sym (listed_over os i (omega (arith, l, a.long))) ∙ f in absurd cc),
+      λ r. absurd (let w = slice_get_within p.values i r.at.value r.at.there in omega (arith, w, l, e)),
+    )

@@ -107,9 +107,10 @@ simple_members : (ts : List Type') (s : List Resolved) (ps : List Part) (cs : Li
 simple_members ts s [] [] a inside f z = tt
 simple_members ts s [] (c ∷ cs) a inside f z = absurd z
 simple_members ts s (p ∷ ps) [] a inside f z = absurd z
-simple_members ts s (p ∷ ps) (c ∷ cs) a inside f z =
-    ((z.0.presence, subst (λ k. IsSomeAnd (slice_get s k) (λ r. IsSimple r.kind)) (sym z.0.type) (some_simple ts s p.ty f.0.behind a (inside 0 p refl) f.0.unfolds f.0.basic)),
-    simple_members ts s ps cs a (λ k x e. inside (suc k) x e) f.1 z.1)
+simple_members ts s (p ∷ ps) (c ∷ cs) a inside f z = (
+  (z.0.presence, subst (λ k. IsSomeAnd (slice_get s k) (λ r. IsSimple r.kind)) (sym z.0.type) (some_simple ts s p.ty f.0.behind a (inside 0 p refl) f.0.unfolds f.0.basic)),
+  simple_members ts s ps cs a (λ k x e. inside (suc k) x e) f.1 z.1,
+)
 
 first_stage : (ts : List Type') (s : List Resolved) (k : Kind) (n : ℕ) (c : kinds.Kind) → AreTypes ts s → IsKind k n c → IsFirstKind ts k → IsSoundKind k → ((l : ListKind) (ps : List Part) → k ≡ members l ps → (j : ℕ) (p : Part) → slice_get ps j ≡ Some p → p.ty < length ts) → IsOfFirstStage s c
 first_stage ts s k n c a boolean f o inside = tt

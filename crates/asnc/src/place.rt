@@ -187,8 +187,7 @@ fn module_of_names(fault: &NameFault) -> Option<&str> {
         NameFault::Memory => None,
         NameFault::Limit(_, module, _) => Some(module.as_str()),
         NameFault::Twice(module, _) | NameFault::UnknownName(module, _) => Some(module.as_str()),
-        NameFault::NotExported(module, _) | NameFault::Circular(module, _) =>
-            Some(module.as_str()),
+        NameFault::NotExported(module, _) | NameFault::Circular(module, _) => Some(module.as_str()),
         NameFault::UnknownModule(module, _) => Some(module.as_str()),
     }
 }
@@ -238,8 +237,10 @@ fn module_text(alloc: Global, texts: &[Vec<u8>], from: usize, name: &str) -> Opt
 /// The number of the text in which a value is assigned: that of the module before the dot, or else the first one.
 fn value_text(alloc: Global, texts: &[Vec<u8>], module: &str, name: &str) -> Option<usize> {
     if let Some(number) = module_text(alloc, texts, 0, module) {
-        if defines_in(alloc, texts[number].as_slice(), name) {
-            return Some(number);
+        if let Some(text) = texts.get(number) {
+            if defines_in(alloc, text.as_slice(), name) {
+                return Some(number);
+            }
         }
     }
     for number in 0..texts.len() {
@@ -267,12 +268,7 @@ pub fn parts(text: &str) -> (&str, &str) {
 }
 
 /// The number of the text in which a fault stands.
-pub fn text_number(
-    alloc: Global,
-    texts: &[Vec<u8>],
-    job: &Job,
-    fault: &Fault,
-) -> Option<usize> {
+pub fn text_number(alloc: Global, texts: &[Vec<u8>], job: &Job, fault: &Fault) -> Option<usize> {
     match fault {
         Fault::Text(number, _) | Fault::Tree(number, _) => Some(*number),
         Fault::Name(inner) => {
@@ -303,11 +299,11 @@ fn of_octets(fault: &LexFault) -> Option<usize> {
     match fault {
         LexFault::Memory => None,
         LexFault::Limit(_, place) => Some(*place),
-        LexFault::NotUtf8(place)
-        | LexFault::BadCharacter(place)
-        | LexFault::OpenComment(place) => Some(*place),
-        LexFault::OpenString(place) | LexFault::BadNumber(place) | LexFault::BadName(place) =>
+        LexFault::NotUtf8(place) | LexFault::BadCharacter(place) | LexFault::OpenComment(place) =>
             Some(*place),
+        LexFault::OpenString(place) | LexFault::BadNumber(place) | LexFault::BadName(place) => Some(
+            *place,
+        ),
     }
 }
 

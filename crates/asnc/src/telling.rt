@@ -164,12 +164,15 @@ fn of_limit(limit: Limit) -> (&'static str, &'static str) {
         ),
         Limit::Values => ("2 Limit(Values)", "more than 65536 values are assigned"),
         Limit::Members => ("2 Limit(Members)", "a list here has more than 256 members"),
-        Limit::Items => ("2 Limit(Items)", "an enumeration here has more than 1024 items"),
-        Limit::NamedBit => ("2 Limit(NamedBit)", "a named bit here stands past place 65535"),
-        Limit::Integer => (
-            "2 Limit(Integer)",
-            "numbers are from -2^127 to 2^127 - 1",
+        Limit::Items => (
+            "2 Limit(Items)",
+            "an enumeration here has more than 1024 items",
         ),
+        Limit::NamedBit => (
+            "2 Limit(NamedBit)",
+            "a named bit here stands past place 65535",
+        ),
+        Limit::Integer => ("2 Limit(Integer)", "numbers are from -2^127 to 2^127 - 1"),
     }
 }
 

@@ -115,8 +115,10 @@ fn text_of(alloc: Global, found: &ArgMatches<'_>, id: &str) -> Result<String, Al
 fn files_of(alloc: Global, found: &ArgMatches<'_>) -> Result<Vec<String>, AllocError>
     ensures { IfOk result (λ v. map string_bytes v.items ≡ texts_in (rows_of (found_of found.now)) (codes "FILE")) }
 {
-    let names = found.get_strs("FILE").unwrap_or(&[]);
-    texts_of(alloc, names)
+    match found.get_strs("FILE") {
+        Some(names) => texts_of(alloc, names),
+        None => Ok(Vec::new(alloc)),
+    }
 }
 
 /// Texts of one's own.

@@ -7,5 +7,8 @@ use Rattle.asnc.proofs.Lists.{seen_here}
 use Rattle.asnc.proofs.first_path.check_values.Goals as goal
 
 pub returns-in-Some : goal.returns-in-Some
-returns-in-Some c = (value_of c.index-values-number.result, seen_here value_of c.args.values.now c.loop-number.number c.index-values-number.result c.loop-number-test.true c.index-values-number.is,
-    subst (λ (x : ValueAt). IsFirstNotation (tree_of x.syntax) → ⊥) (sym c.index-values-number.is) c.in-Some.ensures)
+returns-in-Some c = (
+  value_of c.index-values-number.result,
+  seen_here value_of c.args.values.now c.loop-number.number c.index-values-number.result c.loop-number-test.true c.index-values-number.is,
+  subst (λ (x : ValueAt). IsFirstNotation (tree_of x.syntax) → ⊥) (sym c.index-values-number.is) c.in-Some.ensures,
+)
