@@ -1,48 +1,47 @@
--- What stands behind a name and a dot.
-use Rattle.std.proofs.Common.{◌≡◌, ℕ, List, [], ◌∷◌, ◌++◌, Option, Some, None, MatchOption, Bor, sym, ap, ◌∙◌}
-use Rattle.std.proofs.lemmas.List.{append_cancel_left}
-use Rattle.notation.specs.Tree.{Tree, tree_of}
-use Rattle.notation.specs.declared.tree.ValueSyntax.{ValueSyntax}
-use Rattle.syntax.specs.Tree.{AssignmentTree, ModuleTree}
-use Rattle.asnc.specs.Names.{type_meant, value_meant, assigned_notation}
-use Rattle.asnc.specs.Named.{TypeNamed, ValueNamed}
-use Rattle.std.specs.Prelude.{slice_get, option_map}
+-- Texts with a dot between two names, and what they name.
+use Rattle.std.proofs.Common.{◌≡◌, ◌↔◌, ℕ, zero, suc, ◌+◌, ◌<◌, List, [], ◌∷◌, ◌++◌, length, Option, Some, None, refl, sym, ap, ◌∙◌, arith, subst, get_or}
+use Rattle.std.specs.Prelude.{IfSome, MatchOption}
+use Rattle.std.specs.Borrow.{Bor}
+use Rattle.std.proofs.lemmas.Str.Pattern.{IsSplitOnceResult, split_parts, split_after}
+use Rattle.notation.specs.Tree.{Name}
+use Rattle.resolve.specs.declared.names.Assigned.{Assigned}
+use Rattle.resolve.specs.declared.names.Assigned.TheVariants as assigned
+use Rattle.resolve.specs.Names.{Meaning}
+use Rattle.resolve.specs.Program.{Program, IsThere}
+use Rattle.asnc.specs.Named.{IsQualified, IsNamed}
 
--- behind a name stands a dot and more just where behind the name and the dot more stands
-pub behind_both : (r : Option (Bor (List ℕ))) (spelled name text behind : List ℕ) → spelled ≡ name → text ≡ spelled ++ behind → MatchOption r ((x : List ℕ) → behind ≡ 46 ∷ x → ⊥) (λ x. behind ≡ 46 ∷ x.now)
-    → MatchOption r ((x : List ℕ) → text ≡ name ++ (46 ∷ x) → ⊥) (λ x. text ≡ name ++ (46 ∷ x.now))
-behind_both None spelled name text behind same e none = λ x f. none x (append_cancel_left name behind (46 ∷ x) (ap (λ y. y ++ behind) (sym same) ∙ sym e ∙ f))
-behind_both (Some b) spelled name text behind same e some = e ∙ ap (λ y. y ++ behind) same ∙ ap (λ y. name ++ y) some
+dot_there : (M x : Name) → get_or (M ++ 46 ∷ x) (length M) 0 ≡ 46
+dot_there [] x = refl
+dot_there (y ∷ M) x = dot_there M x
 
-abbrev rest_of : List ℕ → List ℕ
-rest_of [] = []
-rest_of (x ∷ xs) = xs
+dot_within : (M x : Name) → length M < length (M ++ 46 ∷ x)
+dot_within [] x = omega arith
+dot_within (y ∷ M) x = let l = dot_within M x in omega (arith, l)
 
--- what stands behind a name and a dot is one text
-same_rest : (name text x y : List ℕ) → text ≡ name ++ (46 ∷ x) → text ≡ name ++ (46 ∷ y) → x ≡ y
-same_rest name text x y e f = ap rest_of (append_cancel_left name (46 ∷ x) (46 ∷ y) (sym e ∙ f))
+pub dot_parts : (text : List ℕ) (r : Option (Bor (List ℕ) × Bor (List ℕ))) → IsSplitOnceResult 46 text r → MatchOption r ((M x : Name) → IsQualified text M x → ⊥) (λ p. IsQualified text p.0.now p.1.now)
+dot_parts text None s = λ M x q. split_parts 46 text None s (omega arith) (length M) (subst (λ t. length M < length t) (sym q.spelled) (dot_within M x)) (subst (λ t. get_or t (length M) 0 ≡ 46) (sym q.spelled) (dot_there M x))
+dot_parts text (Some p) s = let h = split_parts 46 text (Some p) s (omega arith) in record { spelled = h.0; plain = h.1 }
 
--- a name that means no type is no type's
-pub no_type : (m : ModuleTree) (text x : List ℕ) → text ≡ m.name ++ (46 ∷ x) → None ≡ type_meant m None x → (t : ℕ) → TypeNamed m text t → ⊥
-no_type m text x e none t named =
-    let same : x ≡ named.name = same_rest m.name text x named.name e named.spelled in
-    let found : type_meant m None x ≡ Some named.place = ap (type_meant m None) same ∙ named.means in
-    let both : None ≡ Some named.place = none ∙ found in cc
+pub dot_only : (text : List ℕ) (r : Option (Bor (List ℕ) × Bor (List ℕ))) → IsSplitOnceResult 46 text r → IfSome r (λ p. (M x : Name) → IsQualified text M x → (M ≡ p.0.now) × (x ≡ p.1.now))
+dot_only text None s = tt
+dot_only text (Some p) s = λ M x q. (let h = split_after 46 text M x (Some p) s (omega arith) q.spelled q.plain in (sym h.0, sym h.1))
 
-pub no_value : (m : ModuleTree) (text x : List ℕ) → text ≡ m.name ++ (46 ∷ x) → None ≡ value_meant m None x → (n : Tree) → ValueNamed m text n → ⊥
-no_value m text x e none n named =
-    let same : x ≡ named.name = same_rest m.name text x named.name e named.spelled in
-    let found : value_meant m None x ≡ Some named.place = ap (value_meant m None) same ∙ named.means in
-    let both : None ≡ Some named.place = none ∙ found in cc
+-- what the parts mean is what the text names
+pub named_is : (p : Program) (text : List ℕ) (W y : Name) (r : Option Assigned) → IsQualified text W y → ((M x : Name) → IsQualified text M x → (M ≡ W) × (x ≡ y)) → ((a : Assigned) → (r ≡ Some a ↔ Meaning p.modules W y a)) → (a : Assigned) → (r ≡ Some a ↔ IsNamed p text a)
+named_is p text W y r q only h a = (
+  λ e. record { within = W; name = y; is = q; means = (h a).0 e },
+  λ n. (let o = only n.within n.name n.is in (h a).1 (subst (λ M. Meaning p.modules M y a) o.0 (subst (λ x. Meaning p.modules n.within x a) o.1 n.means))),
+)
 
--- a name that means a value is that of the notation of its assignment
-pub its_notation : (m : ModuleTree) (text x : List ℕ) (place : ℕ) (a : AssignmentTree) (r : Option (Bor ValueSyntax)) → text ≡ m.name ++ (46 ∷ x) → Some place ≡ value_meant m None x → slice_get m.assignments place ≡ Some a
-    → option_map (λ n. tree_of n.now) r ≡ assigned_notation a → MatchOption r ((n : Tree) → ValueNamed m text n → ⊥) (λ n. ValueNamed m text (tree_of n.now))
-its_notation m text x place a None e means there given = λ n named.
-    let same : x ≡ named.name = same_rest m.name text x named.name e named.spelled in
-    let found : Some place ≡ Some named.place = means ∙ ap (value_meant m None) same ∙ named.means in
-    let at : place ≡ named.place = cc in
-    let one : Some a ≡ Some named.assignment = sym there ∙ ap (slice_get m.assignments) at ∙ named.there in
-    let alike : a ≡ named.assignment = cc in
-    let both : None ≡ Some n = given ∙ ap assigned_notation alike ∙ named.notation in cc
-its_notation m text x place a (Some b) e means there given = record { name = x; spelled = e; place = place; means = sym means; assignment = a; there = there; notation = sym given }
+pub named_none : (p : Program) (text : List ℕ) → ((M x : Name) → IsQualified text M x → ⊥) → (a : Assigned) → (None ≡ Some a ↔ IsNamed p text a)
+named_none p text h a = (λ e. absurd cc, λ n. absurd (h n.within n.name n.is))
+
+pub named_there : (p : Program) (W y : Name) (r : Option Assigned) → ((M x : Name) (a : Assigned) → Meaning p.modules M x a → IsThere p a) → ((a : Assigned) → (r ≡ Some a ↔ Meaning p.modules W y a)) → IfSome r (IsThere p)
+named_there p W y None w h = tt
+named_there p W y (Some a) w h = w W y a ((h a).0 refl)
+
+pub no_type : (p : Program) (text : List ℕ) (r : Option Assigned) → ((a : Assigned) → (r ≡ Some a ↔ IsNamed p text a)) → ((t : ℕ) → r ≡ Some (assigned.Type t) → ⊥) → (t : ℕ) → IsNamed p text (assigned.Type t) → ⊥
+no_type p text r h n t k = n t ((h (assigned.Type t)).1 k)
+
+pub no_value : (p : Program) (text : List ℕ) (r : Option Assigned) → ((a : Assigned) → (r ≡ Some a ↔ IsNamed p text a)) → ((t : ℕ) → r ≡ Some (assigned.Value t) → ⊥) → (t : ℕ) → IsNamed p text (assigned.Value t) → ⊥
+no_value p text r h n t k = n t ((h (assigned.Value t)).1 k)

@@ -1,14 +1,14 @@
-pub mod Cores
-mod Found
-pub mod Meanings
-mod Groups
-mod Members
-pub mod Notated
-mod Places
-mod Refused
-mod Settled
-mod Simple
-pub mod Totals
-mod Typings
-mod Walks
 mod Dots
+mod Found
+mod Groups
+mod Lasts
+mod Leading
+mod Lists
+pub mod Notated
+mod Openings
+mod Refused
+mod Simple
+mod Types
+mod Typings
+mod Unfoldings
+mod Walks

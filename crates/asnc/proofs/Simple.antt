@@ -6,12 +6,8 @@ use Rattle.std.proofs.lemmas.Option.{slice_get-map, slice_get_read, slice_get_wi
 use Rattle.asn_base.specs.Types.{Resolved}
 use Rattle.asn_base.specs.Accepted.{IsSimpleMember, IsSimple}
 use Rattle.asn_base.specs.Seen.{component_of}
+use Rattle.asnc.proofs.Lists.{all_at}
 use Rattle.asn_base.specs.declared.schema.Component.{Component as Component'}
-
-all_at : {X : Type 0} (P : X → Type 0) (xs : List X) (i : ℕ) (x : X) → AllByRecursion P xs → slice_get xs i ≡ Some x → P x
-all_at P [] i x a e = absurd cc
-all_at P (y ∷ xs) zero x a e = let q : y ≡ x = cc in rw (sym q) a.0
-all_at P (y ∷ xs) (suc i) x a e = all_at P xs i x a.1 e
 
 pub simple_at : (s : List Resolved) (cs : List Component') (i : ℕ) (c : Component') → AllByRecursion (IsSimpleMember s) (map component_of cs) → i < length cs → c ≡ get_or cs i c → IsSimpleMember s (component_of c)
 simple_at s cs i c a l e = all_at (IsSimpleMember s) (map component_of cs) i (component_of c) a (slice_get-map component_of cs i ∙ ap (option_map component_of) (slice_get_read cs (length cs) i c refl l e))

@@ -1,7 +1,7 @@
 -- The command lines that the program takes, and what a job holds of one.
 use Rattle.std.specs.Prelude.{◌≡◌, ⊤, List, [], ◌∷◌, true, false, Some, codes, map, option_map, string_bytes, unwrap_or}
-use Rattle.clap.specs.Words.{App, Rule, Row, Text, IsAmong, fault_of, first_of, one_of, new_app, new_rule, subcommand_of, with_rule, with_subcommand}
-use Rattle.clap.specs.declared.builder.ArgAction.TheVariants.{Set, SetTrue}
+use Rattle.clap.specs.Words.{App, Rule, Row, Text, IsAmong, all_of, fault_of, first_of, one_of, new_app, new_rule, subcommand_of, with_rule, with_subcommand}
+use Rattle.clap.specs.declared.builder.ArgAction.TheVariants.{Append, Set, SetTrue}
 use Rattle.clap.specs.declared.error.kind.ErrorKind.{ErrorKind}
 use Rattle.clap.specs.declared.error.kind.ErrorKind.TheVariants as kinds
 use Rattle.asnc.specs.declared.fault.Fault.{Fault}
@@ -23,14 +23,14 @@ text_rule id = record (new_rule id) {
 abbrev pub raw_rule : Rule
 raw_rule = record (new_rule (codes "raw")) { long = Some (codes "raw"); action = Some SetTrue }
 
--- the one word at the end
-abbrev pub file_rule : Rule
-file_rule = record (new_rule (codes "FILE")) { required = true; action = Some Set }
+-- the words at the end, one at least
+abbrev pub files_rule : Rule
+files_rule = record (new_rule (codes "FILE")) { required = true; action = Some Append }
 
--- `der --type TEXT --value TEXT [--raw] FILE`
+-- `der --type TEXT --value TEXT [--raw] FILE..`
 abbrev pub der_app : App
 der_app = with_rule (with_rule (with_rule (with_rule (new_app (codes "der"))
-    (text_rule (codes "type"))) (text_rule (codes "value"))) raw_rule) file_rule
+    (text_rule (codes "type"))) (text_rule (codes "value"))) raw_rule) files_rule
 
 -- a command is wanted, and `help` is none
 abbrev pub asnc_app : App
@@ -42,6 +42,10 @@ asnc_app = with_subcommand (record (new_app (codes "asnc")) {
 abbrev pub text_in : List Row → Text → Text
 text_in rows id = unwrap_or (first_of id rows) []
 
+-- the texts that were given for an argument
+abbrev pub texts_in : List Row → Text → List Text
+texts_in rows id = unwrap_or (all_of id rows) []
+
 -- The job holds what was found for the arguments of `der`; what it doesn't take is empty.
 pub record IsDerOf (rows : List Row) (job : Job) : Type 0 where
   pub verb : job.verb ≡ verbs.Der
@@ -49,7 +53,7 @@ pub record IsDerOf (rows : List Row) (job : Job) : Type 0 where
   pub value : string_bytes job.value ≡ text_in rows (codes "value")
   pub raw : (one_of (codes "raw") rows ≡ Some (codes "true")) → job.raw ≡ true
   pub not_raw : (one_of (codes "raw") rows ≡ Some (codes "false")) → job.raw ≡ false
-  pub files : map string_bytes job.files.items ≡ text_in rows (codes "FILE") ∷ []
+  pub files : map string_bytes job.files.items ≡ texts_in rows (codes "FILE")
   pub no_account : string_bytes job.account ≡ []
   pub no_octets : job.octets ≡ given.Nothing
   pub not_strict : job.strict ≡ false

@@ -1,9 +1,6 @@
-pub mod Accepting
 pub mod CommandLine
-pub mod Limits
+pub mod FirstPath
 pub mod Named
-pub mod Names
-pub mod Naming
 pub mod Notations
 pub mod Opening
 pub mod Resolving

@@ -1,23 +1,25 @@
--- What a text of the form Module.Name names in a module (X.680, 14.1).
-use Rattle.std.specs.Prelude.{◌≡◌, ℕ, List, ◌+◌, ◌++◌, ◌∷◌, Some, None, slice_get}
-use Rattle.notation.specs.Tree.{Name, Tree}
-use Rattle.syntax.specs.Tree.{AssignmentTree, ModuleTree}
-use Rattle.asnc.specs.Names.{assigned_notation, type_meant, value_meant}
+-- What a text of the form Module.Name names in a program (X.680, 14.1).
+use Rattle.std.specs.Prelude.{◌≡◌, ℕ, ◌<◌, List, ◌++◌, ◌∷◌, length, get_or}
+use Rattle.notation.specs.Tree.{Name}
+use Rattle.resolve.specs.declared.names.Assigned.{Assigned}
+use Rattle.resolve.specs.declared.names.Assigned.TheVariants as assigned
+use Rattle.resolve.specs.Names.{Meaning}
+use Rattle.resolve.specs.Program.{Program}
 
--- the module's name, a dot, and the name of a type: its number is its place behind the three built-in types
-pub record TypeNamed (m : ModuleTree) (text : List ℕ) (t : ℕ) : Type 0 where
-  pub name : Name
-  pub spelled : text ≡ m.name ++ (46 ∷ name)
-  pub place : ℕ
-  pub means : type_meant m None name ≡ Some place
-  pub behind : t ≡ place + 3
+-- a module's name, in which no dot stands, a dot, and a name
+pub record IsQualified (text : List ℕ) (M x : Name) : Type 0 where
+  pub spelled : text ≡ M ++ (46 ∷ x)
+  pub plain : (i : ℕ) → i < length M → get_or M i 0 ≡ 46 → ⊥
 
--- the module's name, a dot, and the name of a value that is assigned with this notation
-pub record ValueNamed (m : ModuleTree) (text : List ℕ) (n : Tree) : Type 0 where
+-- a module's name, a dot, and a name with this meaning there, be it assigned there or imported
+pub record IsNamed (p : Program) (text : List ℕ) (a : Assigned) : Type 0 where
+  pub within : Name
   pub name : Name
-  pub spelled : text ≡ m.name ++ (46 ∷ name)
-  pub place : ℕ
-  pub means : value_meant m None name ≡ Some place
-  pub assignment : AssignmentTree
-  pub there : slice_get m.assignments place ≡ Some assignment
-  pub notation : assigned_notation assignment ≡ Some n
+  pub is : IsQualified text within name
+  pub means : Meaning p.modules within name a
+
+abbrev pub TypeNamed : Program → List ℕ → ℕ → Type 0
+TypeNamed p text t = IsNamed p text (assigned.Type t)
+
+abbrev pub ValueNamed : Program → List ℕ → ℕ → Type 0
+ValueNamed p text i = IsNamed p text (assigned.Value i)

@@ -1,19 +1,28 @@
--- What a module's text is, and its faults.
-use Rattle.std.specs.Prelude.{ℕ, List}
+-- What texts of modules are together, and their faults.
+use Rattle.std.specs.Prelude.{◌≡◌, ⊤, ℕ, ◌<◌, List, Some, slice_get, Vec}
+use Rattle.std.specs.Global.{Global}
+use Rattle.std.specs.List.{AllZip}
+use Rattle.text.specs.declared.fault.LexFault.{LexFault}
 use Rattle.text.specs.declared.token.Token.{Token}
 use Rattle.text.specs.Text as texts
 use Rattle.grammar.specs.Lexeme.{lexemes}
 use Rattle.grammar.specs.Places.{small}
+use Rattle.asn_base.specs.Types.{Resolved}
 use Rattle.notation.specs.Given.{IsLexed}
 use Rattle.notation.specs.Answer as answers
 use Rattle.syntax.specs.Syntax.{module_text}
 use Rattle.syntax.specs.Tree.{ModuleTree}
 use Rattle.notation.specs.declared.fault.SyntaxFault.{SyntaxFault}
-use Rattle.asnc.specs.declared.fault.NameFault.{NameFault}
+use Rattle.resolve.specs.declared.fault.NameFault.{NameFault}
+use Rattle.resolve.specs.Program.{Program}
+use Rattle.resolve.specs.Links.{Links, IsLinkFault}
 use Rattle.asnc.specs.declared.fault.Fault.{Fault}
 use Rattle.asnc.specs.declared.fault.Fault.TheVariants as faults
-use Rattle.asnc.specs.Accepting.{IsAcceptedModule}
-use Rattle.asnc.specs.Naming as names
+use Rattle.asnc.specs.FirstPath.{IsFirstPath, IsOutsideFault}
+use Rattle.asnc.specs.Resolving.{AreTypes}
+
+abbrev pub octets_of : Vec ℕ Global → List ℕ
+octets_of v = v.items
 
 -- the text is this module, with at most 128 things open at one place
 pub record IsModule (x : List ℕ) (m : ModuleTree) : Type 0 where
@@ -21,10 +30,17 @@ pub record IsModule (x : List ℕ) (m : ModuleTree) : Type 0 where
   pub lexed : IsLexed x tokens
   pub tree : (module_text small 128).Is m (lexemes x tokens)
 
--- the text is this module, and its names have their meanings
-pub record IsOpened (x : List ℕ) (m : ModuleTree) : Type 0 where
-  pub is : IsModule x m
-  pub accepted : IsAcceptedModule m
+-- the program of linked modules is one that this compiler takes, and the schema has its types
+pub record IsKitOf (ms : List ModuleTree) (p : Program) (s : List Resolved) : Type 0 where
+  pub links : Links ms p
+  pub first : IsFirstPath p
+  pub types : AreTypes p.types s
+
+-- each text is a module, and this is their kit
+pub record IsOpened (xs : List (List ℕ)) (p : Program) (s : List Resolved) : Type 0 where
+  pub modules : List ModuleTree
+  pub are : AllZip IsModule xs modules
+  pub kit : IsKitOf modules p s
 
 -- the tokens of the text are no module, as the fault tells
 pub record IsNoModule (x : List ℕ) (fault : SyntaxFault) : Type 0 where
@@ -32,15 +48,56 @@ pub record IsNoModule (x : List ℕ) (fault : SyntaxFault) : Type 0 where
   pub lexed : IsLexed x tokens
   pub stands : answers.Stands module_text (lexemes x tokens) 0 128 fault
 
--- the text is a module, in which the fault of names stands
-pub record IsNoKit (x : List ℕ) (fault : NameFault) : Type 0 where
-  pub parsed : ModuleTree
-  pub is : IsModule x parsed
-  pub stands : names.Stands parsed fault
+-- the fault of the octets of a text, or of its tokens, stands
+abbrev pub IsRefused : List ℕ → Fault → Type 0
+IsRefused x (faults.Text k f) = texts.Stands x f
+IsRefused x (faults.Tree k f) = IsNoModule x f
+IsRefused x fault = ⊥
 
--- The fault stands in the text: of its octets, else of its tokens, else of its names.
-abbrev pub StandsIn : List ℕ → Fault → Type 0
-StandsIn x (faults.Text f) = texts.Stands x f
-StandsIn x (faults.Tree f) = IsNoModule x f
-StandsIn x (faults.Name f) = IsNoKit x f
-StandsIn x fault = ⊥
+-- this text, which has number k, is refused
+abbrev pub IsRefusedAt : ℕ → List ℕ → Fault → Type 0
+IsRefusedAt k x (faults.Text i f) = (i ≡ k) × texts.Stands x f
+IsRefusedAt k x (faults.Tree i f) = (i ≡ k) × IsNoModule x f
+IsRefusedAt k x fault = ⊥
+
+-- text k is the first one that is refused
+pub record IsFirstRefused (xs : List (List ℕ)) (k : ℕ) (fault : Fault) : Type 0 where
+  pub text : List ℕ
+  pub there : slice_get xs k ≡ Some text
+  pub stands : IsRefused text fault
+  pub before : (i : ℕ) (y : List ℕ) → i < k → slice_get xs i ≡ Some y → (m : ModuleTree) × IsModule y m
+
+-- a fault of one text tells its number
+abbrev pub IsTextFault : List (List ℕ) → Fault → Type 0
+IsTextFault xs faults.Memory = ⊤
+IsTextFault xs (faults.Text k f) = IsFirstRefused xs k (faults.Text k f)
+IsTextFault xs (faults.Tree k f) = IsFirstRefused xs k (faults.Tree k f)
+IsTextFault xs fault = ⊥
+
+-- the modules are linked, and something in their program is none of what this compiler takes
+pub record IsOutsideOf (ms : List ModuleTree) (fault : Fault) : Type 0 where
+  pub program : Program
+  pub links : Links ms program
+  pub outside : IsOutsideFault program fault
+
+-- a fault of modules stands: they can't be linked, or they are linked and more than this compiler takes
+abbrev pub IsNoKit : List ModuleTree → Fault → Type 0
+IsNoKit ms faults.Memory = ⊤
+IsNoKit ms (faults.Name f) = IsLinkFault ms f
+IsNoKit ms (faults.OutOfProfile c m x) = IsOutsideOf ms (faults.OutOfProfile c m x)
+IsNoKit ms fault = ⊥
+
+-- each text is a module, and the fault of the modules stands
+pub record AreNoKit (xs : List (List ℕ)) (fault : Fault) : Type 0 where
+  pub modules : List ModuleTree
+  pub are : AllZip IsModule xs modules
+  pub stands : IsNoKit modules fault
+
+-- The fault stands: of the octets of the first text that is refused, else of its tokens, else of the names of all modules, else of what stands in them. Memory speaks of no text.
+abbrev pub StandsIn : List (List ℕ) → Fault → Type 0
+StandsIn xs faults.Memory = ⊤
+StandsIn xs (faults.Text k f) = IsFirstRefused xs k (faults.Text k f)
+StandsIn xs (faults.Tree k f) = IsFirstRefused xs k (faults.Tree k f)
+StandsIn xs (faults.Name f) = AreNoKit xs (faults.Name f)
+StandsIn xs (faults.OutOfProfile c m x) = AreNoKit xs (faults.OutOfProfile c m x)
+StandsIn xs fault = ⊥

@@ -4,8 +4,8 @@ use Rattle.text.specs.declared.fault.LexFault.{LexFault}
 use Rattle.text.specs.declared.fault.LexFault.TheVariants as texts
 use Rattle.notation.specs.declared.fault.SyntaxFault.{SyntaxFault}
 use Rattle.notation.specs.declared.fault.SyntaxFault.TheVariants as trees
-use Rattle.asnc.specs.declared.fault.NameFault.{NameFault}
-use Rattle.asnc.specs.declared.fault.NameFault.TheVariants as names
+use Rattle.resolve.specs.declared.fault.NameFault.{NameFault}
+use Rattle.resolve.specs.declared.fault.NameFault.TheVariants as names
 use Rattle.asnc.specs.declared.fault.ValueFault.{ValueFault}
 use Rattle.asnc.specs.declared.fault.ValueFault.TheVariants as values
 use Rattle.asnc.specs.declared.fault.Fault.{Fault}
@@ -29,11 +29,12 @@ tree_number_of (trees.OutOfProfile p) = 21
 
 abbrev pub name_number_of : NameFault → ℕ
 name_number_of names.Memory = 1
-name_number_of (names.Limit l x) = 2
-name_number_of (names.InnerSequence x) = 21
-name_number_of (names.Twice x) = 30
-name_number_of (names.UnknownName x) = 31
-name_number_of (names.Circular x) = 33
+name_number_of (names.Limit l m x) = 2
+name_number_of (names.Twice m x) = 30
+name_number_of (names.UnknownName m x) = 31
+name_number_of (names.NotExported m x) = 32
+name_number_of (names.Circular m x) = 33
+name_number_of (names.UnknownModule m x) = 34
 
 abbrev pub value_number_of : ValueFault → ℕ
 value_number_of values.Memory = 1
@@ -50,9 +51,10 @@ number_of faults.Memory = 1
 number_of (faults.File name) = 3
 number_of (faults.BadWords text) = 4
 number_of (faults.Help text) = 5
-number_of (faults.Text f) = text_number_of f
-number_of (faults.Tree f) = tree_number_of f
+number_of (faults.Text k f) = text_number_of f
+number_of (faults.Tree k f) = tree_number_of f
 number_of (faults.Name f) = name_number_of f
+number_of (faults.OutOfProfile c m x) = 21
 number_of (faults.Value f) = value_number_of f
 number_of (faults.NoType name) = 31
 number_of (faults.NoValue name) = 31

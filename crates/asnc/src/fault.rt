@@ -3,56 +3,52 @@
 ghost use Rattle.std.specs.Prelude.{◌≡◌};
 ghost use Rattle.asnc.specs.Status.{number_of, status_of, text_number_of, tree_number_of, name_number_of, value_number_of};
 ghost use Rattle.asnc.specs.declared.fault.Fault.TheVariants.{Memory};
-ghost use Rattle.asnc.specs.declared.fault.NameFault.TheVariants.{Memory as no_names};
 ghost use Rattle.asnc.specs.declared.fault.ValueFault.TheVariants.{Memory as no_value};
 
 use notation::SyntaxFault;
+use resolve::NameFault;
 use std::alloc::{AllocError, AllocFailed};
 use text::LexFault;
 use thiserror::Error;
 
-/// A limit of modules that is passed.
+/// A construct of the notation that this compiler leaves out today.
 #[derive(Clone, Copy, Debug, PartialEq, Eq)]
-pub enum NameLimit {
-    /// A list has at most 256 members.
-    Members,
-    /// A module has at most 4,096 type assignments and 65,536 written types.
-    Types,
-    /// A module has at most 65,536 value assignments.
-    Values,
-}
-
-/// Why the names of a module have no meaning; the name where it stands.
-#[derive(Debug, Drop)]
-pub enum NameFault {
-    /// There was not enough memory.
-    Memory,
-    /// The module, or the list of the type with this name, passes the limit.
-    Limit(NameLimit, String),
-    /// A name is assigned twice, or stands twice in a list of members.
-    Twice(String),
-    /// A type's name that means no type.
-    UnknownName(String),
-    /// The name of a type that comes back to itself by references alone.
-    Circular(String),
-    /// A member with this name whose type is a SEQUENCE, which this stage leaves out.
-    InnerSequence(String),
-}
-
-impl<T: Drop> From<AllocFailed<T>> for NameFault {
-    ghost from_gives = { λ _ e. e ≡ no_names };
-
-    fn from(_error: AllocFailed<T>) -> NameFault {
-        NameFault::Memory
-    }
-}
-
-impl From<AllocError> for NameFault {
-    ghost from_gives = { λ _ e. e ≡ no_names };
-
-    fn from(_error: AllocError) -> NameFault {
-        NameFault::Memory
-    }
+pub enum Construct {
+    /// `IMPLICIT TAGS`
+    ImplicitTags,
+    /// `AUTOMATIC TAGS`
+    AutomaticTags,
+    /// INTEGER with named numbers.
+    NamedNumbers,
+    BitString,
+    Null,
+    ObjectIdentifier,
+    Enumerated,
+    Utf8String,
+    NumericString,
+    PrintableString,
+    Ia5String,
+    VisibleString,
+    /// SEQUENCE as the type of a member.
+    Sequence,
+    Set,
+    Choice,
+    SequenceOf,
+    SetOf,
+    Tag,
+    Constraint,
+    Optional,
+    Default,
+    /// `NULL` as a value.
+    NullValue,
+    /// A text in quotes as a value.
+    CharacterString,
+    /// `name : value`
+    Alternative,
+    /// Numbers in braces: `{1 2}`.
+    Numbers,
+    /// Values in braces: `{1, 2}`.
+    Items,
 }
 
 /// Why a notation stands for no value of a type.
@@ -107,22 +103,25 @@ pub enum Fault {
     /// Help was asked for; its text.
     #[error("{0}")]
     Help(String),
-    /// The text has no tokens.
+    /// The text with this number, counted from 0, has no tokens.
+    #[error("error {1}")]
+    Text(usize, LexFault),
+    /// The tokens of the text with this number are no module.
+    #[error("error {1}")]
+    Tree(usize, SyntaxFault),
+    /// The modules' names have no meaning.
     #[error("error {0}")]
-    Text(LexFault),
-    /// The tokens are no module.
-    #[error("error {0}")]
-    Tree(SyntaxFault),
-    /// The module's names have no meaning.
-    #[error("error {0:?}")]
     Name(NameFault),
+    /// In this module, in the assignment of this name, a construct stands that is left out; no name where it is the tag default.
+    #[error("error 21 OutOfProfile: {1}.{2}")]
+    OutOfProfile(Construct, String, String),
     /// The notation stands for no value of the type.
     #[error("error {0:?}")]
     Value(ValueFault),
-    /// The name of a type, as the caller wrote it, that the module doesn't have.
+    /// The name of a type, as the caller wrote it, that no module has.
     #[error("error 31 UnknownName: {0}")]
     NoType(String),
-    /// The name of a value, as the caller wrote it, that the module doesn't have.
+    /// The name of a value, as the caller wrote it, that no module has.
     #[error("error 31 UnknownName: {0}")]
     NoValue(String),
     /// The encoding has more than 16,777,216 octets.
@@ -158,9 +157,10 @@ pub fn number(fault: &Fault) -> u8
         Fault::File(_) => 3,
         Fault::BadWords(_) => 4,
         Fault::Help(_) => 5,
-        Fault::Text(fault) => text_number(fault),
-        Fault::Tree(fault) => tree_number(fault),
+        Fault::Text(_, fault) => text_number(fault),
+        Fault::Tree(_, fault) => tree_number(fault),
         Fault::Name(fault) => name_number(fault),
+        Fault::OutOfProfile(_, _, _) => 21,
         Fault::Value(fault) => value_number(fault),
         Fault::NoType(_) | Fault::NoValue(_) => 31,
         Fault::TooLong => 71,
@@ -199,11 +199,12 @@ fn name_number(fault: &NameFault) -> u8
 {
     match fault {
         NameFault::Memory => 1,
-        NameFault::Limit(_, _) => 2,
-        NameFault::InnerSequence(_) => 21,
-        NameFault::Twice(_) => 30,
-        NameFault::UnknownName(_) => 31,
-        NameFault::Circular(_) => 33,
+        NameFault::Limit(_, _, _) => 2,
+        NameFault::Twice(_, _) => 30,
+        NameFault::UnknownName(_, _) => 31,
+        NameFault::NotExported(_, _) => 32,
+        NameFault::Circular(_, _) => 33,
+        NameFault::UnknownModule(_, _) => 34,
     }
 }
 

@@ -1,154 +1,155 @@
-//! A module that is ready for use.
+//! Modules that are ready for use.
 
-ghost use Rattle.std.specs.Prelude.{◌≡◌, ◌<◌, ◌+◌, ◌++◌, ◌∷◌, length, IfSome, MatchOption, ℕ};
-ghost use Rattle.notation.specs.Tree.{Name, Tree};
-ghost use Rattle.asn_base.specs.Accepted.{IsAccepted};
+ghost use Rattle.std.specs.Prelude.{◌≡◌, ◌<◌, ◌↔◌, ℕ, List, length, map, Some, IfSome, IfOk, IfErr, MatchOption};
+ghost use Rattle.asn_base.specs.Types.{Resolved};
 ghost use Rattle.syntax.specs.Tree.{module_tree_of};
+ghost use Rattle.notation.specs.Tree.{Name};
+ghost use Rattle.resolve.specs.declared.names.Assigned.{Assigned as Assigned'};
+ghost use Rattle.resolve.specs.Program.{IsThere, Program};
+ghost use Rattle.resolve.specs.Sound.{AreSound};
+ghost use Rattle.asnc.specs.declared.fault.Fault.{Fault as Fault'};
+ghost use Rattle.asnc.specs.FirstPath.{IsFirstPath, IsOutside, IsOutsideFault};
+ghost use Rattle.asnc.specs.Named.{IsNamed, IsQualified, TypeNamed, ValueNamed};
+ghost use Rattle.asnc.specs.Opening.{IsKitOf, IsNoKit, IsOpened, StandsIn, octets_of};
 ghost use Rattle.asnc.specs.Resolving.{AreTypes};
-ghost use Rattle.std.specs.Prelude.{IfOk, IfErr};
-ghost use Rattle.syntax.specs.Tree.{ModuleTree};
-ghost use Rattle.asnc.specs.declared.fault.NameFault.{NameFault as NameFault'};
-ghost use Rattle.asnc.specs.declared.fault.NameFault.TheVariants.{Memory as no_memory};
-ghost use Rattle.asnc.specs.Accepting.{IsAcceptedModule};
-ghost use Rattle.asnc.specs.Naming.{Stands};
 ghost use Rattle.asnc.specs.Writing.{IsEncoded, IsNotEncoded};
-ghost use Rattle.asnc.specs.Named.{TypeNamed, ValueNamed};
-ghost use Rattle.notation.specs.Tree.{tree_of};
-ghost use Rattle.asnc.specs.Opening.{IsOpened, StandsIn};
 
-use crate::fault::{Fault, NameFault, ValueFault};
-use crate::limits::within_limits;
-use crate::resolve::module_types;
-use crate::scope::{Scope, assignment_at, notation_of, type_named, value_named};
+use crate::fault::{Fault, ValueFault};
+use crate::first_path::first_path;
+use crate::opening::modules_of;
+use crate::program::notation_at;
+use crate::resolving::table_types;
+use crate::scope::Scope;
 use crate::typing::typed;
 use asn_base::schema::{Schema, TypeId};
 use der_writer::{WriteFault, write_der};
-use notation::ValueSyntax;
+use resolve::{Assigned, Linked, link};
 use std::alloc::Global;
-use syntax::{Module, parse};
+use syntax::Module;
 
-/// A module whose names have their meanings, with its types.
+/// Modules whose names have their meanings, with their types.
 #[derive(Drop)]
 pub struct Kit {
     scope: Scope,
     schema: Schema,
-    ghost sized: { length schema ≡ 3 + length scope.parsed.assignments.items },
-    ghost resolved: { ∥ AreTypes (module_tree_of scope.parsed) (module_tree_of scope.parsed).assignments schema ∥₁ },
+    ghost sized: { length schema ≡ length scope.types },
+    ghost resolved: { ∥ AreTypes scope.types schema ∥₁ },
 }
 
-/// The name behind the module's name and a dot.
-fn own_name<'a>(scope: &Scope, text: &'a str) -> Option<&'a str>
-    ensures { MatchOption result ((x : Name) → text.now ≡ (module_tree_of scope.now.parsed).name ++ (46 ∷ x) → ⊥) (λ x. text.now ≡ (module_tree_of scope.now.parsed).name ++ (46 ∷ x.now)) }
+/// The parts of a text before and behind its first dot.
+fn qualified(text: &str) -> Option<(&str, &str)>
+    ensures parts { MatchOption result ((M x : Name) → IsQualified text.now M x → ⊥) (λ p. IsQualified text.now p.0.now p.1.now) }
+    ensures only { IfSome result (λ p. (M x : Name) → IsQualified text.now M x → (M ≡ p.0.now) × (x ≡ p.1.now)) }
 {
-    let behind = behind_name(scope.parsed.name.as_str(), text)?;
-    behind_dot(behind)
+    text.split_once('.')
 }
 
-/// What stands behind a name.
-fn behind_name<'a>(name: &str, text: &'a str) -> Option<&'a str>
-    ensures { MatchOption result ((x : Name) → text.now ≡ name.now ++ x → ⊥) (λ x. text.now ≡ name.now ++ x.now) }
+/// What a text of the form `Module.Name` names.
+fn named(linked: &Linked, text: &str) -> Option<Assigned>
+    ensures is { (a : Assigned') → (result ≡ Some a ↔ IsNamed linked.now text.now a) }
+    ensures there { IfSome result (IsThere linked.now) }
 {
-    text.strip_prefix(name)
-}
-
-/// What stands behind a dot.
-fn behind_dot(text: &str) -> Option<&str>
-    ensures { MatchOption result ((x : Name) → text.now ≡ 46 ∷ x → ⊥) (λ x. text.now ≡ 46 ∷ x.now) }
-{
-    text.strip_prefix('.')
-}
-
-/// The kit of a module. The first fault of its names is answered.
-fn kit_of(alloc: Global, parsed: Module) -> Result<Kit, NameFault>
-    ensures accepted { IfOk result (λ k. (k.scope.parsed ≡ parsed) × IsAcceptedModule (module_tree_of parsed)) }
-    ensures fault { IfErr result (Stands (module_tree_of parsed)) }
-{
-    let scope = match Scope::of(alloc, parsed) {
-        Ok(scope) => scope,
-        Err(fault) => return Err(fault),
-    };
-    match within_limits(alloc, &scope) {
-        Ok(_) => {}
-        Err(fault) => return Err(fault),
-    }
-    match module_types(alloc, &scope) {
-        Ok(types) => Ok(Kit {
-            scope,
-            schema: Schema::of(types),
-        }),
-        Err(fault) => Err(fault),
+    linked.whole();
+    match qualified(text) {
+        None => None,
+        Some((within, name)) => linked.meaning(within, name),
     }
 }
 
-/// A fault of names that stands in a module excludes that the module is accepted: so a kit is made just where it is.
+/// The kit of linked modules. The first construct that is left out is answered.
+fn kit_of_program(alloc: Global, linked: Linked) -> Result<Kit, Fault>
+    requires sound { AreSound linked.types }
+    ensures same { IfOk result (λ k. k.scope ≡ linked) }
+    ensures first { IfOk result (λ k. IsFirstPath linked) }
+    ensures types { IfOk result (λ k. AreTypes linked.types k.schema) }
+    ensures fault { IfErr result (IsOutsideFault linked) }
+{
+    match first_path(alloc, &linked) {
+        Ok(()) => {}
+        Err(fault) => return Err(fault),
+    }
+    let types = table_types(alloc, linked.types())?;
+    let schema = Schema::of(types);
+    let scope = Scope::of(alloc, linked)?;
+    Ok(Kit { scope, schema })
+}
+
+/// The kit of modules. The first fault of their names is answered, else the first construct that is left out.
+fn kit_of(alloc: Global, modules: Vec<Module>) -> Result<Kit, Fault>
+    ensures kit { IfOk result (λ k. IsKitOf (map module_tree_of modules.items) k.scope k.schema) }
+    ensures fault { IfErr result (IsNoKit (map module_tree_of modules.items)) }
+{
+    match link(alloc, modules) {
+        Ok(linked) => kit_of_program(alloc, linked),
+        Err(fault) => Err(Fault::Name(fault)),
+    }
+}
+
+/// A construct that is left out excludes that a program is one that this compiler takes: so a linked program has a kit just where nothing is left out.
 pub fn faults_exclude()
-    ensures { (m : ModuleTree) (fault : NameFault') → (fault ≡ no_memory → ⊥) → Stands m fault → IsAcceptedModule m → ⊥ }
+    ensures { (p : Program) (M x : Name) → IsOutside p M x → IsFirstPath p → ⊥ }
 {}
 
 impl Kit {
-    /// Reads the text of a module.
+    /// Reads the texts of modules, and links them.
     ///
-    /// Its first fault is answered, in this order: of the octets, of the tokens, of the names.
-    pub fn open(alloc: Global, text: &[u8]) -> Result<Kit, Fault>
-        // The text has tokens, they are a module, and its names have their meanings.
-        ensures opened { IfOk result (λ k. IsOpened text.now (module_tree_of k.scope.parsed)) }
+    /// The first fault is answered, in this order: of the octets and then of the tokens of each text in turn, of the names of all
+    /// modules, of constructs that are left out.
+    pub fn open(alloc: Global, texts: &[Vec<u8>]) -> Result<Kit, Fault>
+        // Each text has tokens and is its module, the modules link to the kit's program, which holds nothing that is left out, and the schema has its types.
+        ensures opened { IfOk result (λ k. IsOpened (map octets_of texts.now) k.scope k.schema) }
         // A fault stands.
-        ensures fault { IfErr result (StandsIn text.now) }
+        ensures fault { IfErr result (StandsIn (map octets_of texts.now)) }
     {
-        let tokens = match text::lex(alloc, text) {
-            Ok(tokens) => tokens,
-            Err(fault) => return Err(Fault::Text(fault)),
-        };
-        let parsed = match parse(alloc, text, tokens.as_slice()) {
-            Ok(parsed) => parsed,
-            Err(fault) => return Err(Fault::Tree(fault)),
-        };
-        match kit_of(alloc, parsed) {
-            Ok(kit) => Ok(kit),
-            Err(fault) => Err(Fault::Name(fault)),
+        match modules_of(alloc, texts) {
+            Ok(modules) => kit_of(alloc, modules),
+            Err(fault) => Err(fault),
         }
     }
 
     /// The number of the type that a text names as `Module.Type`.
     fn type_number(&self, name: &str) -> Option<TypeId>
         ensures within { IfSome result (λ id. id.index < length self.now.schema) }
-        ensures named { MatchOption result ((t : ℕ) → TypeNamed (module_tree_of self.now.scope.parsed) name.now t → ⊥) (λ id. TypeNamed (module_tree_of self.now.scope.parsed) name.now id.index) }
+        ensures named { MatchOption result ((t : ℕ) → TypeNamed self.now.scope name.now t → ⊥) (λ id. TypeNamed self.now.scope name.now id.index) }
     {
-        let own = own_name(&self.scope, name)?;
-        match type_named(&self.scope, &None, own) {
+        match named(self.scope.program(), name) {
+            Some(Assigned::Type(index)) => Some(TypeId { index }),
+            Some(Assigned::Value(_)) => None,
             None => None,
-            Some(place) => Some(TypeId { index: place + 3 }),
         }
     }
 
-    /// The notation of the value that a text names as `Module.value`.
-    fn notation_named(&self, name: &str) -> Option<&ValueSyntax>
-        ensures named { MatchOption result ((n : Tree) → ValueNamed (module_tree_of self.now.scope.parsed) name.now n → ⊥) (λ n. ValueNamed (module_tree_of self.now.scope.parsed) name.now (tree_of n.now)) }
+    /// The number of the value that a text names as `Module.value`.
+    fn value_number(&self, name: &str) -> Option<usize>
+        ensures within { IfSome result (λ i. i < length self.now.scope.values) }
+        ensures named { MatchOption result ((i : ℕ) → ValueNamed self.now.scope name.now i → ⊥) (λ i. ValueNamed self.now.scope name.now i) }
     {
-        let own = own_name(&self.scope, name)?;
-        match value_named(&self.scope, &None, own) {
+        match named(self.scope.program(), name) {
+            Some(Assigned::Value(number)) => Some(number),
+            Some(Assigned::Type(_)) => None,
             None => None,
-            Some(place) => notation_of(assignment_at(&self.scope, place)),
         }
     }
 
-    /// The octets that encode a value of a type by the distinguished rules, both named as `Module.Name`.
+    /// The octets that encode a value of a type by the distinguished rules, both named as `Module.Name`, where they are assigned
+    /// or where they are imported.
     ///
     /// `NoType` where the first name is no type's, else `NoValue` where the second is no value's; `Value` where the value's
     /// notation stands for no value of the type; `TooLong` where the encoding has more than 16,777,216 octets; `Memory`.
     pub fn der(&self, alloc: Global, ty: &str, value: &str) -> Result<Vec<u8>, Fault>
-        // The octets are the one encoding of a value that a notation stands for in the module.
-        ensures encoded { IfOk result (λ o. IsEncoded (module_tree_of self.now.scope.parsed) self.now.schema ty.now value.now o.items) }
+        // The octets are the one encoding of a value that a notation stands for in its module.
+        ensures encoded { IfOk result (λ o. IsEncoded self.now.scope self.now.schema ty.now value.now o.items) }
         // A refusal stands.
-        ensures refused { IfErr result (IsNotEncoded (module_tree_of self.now.scope.parsed) self.now.schema ty.now value.now) }
+        ensures refused { IfErr result (IsNotEncoded self.now.scope self.now.schema ty.now value.now) }
     {
         let Some(id) = self.type_number(ty) else {
             return Err(Fault::NoType(String::from_str(alloc, ty)?));
         };
-        let Some(notation) = self.notation_named(value) else {
+        let Some(number) = self.value_number(value) else {
             return Err(Fault::NoValue(String::from_str(alloc, value)?));
         };
-        let typed = match typed(alloc, &self.scope, &self.schema, id, notation) {
+        let (within, notation) = notation_at(self.scope.program(), number);
+        let typed = match typed(alloc, &self.scope, &self.schema, id, within, notation) {
             Ok(typed) => typed,
             Err(fault) => return Err(Fault::Value(fault)),
         };

@@ -1,22 +1,23 @@
-//! The compiler behind one door: a command line, a module's text, a type and a value go in, octets come out.
+//! The compiler behind one door: a command line, the texts of modules, a type and a value go in, octets come out.
 #![tactic(auto)]
 
 mod digits;
 mod fault;
+mod first_path;
 mod kit;
-mod limits;
 mod line;
-mod names;
 mod notations;
+mod opening;
 mod place;
+mod program;
 mod request;
-mod resolve;
+mod resolving;
 mod scope;
 mod telling;
 mod typing;
 mod words;
 
-pub use fault::{Fault, status};
+pub use fault::{Construct, Fault, status};
 pub use kit::{Kit, faults_exclude};
 pub use request::{Given, Job, Verb};
 pub use telling::report;

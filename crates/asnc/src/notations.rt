@@ -1,12 +1,12 @@
 //! What a notation tells by itself, and what it stands for behind its references.
 
-ghost use Rattle.std.specs.Prelude.{◌≡◌, IfOk, IfErr, map, option_map};
-ghost use Rattle.notation.specs.Tree.{tree_of, member_of};
-ghost use Rattle.syntax.specs.Tree.{module_tree_of};
-ghost use Rattle.asnc.specs.Notations.{truth_in, number_in, binary_in, hex_in, fields_in, IsOwn, IsLast, NamesValue, Lacks};
+ghost use Rattle.std.specs.Prelude.{◌≡◌, ℕ, IfOk, IfErr, MatchResult, map, option_map};
+ghost use Rattle.notation.specs.Tree.{Name, Tree, tree_of, member_of};
+ghost use Rattle.asnc.specs.Notations.{truth_in, number_in, binary_in, hex_in, fields_in, IsOwn, IsLast, IsOnlyLast, MeansValue, NamesValue, Lacks};
 
 use crate::fault::ValueFault;
-use crate::scope::{Scope, assignment_at, behind_notation, name_of, notation_end, notation_of};
+use crate::program::{assigned, meant, notation_at, value_at};
+use crate::scope::Scope;
 use notation::{Named, ValueSyntax};
 use std::alloc::{AllocError, Global};
 
@@ -108,24 +108,42 @@ fn plain<'a>(notation: &'a ValueSyntax) -> Result<&'a ValueSyntax, ValueFault>
     }
 }
 
-/// What a notation is behind its references.
+/// The notation itself, read in a module, where it refers to no value.
+fn settled<'a>(
+    scope: &Scope,
+    within: &'a str,
+    notation: &'a ValueSyntax,
+) -> Result<(&'a str, &'a ValueSyntax), ValueFault>
+    requires nothing { (j : ℕ) → MeansValue scope.now within.now (tree_of notation.now) j → ⊥ }
+    ensures { MatchResult result (λ u. IsOnlyLast scope.now within.now (tree_of notation.now) u.0.now (tree_of u.1.now)) (Lacks (λ (w : Name × Tree). IsLast scope.now within.now (tree_of notation.now) w.0 w.1)) }
+{
+    match plain(notation) {
+        Ok(own) => Ok((within, own)),
+        Err(fault) => Err(fault),
+    }
+}
+
+/// What a notation, read in a module, is behind its references, and the module in which that is read.
 pub fn behind_all<'a>(
     alloc: Global,
     scope: &'a Scope,
+    within: &'a str,
     notation: &'a ValueSyntax,
-) -> Result<&'a ValueSyntax, ValueFault>
-    ensures last { IfOk result (λ u. IsLast (module_tree_of scope.now.parsed) (tree_of notation.now) (tree_of u.now)) }
-    ensures none { IfErr result (Lacks (IsLast (module_tree_of scope.now.parsed) (tree_of notation.now))) }
+) -> Result<(&'a str, &'a ValueSyntax), ValueFault>
+    ensures { MatchResult result (λ u. IsOnlyLast scope.now within.now (tree_of notation.now) u.0.now (tree_of u.1.now)) (Lacks (λ (w : Name × Tree). IsLast scope.now within.now (tree_of notation.now) w.0 w.1)) }
 {
-    match behind_notation(scope, notation) {
-        None => plain(notation),
-        Some(start) => match notation_end(scope, start) {
-            Ok(end) => match notation_of(assignment_at(scope, end)) {
-                Some(last) => plain(last),
-                None => Err(ValueFault::NotOfType),
-            },
+    let linked = scope.program();
+    match meant(linked, within, notation) {
+        None => settled(scope, within, notation),
+        Some(start) => match scope.last(start) {
+            Ok(end) => {
+                let (module, last) = notation_at(linked, end);
+                settled(scope, module, last)
+            }
             Err(place) => {
-                let name = name_of(assignment_at(scope, place));
+                linked.whole();
+                let value = value_at(linked, place);
+                let (_, name) = assigned(linked, value.assignment);
                 Err(ValueFault::Circular(String::from_str(alloc, name)?))
             }
         },

@@ -1,10 +1,11 @@
 //! What a user is told of a fault, on one line.
 
-use crate::fault::{Fault, NameFault, NameLimit, ValueFault};
+use crate::fault::{Construct, Fault, ValueFault};
 use crate::line::on_one_line;
-use crate::place::{line_and_column, octet_of, spelling};
+use crate::place::{line_and_column, octet_of, parts, spelling, text_number};
 use crate::request::Job;
 use notation::SyntaxFault;
+use resolve::{Limit, NameFault};
 use std::alloc::{AllocError, Global};
 use syntax::parse;
 use text::{LexFault, Token};
@@ -157,46 +158,111 @@ fn of_tree(
     }
 }
 
+/// The name and the words of a limit that is passed.
+fn of_limit(limit: Limit) -> (&'static str, &'static str) {
+    match limit {
+        Limit::Modules => ("2 Limit(Modules)", "more than 256 modules are linked"),
+        Limit::Types => (
+            "2 Limit(Types)",
+            "more than 4096 types are assigned, or more than 65536 are written",
+        ),
+        Limit::Values => ("2 Limit(Values)", "more than 65536 values are assigned"),
+        Limit::Members => ("2 Limit(Members)", "a list here has more than 256 members"),
+        Limit::Items => (
+            "2 Limit(Items)",
+            "an enumeration here has more than 1024 items",
+        ),
+        Limit::NamedBit => (
+            "2 Limit(NamedBit)",
+            "a named bit here stands past place 65535",
+        ),
+        Limit::Integer => ("2 Limit(Integer)", "numbers are from -2^127 to 2^127 - 1"),
+    }
+}
+
 fn of_names(alloc: Global, fault: &NameFault) -> Result<(String, String), AllocError> {
     match fault {
         NameFault::Memory => Ok((
             String::from_str(alloc, "1 Memory")?,
             String::from_str(alloc, "out of memory")?,
         )),
-        NameFault::Limit(NameLimit::Members, name) => Ok((
-            String::from_str(alloc, "2 Limit(Members)")?,
-            format!(in alloc; "the type {name} has more than 256 members")?,
-        )),
-        NameFault::Limit(NameLimit::Types, _) => Ok((
-            String::from_str(alloc, "2 Limit(Types)")?,
-            String::from_str(
-                alloc,
-                "more than 4096 types are assigned, or more than 65536 are written",
-            )?,
-        )),
-        NameFault::Limit(NameLimit::Values, _) => Ok((
-            String::from_str(alloc, "2 Limit(Values)")?,
-            String::from_str(alloc, "more than 65536 values are assigned")?,
-        )),
-        NameFault::Twice(name) => Ok((
+        NameFault::Limit(limit, _, _) => {
+            let (name, words) = of_limit(*limit);
+            Ok((
+                String::from_str(alloc, name)?,
+                String::from_str(alloc, words)?,
+            ))
+        }
+        NameFault::Twice(_, name) => Ok((
             String::from_str(alloc, "30 Twice")?,
             format!(in alloc; "the name {name} is given a second time here")?,
         )),
-        NameFault::UnknownName(name) => Ok((
+        NameFault::UnknownName(module, name) => Ok((
             String::from_str(alloc, "31 UnknownName")?,
-            format!(in alloc; "{name} is no type of this module")?,
+            format!(in alloc; "{name} has no meaning in the module {module} that it needs here")?,
         )),
-        NameFault::Circular(name) => Ok((
+        NameFault::NotExported(_, name) => Ok((
+            String::from_str(alloc, "32 NotExported")?,
+            format!(in alloc; "{name} is not exported by the module that it is imported from")?,
+        )),
+        NameFault::Circular(_, name) => Ok((
             String::from_str(alloc, "33 Circular")?,
             format!(in alloc; "the type {name} comes back to itself")?,
         )),
-        NameFault::InnerSequence(name) => Ok((
-            String::from_str(alloc, "21 OutOfProfile SEQUENCE")?,
-            format!(in alloc;
-                "the type of the member {name} is a SEQUENCE, which this compiler leaves out"
-            )?,
+        NameFault::UnknownModule(_, name) => Ok((
+            String::from_str(alloc, "34 UnknownModule")?,
+            format!(in alloc; "no text is the module {name}, from which names are imported")?,
         )),
     }
+}
+
+/// What a construct is called.
+pub fn spelled(construct: Construct) -> &'static str {
+    match construct {
+        Construct::ImplicitTags => "IMPLICIT TAGS",
+        Construct::AutomaticTags => "AUTOMATIC TAGS",
+        Construct::NamedNumbers => "named numbers",
+        Construct::BitString => "BIT STRING",
+        Construct::Null => "NULL",
+        Construct::ObjectIdentifier => "OBJECT IDENTIFIER",
+        Construct::Enumerated => "ENUMERATED",
+        Construct::Utf8String => "UTF8String",
+        Construct::NumericString => "NumericString",
+        Construct::PrintableString => "PrintableString",
+        Construct::Ia5String => "IA5String",
+        Construct::VisibleString => "VisibleString",
+        Construct::Sequence => "SEQUENCE",
+        Construct::Set => "SET",
+        Construct::Choice => "CHOICE",
+        Construct::SequenceOf => "SEQUENCE OF",
+        Construct::SetOf => "SET OF",
+        Construct::Tag => "a tag",
+        Construct::Constraint => "a constraint",
+        Construct::Optional => "OPTIONAL",
+        Construct::Default => "DEFAULT",
+        Construct::NullValue => "the value NULL",
+        Construct::CharacterString => "a text in quotes",
+        Construct::Alternative => "the value of an alternative",
+        Construct::Numbers => "numbers in braces",
+        Construct::Items => "values in braces",
+    }
+}
+
+/// The name and the words of a construct that is left out.
+fn of_construct(
+    alloc: Global,
+    construct: Construct,
+    name: &str,
+) -> Result<(String, String), AllocError> {
+    let called = spelled(construct);
+    let told = format!(in alloc; "21 OutOfProfile {called}")?;
+    let words = match construct {
+        Construct::Sequence => format!(in alloc;
+            "the type of a member in {name} is a SEQUENCE, which this compiler leaves out"
+        )?,
+        _ => format!(in alloc; "this compiler leaves out {called}")?,
+    };
+    Ok((told, words))
 }
 
 fn of_value(
@@ -216,7 +282,7 @@ fn of_value(
         )),
         ValueFault::UnknownName(name) => Ok((
             String::from_str(alloc, "31 UnknownName")?,
-            format!(in alloc; "{name} is no value of this module")?,
+            format!(in alloc; "{name} is no value of its module")?,
         )),
         ValueFault::Circular(name) => Ok((
             String::from_str(alloc, "33 Circular")?,
@@ -253,9 +319,10 @@ fn sentence(
     let ty = job.ty.as_str();
     let value = job.value.as_str();
     match fault {
-        Fault::Text(inner) => of_text(alloc, text, inner),
-        Fault::Tree(inner) => of_tree(alloc, text, inner),
+        Fault::Text(_, inner) => of_text(alloc, text, inner),
+        Fault::Tree(_, inner) => of_tree(alloc, text, inner),
         Fault::Name(inner) => of_names(alloc, inner),
+        Fault::OutOfProfile(construct, _, name) => of_construct(alloc, *construct, name.as_str()),
         Fault::Value(inner) => of_value(alloc, inner, ty, value),
         Fault::NoType(name) => Ok((
             String::from_str(alloc, "31 UnknownName")?,
@@ -286,20 +353,28 @@ fn sentence(
     }
 }
 
-/// One line that tells a user of a fault that a job met in a module's text, as
+/// One line that tells a user of a fault that a job met in the texts of its files, as
 /// `error 20 Unexpected: m.asn:3:14: found '}', expected a type`. Lines and columns count from 1.
 pub fn report(
     alloc: Global,
     job: &Job,
-    file: &str,
-    text: &[u8],
+    texts: &[Vec<u8>],
     fault: &Fault,
 ) -> Result<String, AllocError> {
-    let (name, words) = sentence(alloc, job, text, fault)?;
-    let value = match job.value.as_str().rsplit_once('.') {
-        Some((_, last)) => last,
-        None => job.value.as_str(),
+    let number = match text_number(alloc, texts, job, fault) {
+        Some(number) => number,
+        None => texts.len(),
     };
+    let text = match texts.get(number) {
+        Some(text) => text.as_slice(),
+        None => &[],
+    };
+    let (name, words) = sentence(alloc, job, text, fault)?;
+    let Some(file) = job.files.get(number) else {
+        let line = format!(in alloc; "error {name}: {words}")?;
+        return on_one_line(alloc, line.as_str());
+    };
+    let (_, value) = parts(job.value.as_str());
     let line = match octet_of(alloc, text, fault, value) {
         Some(octet) => {
             let (line, column) = line_and_column(text, octet);

@@ -27,6 +27,21 @@ fn a_der_line(rt: HostRuntime) -> Result<(), Fail> {
 }
 
 #[test]
+fn a_der_line_of_two_files(rt: HostRuntime) -> Result<(), Fail> {
+    let line = words(
+        rt.alloc(),
+        &[
+            "asnc", "der", "--type", "B.T", "--value", "A.v", "a.asn", "b.asn",
+        ],
+    )?;
+    let job = job(rt.alloc(), line.as_slice())?;
+    assert_eq!(rt; job.files.len(), 2);
+    assert_eq!(rt; job.files[0].as_str(), "a.asn");
+    assert_eq!(rt; job.files[1].as_str(), "b.asn");
+    Ok(())
+}
+
+#[test]
 fn bad_lines_and_help(rt: HostRuntime) -> Result<(), Fail> {
     for (texts, want) in [
         (["asnc", "--help"].as_slice(), 0),
@@ -34,10 +49,7 @@ fn bad_lines_and_help(rt: HostRuntime) -> Result<(), Fail> {
         (["asnc"].as_slice(), 2),
         (["asnc", "der", "m.asn"].as_slice(), 2),
         (["asnc", "cer"].as_slice(), 2),
-        (
-            ["asnc", "der", "--type", "M.T", "--value", "M.v", "a", "b"].as_slice(),
-            2,
-        ),
+        (["asnc", "der", "--type", "M.T", "a", "b"].as_slice(), 2),
         (
             ["asnc", "der", "--type", "M.T", "--value", "M.v"].as_slice(),
             2,
@@ -52,18 +64,35 @@ fn bad_lines_and_help(rt: HostRuntime) -> Result<(), Fail> {
     Ok(())
 }
 
+/// The octets of texts.
+fn texts_of(alloc: Global, texts: &[&str]) -> Result<Vec<Vec<u8>>, AllocError> {
+    let mut all = Vec::new(alloc);
+    for text in texts {
+        let mut octets = Vec::new(alloc);
+        octets.extend_from_slice(text.as_bytes())?;
+        all.push(octets)?;
+    }
+    Ok(all)
+}
+
 /// What the program answers: hexadecimal, or a fault's number.
-fn answer(alloc: Global, text: &str) -> Result<String, Fault> {
-    let kit = Kit::open(alloc, text.as_bytes())?;
-    let octets = kit.der(alloc, "M.T", "M.v")?;
+fn answer(alloc: Global, texts: &[&str], ty: &str, value: &str) -> Result<String, Fault> {
+    let texts = texts_of(alloc, texts)?;
+    let kit = Kit::open(alloc, texts.as_slice())?;
+    let octets = kit.der(alloc, ty, value)?;
     Ok(hex::encode_upper(alloc, octets.as_slice())?)
 }
 
-fn shown(alloc: Global, text: &str) -> Result<String, AllocError> {
-    match answer(alloc, text) {
+fn shown_of(alloc: Global, texts: &[&str], ty: &str, value: &str) -> Result<String, AllocError> {
+    match answer(alloc, texts, ty, value) {
         Ok(hex) => Ok(hex),
+        Err(Fault::OutOfProfile(construct, _, _)) => format!(in alloc; "21 {construct:?}"),
         Err(fault) => format!(in alloc; "{}", number(&fault)),
     }
+}
+
+fn shown(alloc: Global, text: &str) -> Result<String, AllocError> {
+    shown_of(alloc, &[text], "M.T", "M.v")
 }
 
 #[test]
@@ -127,12 +156,158 @@ fn values_and_refusals(rt: HostRuntime) -> Result<(), Fail> {
         ("T ::= BOOLEAN v T ::= FALSE", "010100"),
         (
             "T ::= SEQUENCE {a S} S ::= SEQUENCE {} v T ::= {a {}}",
-            "21",
+            "21 Sequence",
         ),
     ] {
         let text = format!(in rt.alloc(); "M DEFINITIONS ::= BEGIN {body} END")?;
         let found = shown(rt.alloc(), text.as_str())?;
         assert_eq!(rt; found.as_str(), want, "at {body}");
+    }
+    Ok(())
+}
+
+/// X.680, 14.1 and 13.16: names of other modules, behind their modules' names or not.
+#[test]
+fn two_modules(rt: HostRuntime) -> Result<(), Fail> {
+    let a = "A DEFINITIONS ::= BEGIN IMPORTS T FROM B; v T ::= {n 7} END";
+    let b = "B DEFINITIONS ::= BEGIN EXPORTS T; T ::= SEQUENCE {n Num} Num ::= INTEGER END";
+    let closed = "B DEFINITIONS ::= BEGIN EXPORTS ; T ::= SEQUENCE {n Num} Num ::= INTEGER END";
+    let far = "A DEFINITIONS ::= BEGIN IMPORTS w FROM B; v INTEGER ::= B.w END";
+    let near = "B DEFINITIONS ::= BEGIN w INTEGER ::= u u INTEGER ::= 9 END";
+    for (texts, ty, value, want) in [
+        ([a, b].as_slice(), "B.T", "A.v", "3003020107"),
+        ([b, a].as_slice(), "B.T", "A.v", "3003020107"),
+        ([a, b].as_slice(), "A.T", "A.v", "3003020107"),
+        ([a, b].as_slice(), "A.Num", "A.v", "31"),
+        ([a, b].as_slice(), "B.T", "B.v", "31"),
+        ([a, b].as_slice(), "T", "A.v", "31"),
+        ([a, closed].as_slice(), "B.T", "A.v", "32"),
+        ([a].as_slice(), "B.T", "A.v", "34"),
+        ([a, b, a].as_slice(), "B.T", "A.v", "30"),
+        (
+            [a, "B DEFINITIONS ::= BEGIN T ::= END"].as_slice(),
+            "B.T",
+            "A.v",
+            "20",
+        ),
+        (
+            [far, near, "C DEFINITIONS ::= BEGIN I ::= INTEGER END"].as_slice(),
+            "C.I",
+            "A.v",
+            "020109",
+        ),
+        (
+            [far, near, "C DEFINITIONS ::= BEGIN I ::= INTEGER END"].as_slice(),
+            "C.I",
+            "A.w",
+            "020109",
+        ),
+    ] {
+        let found = shown_of(rt.alloc(), texts, ty, value)?;
+        assert_eq!(rt; found.as_str(), want, "at {texts:?}");
+    }
+    Ok(())
+}
+
+/// The constructs that are left out, each by its name.
+#[test]
+fn left_out(rt: HostRuntime) -> Result<(), Fail> {
+    for (head, body, want) in [
+        ("IMPLICIT TAGS", "", "21 ImplicitTags"),
+        ("AUTOMATIC TAGS", "", "21 AutomaticTags"),
+        ("", "U ::= REAL", "21"),
+        ("", "U ::= INTEGER {one (1)}", "21 NamedNumbers"),
+        ("", "U ::= BIT STRING", "21 BitString"),
+        ("", "U ::= NULL", "21 Null"),
+        ("", "U ::= OBJECT IDENTIFIER", "21 ObjectIdentifier"),
+        ("", "U ::= ENUMERATED {one}", "21 Enumerated"),
+        ("", "U ::= UTF8String", "21 Utf8String"),
+        ("", "U ::= NumericString", "21 NumericString"),
+        ("", "U ::= PrintableString", "21 PrintableString"),
+        ("", "U ::= IA5String", "21 Ia5String"),
+        ("", "U ::= VisibleString", "21 VisibleString"),
+        ("", "U ::= SET {a INTEGER}", "21 Set"),
+        ("", "U ::= CHOICE {a INTEGER}", "21 Choice"),
+        ("", "U ::= SEQUENCE OF INTEGER", "21 SequenceOf"),
+        ("", "U ::= SET OF INTEGER", "21 SetOf"),
+        ("", "U ::= [0] INTEGER", "21 Tag"),
+        ("", "U ::= INTEGER (0..7)", "21 Constraint"),
+        ("", "U ::= SEQUENCE {a INTEGER OPTIONAL}", "21 Optional"),
+        ("", "U ::= SEQUENCE {a INTEGER DEFAULT 7}", "21 Default"),
+        ("", "U ::= SEQUENCE {a SEQUENCE {}}", "21 Sequence"),
+        ("", "w INTEGER ::= NULL", "21 NullValue"),
+        ("", "w INTEGER ::= \"text\"", "21 CharacterString"),
+        ("", "w INTEGER ::= one : 1", "21 Alternative"),
+        ("", "w INTEGER ::= {1 2}", "21 Numbers"),
+        ("", "w INTEGER ::= {1, 2}", "21 Items"),
+        ("", "w INTEGER ::= {a {b NULL}}", "21 NullValue"),
+        ("EXPLICIT TAGS", "", "020107"),
+    ] {
+        let text = format!(in rt.alloc();
+            "M DEFINITIONS {head} ::= BEGIN T ::= INTEGER v T ::= 7 {body} END"
+        )?;
+        let found = shown(rt.alloc(), text.as_str())?;
+        assert_eq!(rt; found.as_str(), want, "at {head} {body}");
+    }
+    Ok(())
+}
+
+/// A job on two files.
+fn job_of_two(alloc: Global) -> Result<Job, Fault> {
+    let line = words(
+        alloc,
+        &[
+            "asnc", "der", "--type", "B.T", "--value", "A.v", "a.asn", "b.asn",
+        ],
+    )?;
+    job(alloc, line.as_slice())
+}
+
+/// What is told of a fault in two texts, each in its file.
+#[test]
+fn places_in_two_files(rt: HostRuntime) -> Result<(), Fail> {
+    let a = "A DEFINITIONS ::= BEGIN\n  IMPORTS T FROM B;\n  v T ::= {n 7}\nEND";
+    let job = job_of_two(rt.alloc())?;
+    for (b, want) in [
+        (
+            "B DEFINITIONS ::= BEGIN\n  T ::= INTEGER\n  T ::= BOOLEAN END",
+            "error 30 Twice: b.asn:3:3: ",
+        ),
+        (
+            "B DEFINITIONS ::= BEGIN EXPORTS ; T ::= INTEGER END",
+            "error 32 NotExported: a.asn:2:11: ",
+        ),
+        (
+            "C DEFINITIONS ::= BEGIN T ::= INTEGER END",
+            "error 34 UnknownModule: a.asn:2:18: ",
+        ),
+        (
+            "B DEFINITIONS ::= BEGIN\n  T ::= SEQUENCE {n INTEGER OPTIONAL} END",
+            "error 21 OutOfProfile OPTIONAL: b.asn:2:29: ",
+        ),
+        (
+            "B DEFINITIONS ::= BEGIN\n  T ::= BOOLEAN END",
+            "error 60 NotOfType: a.asn:3:3: ",
+        ),
+        (
+            "B DEFINITIONS ::= BEGIN\n  ::= END",
+            "error 20 Unexpected: b.asn:2:3: ",
+        ),
+        (
+            "B DEFINITIONS ::= BEGIN\n  \u{1} END",
+            "error 11 BadCharacter: b.asn:2:3: ",
+        ),
+    ] {
+        let texts = texts_of(rt.alloc(), &[a, b])?;
+        let fault = match Kit::open(rt.alloc(), texts.as_slice()) {
+            Ok(kit) => match kit.der(rt.alloc(), "B.T", "A.v") {
+                Ok(_) => return Err("octets".into()),
+                Err(fault) => fault,
+            },
+            Err(fault) => fault,
+        };
+        let line = report(rt.alloc(), &job, texts.as_slice(), &fault)?;
+        assert!(rt; line.as_str().starts_with(want), "told {line} at {b}");
     }
     Ok(())
 }
@@ -163,10 +338,15 @@ fn a_status_for_each_class(rt: HostRuntime) -> Result<(), Fail> {
     );
     assert_eq!(rt; status(&Fault::TooLong), 1);
     assert_eq!(rt; status(&Fault::Device), 3);
-    match Kit::open(rt.alloc(), &[255]) {
+    let mut text = Vec::new(rt.alloc());
+    text.push(255)?;
+    let mut texts = texts_of(rt.alloc(), &["M DEFINITIONS ::= BEGIN END"])?;
+    texts.push(text)?;
+    match Kit::open(rt.alloc(), texts.as_slice()) {
         Ok(_) => assert!(rt; false, "a module from an octet that is no text"),
         Err(fault) => {
             assert_eq!(rt; number(&fault), 10);
+            assert!(rt; matches!(fault, Fault::Text(1, _)));
             assert_eq!(rt; status(&fault), 1);
         }
     }

@@ -6,7 +6,6 @@ ghost use Rattle.asn_base.specs.Abstract.{abstract, row_of_options};
 ghost use Rattle.asn_base.specs.Types.{a_boolean, an_integer, an_octet_string, Constraint as Constraint'};
 ghost use Rattle.asn_base.specs.Typed.{IsWithinLimit};
 ghost use Rattle.notation.specs.Tree.{tree_of, member_of};
-ghost use Rattle.syntax.specs.Tree.{module_tree_of};
 ghost use Rattle.asnc.specs.Notations.{IsLeaf, Notation, Fields, Lacks, signed};
 ghost use Rattle.std.specs.List.{AllByRecursion};
 ghost use Rattle.asn_base.specs.Accepted.{IsSimpleMember, IsSimple};
@@ -137,20 +136,21 @@ fn typed_leaf(alloc: Global, core: &Core, notation: &ValueSyntax) -> Result<Valu
     }
 }
 
-/// The value of a component that holds no others.
+/// The value of a component that holds no others, its notation read in a module.
 fn typed_component(
     alloc: Global,
     scope: &Scope,
     schema: &Schema,
     id: TypeId,
+    within: &str,
     notation: &ValueSyntax,
 ) -> Result<Value, ValueFault>
     requires simple { IsSomeAnd (slice_get schema.now id.index) (λ r. IsSimple r.kind) }
-    ensures value { IfOk result (λ v. Notation (module_tree_of scope.now.parsed) schema.now id.index (tree_of notation.now) (abstract v)) }
-    ensures none { IfErr result (Lacks (Notation (module_tree_of scope.now.parsed) schema.now id.index (tree_of notation.now))) }
+    ensures value { IfOk result (λ v. Notation scope.now schema.now within.now id.index (tree_of notation.now) (abstract v)) }
+    ensures none { IfErr result (Lacks (Notation scope.now schema.now within.now id.index (tree_of notation.now))) }
 {
-    match behind_all(alloc, scope, notation) {
-        Ok(last) => {
+    match behind_all(alloc, scope, within, notation) {
+        Ok((_, last)) => {
             let resolved = schema.get(id);
             typed_leaf(alloc, &resolved.core, last)
         }
@@ -158,17 +158,18 @@ fn typed_component(
     }
 }
 
-/// The values of components that hold no others, whose names stand in their order.
+/// The values of components that hold no others, whose names stand in their order, the notations read in a module.
 fn typed_fields(
     alloc: Global,
     scope: &Scope,
     schema: &Schema,
+    within: &str,
     components: &[Component],
     fields: &[Named<ValueSyntax>],
 ) -> Result<Vec<Option<Value>>, ValueFault>
     requires simple { AllByRecursion (IsSimpleMember schema.now) (map component_of components.now) }
-    ensures values { IfOk result (λ vs. Fields (module_tree_of scope.now.parsed) schema.now (map component_of components.now) (map member_of fields.now) (row_of_options (map (option_map abstract) vs.items))) }
-    ensures none { IfErr result (Lacks (Fields (module_tree_of scope.now.parsed) schema.now (map component_of components.now) (map member_of fields.now))) }
+    ensures values { IfOk result (λ vs. Fields scope.now schema.now within.now (map component_of components.now) (map member_of fields.now) (row_of_options (map (option_map abstract) vs.items))) }
+    ensures none { IfErr result (Lacks (Fields scope.now schema.now within.now (map component_of components.now) (map member_of fields.now))) }
 {
     if components.len() != fields.len() {
         return Err(disorder(components, fields)?);
@@ -180,7 +181,7 @@ fn typed_fields(
         if component.name.as_str() != field.name.as_str() {
             return Err(disorder(components, fields)?);
         }
-        match typed_component(alloc, scope, schema, component.ty, &field.value) {
+        match typed_component(alloc, scope, schema, component.ty, within, &field.value) {
             Ok(value) => values.push(Some(value))?,
             Err(fault) => return Err(fault),
         }
@@ -188,20 +189,21 @@ fn typed_fields(
     Ok(values)
 }
 
-/// The value that a notation stands for under a type.
+/// The value that a notation, read in a module, stands for under a type.
 pub fn typed(
     alloc: Global,
     scope: &Scope,
     schema: &Schema,
     id: TypeId,
+    within: &str,
     notation: &ValueSyntax,
 ) -> Result<Value, ValueFault>
     requires { id.index < length schema.now }
-    ensures value { IfOk result (λ v. Notation (module_tree_of scope.now.parsed) schema.now id.index (tree_of notation.now) (abstract v)) }
-    ensures none { IfErr result (Lacks (Notation (module_tree_of scope.now.parsed) schema.now id.index (tree_of notation.now))) }
+    ensures value { IfOk result (λ v. Notation scope.now schema.now within.now id.index (tree_of notation.now) (abstract v)) }
+    ensures none { IfErr result (Lacks (Notation scope.now schema.now within.now id.index (tree_of notation.now))) }
 {
     abstract_values();
-    let last = match behind_all(alloc, scope, notation) {
+    let (module, last) = match behind_all(alloc, scope, within, notation) {
         Ok(last) => last,
         Err(fault) => return Err(fault),
     };
@@ -213,6 +215,7 @@ pub fn typed(
                 alloc,
                 scope,
                 schema,
+                module,
                 components.as_slice(),
                 fields,
             ) {

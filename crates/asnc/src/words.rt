@@ -3,7 +3,7 @@
 ghost use Rattle.std.specs.Prelude.{◌≡◌, IfOk, IfErr, Some, codes, false, true, map, string_bytes, unwrap_or, if◌then◌else◌};
 ghost use Rattle.clap.specs.Words.{app_of, first_of, kind_of, found_of, one_of, rows_of, rule_of};
 ghost use Rattle.clap.specs.declared.builder.command.Command.TheViews.{out-Command};
-ghost use Rattle.asnc.specs.CommandLine.{asnc_app, der_app, file_rule, raw_rule, text_in, text_rule, IsAsked, IsFaultOf, IsRefused, IsDerOf};
+ghost use Rattle.asnc.specs.CommandLine.{asnc_app, der_app, files_rule, raw_rule, text_in, text_rule, texts_in, IsAsked, IsFaultOf, IsRefused, IsDerOf};
 
 use crate::fault::Fault;
 use crate::line::on_one_line;
@@ -36,15 +36,15 @@ fn raw_arg<'a>(alloc: Global) -> Arg<'a>
         .help("Write the octets themselves, not hexadecimal")
 }
 
-/// The one file.
-fn file_arg<'a>(alloc: Global) -> Arg<'a>
-    ensures rule { rule_of result ≡ file_rule }
+/// The files, one at least.
+fn files_arg<'a>(alloc: Global) -> Arg<'a>
+    ensures rule { rule_of result ≡ files_rule }
     ensures local { result.global ≡ false }
 {
     Arg::new(alloc, "FILE")
         .required(true)
-        .action(ArgAction::Set)
-        .help("The module's text")
+        .action(ArgAction::Append)
+        .help("The modules' texts")
 }
 
 fn der_command<'a>(alloc: Global) -> Result<Command<'a>, AllocError>
@@ -56,7 +56,7 @@ fn der_command<'a>(alloc: Global) -> Result<Command<'a>, AllocError>
         .arg(text_arg(alloc, "type", "MODULE.TYPE", "The type"))?
         .arg(text_arg(alloc, "value", "MODULE.VALUE", "The value"))?
         .arg(raw_arg(alloc))?
-        .arg(file_arg(alloc))
+        .arg(files_arg(alloc))
 }
 
 fn asnc_command<'a>(alloc: Global) -> Result<Command<'a>, AllocError>
@@ -65,7 +65,7 @@ fn asnc_command<'a>(alloc: Global) -> Result<Command<'a>, AllocError>
     ensures wants { IfOk result (λ c. (out-Command c).subcommand_required ≡ true) }
 {
     Command::new(alloc, "asnc")
-        .about("An ASN.1 compiler: from a module's text to octets")
+        .about("An ASN.1 compiler: from modules' texts to octets")
         .subcommand_required(true)
         .disable_help_subcommand(true)
         .subcommand(der_command(alloc)?)
@@ -112,6 +112,26 @@ fn text_of(alloc: Global, found: &ArgMatches<'_>, id: &str) -> Result<String, Al
     String::from_str(alloc, found.get_str(id).unwrap_or(""))
 }
 
+fn files_of(alloc: Global, found: &ArgMatches<'_>) -> Result<Vec<String>, AllocError>
+    ensures { IfOk result (λ v. map string_bytes v.items ≡ texts_in (rows_of (found_of found.now)) (codes "FILE")) }
+{
+    match found.get_strs("FILE") {
+        Some(names) => texts_of(alloc, names),
+        None => Ok(Vec::new(alloc)),
+    }
+}
+
+/// Texts of one's own.
+fn texts_of(alloc: Global, texts: &[&str]) -> Result<Vec<String>, AllocError>
+    ensures { IfOk result (λ v. map string_bytes v.items ≡ map (λ t. t.now) texts.now) }
+{
+    let mut all = Vec::new(alloc);
+    for text in texts {
+        all.push(String::from_str(alloc, text)?)?;
+    }
+    Ok(all)
+}
+
 fn der_job(alloc: Global, found: &ArgMatches<'_>) -> Result<Job, AllocError>
     ensures { IfOk result (IsDerOf (rows_of (found_of found.now))) }
 {
@@ -124,7 +144,7 @@ fn der_job(alloc: Global, found: &ArgMatches<'_>) -> Result<Job, AllocError>
         octets: Given::Nothing,
         raw,
         strict: false,
-        files: vec![in alloc; text_of(alloc, found, "FILE")?]?,
+        files: files_of(alloc, found)?,
     })
 }
 

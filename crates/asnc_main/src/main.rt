@@ -40,9 +40,9 @@ fn end(rt: &HostRuntime, fault: &Fault) -> ExitCode {
     }
 }
 
-/// Tells of a fault that stands in a module's text.
-fn end_in(rt: &HostRuntime, job: &Job, file: &str, text: &[u8], fault: &Fault) -> ExitCode {
-    match report(rt.alloc(), job, file, text, fault) {
+/// Tells of a fault that stands in the texts of modules.
+fn end_in(rt: &HostRuntime, job: &Job, texts: &[Vec<u8>], fault: &Fault) -> ExitCode {
+    match report(rt.alloc(), job, texts, fault) {
         Ok(line) => match eprintln!(rt; "{line}") {
             Ok(()) => ExitCode::from(status(fault)),
             Err(_) => ExitCode::from(3),
@@ -52,8 +52,8 @@ fn end_in(rt: &HostRuntime, job: &Job, file: &str, text: &[u8], fault: &Fault) -
 }
 
 /// The octets that a job asks for.
-fn work(rt: &HostRuntime, job: &Job, text: &[u8]) -> Result<Vec<u8>, Fault> {
-    let kit = Kit::open(rt.alloc(), text)?;
+fn work(rt: &HostRuntime, job: &Job, texts: &[Vec<u8>]) -> Result<Vec<u8>, Fault> {
+    let kit = Kit::open(rt.alloc(), texts)?;
     kit.der(rt.alloc(), job.ty.as_str(), job.value.as_str())
 }
 
@@ -68,23 +68,30 @@ fn write(rt: &HostRuntime, job: &Job, octets: &[u8]) -> Result<(), Fault> {
     out.write_all(line.as_bytes()).map_err(|_| Fault::Device)
 }
 
-/// Does a job on the text of its file.
-fn run(rt: &HostRuntime, job: &Job, file: &str) -> ExitCode {
-    let text = match fs::read(rt, file) {
-        Ok(text) => text,
-        Err(_) => {
-            return match String::from_str(rt.alloc(), file) {
-                Ok(name) => end(rt, &Fault::File(name)),
-                Err(_) => end(rt, &Fault::Memory),
-            };
+/// The texts of files, in order.
+fn texts_of(rt: &HostRuntime, files: &[String]) -> Result<Vec<Vec<u8>>, Fault> {
+    let mut texts = Vec::new(rt.alloc());
+    for file in files {
+        match fs::read(rt, file.as_str()) {
+            Ok(text) => texts.push(text)?,
+            Err(_) => return Err(Fault::File(file.clone()?)),
         }
+    }
+    Ok(texts)
+}
+
+/// Does a job on the texts of its files.
+fn run(rt: &HostRuntime, job: &Job) -> ExitCode {
+    let texts = match texts_of(rt, job.files.as_slice()) {
+        Ok(texts) => texts,
+        Err(fault) => return end(rt, &fault),
     };
-    match work(rt, job, text.as_slice()) {
+    match work(rt, job, texts.as_slice()) {
         Ok(octets) => match write(rt, job, octets.as_slice()) {
             Ok(()) => ExitCode::SUCCESS,
             Err(fault) => end(rt, &fault),
         },
-        Err(fault) => end_in(rt, job, file, text.as_slice(), &fault),
+        Err(fault) => end_in(rt, job, texts.as_slice(), &fault),
     }
 }
 
@@ -94,10 +101,7 @@ fn main(rt: HostRuntime) -> ExitCode {
         Err(fault) => return end(&rt, &fault),
     };
     match job(rt.alloc(), words.as_slice()) {
-        Ok(job) => match job.files.first() {
-            Some(file) => run(&rt, &job, file.as_str()),
-            None => end(&rt, &Fault::Memory),
-        },
+        Ok(job) => run(&rt, &job),
         Err(fault) => end(&rt, &fault),
     }
 }

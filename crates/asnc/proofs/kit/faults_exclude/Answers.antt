@@ -1,4 +1,4 @@
-use Rattle.asnc.proofs.Settled.{excludes}
+use Rattle.asnc.proofs.Openings.{excludes}
 use Rattle.asnc.proofs.kit.faults_exclude.Goals as goal
 
 pub returns : goal.returns

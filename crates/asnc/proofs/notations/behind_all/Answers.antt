@@ -1,31 +1,30 @@
-use Rattle.std.proofs.Common.{sym, ap, ◌∙◌, option_map}
+use Rattle.std.proofs.Common.{◌≡◌, ◌↔◌, ℕ, Some, subst}
 use Rattle.notation.specs.Tree.{tree_of}
-use Rattle.syntax.specs.Tree.{module_tree_of, assignment_of}
-use Rattle.asnc.proofs.Notated.{ok_itself, ok_behind, err_behind, lacks_value, lacks_end}
+use Rattle.asnc.specs.Notations.{IsValueAt, MeansValue}
+use Rattle.asnc.proofs.Lasts.{answers_same, same_behind, circle_none, means_nothing}
 use Rattle.asnc.proofs.notations.behind_all.Goals as goal
 
-pub returns-in-None-clause-last : goal.returns-in-None-clause-last
-returns-in-None-clause-last c = ok_itself (module_tree_of c.args.scope.now.parsed) (tree_of c.args.notation.now) c.plain.result c.plain.ensures.same
+pub settled-requires-in-Ok : goal.settled-requires-in-Ok
+settled-requires-in-Ok c =
+    let N = c.notation_at.result.0.now in
+    let m = tree_of c.notation_at.result.1.now in
+    record { nothing = means_nothing c.args.scope.now c.in-Ok.end N m (subst (λ p. IsValueAt p c.in-Ok.end N m) c.program-linked.ensures c.notation_at.ensures) c.in-Ok.ensures.ends }
 
-pub returns-in-Some-notation_of-clause-last : goal.returns-in-Some-notation_of-clause-last
-returns-in-Some-notation_of-clause-last c =
-    let m = module_tree_of c.args.scope.now.parsed in
-    ok_behind m (tree_of c.args.notation.now) (tree_of c.in-Some-notation_of.last.now) c.in-Some.start c.in-Ok.end (assignment_of c.assignment_at.result.now) c.plain-in-Some-notation_of.result
-    (sym c.behind_notation.ensures.behind ∙ c.in-Some.is) c.in-Ok.ensures.end c.assignment_at.ensures (sym c.notation_of.ensures ∙ ap (option_map (λ n. tree_of n.now)) c.in-Some-notation_of.is) c.plain-in-Some-notation_of.ensures.same
+pub returns-in-Ok : goal.returns-in-Ok
+returns-in-Ok c =
+    let p = c.args.scope.now in
+    let M = c.args.within.now in
+    let n = tree_of c.args.notation.now in
+    let N = c.notation_at.result.0.now in
+    let m = tree_of c.notation_at.result.1.now in
+    let means = subst (λ p. (j : ℕ) → (Some c.in-Some.start ≡ Some j ↔ MeansValue p M n j)) c.program-linked.ensures c.in-Some.ensures.means in
+    let at = subst (λ p. IsValueAt p c.in-Ok.end N m) c.program-linked.ensures c.notation_at.ensures in
+    answers_same p M n N m c.settled-in-Ok.result (same_behind p M n c.in-Some.start c.in-Ok.end N m means c.in-Ok.ensures.same at) c.settled-in-Ok.ensures
 
-pub returns-in-Some-notation_of-clause-none : goal.returns-in-Some-notation_of-clause-none
-returns-in-Some-notation_of-clause-none c =
-    let m = module_tree_of c.args.scope.now.parsed in
-    err_behind m (tree_of c.args.notation.now) (tree_of c.in-Some-notation_of.last.now) c.in-Some.start c.in-Ok.end (assignment_of c.assignment_at.result.now) c.plain-in-Some-notation_of.result
-    (sym c.behind_notation.ensures.behind ∙ c.in-Some.is) c.in-Ok.ensures.end c.assignment_at.ensures (sym c.notation_of.ensures ∙ ap (option_map (λ n. tree_of n.now)) c.in-Some-notation_of.is) c.plain-in-Some-notation_of.ensures.fault
-
-pub returns-in-None-notation_of-clause-none : goal.returns-in-None-notation_of-clause-none
-returns-in-None-notation_of-clause-none c =
-    let m = module_tree_of c.args.scope.now.parsed in
-    lacks_value m (tree_of c.args.notation.now) c.in-Some.start c.in-Ok.end (assignment_of c.assignment_at.result.now) _
-    (sym c.behind_notation.ensures.behind ∙ c.in-Some.is) c.in-Ok.ensures.end c.assignment_at.ensures (sym c.notation_of.ensures ∙ ap (option_map (λ n. tree_of n.now)) c.in-None-notation_of.is)
-
-pub returns-in_ok-from_str-in-Err-clause-none : goal.returns-in_ok-from_str-in-Err-clause-none
-returns-in_ok-from_str-in-Err-clause-none c =
-    let m = module_tree_of c.args.scope.now.parsed in
-    lacks_end m (tree_of c.args.notation.now) c.in-Some.start c.in-Err.place _ (sym c.behind_notation.ensures.behind ∙ c.in-Some.is) c.in-Err.ensures.leads c.in-Err.ensures.end
+pub returns-in_ok-from_str-in-Err : goal.returns-in_ok-from_str-in-Err
+returns-in_ok-from_str-in-Err c =
+    let p = c.args.scope.now in
+    let M = c.args.within.now in
+    let n = tree_of c.args.notation.now in
+    let means = subst (λ p. (j : ℕ) → (Some c.in-Some.start ≡ Some j ↔ MeansValue p M n j)) c.program-linked.ensures c.in-Some.ensures.means in
+    circle_none p M n c.in-Some.start _ means c.in-Err.ensures.none

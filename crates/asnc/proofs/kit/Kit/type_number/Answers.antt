@@ -1,6 +1,15 @@
-use Rattle.syntax.specs.Tree.{module_tree_of}
+use Rattle.std.proofs.Common.{◌≡◌, ◌↔◌, Some, sym, ap, ◌∙◌, subst}
+use Rattle.resolve.specs.declared.names.Assigned.{Assigned}
+use Rattle.asnc.specs.Named.{IsNamed}
 use Rattle.asnc.proofs.Dots.{no_type}
 use Rattle.asnc.proofs.kit.Kit.type_number.Goals as goal
 
+pub returns-in-Some-Value-clause-named : goal.returns-in-Some-Value-clause-named
+returns-in-Some-Value-clause-named c =
+    no_type c.args.self.now.scope c.args.name.now c.named.result (subst (λ p. (a : Assigned) → (c.named.result ≡ Some a ↔ IsNamed p c.args.name.now a)) c.program.ensures c.named.ensures.is)
+    (λ t e. (let f = sym (c.in-Some-Value.is ∙ ap Some c.in-Some-Value.field-0-is) ∙ e in cc))
+
 pub returns-in-None-clause-named : goal.returns-in-None-clause-named
-returns-in-None-clause-named c = no_type (module_tree_of c.args.self.now.scope.parsed) c.args.name.now c.in_ok-own.own.now c.in_ok-own.ensures c.in-None.ensures.meant
+returns-in-None-clause-named c =
+    no_type c.args.self.now.scope c.args.name.now c.named.result (subst (λ p. (a : Assigned) → (c.named.result ≡ Some a ↔ IsNamed p c.args.name.now a)) c.program.ensures c.named.ensures.is)
+    (λ t e. (let f = sym c.in-None.is ∙ e in cc))

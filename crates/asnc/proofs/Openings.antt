@@ -1,0 +1,82 @@
+-- Texts of modules, one by one, and what is refused.
+use Rattle.std.proofs.Common.{◌≡◌, ◌⊎◌, inl, inr, ℕ, zero, suc, ◌<◌, List, [], ◌∷◌, length, map, take, Some, refl, sym, arith, subst, get_or}
+use Rattle.std.specs.Prelude.{slice_get, Vec}
+use Rattle.std.specs.Global.{Global}
+use Rattle.std.specs.List.{AllZip, AllByRecursion}
+use Rattle.notation.specs.Tree.{Name}
+use Rattle.syntax.specs.Tree.{ModuleTree}
+use Rattle.resolve.specs.Program.{Program}
+use Rattle.asnc.specs.declared.fault.Fault.{Fault}
+use Rattle.asnc.specs.declared.fault.Fault.TheVariants as faults
+use Rattle.asnc.specs.FirstPath.{IsFirstPath, IsOutside, IsFirstType, IsFirstNotation, IsOutsideFault, TellsAssignment}
+use Rattle.asnc.specs.Opening.{IsModule, IsRefusedAt, IsTextFault, IsNoKit, StandsIn, octets_of}
+use Rattle.syntax.specs.declared.tree.TagDefault.TheVariants.{Explicit}
+use Rattle.asnc.proofs.Lists.{seen_here, all_at}
+
+zip_front : {A X Y : Type 0} (R : X → Y → Type 0) (f : A → X) (xs : List A) (k : ℕ) (ms : List Y) (i : ℕ) (y : X) → AllZip R (map f (take k xs)) ms → i < k → slice_get (map f xs) i ≡ Some y → (m : Y) × R y m
+zip_front R f [] k ms i y z l e = absurd cc
+zip_front R f (x ∷ xs) zero ms i y z l e = absurd (omega (arith, l))
+zip_front R f (x ∷ xs) (suc k) [] i y z l e = absurd z
+zip_front R f (x ∷ xs) (suc k) (m ∷ ms) zero y z l e = let q : f x ≡ y = cc in (m, subst (λ w. R w m) q z.0)
+zip_front R f (x ∷ xs) (suc k) (m ∷ ms) (suc i) y z l e = zip_front R f xs k ms i y z.1 (omega (arith, l)) e
+
+pub first_refused : (xs : List (Vec ℕ Global)) (k : ℕ) (x : Vec ℕ Global) (t : List ℕ) (ms : List ModuleTree) (fault : Fault) → k < length xs → x ≡ get_or xs k x → t ≡ octets_of x → AllZip IsModule (map octets_of (take k xs)) ms → IsRefusedAt k t fault
+    → IsTextFault (map octets_of xs) fault
+first_refused xs k x t ms (faults.Text i f) l e q z h = record {
+  text = t;
+  there = subst (λ j. slice_get (map octets_of xs) j ≡ Some t) (sym h.0) (subst (λ o. slice_get (map octets_of xs) k ≡ Some o) (sym q) (seen_here octets_of xs k x l e));
+  stands = h.1;
+  before = λ j y m g. zip_front IsModule octets_of xs k ms j y z (subst (λ n. j < n) h.0 m) g;
+}
+first_refused xs k x t ms (faults.Tree i f) l e q z h = record {
+  text = t;
+  there = subst (λ j. slice_get (map octets_of xs) j ≡ Some t) (sym h.0) (subst (λ o. slice_get (map octets_of xs) k ≡ Some o) (sym q) (seen_here octets_of xs k x l e));
+  stands = h.1;
+  before = λ j y m g. zip_front IsModule octets_of xs k ms j y z (subst (λ n. j < n) h.0 m) g;
+}
+first_refused xs k x t ms faults.Memory l e q z h = absurd h
+first_refused xs k x t ms (faults.File n) l e q z h = absurd h
+first_refused xs k x t ms (faults.BadWords n) l e q z h = absurd h
+first_refused xs k x t ms (faults.Help n) l e q z h = absurd h
+first_refused xs k x t ms (faults.Name n) l e q z h = absurd h
+first_refused xs k x t ms (faults.OutOfProfile c n y) l e q z h = absurd h
+first_refused xs k x t ms (faults.Value n) l e q z h = absurd h
+first_refused xs k x t ms (faults.NoType n) l e q z h = absurd h
+first_refused xs k x t ms (faults.NoValue n) l e q z h = absurd h
+first_refused xs k x t ms faults.TooLong l e q z h = absurd h
+first_refused xs k x t ms faults.Device l e q z h = absurd h
+
+pub text_stands : (xs : List (List ℕ)) (fault : Fault) → IsTextFault xs fault → StandsIn xs fault
+text_stands xs faults.Memory h = tt
+text_stands xs (faults.Text i f) h = h
+text_stands xs (faults.Tree i f) h = h
+text_stands xs (faults.File n) h = absurd h
+text_stands xs (faults.BadWords n) h = absurd h
+text_stands xs (faults.Help n) h = absurd h
+text_stands xs (faults.Name n) h = absurd h
+text_stands xs (faults.OutOfProfile c n y) h = absurd h
+text_stands xs (faults.Value n) h = absurd h
+text_stands xs (faults.NoType n) h = absurd h
+text_stands xs (faults.NoValue n) h = absurd h
+text_stands xs faults.TooLong h = absurd h
+text_stands xs faults.Device h = absurd h
+
+pub kit_stands : (xs : List (List ℕ)) (ms : List ModuleTree) (fault : Fault) → AllZip IsModule xs ms → IsNoKit ms fault → StandsIn xs fault
+kit_stands xs ms faults.Memory z h = tt
+kit_stands xs ms (faults.Name n) z h = record { modules = ms; are = z; stands = h }
+kit_stands xs ms (faults.OutOfProfile c n y) z h = record { modules = ms; are = z; stands = h }
+kit_stands xs ms (faults.Text i f) z h = absurd h
+kit_stands xs ms (faults.Tree i f) z h = absurd h
+kit_stands xs ms (faults.File n) z h = absurd h
+kit_stands xs ms (faults.BadWords n) z h = absurd h
+kit_stands xs ms (faults.Help n) z h = absurd h
+kit_stands xs ms (faults.Value n) z h = absurd h
+kit_stands xs ms (faults.NoType n) z h = absurd h
+kit_stands xs ms (faults.NoValue n) z h = absurd h
+kit_stands xs ms faults.TooLong z h = absurd h
+kit_stands xs ms faults.Device z h = absurd h
+
+pub excludes : (p : Program) (M x : Name) → IsOutside p M x → IsFirstPath p → ⊥
+excludes p M x (inl t) f = t.other (all_at (λ h. h.1 ≡ Explicit) p.headers t.number (M, t.default) f.headers t.there)
+excludes p M x (inr (inl t)) f = t.such (all_at (IsFirstType p.types) p.types t.number t.written f.types t.there)
+excludes p M x (inr (inr t)) f = t.such (all_at (λ v. IsFirstNotation v.notation) p.values t.number t.value f.values t.there)

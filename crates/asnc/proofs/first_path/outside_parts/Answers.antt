@@ -1,0 +1,15 @@
+use Rattle.std.proofs.Common.{map, arith}
+use Rattle.std.proofs.lemmas.List.{length-map}
+use Rattle.resolve.specs.Seen.{part_of, type_of, types_of}
+use Rattle.asnc.specs.FirstPath.{IsFirstMember}
+use Rattle.asnc.proofs.Lists.{all_at, seen_here}
+use Rattle.asnc.proofs.first_path.outside_parts.Goals as goal
+
+pub outside_part-requires-clause-inside : goal.outside_part-requires-clause-inside
+outside_part-requires-clause-inside c =
+    let m = c.requires.inside c.loop-part.part-index (part_of c.part-item.result) (seen_here part_of c.args.parts.now c.loop-part.part-index c.part-item.result c.loop-part-test.true c.part-item.is) in
+    omega (arith, m, length-map c.args.types.now type_of)
+
+pub returns-in-Some : goal.returns-in-Some
+returns-in-Some c = λ a. c.in-Some.ensures (all_at (IsFirstMember (types_of c.args.types.now)) (map part_of c.args.parts.now) c.loop-part.part-index (part_of c.part-item.result) a
+    (seen_here part_of c.args.parts.now c.loop-part.part-index c.part-item.result c.loop-part-test.true c.part-item.is))

@@ -1,0 +1,21 @@
+use Rattle.std.proofs.Common.{sym, subst}
+use Rattle.resolve.specs.Program.{IsWhole}
+use Rattle.asnc.specs.Notations.{AreReferred}
+use Rattle.asnc.proofs.Leading.{refers_within, last_same, last_ends, last_none}
+use Rattle.asnc.proofs.scope.Scope.last.Goals as goal
+
+pub walked-requires-clause-closed : goal.walked-requires-clause-closed
+walked-requires-clause-closed c =
+    refers_within c.args.self.now c.as_slice.result.now (subst IsWhole c.self.view_is c.whole.ensures) (subst (λ o. AreReferred c.args.self.now o) (sym c.as_slice.ensures.value) (subst (λ q. AreReferred q c.self.inside.behind.items) c.self.view_is c.self.invariant))
+
+pub returns-clause-same : goal.returns-clause-same
+returns-clause-same c =
+    last_same c.args.self.now c.as_slice.result.now c.args.start c.walked.result (subst (λ o. AreReferred c.args.self.now o) (sym c.as_slice.ensures.value) (subst (λ q. AreReferred q c.self.inside.behind.items) c.self.view_is c.self.invariant)) c.walked.ensures.leads
+
+pub returns-clause-ends : goal.returns-clause-ends
+returns-clause-ends c =
+    last_ends c.args.self.now c.as_slice.result.now c.args.start c.walked.result (subst (λ o. AreReferred c.args.self.now o) (sym c.as_slice.ensures.value) (subst (λ q. AreReferred q c.self.inside.behind.items) c.self.view_is c.self.invariant)) c.walked.ensures.end
+
+pub returns-clause-none : goal.returns-clause-none
+returns-clause-none c =
+    last_none c.args.self.now c.as_slice.result.now c.args.start c.walked.result (subst (λ o. AreReferred c.args.self.now o) (sym c.as_slice.ensures.value) (subst (λ q. AreReferred q c.self.inside.behind.items) c.self.view_is c.self.invariant)) c.walked.ensures.leads c.walked.ensures.end

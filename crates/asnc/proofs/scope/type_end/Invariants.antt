@@ -1,8 +1,0 @@
-use Rattle.std.proofs.Common.{◌≡◌, ◌<◌, length, Some}
-use Rattle.syntax.specs.Tree.{module_tree_of}
-use Rattle.asnc.specs.Names.{next_type}
-use Rattle.asnc.specs.Walks.{walk}
-use Rattle.asnc.proofs.scope.type_end.Given as goal
-
-abbrev pub invariant-loop-step : goal.invariant-loop-step
-invariant-loop-step l = record { inside : l.at < length l.scope.parsed.assignments.items; leads : walk (next_type (module_tree_of l.scope.parsed)) l.step l.start ≡ Some l.at }
