@@ -23,3 +23,7 @@ pub mod Counting
 pub mod Standings
 pub mod Ready
 pub mod Slices
+pub mod Once
+pub mod Excluding
+pub mod Occurring
+pub mod Programs

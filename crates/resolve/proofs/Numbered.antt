@@ -163,7 +163,7 @@ module _ (ms : List (Name × Module)) (hs : List (Name × TagDefault)) (gs : Lis
     parts : (q : ℕ) (c : Source) → slice_get (parts_of source.assignment i source.tree) q ≡ Some c → (u : Type') × (slice_get ts (first + q) ≡ Some u) × (u.place ≡ c.place) × (u.default ≡ t.default)
 
   module _ (roots : List Source) (ts : List Type') (all : AreNumbered ms hs gs roots ts) where
-    part_there : (x q : ℕ) (c : Source) → slice_get (all_parts 0 all.sources) (x + q) ≡ Some c → slice_get all.sources (length roots + x + q) ≡ Some c
+    pub part_there : (x q : ℕ) (c : Source) → slice_get (all_parts 0 all.sources) (x + q) ≡ Some c → slice_get all.sources (length roots + x + q) ≡ Some c
     part_there x q c e =
         let z : length roots + x + q ≡ length roots + (x + q) = omega arith in
         ap (λ l. slice_get l (length roots + x + q)) all.all ∙ ap (λ m. slice_get (roots ++ all_parts 0 all.sources) m) z ∙ right roots (all_parts 0 all.sources) (x + q) ∙ e
@@ -186,7 +186,7 @@ module _ (ms : List (Name × Module)) (hs : List (Name × TagDefault)) (gs : Lis
               (b.t, b.there, b.top.place, same_default (length roots + a.first) (length roots + b.first) s.0 c t b.t top b.top (at_all (λ d. d.assignment ≡ s.0.assignment) (parts_of s.0.assignment i s.0.tree) p c (parts_of_one (λ x. x ≡ s.0.assignment) s.0.assignment i s.0.tree refl) h));
         }
 
-    as_long : length ts ≡ length all.sources
+    pub as_long : length ts ≡ length all.sources
     as_long = tops_length ms hs gs 0 (length roots) all.sources ts all.tops
 
     pub roots_there : length roots ≤ length ts

@@ -5,6 +5,7 @@ mod circles;
 mod exports;
 pub mod fault;
 mod gather;
+pub mod law;
 mod limits;
 pub mod linked;
 pub mod linking;
