@@ -13,7 +13,8 @@ const A: &str = "A DEFINITIONS AUTOMATIC TAGS ::= BEGIN IMPORTS T, v FROM B;\n\
     U ::= SEQUENCE { a INTEGER {one(1), two(2)}, b T OPTIONAL, c BIT STRING {x(0), y(9)} DEFAULT {x} }\n\
     E ::= ENUMERATED {p, q(5), r}  w U ::= { a v, b {n 7} } END";
 
-const B: &str = "B DEFINITIONS ::= BEGIN EXPORTS T, v; T ::= [1] SEQUENCE { n Num } Num ::= [2] [3] [4] INTEGER v Num ::= 1 END";
+const B: &str =
+    "B DEFINITIONS ::= BEGIN EXPORTS T, v; T ::= [1] SEQUENCE { n Num } Num ::= [2] [3] [4] INTEGER v Num ::= 1 END";
 
 fn module(alloc: Global, text: &str) -> Result<Module, Fail> {
     let octets = text.as_bytes();
