@@ -1,13 +1,11 @@
 -- Tables of assignments and modules, and of others behind them.
-use Rattle.std.proofs.Common.{◌≡◌, ℕ, zero, suc, ◌+◌, ◌++◌, List, [], ◌∷◌, length, map, refl, sym, ap, ◌∙◌, append_assoc, length-append, arith}
-use Rattle.std.proofs.lemmas.List.{length-map, map-append}
-use Rattle.notation.specs.Tree.{Name}
+use Rattle.std.proofs.Common.{◌≡◌, ℕ, suc, ◌+◌, ◌++◌, List, [], ◌∷◌, length, map, refl, sym, ap, ◌∙◌, append_assoc, length-append, arith}
+use Rattle.std.proofs.lemmas.List.{length-map}
 use Rattle.syntax.specs.Tree.{AssignmentTree, assigns_type, assigns_value, ModuleTree}
 use Rattle.resolve.specs.Gathered.{names_of}
 use Rattle.resolve.specs.declared.names.Assigned.TheVariants as assigned
 use Rattle.resolve.specs.Gathering.{name_of, root_of, imports_of, named_from, roots_from, values_from, owned_by}
 use Rattle.resolve.specs.Modules.{type_count, value_count, all_assignments, scopes_from, owned_from}
-use Rattle.resolve.specs.Numbering.{Source}
 
 pub named_behind : (n v : ℕ) (gs ks : List AssignmentTree) → named_from n v (gs ++ ks) ≡ named_from n v gs ++ named_from (n + length gs) (v + value_count gs) ks
 named_behind n v [] ks = let a : n + 0 ≡ n = omega arith in let b : v + 0 ≡ v = omega arith in rw (a, b) refl

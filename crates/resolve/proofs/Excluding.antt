@@ -6,7 +6,7 @@ use Rattle.resolve.specs.declared.fault.NameFault.{NameFault}
 use Rattle.resolve.specs.declared.fault.NameFault.TheVariants as faults
 use Rattle.resolve.specs.declared.fault.Limit.TheVariants as limits
 use Rattle.resolve.specs.Links.{IsNamesFault}
-use Rattle.resolve.specs.Modules.{StandsIn, StandsTwice, AreDistinct, assigned_names, IsExported, AreNamed, AreFew}
+use Rattle.resolve.specs.Modules.{StandsIn, AreDistinct, assigned_names, IsExported, AreNamed, AreFew}
 use Rattle.resolve.proofs.Distinct.{stands_map}
 
 compare : (i j : ℕ) → (i < j) ⊎ ((j < i) ⊎ (i ≡ j))

@@ -1,6 +1,5 @@
 -- Assignments, imports and modules that are gathered one behind the other.
-use Rattle.std.proofs.Common.{◌≡◌, ◌⊎◌, inl, inr, ℕ, zero, suc, ◌<◌, ◌+◌, ◌++◌, List, [], ◌∷◌, Some, None, length, map, refl, sym, subst, ap, ◌∙◌, append_assoc, length-append, arith, string_bytes}
-use Rattle.std.specs.Prelude.{slice_get, Option, option_map}
+use Rattle.std.proofs.Common.{◌≡◌, inl, inr, ℕ, ◌+◌, ◌++◌, List, [], ◌∷◌, Some, None, length, map, refl, sym, subst, ap, ◌∙◌, append_assoc, length-append, arith, string_bytes}
 use Rattle.std.proofs.lemmas.List.{length-map, map-append}
 use Rattle.notation.specs.Tree.{Name}
 use Rattle.syntax.specs.Tree.{AssignmentTree, ImportTree, ModuleTree}
@@ -12,13 +11,12 @@ use Rattle.resolve.specs.declared.names.Assigned.{Assigned}
 use Rattle.resolve.specs.Faults.{IsTwice}
 use Rattle.resolve.specs.Gathered.{names_of, Adds, HasGathered, IsTaken, IsRepeated, IsNamingFault}
 use Rattle.resolve.specs.Gathering.{name_of, named_from, roots_from, values_from, owned_by, imports_of}
-use Rattle.resolve.specs.Links.{IsNamedTwice}
-use Rattle.resolve.specs.Modules.{StandsIn, StandsTwice, AreDistinct, names_in, assigned_names, value_count, all_assignments, scopes_from, headers_of, owned_from}
+use Rattle.resolve.specs.Modules.{StandsIn, StandsTwice, AreDistinct, names_in, value_count, all_assignments, scopes_from, owned_from}
 use Rattle.resolve.specs.Names.{Module, under}
 use Rattle.resolve.specs.Scopes.{seen, module_of}
-use Rattle.resolve.specs.Seen.{assignment_of, header_of, source_of, sources_of, value_of}
+use Rattle.resolve.specs.Seen.{assignment_of, header_of, sources_of, value_of}
 use Rattle.resolve.proofs.Behind.{named_behind, roots_behind, values_behind, names_named, length_values, length_owned, length_all_owned, all_behind, scopes_behind, owned_behind, names_scopes}
-use Rattle.resolve.proofs.Distinct.{right, stands_either, stands_one, stands_map, twice_left, twice_across, distinct_none, distinct_more, under_none, name_under}
+use Rattle.resolve.proofs.Distinct.{right, stands_either, stands_one, twice_left, twice_across, distinct_none, distinct_more, under_none, name_under}
 
 pub append_nil : {X : Type 0} (xs : List X) → xs ++ [] ≡ xs
 append_nil [] = refl

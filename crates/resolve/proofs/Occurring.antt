@@ -1,6 +1,6 @@
 -- Each type that stands in an assignment is numbered, so a fault of the table excludes a table.
-use Rattle.std.proofs.Common.{◌≡◌, ◌⊎◌, inl, inr, ℕ, zero, suc, ◌+◌, ◌<◌, ◌≤◌, List, [], ◌∷◌, length, Some, None, refl, sym, subst, ap, ◌∙◌, arith, string_bytes}
-use Rattle.std.specs.Prelude.{slice_get, Option}
+use Rattle.std.proofs.Common.{◌≡◌, ℕ, zero, suc, ◌+◌, ◌≤◌, List, [], length, Some, refl, sym, subst, ap, ◌∙◌, arith, string_bytes}
+use Rattle.std.specs.Prelude.{slice_get}
 use Rattle.std.proofs.lemmas.Option.{slice_get_within}
 use Rattle.notation.specs.Tree.{Name}
 use Rattle.syntax.specs.declared.tree.TagDefault.{TagDefault}
@@ -10,10 +10,10 @@ use Rattle.resolve.specs.declared.fault.NameFault.TheVariants as faults
 use Rattle.resolve.specs.declared.fault.Limit.TheVariants as limits
 use Rattle.resolve.specs.Faults.{HasUnknown, IsCircularAt, IsTableFault}
 use Rattle.resolve.specs.Names.{Module, IsApart}
-use Rattle.resolve.specs.Numbering.{Source, member_sources, parts_of, all_parts, IsKind, RefersToNothing, IsTop, AreNumbered, Occurs, directly, inside, AreMore}
+use Rattle.resolve.specs.Numbering.{Source, member_sources, parts_of, all_parts, IsKind, RefersToNothing, AreNumbered, Occurs, directly, inside}
 use Rattle.resolve.specs.Table.{Type', Kind, AllUnfold, IsCircular}
 use Rattle.resolve.proofs.Distinct.{left}
-use Rattle.resolve.proofs.Numbered.{At, at, part_there, as_long}
+use Rattle.resolve.proofs.Numbered.{at, part_there, as_long}
 use Rattle.resolve.proofs.Once.{one_table}
 use Rattle.resolve.proofs.Queue.{at_all, parts_of_one}
 use Rattle.resolve.proofs.Walks.{core_not_circular}

@@ -1,9 +1,7 @@
 -- What is gathered refers to what is there, and a program of it is one of its modules.
-use Rattle.std.proofs.Common.{◌≡◌, ◌⊎◌, inl, inr, ℕ, zero, suc, ◌+◌, ◌<◌, ◌≤◌, ◌++◌, List, [], ◌∷◌, length, Some, None, map, refl, sym, subst, ap, ◌∙◌, length-append, arith}
-use Rattle.std.specs.Prelude.{slice_get, Option}
-use Rattle.std.specs.List.{AllByRecursion}
+use Rattle.std.proofs.Common.{◌≡◌, ◌⊎◌, inl, inr, ℕ, zero, suc, ◌+◌, ◌<◌, ◌≤◌, List, [], ◌∷◌, length, Some, map, refl, sym, subst, ap, ◌∙◌, length-append, arith}
+use Rattle.std.specs.Prelude.{slice_get}
 use Rattle.std.proofs.lemmas.List.{length-map}
-use Rattle.std.proofs.lemmas.Option.{slice_get_within}
 use Rattle.notation.specs.Tree.{Name}
 use Rattle.syntax.specs.Tree.{AssignmentTree, assigns_type, assigns_value, ModuleTree}
 use Rattle.resolve.specs.declared.fault.NameFault.{NameFault}
@@ -11,20 +9,18 @@ use Rattle.resolve.specs.declared.fault.NameFault.TheVariants as faults
 use Rattle.resolve.specs.declared.gather.Gathered.{Gathered}
 use Rattle.resolve.specs.declared.names.Assigned.{Assigned}
 use Rattle.resolve.specs.declared.names.Assigned.TheVariants as assigned
-use Rattle.resolve.specs.declared.table.Assignment.{Assignment}
-use Rattle.resolve.specs.declared.table.ValueAt.{ValueAt}
 use Rattle.resolve.specs.Faults.{IsTableFault}
 use Rattle.resolve.specs.Gathered.{HasGathered, IsNamingFault, IsReady, IsOf, IsAssembled, IsAssemblyFault}
 use Rattle.resolve.specs.Gathering.{name_of, named_from, roots_from, values_from, owned_by}
 use Rattle.resolve.specs.Links.{IsProgramOf, Links, IsLinkFault}
-use Rattle.resolve.specs.Modules.{StandsIn, AreNamed, AreFew, value_count, all_assignments, scopes_from, headers_of, owned_from, roots_of, values_of}
-use Rattle.resolve.specs.Names.{Module, Meaning, own, imported, IsApart, under}
-use Rattle.resolve.specs.Numbering.{Source, AllAssigned, HaveNoPlace, AreNumbered}
+use Rattle.resolve.specs.Modules.{StandsIn, AreNamed, AreFew, value_count, all_assignments, scopes_from, headers_of, owned_from, roots_of}
+use Rattle.resolve.specs.Names.{Module, Meaning, own, imported, IsApart}
+use Rattle.resolve.specs.Numbering.{AllAssigned, HaveNoPlace, AreNumbered}
 use Rattle.resolve.specs.Program.{Program, Value, IsGiven}
 use Rattle.resolve.specs.SoundFaults.{IsSoundFault}
 use Rattle.resolve.specs.Scopes.{seen, module_of}
-use Rattle.resolve.specs.Seen.{assignment_of, header_of, source_of, sources_of, value_of}
-use Rattle.resolve.proofs.Behind.{length_roots, length_values, length_owned, length_all_owned, values_count}
+use Rattle.resolve.specs.Seen.{assignment_of, header_of, source_of, value_of}
+use Rattle.resolve.proofs.Behind.{length_roots, length_values, length_all_owned, values_count}
 use Rattle.resolve.proofs.Distinct.{either, stands_map, under_some}
 use Rattle.resolve.proofs.Standings.{are_apart}
 

@@ -1,6 +1,6 @@
 -- Exports and imports that stand in tables of names, and in the modules that gave them.
-use Rattle.std.proofs.Common.{◌≡◌, ◌⊎◌, inl, inr, ℕ, zero, suc, ◌+◌, ◌<◌, ◌++◌, List, [], ◌∷◌, length, Some, None, map, refl, sym, subst, ap, ◌∙◌, arith, below_more, string_bytes}
-use Rattle.std.specs.Prelude.{slice_get, Option, option_map, String}
+use Rattle.std.proofs.Common.{◌≡◌, ◌⊎◌, inl, inr, ℕ, zero, suc, ◌+◌, ◌<◌, List, [], ◌∷◌, length, Some, None, map, refl, sym, subst, ap, ◌∙◌, arith, below_more, string_bytes}
+use Rattle.std.specs.Prelude.{slice_get, Option, String}
 use Rattle.std.specs.Global.{Global}
 use Rattle.std.proofs.lemmas.Option.{slice_get_within}
 use Rattle.notation.specs.Tree.{Name}
@@ -9,14 +9,13 @@ use Rattle.resolve.specs.declared.fault.NameFault.{NameFault}
 use Rattle.resolve.specs.declared.fault.NameFault.TheVariants as faults
 use Rattle.resolve.specs.declared.gather.Gathered.{Gathered}
 use Rattle.resolve.specs.declared.names.Assigned.{Assigned}
-use Rattle.resolve.specs.Gathered.{names_of, HasGathered, IsNamingFault, IsOffered, ExportAssigned, ImportOffered, IsUnassigned, IsExportFault, IsImportFault, IsImportsFault, AreStanding, IsStandingFault}
+use Rattle.resolve.specs.Gathered.{names_of, HasGathered, IsNamingFault, IsOffered, IsExportFault, IsImportFault, IsImportsFault, AreStanding, IsStandingFault}
 use Rattle.resolve.specs.Gathering.{named_from, imports_of}
-use Rattle.resolve.specs.Links.{IsNamesFault}
 use Rattle.resolve.specs.Modules.{StandsIn, AreDistinct, IsExported, AreNamed, Offers, assigned_names, value_count, scopes_from, names_in}
 use Rattle.resolve.specs.Names.{Module, under, IsApart}
 use Rattle.resolve.specs.Scopes.{seen, module_of}
 use Rattle.resolve.proofs.Behind.{names_named, names_scopes}
-use Rattle.resolve.proofs.Distinct.{left, stands_map, under_none, under_some, name_under, twice_across}
+use Rattle.resolve.proofs.Distinct.{stands_map, under_none, under_some, name_under, twice_across}
 
 -- what holds of the first items, and of the next
 pub more_at : {X Y : Type 0} (f : X → Y) (xs : List X) (P : Y → Type 0) (i : ℕ) (x : X) → slice_get xs i ≡ Some x → ((k : ℕ) (y : Y) → k < i → slice_get (map f xs) k ≡ Some y → P y) → P (f x) → (k : ℕ) (y : Y) → k < i + 1 → slice_get (map f xs) k ≡ Some y → P y

@@ -1,5 +1,5 @@
 -- Modules whose names, types and values are gathered, and what is wrong with names on the way.
-use Rattle.std.specs.Prelude.{◌≡◌, ◌<◌, ◌≤◌, slice_get, ℕ, List, ◌∷◌, ◌++◌, [], Option, Some, None, map, length, string_bytes, ◌⊎◌}
+use Rattle.std.specs.Prelude.{◌≡◌, ◌<◌, ◌≤◌, slice_get, ℕ, List, ◌++◌, Some, None, map, length, string_bytes, ◌⊎◌}
 use Rattle.notation.specs.Tree.{Name}
 use Rattle.syntax.specs.declared.tree.TagDefault.{TagDefault}
 use Rattle.syntax.specs.Tree.{AssignmentTree, ModuleTree}
@@ -9,7 +9,7 @@ use Rattle.resolve.specs.declared.fault.Limit.TheVariants as limits
 use Rattle.resolve.specs.declared.gather.Tables.{Tables}
 use Rattle.resolve.specs.declared.gather.Gathered.{Gathered}
 use Rattle.resolve.specs.declared.names.Assigned.{Assigned}
-use Rattle.resolve.specs.Gathering.{named_from, roots_from, values_from, owned_by, imports_of}
+use Rattle.resolve.specs.Gathering.{roots_from, values_from, owned_by}
 use Rattle.resolve.specs.Links.{IsNamesFault}
 use Rattle.resolve.specs.Modules.{StandsIn, StandsTwice, AreDistinct, IsExported, names_in, scopes_from, headers_of, owned_from, roots_of, values_of}
 use Rattle.resolve.specs.Names.{Module, Meaning, IsApart, under}

@@ -1,12 +1,11 @@
 -- Modules that are linked, and why modules can't be.
-use Rattle.std.specs.Prelude.{◌≡◌, ◌<◌, ◌≤◌, ◌⊎◌, ℕ, List, Option, Some, None, map, length, slice_get, string_bytes}
+use Rattle.std.specs.Prelude.{◌≡◌, ◌<◌, ◌≤◌, ◌⊎◌, ℕ, List, Some, map, length, slice_get, string_bytes}
 use Rattle.notation.specs.Tree.{Name}
 use Rattle.syntax.specs.Tree.{ModuleTree}
 use Rattle.resolve.specs.declared.fault.NameFault.{NameFault}
 use Rattle.resolve.specs.declared.fault.NameFault.TheVariants as faults
 use Rattle.resolve.specs.declared.fault.Limit.TheVariants as limits
 use Rattle.resolve.specs.Faults.{IsTableFault}
-use Rattle.resolve.specs.Gathering.{imports_of}
 use Rattle.resolve.specs.Modules.{StandsIn, StandsTwice, assigned_names, names_in, IsExported, Imports, AreNamed, type_count, value_count, all_assignments, AreFew, scopes_from, headers_of, owned_from, roots_of, values_of}
 use Rattle.resolve.specs.Numbering.{AreNumbered}
 use Rattle.resolve.specs.Program.{Program}

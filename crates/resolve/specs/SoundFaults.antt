@@ -1,5 +1,5 @@
 -- What faults say of the lists in written types, and of the names in notations.
-use Rattle.std.specs.Prelude.{◌≡◌, ◌<◌, ◌⊎◌, ℕ, ℤ, Bool, List, Option, Some, None, map, length, slice_get, string_bytes}
+use Rattle.std.specs.Prelude.{◌≡◌, ◌<◌, ◌⊎◌, ℕ, ℤ, Bool, List, Some, map, length, slice_get, string_bytes}
 use Rattle.asn_base.specs.Typed.{IsWithinLimit}
 use Rattle.notation.specs.Tree.{Name}
 use Rattle.resolve.specs.declared.fault.NameFault.{NameFault}

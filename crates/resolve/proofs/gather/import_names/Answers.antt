@@ -1,4 +1,4 @@
-use Rattle.std.proofs.Common.{rules, ◌≡◌, ◌++◌, ◌∷◌, [], map, sym, ap, ◌∙◌, string_bytes}
+use Rattle.std.proofs.Common.{rules, ◌≡◌, ◌++◌, ◌∷◌, map, sym, ap, ◌∙◌, string_bytes}
 use Rattle.resolve.specs.Gathered.{names_of}
 use Rattle.resolve.specs.Scopes.{seen}
 use Rattle.resolve.proofs.Gatherings.{import_sum, import_distinct, import_fault}

@@ -1,4 +1,4 @@
-use Rattle.std.proofs.Common.{rules, ◌≡◌, ◌++◌, ◌∷◌, [], length, map, refl, sym, subst, ap, ◌∙◌, string_bytes}
+use Rattle.std.proofs.Common.{◌≡◌, ◌++◌, length, map, refl, sym, subst, ap, ◌∙◌}
 use Rattle.syntax.specs.Tree.{assignment_of as given_of, import_of}
 use Rattle.resolve.specs.Gathered.{names_of, IsRepeated}
 use Rattle.resolve.specs.Gathering.{name_of, imports_of}

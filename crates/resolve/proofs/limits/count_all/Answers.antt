@@ -1,7 +1,6 @@
-use Rattle.std.proofs.Common.{◌≡◌, ◌≤◌, arith, sym, subst, ap, ◌∙◌, map}
-use Rattle.syntax.specs.Tree.{assignment_of as given_of, module_tree_of}
-use Rattle.resolve.specs.Gathered.{IsPastCount}
-use Rattle.resolve.specs.Modules.{type_count, value_count, all_assignments}
+use Rattle.std.proofs.Common.{arith, ap, map}
+use Rattle.syntax.specs.Tree.{assignment_of as given_of}
+use Rattle.resolve.specs.Modules.{type_count, value_count}
 use Rattle.resolve.proofs.Counting.{types_drop_module, values_drop_module, past_more}
 use Rattle.resolve.proofs.limits.count_all.Goals as goal
 

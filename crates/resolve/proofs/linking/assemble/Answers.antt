@@ -1,4 +1,4 @@
-use Rattle.std.proofs.Common.{◌≡◌, ◌<◌, inl, length, map, arith}
+use Rattle.std.proofs.Common.{◌<◌, inl, length, map, arith}
 use Rattle.std.proofs.lemmas.List.{length-map}
 use Rattle.resolve.specs.Scopes.{seen, module_of}
 use Rattle.resolve.specs.Seen.{header_of, assignment_of, source_of, sources_of}

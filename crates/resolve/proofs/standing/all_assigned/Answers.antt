@@ -1,4 +1,4 @@
-use Rattle.std.proofs.Common.{rules, arith, ◌≡◌, length, Some, map, refl, sym, ap, ◌∙◌, string_bytes}
+use Rattle.std.proofs.Common.{arith, ◌≡◌, length, Some, map, refl, sym, ap, ◌∙◌, string_bytes}
 use Rattle.std.proofs.lemmas.List.{length-map}
 use Rattle.std.proofs.lemmas.Option.{slice_get_read}
 use Rattle.resolve.specs.Gathered.{names_of}

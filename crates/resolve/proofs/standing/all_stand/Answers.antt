@@ -1,4 +1,4 @@
-use Rattle.std.proofs.Common.{rules, arith, ◌≡◌, ◌⊎◌, length, map, sym, subst, ap, string_bytes}
+use Rattle.std.proofs.Common.{arith, ◌≡◌, ◌⊎◌, length, subst, string_bytes}
 use Rattle.notation.specs.Tree.{Name}
 use Rattle.resolve.specs.Gathered.{ExportAssigned, ImportOffered, IsExportFault, IsImportsFault}
 use Rattle.resolve.specs.Names.{Module}

@@ -1,5 +1,4 @@
-use Rattle.std.proofs.Common.{◌≡◌, Some, sym, ap, ◌∙◌, string_bytes, option_map}
-use Rattle.std.specs.Prelude.{slice_get}
+use Rattle.std.proofs.Common.{sym, ap, ◌∙◌, string_bytes, option_map}
 use Rattle.std.specs.Map.Iter.{deref_pair}
 use Rattle.resolve.proofs.Distinct.{stands_map}
 use Rattle.resolve.proofs.standing.entry_at.Goals as goal

@@ -1,4 +1,4 @@
-use Rattle.std.proofs.Common.{◌≡◌, ℕ, ◌<◌, Some, map, string_bytes}
+use Rattle.std.proofs.Common.{◌≡◌, ℕ, ◌<◌, Some, string_bytes}
 use Rattle.std.specs.Prelude.{slice_get}
 use Rattle.notation.specs.Tree.{Name}
 use Rattle.resolve.specs.Gathered.{IsOffered}
