@@ -7,7 +7,7 @@ ghost use Rattle.notation.specs.Tree.{Name};
 ghost use Rattle.syntax.specs.Tree.{ModuleTree};
 ghost use Rattle.syntax.specs.declared.tree.TagDefault.{TagDefault as Default};
 ghost use Rattle.resolve.specs.declared.fault.NameFault.{NameFault};
-ghost use Rattle.resolve.specs.Links.{IsNamesFault, IsProgramOf};
+ghost use Rattle.resolve.specs.Links.{IsNamesFault, IsProgramOf, Links, IsLinkFault};
 ghost use Rattle.resolve.specs.Modules.{AreFew, AreNamed};
 ghost use Rattle.resolve.specs.Names.{Module, IsApart};
 ghost use Rattle.resolve.specs.Numbering.{Source, AreNumbered};
@@ -32,4 +32,9 @@ pub fn table_faults_exclude()
 /// Modules have one program at most.
 pub fn one_program()
     ensures { (ms : List ModuleTree) (p q : Program) → AreNamed ms → IsProgramOf ms p → IsProgramOf ms q → p ≡ q }
+{}
+
+/// A fault that stands in modules, other than want of memory, excludes that they can be linked: so [`crate::link`] is Ok just where they can be.
+pub fn link_faults_exclude()
+    ensures { (ms : List ModuleTree) (p : Program) (e : NameFault) → (e ≡ faults.Memory → ⊥) → IsLinkFault ms e → Links ms p → ⊥ }
 {}
