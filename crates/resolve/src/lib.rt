@@ -30,3 +30,5 @@ pub use table::{
 
 #[cfg(test)]
 mod sound_tests;
+#[cfg(test)]
+mod tests;

@@ -17,7 +17,7 @@ fn linked(alloc: Global, default: &str, assignments: &str) -> Result<Linked, Fai
     let module = syntax::parse(alloc, &text, &tokens).ok().ok_or("module")?;
     let mut modules = Vec::new(alloc);
     modules.push(module)?;
-    link(alloc, modules).ok().ok_or(Fail::from("linked"))
+    Ok(link(alloc, modules).ok().ok_or("linked")?)
 }
 
 /// The number of type T.

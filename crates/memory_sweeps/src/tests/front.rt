@@ -19,7 +19,7 @@ const B: &str =
 fn module(alloc: Global, text: &str) -> Result<Module, Fail> {
     let octets = text.as_bytes();
     let tokens = lex(alloc, octets).ok().ok_or("tokens")?;
-    parse(alloc, octets, &tokens).ok().ok_or(Fail::from("tree"))
+    Ok(parse(alloc, octets, &tokens).ok().ok_or("tree")?)
 }
 
 fn both(alloc: Global) -> Result<Vec<Module>, Fail> {
