@@ -1,6 +1,6 @@
 -- What notations are behind their references.
-use Rattle.std.proofs.Common.{◌≡◌, ◌⊎◌, ◌↔◌, inl, inr, ℕ, Option, Some, None, refl, sym, ap, ◌∙◌, string_bytes, subst}
-use Rattle.std.specs.Prelude.{Result, Ok, Err, IfOk, IfErr, MatchResult}
+use Rattle.std.proofs.Common.{◌≡◌, ◌↔◌, inl, inr, ℕ, Option, Some, None, refl, sym, string_bytes, subst}
+use Rattle.std.specs.Prelude.{Result, Ok, Err, MatchResult}
 use Rattle.std.specs.Borrow.{Bor}
 use Rattle.notation.specs.Tree.{Name, Tree, reference, tree_of}
 use Rattle.notation.specs.declared.tree.ValueSyntax.{ValueSyntax}

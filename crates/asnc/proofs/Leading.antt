@@ -9,7 +9,7 @@ use Rattle.resolve.specs.Names.{Module, Meaning, Refers, bare, within, across}
 use Rattle.resolve.specs.Program.{Program, IsThere, IsWhole}
 use Rattle.asnc.specs.Walks.{onward, walk, EndsAt, ComesBack, Reaches, IsWithin}
 use Rattle.asnc.specs.Notations.{IsOwn, IsValueAt, IsLast, own, referred, IsValueLast, MeansValue, RefersTo, listed, AreReferred}
-use Rattle.asnc.proofs.Walks.{ends_next, ends_after, core_not_circular}
+use Rattle.asnc.proofs.Walks.{ends_next, core_not_circular}
 
 some_same : {X : Type 0} (x y : X) → Some x ≡ Some y → x ≡ y
 some_same x y e = cc

@@ -1,14 +1,14 @@
 -- Texts of modules, one by one, and what is refused.
-use Rattle.std.proofs.Common.{◌≡◌, ◌⊎◌, inl, inr, ℕ, zero, suc, ◌<◌, List, [], ◌∷◌, length, map, take, Some, refl, sym, arith, subst, get_or}
+use Rattle.std.proofs.Common.{◌≡◌, inl, inr, ℕ, zero, suc, ◌<◌, List, [], ◌∷◌, length, map, take, Some, sym, arith, subst, get_or}
 use Rattle.std.specs.Prelude.{slice_get, Vec}
 use Rattle.std.specs.Global.{Global}
-use Rattle.std.specs.List.{AllZip, AllByRecursion}
+use Rattle.std.specs.List.{AllZip}
 use Rattle.notation.specs.Tree.{Name}
 use Rattle.syntax.specs.Tree.{ModuleTree}
 use Rattle.resolve.specs.Program.{Program}
 use Rattle.asnc.specs.declared.fault.Fault.{Fault}
 use Rattle.asnc.specs.declared.fault.Fault.TheVariants as faults
-use Rattle.asnc.specs.FirstPath.{IsFirstPath, IsOutside, IsFirstType, IsFirstNotation, IsOutsideFault, TellsAssignment}
+use Rattle.asnc.specs.FirstPath.{IsFirstPath, IsOutside, IsFirstType, IsFirstNotation}
 use Rattle.asnc.specs.Opening.{IsModule, IsRefusedAt, IsTextFault, IsNoKit, StandsIn, octets_of}
 use Rattle.syntax.specs.declared.tree.TagDefault.TheVariants.{Explicit}
 use Rattle.asnc.proofs.Lists.{seen_here, all_at}

@@ -1,10 +1,9 @@
 -- Types of the table, and the types of the schema that they are.
-use Rattle.std.proofs.Common.{◌≡◌, ◌⊎◌, inl, inr, ℕ, zero, suc, ◌+◌, ◌<◌, ◌≤◌, false, List, [], ◌∷◌, ◌++◌, length, map, Option, Some, None, refl, sym, ap, ◌∙◌, arith, subst}
+use Rattle.std.proofs.Common.{◌≡◌, ◌⊎◌, inl, inr, ℕ, suc, ◌+◌, ◌<◌, List, [], ◌∷◌, ◌++◌, length, map, Some, None, refl, sym, ap, ◌∙◌, arith, subst}
 use Rattle.std.specs.Prelude.{slice_get, IsSomeAnd, Vec, Result, Ok, Err, IfOk}
 use Rattle.std.specs.Global.{Global}
 use Rattle.std.specs.List.{AllZip, AllByRecursion}
-use Rattle.std.proofs.lemmas.List.{map-append, length-map}
-use Rattle.std.proofs.lemmas.Option.{slice_get_within}
+use Rattle.std.proofs.lemmas.List.{map-append}
 use Rattle.std.proofs.lemmas.Slice.Zip.{AllZip-long}
 use Rattle.asn_base.specs.Types as kinds
 use Rattle.asn_base.specs.Types.{Component, Resolved}
@@ -24,7 +23,7 @@ use Rattle.resolve.specs.declared.table.ListKind.{ListKind}
 use Rattle.resolve.specs.declared.table.ListKind.TheVariants as lists
 use Rattle.resolve.specs.Seen.{kind_of, plain_of}
 use Rattle.resolve.specs.Sound.{AreSound, IsSoundKind}
-use Rattle.resolve.specs.Table.{a_boolean, an_integer, an_octet_string, Part, Kind, simple, reference, tagged, members, elements, Type', behind, behind_of, next, IsLinked}
+use Rattle.resolve.specs.Table.{an_integer, Part, Kind, simple, reference, tagged, members, elements, Type', behind, behind_of, IsLinked}
 use Rattle.asnc.specs.FirstPath.{IsBasic, Unfolds, IsFirstMember, IsFirstKind, IsFirstType, PartsInside}
 use Rattle.asnc.specs.Resolving.{IsComponent, IsKind, boolean, integer, octet_string, sequence, IsUniversal, IsTypeOf, AreTypes}
 use Rattle.asnc.proofs.Lists.{all_at, all_by_index, get_push, some_below}

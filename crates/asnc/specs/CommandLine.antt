@@ -1,5 +1,5 @@
 -- The command lines that the program takes, and what a job holds of one.
-use Rattle.std.specs.Prelude.{◌≡◌, ⊤, List, [], ◌∷◌, true, false, Some, codes, map, option_map, string_bytes, unwrap_or}
+use Rattle.std.specs.Prelude.{◌≡◌, ⊤, List, [], true, false, Some, codes, map, option_map, string_bytes, unwrap_or}
 use Rattle.clap.specs.Words.{App, Rule, Row, Text, IsAmong, all_of, fault_of, first_of, one_of, new_app, new_rule, subcommand_of, with_rule, with_subcommand}
 use Rattle.clap.specs.declared.builder.ArgAction.TheVariants.{Append, Set, SetTrue}
 use Rattle.clap.specs.declared.error.kind.ErrorKind.{ErrorKind}

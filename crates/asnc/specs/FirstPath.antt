@@ -8,7 +8,7 @@ use Rattle.syntax.specs.declared.tree.TagDefault.TheVariants.{Explicit}
 use Rattle.syntax.specs.Tree.{mandatory}
 use Rattle.resolve.specs.declared.table.ListKind.TheVariants.{Sequence}
 use Rattle.resolve.specs.Table.{a_boolean, an_integer, an_octet_string, Part, Kind, simple, reference, members, Type', IsCore}
-use Rattle.resolve.specs.Program.{Program, Value}
+use Rattle.resolve.specs.Program.{Program}
 use Rattle.resolve.specs.Sound.{IsAssignment}
 use Rattle.resolve.specs.SoundFaults.{IsTypeIn, IsValueIn}
 use Rattle.resolve.specs.declared.table.Header.{Header}

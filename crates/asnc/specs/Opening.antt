@@ -2,7 +2,6 @@
 use Rattle.std.specs.Prelude.{◌≡◌, ⊤, ℕ, ◌<◌, List, Some, slice_get, Vec}
 use Rattle.std.specs.Global.{Global}
 use Rattle.std.specs.List.{AllZip}
-use Rattle.text.specs.declared.fault.LexFault.{LexFault}
 use Rattle.text.specs.declared.token.Token.{Token}
 use Rattle.text.specs.Text as texts
 use Rattle.grammar.specs.Lexeme.{lexemes}
@@ -13,7 +12,6 @@ use Rattle.notation.specs.Answer as answers
 use Rattle.syntax.specs.Syntax.{module_text}
 use Rattle.syntax.specs.Tree.{ModuleTree}
 use Rattle.notation.specs.declared.fault.SyntaxFault.{SyntaxFault}
-use Rattle.resolve.specs.declared.fault.NameFault.{NameFault}
 use Rattle.resolve.specs.Program.{Program}
 use Rattle.resolve.specs.Links.{Links, IsLinkFault}
 use Rattle.asnc.specs.declared.fault.Fault.{Fault}

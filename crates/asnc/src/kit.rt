@@ -2,7 +2,10 @@
 
 ghost use Rattle.std.specs.Prelude.{◌≡◌, ◌<◌, ◌↔◌, ℕ, List, length, map, Some, IfSome, IfOk, IfErr, MatchOption};
 ghost use Rattle.asn_base.specs.Types.{Resolved};
-ghost use Rattle.syntax.specs.Tree.{module_tree_of};
+ghost use Rattle.syntax.specs.Tree.{ModuleTree, module_tree_of};
+ghost use Rattle.text.specs.declared.fault.LexFault.{LexFault};
+ghost use Rattle.text.specs.declared.fault.LexFault.TheVariants.{Memory as no_memory};
+ghost use Rattle.text.specs.Text.{Stands};
 ghost use Rattle.notation.specs.Tree.{Name};
 ghost use Rattle.resolve.specs.declared.names.Assigned.{Assigned as Assigned'};
 ghost use Rattle.resolve.specs.Program.{IsThere, Program};
@@ -10,7 +13,7 @@ ghost use Rattle.resolve.specs.Sound.{AreSound};
 ghost use Rattle.asnc.specs.declared.fault.Fault.{Fault as Fault'};
 ghost use Rattle.asnc.specs.FirstPath.{IsFirstPath, IsOutside, IsOutsideFault};
 ghost use Rattle.asnc.specs.Named.{IsNamed, IsQualified, TypeNamed, ValueNamed};
-ghost use Rattle.asnc.specs.Opening.{IsKitOf, IsNoKit, IsOpened, StandsIn, octets_of};
+ghost use Rattle.asnc.specs.Opening.{IsKitOf, IsModule, IsNoKit, IsOpened, StandsIn, octets_of};
 ghost use Rattle.asnc.specs.Resolving.{AreTypes};
 ghost use Rattle.asnc.specs.Writing.{IsEncoded, IsNotEncoded};
 
@@ -85,10 +88,14 @@ fn kit_of(alloc: Global, modules: Vec<Module>) -> Result<Kit, Fault>
     }
 }
 
-/// A construct that is left out excludes that a program is one that this compiler takes: so a linked program has a kit just where nothing is left out.
+/// Faults that stand exclude acceptance: a fault of a text's octets, that the text is a module; a construct that is left out, that a
+/// program is one that this compiler takes. So a linked program has a kit just where nothing is left out.
 pub fn faults_exclude()
-    ensures { (p : Program) (M x : Name) → IsOutside p M x → IsFirstPath p → ⊥ }
-{}
+    ensures texts { (x : List ℕ) (m : ModuleTree) (f : LexFault) → (f ≡ no_memory → ⊥) → Stands x f → IsModule x m → ⊥ }
+    ensures programs { (p : Program) (M x : Name) → IsOutside p M x → IsFirstPath p → ⊥ }
+{
+    text::law::tokens_or_fault();
+}
 
 impl Kit {
     /// Reads the texts of modules, and links them.

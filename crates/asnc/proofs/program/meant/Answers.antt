@@ -1,4 +1,4 @@
-use Rattle.std.proofs.Common.{◌≡◌, Some, sym, ap, ◌∙◌, option_map, string_bytes}
+use Rattle.std.proofs.Common.{Some, sym, ap, ◌∙◌, option_map, string_bytes}
 use Rattle.notation.specs.Tree.{tree_of}
 use Rattle.asnc.proofs.Leading.{means_value, means_none, value_there}
 use Rattle.asnc.proofs.Notated.{reference_tree}
