@@ -30,7 +30,7 @@ use std::collections::VecDeque;
 use std::marker::Model;
 
 /// What a name stands for.
-#[derive(Debug)]
+#[derive(Debug, Drop)]
 pub enum Found<'a> {
     /// A type, by its number in the table of written types.
     TypeNamed(TypeId),
