@@ -1,7 +1,5 @@
 use super::*;
-use asn_base::schema::TypeId;
-use asn_base::tag::Class;
-use resolve::{Found, Linked, Shape, link};
+use resolve::{Linked, link};
 use std::alloc::Global;
 use std::test::*;
 
@@ -20,60 +18,6 @@ fn linked(alloc: Global, default: &str, assignments: &str) -> Result<Linked, Fai
     Ok(link(alloc, modules).ok().ok_or("linked")?)
 }
 
-/// The number of type T.
-fn number_of(linked: &Linked) -> Result<TypeId, Fail> {
-    match linked.find("M", "T") {
-        Some(Found::TypeNamed(id)) => Ok(id),
-        _ => Err(Fail::from("no type T")),
-    }
-}
-
-/// The number of the type of a member of T, counted from 0.
-fn member_of(linked: &Linked, number: usize) -> Result<TypeId, Fail> {
-    let ty = number_of(linked)?;
-    match &linked.types()[ty.index].shape {
-        Shape::Members(_, members) => Ok(TypeId {
-            index: members.get(number).ok_or("member")?.ty,
-        }),
-        _ => Err(Fail::from("no list")),
-    }
-}
-
-/// Whether a path has these tags with these forms.
-fn is_path(path: &TagPath, expected: &[(Class, u32, Form)]) -> bool {
-    path.len() == expected.len()
-        && path.iter().zip(expected.iter()).all(|(t, e)| t.tag.class == e.0
-            && t.tag.number == e.1
-            && t.form == e.2)
-}
-
-/// Whether type T has these tags.
-fn has_tags(
-    alloc: Global,
-    default: &str,
-    assignments: &str,
-    expected: &[(Class, u32, Form)],
-) -> Result<bool, Fail> {
-    let linked = linked(alloc, default, assignments)?;
-    let tagged = tag(alloc, &linked).ok().ok_or("tagged")?;
-    let path = tags_of(alloc, &tagged, number_of(&linked)?)?;
-    Ok(is_path(&path, expected))
-}
-
-/// Whether a member of T has these tags.
-fn member_has_tags(
-    alloc: Global,
-    default: &str,
-    assignments: &str,
-    number: usize,
-    expected: &[(Class, u32, Form)],
-) -> Result<bool, Fail> {
-    let linked = linked(alloc, default, assignments)?;
-    let tagged = tag(alloc, &linked).ok().ok_or("tagged")?;
-    let path = tags_of(alloc, &tagged, member_of(&linked, number)?)?;
-    Ok(is_path(&path, expected))
-}
-
 /// The fault of a module, if it has one.
 fn fault(alloc: Global, default: &str, assignments: &str) -> Result<Option<TagFault>, Fail> {
     let linked = linked(alloc, default, assignments)?;
@@ -83,92 +27,6 @@ fn fault(alloc: Global, default: &str, assignments: &str) -> Result<Option<TagFa
 /// Whether a fault names type T of module M.
 fn is_at_t(module: &String, name: &String) -> bool {
     module.as_str() == "M" && name.as_str() == "T"
-}
-
-#[test]
-fn written_tags(rt: HostRuntime) -> Result<(), Fail> {
-    assert!(rt;
-        has_tags(
-            rt.alloc(),
-            "EXPLICIT",
-            "T ::= [1] IMPLICIT [2] IMPLICIT NULL",
-            &[
-                (Class::Context, 1, Form::Implicit),
-                (Class::Context, 2, Form::Implicit),
-                (Class::Universal, 5, Form::Explicit),
-            ]
-        )?
-    );
-    assert!(rt;
-        has_tags(
-            rt.alloc(),
-            "EXPLICIT",
-            "T ::= [APPLICATION 30] U U ::= [PRIVATE 2] SET OF NULL",
-            &[
-                (Class::Application, 30, Form::Explicit),
-                (Class::Private, 2, Form::Explicit),
-                (Class::Universal, 17, Form::Explicit),
-            ]
-        )?
-    );
-    assert!(rt;
-        has_tags(
-            rt.alloc(),
-            "IMPLICIT",
-            "T ::= [0] C C ::= CHOICE {a NULL, b BOOLEAN}",
-            &[(Class::Context, 0, Form::Explicit),]
-        )?
-    );
-    assert!(rt; has_tags(rt.alloc(), "EXPLICIT", "T ::= CHOICE {a NULL}", &[])?);
-    Ok(())
-}
-
-#[test]
-fn automatic_tags(rt: HostRuntime) -> Result<(), Fail> {
-    let pair = "T ::= SEQUENCE {a INTEGER OPTIONAL, b INTEGER}";
-    assert!(rt;
-        member_has_tags(
-            rt.alloc(),
-            "AUTOMATIC",
-            pair,
-            0,
-            &[
-                (Class::Context, 0, Form::Implicit),
-                (Class::Universal, 2, Form::Explicit),
-            ]
-        )?
-    );
-    assert!(rt;
-        member_has_tags(
-            rt.alloc(),
-            "AUTOMATIC",
-            pair,
-            1,
-            &[
-                (Class::Context, 1, Form::Implicit),
-                (Class::Universal, 2, Form::Explicit),
-            ]
-        )?
-    );
-    assert!(rt;
-        member_has_tags(
-            rt.alloc(),
-            "AUTOMATIC",
-            "T ::= SET {c CHOICE {x NULL}}",
-            0,
-            &[(Class::Context, 0, Form::Explicit),]
-        )?
-    );
-    assert!(rt;
-        member_has_tags(
-            rt.alloc(),
-            "AUTOMATIC",
-            "T ::= SEQUENCE {a [7] NULL, b BOOLEAN}",
-            1,
-            &[(Class::Universal, 1, Form::Explicit),]
-        )?
-    );
-    Ok(())
 }
 
 #[test]
