@@ -5,6 +5,7 @@ mod Lasts
 mod Leading
 mod Lists
 pub mod Notated
+mod Onlies
 mod Openings
 mod Refused
 mod Simple

@@ -17,6 +17,7 @@ use Rattle.resolve.specs.Links.{Links, IsLinkFault}
 use Rattle.asnc.specs.declared.fault.Fault.{Fault}
 use Rattle.asnc.specs.declared.fault.Fault.TheVariants as faults
 use Rattle.asnc.specs.FirstPath.{IsFirstPath, IsOutsideFault}
+use Rattle.asnc.specs.Status.{number_of}
 use Rattle.asnc.specs.Resolving.{AreTypes}
 
 abbrev pub octets_of : Vec ℕ Global → List ℕ
@@ -84,6 +85,10 @@ IsNoKit ms faults.Memory = ⊤
 IsNoKit ms (faults.Name f) = IsLinkFault ms f
 IsNoKit ms (faults.OutOfProfile c m x) = IsOutsideOf ms (faults.OutOfProfile c m x)
 IsNoKit ms fault = ⊥
+
+-- the fault tells of want of memory
+abbrev pub SaysMemory : Fault → Type 0
+SaysMemory fault = number_of fault ≡ 1
 
 -- each text is a module, and the fault of the modules stands
 pub record AreNoKit (xs : List (List ℕ)) (fault : Fault) : Type 0 where

@@ -52,23 +52,31 @@ pub enum Construct {
 }
 
 /// Why a notation stands for no value of a type.
-#[derive(Debug, Drop)]
+#[derive(Debug, Drop, Error)]
 pub enum ValueFault {
     /// There was not enough memory.
+    #[error("1 Memory")]
     Memory,
     /// A number is not from -2^127 to 2^127 - 1.
+    #[error("2 Limit(Integer)")]
     Integer,
     /// A value's name, behind a module's name, that means no value.
+    #[error("31 UnknownName: {0}")]
     UnknownName(String),
     /// The name of a value that comes back to itself by references alone.
+    #[error("33 Circular: {0}")]
     Circular(String),
     /// The notation is of another kind than the type, or its components stand in another order.
+    #[error("60 NotOfType")]
     NotOfType,
     /// A name that is neither a component of the type nor a value.
+    #[error("62 UnknownItem: {0}")]
     UnknownItem(String),
     /// A component without a value.
+    #[error("63 Missing: {0}")]
     Missing(String),
     /// A component with more than one value.
+    #[error("64 Repeated: {0}")]
     Repeated(String),
 }
 
@@ -116,7 +124,7 @@ pub enum Fault {
     #[error("error 21 OutOfProfile: {1}.{2}")]
     OutOfProfile(Construct, String, String),
     /// The notation stands for no value of the type.
-    #[error("error {0:?}")]
+    #[error("error {0}")]
     Value(ValueFault),
     /// The name of a type, as the caller wrote it, that no module has.
     #[error("error 31 UnknownName: {0}")]

@@ -1,6 +1,6 @@
 //! Modules that are ready for use.
 
-ghost use Rattle.std.specs.Prelude.{◌≡◌, ◌<◌, ◌↔◌, ℕ, List, length, map, Some, IfSome, IfOk, IfErr, MatchOption};
+ghost use Rattle.std.specs.Prelude.{◌≡◌, ◌<◌, ◌↔◌, ℕ, List, length, map, Some, IfSome, IfOk, IfErr, MatchOption, MatchResult};
 ghost use Rattle.asn_base.specs.Types.{Resolved};
 ghost use Rattle.syntax.specs.Tree.{ModuleTree, module_tree_of};
 ghost use Rattle.text.specs.declared.fault.LexFault.{LexFault};
@@ -13,7 +13,7 @@ ghost use Rattle.resolve.specs.Sound.{AreSound};
 ghost use Rattle.asnc.specs.declared.fault.Fault.{Fault as Fault'};
 ghost use Rattle.asnc.specs.FirstPath.{IsFirstPath, IsOutside, IsOutsideFault};
 ghost use Rattle.asnc.specs.Named.{IsNamed, IsQualified, TypeNamed, ValueNamed};
-ghost use Rattle.asnc.specs.Opening.{IsKitOf, IsModule, IsNoKit, IsOpened, StandsIn, octets_of};
+ghost use Rattle.asnc.specs.Opening.{IsKitOf, IsModule, IsNoKit, IsOpened, SaysMemory, StandsIn, octets_of};
 ghost use Rattle.asnc.specs.Resolving.{AreTypes};
 ghost use Rattle.asnc.specs.Writing.{IsEncoded, IsNotEncoded};
 
@@ -80,8 +80,11 @@ fn kit_of_program(alloc: Global, linked: Linked) -> Result<Kit, Fault>
 /// The kit of modules. The first fault of their names is answered, else the first construct that is left out.
 fn kit_of(alloc: Global, modules: Vec<Module>) -> Result<Kit, Fault>
     ensures kit { IfOk result (λ k. IsKitOf (map module_tree_of modules.items) k.scope k.schema) }
+    ensures only { (p : Program) (s : List Resolved) → IsKitOf (map module_tree_of modules.items) p s → MatchResult result (λ k. k.scope ≡ p) SaysMemory }
     ensures fault { IfErr result (IsNoKit (map module_tree_of modules.items)) }
 {
+    resolve::law::link_faults_exclude();
+    resolve::law::one_program();
     match link(alloc, modules) {
         Ok(linked) => kit_of_program(alloc, linked),
         Err(fault) => Err(Fault::Name(fault)),
@@ -105,6 +108,8 @@ impl Kit {
     pub fn open(alloc: Global, texts: &[Vec<u8>]) -> Result<Kit, Fault>
         // Each text has tokens and is its module, the modules link to the kit's program, which holds nothing that is left out, and the schema has its types.
         ensures opened { IfOk result (λ k. IsOpened (map octets_of texts.now) k.scope k.schema) }
+        // Texts that are a kit's are opened, as that kit's program, unless memory runs out.
+        ensures only { (p : Program) (s : List Resolved) → IsOpened (map octets_of texts.now) p s → MatchResult result (λ k. k.scope ≡ p) SaysMemory }
         // A fault stands.
         ensures fault { IfErr result (StandsIn (map octets_of texts.now)) }
     {

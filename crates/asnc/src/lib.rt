@@ -17,7 +17,7 @@ mod telling;
 mod typing;
 mod words;
 
-pub use fault::{Construct, Fault, status};
+pub use fault::{Construct, Fault, ValueFault, status};
 pub use kit::{Kit, faults_exclude};
 pub use request::{Given, Job, Verb};
 pub use telling::report;

@@ -1,9 +1,9 @@
 //! The modules that texts are.
 
-ghost use Rattle.std.specs.Prelude.{◌≡◌, ℕ, List, IfOk, IfErr, map};
+ghost use Rattle.std.specs.Prelude.{◌≡◌, ℕ, List, IfOk, IfErr, MatchResult, map};
 ghost use Rattle.std.specs.List.{AllZip};
-ghost use Rattle.syntax.specs.Tree.{module_tree_of};
-ghost use Rattle.asnc.specs.Opening.{IsModule, IsTextFault, IsRefusedAt, octets_of};
+ghost use Rattle.syntax.specs.Tree.{ModuleTree, module_tree_of};
+ghost use Rattle.asnc.specs.Opening.{IsModule, IsTextFault, IsRefusedAt, SaysMemory, octets_of};
 
 use crate::fault::Fault;
 use std::alloc::Global;
@@ -12,6 +12,7 @@ use syntax::{Module, parse};
 /// The module that a text is; `number` is that of the text.
 fn module_of(alloc: Global, text: &[u8], number: usize) -> Result<Module, Fault>
     ensures module { IfOk result (λ m. IsModule text.now (module_tree_of m)) }
+    ensures only { (m : ModuleTree) → IsModule text.now m → MatchResult result (λ r. module_tree_of r ≡ m) SaysMemory }
     ensures fault { IfErr result (IsRefusedAt number text.now) }
 {
     let tokens = match text::lex(alloc, text) {
@@ -27,6 +28,7 @@ fn module_of(alloc: Global, text: &[u8], number: usize) -> Result<Module, Fault>
 /// The modules that texts are, or the fault of the first text that is none.
 pub fn modules_of(alloc: Global, texts: &[Vec<u8>]) -> Result<Vec<Module>, Fault>
     ensures modules { IfOk result (λ ms. AllZip IsModule (map octets_of texts.now) (map module_tree_of ms.items)) }
+    ensures only { (ms : List ModuleTree) → AllZip IsModule (map octets_of texts.now) ms → MatchResult result (λ r. map module_tree_of r.items ≡ ms) SaysMemory }
     ensures fault { IfErr result (IsTextFault (map octets_of texts.now)) }
 {
     let mut modules = Vec::new(alloc);

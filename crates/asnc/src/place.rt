@@ -60,16 +60,63 @@ fn is_named(text: &[u8], tokens: &[Token], place: usize, name: &str) -> bool {
     }
 }
 
-/// Whether the name at a place is given a meaning there: by an assignment, or as a member of a list.
-fn defines(tokens: &[Token], place: usize) -> bool {
-    let behind = place.saturating_add(1);
-    is_kind(tokens, behind, TokenKind::Mark(Mark::Assign)) || begins_type(tokens, behind)
+/// Whether the identifier at a place is given a meaning there: it begins the assignment of a value, or a member of a list.
+fn begins(tokens: &[Token], place: usize) -> bool {
+    if !is_kind(tokens, place, TokenKind::Identifier) {
+        return false;
+    }
+    let before = match place.checked_sub(1) {
+        Some(before) => before,
+        None => return false,
+    };
+    let is_value = is_kind(tokens, before, TokenKind::Mark(Mark::Assign))
+        || is_kind(tokens, before, TokenKind::Mark(Mark::Colon))
+        || is_kind(tokens, before, TokenKind::Mark(Mark::Dot));
+    !is_value && begins_type(tokens, place.saturating_add(1))
 }
 
-/// The first place from `from` on where a name is given a meaning, or where it is used.
-fn find(text: &[u8], tokens: &[Token], from: usize, name: &str, defined: bool) -> Option<usize> {
+/// Whether the name at a place is given a meaning there: by an assignment, or as a member of a list.
+fn defines(tokens: &[Token], place: usize) -> bool {
+    let before = match place.checked_sub(1) {
+        Some(before) => before,
+        None => return false,
+    };
+    let is_type = is_kind(
+        tokens,
+        place.saturating_add(1),
+        TokenKind::Mark(Mark::Assign),
+    ) && !is_kind(tokens, before, TokenKind::Mark(Mark::Dot))
+        && !begins(tokens, before);
+    begins(tokens, place) || is_type
+}
+
+/// How many braces are open behind a token, of the number that were open before it.
+fn depth_behind(tokens: &[Token], place: usize, depth: usize) -> usize {
+    if is_kind(tokens, place, TokenKind::Mark(Mark::OpenBrace)) {
+        depth.saturating_add(1)
+    } else if is_kind(tokens, place, TokenKind::Mark(Mark::CloseBrace)) {
+        depth.saturating_sub(1)
+    } else {
+        depth
+    }
+}
+
+/// The first place where an assignment gives a name its meaning.
+fn find_assigned(text: &[u8], tokens: &[Token], name: &str) -> Option<usize> {
+    let mut depth: usize = 0;
+    for place in 0..tokens.len() {
+        depth = depth_behind(tokens, place, depth);
+        if depth == 0 && is_named(text, tokens, place, name) && defines(tokens, place) {
+            return Some(place);
+        }
+    }
+    None
+}
+
+/// The first place from `from` on where a name is used.
+fn find_used(text: &[u8], tokens: &[Token], from: usize, name: &str) -> Option<usize> {
     for place in from..tokens.len() {
-        if is_named(text, tokens, place, name) && defines(tokens, place) == defined {
+        if is_named(text, tokens, place, name) && !defines(tokens, place) {
             return Some(place);
         }
     }
@@ -82,12 +129,9 @@ fn find_second(text: &[u8], tokens: &[Token], name: &str) -> Option<usize> {
     let mut seen_outside = false;
     let mut seen_inside = false;
     for place in 0..tokens.len() {
+        depth = depth_behind(tokens, place, depth);
         if is_kind(tokens, place, TokenKind::Mark(Mark::OpenBrace)) {
-            depth = depth.saturating_add(1);
             seen_inside = false;
-        }
-        if is_kind(tokens, place, TokenKind::Mark(Mark::CloseBrace)) {
-            depth = depth.saturating_sub(1);
         }
         if is_named(text, tokens, place, name) && defines(tokens, place) {
             if (depth == 0 && seen_outside) || (depth > 0 && seen_inside) {
@@ -113,14 +157,16 @@ fn find_spelled(text: &[u8], tokens: &[Token], from: usize, name: &str) -> Optio
     None
 }
 
-/// The place where a name is given a second time; of a name that is imported, that of its second token.
+/// The place where a name is given a second time; of a name that is imported, that of its second token; of a name whose
+/// number is given a second time, its own.
 fn find_twice(text: &[u8], tokens: &[Token], name: &str) -> Option<usize> {
-    match find_second(text, tokens, name) {
+    if let Some(place) = find_second(text, tokens, name) {
+        return Some(place);
+    }
+    let first = find_spelled(text, tokens, 1, name)?;
+    match find_spelled(text, tokens, first.saturating_add(1), name) {
         Some(place) => Some(place),
-        None => {
-            let first = find_spelled(text, tokens, 1, name)?;
-            find_spelled(text, tokens, first.saturating_add(1), name)
-        }
+        None => Some(first),
     }
 }
 
@@ -160,7 +206,7 @@ fn find_construct(
     let from = if name.is_empty() {
         0
     } else {
-        find(text, tokens, 0, name, true)?
+        find_assigned(text, tokens, name)?
     };
     match find_spelled(text, tokens, from, first_word(construct)) {
         Some(place) => Some(place),
@@ -172,11 +218,15 @@ fn find_construct(
 fn of_names(text: &[u8], tokens: &[Token], fault: &NameFault) -> Option<usize> {
     match fault {
         NameFault::Memory => None,
-        NameFault::Limit(_, _, name) => find(text, tokens, 0, name.as_str(), true),
+        NameFault::Limit(_, _, name) | NameFault::Circular(_, name) => {
+            match find_assigned(text, tokens, name.as_str()) {
+                Some(place) => Some(place),
+                None => find_spelled(text, tokens, 0, name.as_str()),
+            }
+        }
         NameFault::Twice(_, name) => find_twice(text, tokens, name.as_str()),
-        NameFault::UnknownName(_, name) => find(text, tokens, 0, name.as_str(), false),
+        NameFault::UnknownName(_, name) => find_used(text, tokens, 1, name.as_str()),
         NameFault::NotExported(_, name) => find_spelled(text, tokens, 1, name.as_str()),
-        NameFault::Circular(_, name) => find(text, tokens, 0, name.as_str(), true),
         NameFault::UnknownModule(_, name) => find_spelled(text, tokens, 1, name.as_str()),
     }
 }
@@ -192,71 +242,90 @@ fn module_of_names(fault: &NameFault) -> Option<&str> {
     }
 }
 
-/// The token at which a fault of a value stands: `value` is the value's name in the module.
+/// The token at which a fault of a value stands: `value` is the value's name in the module. It is that name, where the
+/// name that the fault tells doesn't stand in the text.
 fn of_value(text: &[u8], tokens: &[Token], fault: &ValueFault, value: &str) -> Option<usize> {
-    let from = find(text, tokens, 0, value, true)?;
-    match fault {
-        ValueFault::Memory => None,
-        ValueFault::Integer | ValueFault::NotOfType | ValueFault::Missing(_) => Some(from),
-        ValueFault::UnknownName(name) | ValueFault::UnknownItem(name) => match find(
+    let from = find_assigned(text, tokens, value)?;
+    let place = match fault {
+        ValueFault::Memory => return None,
+        ValueFault::Integer | ValueFault::NotOfType | ValueFault::Missing(_) => None,
+        ValueFault::UnknownName(name) | ValueFault::UnknownItem(name) => match find_used(
             text,
             tokens,
             from,
             name.as_str(),
-            false,
         ) {
             Some(place) => Some(place),
-            None => find(text, tokens, 0, name.as_str(), false),
+            None => find_used(text, tokens, 0, name.as_str()),
         },
-        ValueFault::Circular(name) => find(text, tokens, 0, name.as_str(), true),
-        ValueFault::Repeated(name) => {
-            let first = find(text, tokens, from, name.as_str(), false)?;
-            find(text, tokens, first.saturating_add(1), name.as_str(), false)
-        }
+        ValueFault::Circular(name) => find_assigned(text, tokens, name.as_str()),
+        ValueFault::Repeated(name) => match find_used(text, tokens, from, name.as_str()) {
+            Some(first) => find_used(text, tokens, first.saturating_add(1), name.as_str()),
+            None => None,
+        },
+    };
+    match place {
+        Some(place) => Some(place),
+        None => Some(from),
+    }
+}
+
+/// The tokens of a text, none where it has none.
+pub fn tokens_in(alloc: Global, text: &[u8]) -> Result<Vec<Token>, AllocError> {
+    match text::lex(alloc, text) {
+        Ok(tokens) => Ok(tokens),
+        Err(LexFault::Memory) => Err(AllocError),
+        Err(_) => Ok(Vec::new(alloc)),
     }
 }
 
 /// Whether a text is the module with this name.
-fn is_module(alloc: Global, text: &[u8], name: &str) -> bool {
-    match text::lex(alloc, text) {
-        Ok(tokens) => is_named(text, tokens.as_slice(), 0, name),
-        Err(_) => false,
-    }
+fn is_module(alloc: Global, text: &[u8], name: &str) -> Result<bool, AllocError> {
+    let tokens = tokens_in(alloc, text)?;
+    Ok(is_named(text, tokens.as_slice(), 0, name))
 }
 
 /// The number of the text, from a number on, that is the module with this name.
-fn module_text(alloc: Global, texts: &[Vec<u8>], from: usize, name: &str) -> Option<usize> {
+fn module_text(
+    alloc: Global,
+    texts: &[Vec<u8>],
+    from: usize,
+    name: &str,
+) -> Result<Option<usize>, AllocError> {
     for number in from..texts.len() {
-        if is_module(alloc, texts[number].as_slice(), name) {
-            return Some(number);
+        if is_module(alloc, texts[number].as_slice(), name)? {
+            return Ok(Some(number));
         }
     }
-    None
+    Ok(None)
 }
 
 /// The number of the text in which a value is assigned: that of the module before the dot, or else the first one.
-fn value_text(alloc: Global, texts: &[Vec<u8>], module: &str, name: &str) -> Option<usize> {
-    if let Some(number) = module_text(alloc, texts, 0, module) {
+fn value_text(
+    alloc: Global,
+    texts: &[Vec<u8>],
+    module: &str,
+    name: &str,
+) -> Result<Option<usize>, AllocError> {
+    if let Some(number) = module_text(alloc, texts, 0, module)? {
         if let Some(text) = texts.get(number) {
-            if defines_in(alloc, text.as_slice(), name) {
-                return Some(number);
+            if defines_in(alloc, text.as_slice(), name)? {
+                return Ok(Some(number));
             }
         }
     }
     for number in 0..texts.len() {
-        if defines_in(alloc, texts[number].as_slice(), name) {
-            return Some(number);
+        if defines_in(alloc, texts[number].as_slice(), name)? {
+            return Ok(Some(number));
         }
     }
-    None
+    Ok(None)
 }
 
-/// Whether a text gives a name a meaning.
-fn defines_in(alloc: Global, text: &[u8], name: &str) -> bool {
-    match text::lex(alloc, text) {
-        Ok(tokens) => find(text, tokens.as_slice(), 0, name, true).is_some(),
-        Err(_) => false,
-    }
+/// Whether a text assigns a name.
+fn defines_in(alloc: Global, text: &[u8], name: &str) -> Result<bool, AllocError> {
+    let tokens = tokens_in(alloc, text)?;
+    Ok(find_assigned(text, tokens.as_slice(), name).is_some())
 }
 
 /// The module's name and the other name in `Module.name`.
@@ -267,21 +336,38 @@ pub fn parts(text: &str) -> (&str, &str) {
     }
 }
 
-/// The number of the text in which a fault stands.
-pub fn text_number(alloc: Global, texts: &[Vec<u8>], job: &Job, fault: &Fault) -> Option<usize> {
-    match fault {
-        Fault::Text(number, _) | Fault::Tree(number, _) => Some(*number),
-        Fault::Name(inner) => {
-            let number = module_text(alloc, texts, 0, module_of_names(inner)?)?;
-            if let NameFault::Twice(module, name) = inner {
-                if module.as_str() == name.as_str() {
-                    return module_text(alloc, texts, number.saturating_add(1), name.as_str());
-                }
-            }
-            Some(number)
+/// The number of the text in which a fault of names stands.
+fn text_of_names(
+    alloc: Global,
+    texts: &[Vec<u8>],
+    fault: &NameFault,
+) -> Result<Option<usize>, AllocError> {
+    let Some(module) = module_of_names(fault) else {
+        return Ok(None);
+    };
+    let Some(number) = module_text(alloc, texts, 0, module)? else {
+        return Ok(None);
+    };
+    if let NameFault::Twice(module, name) = fault {
+        if module.as_str() == name.as_str() {
+            return module_text(alloc, texts, number.saturating_add(1), name.as_str());
         }
+    }
+    Ok(Some(number))
+}
+
+/// The number of the text in which a fault stands.
+pub fn text_number(
+    alloc: Global,
+    texts: &[Vec<u8>],
+    job: &Job,
+    fault: &Fault,
+) -> Result<Option<usize>, AllocError> {
+    match fault {
+        Fault::Text(number, _) | Fault::Tree(number, _) => Ok(Some(*number)),
+        Fault::Name(inner) => text_of_names(alloc, texts, inner),
         Fault::OutOfProfile(_, module, _) => module_text(alloc, texts, 0, module.as_str()),
-        Fault::Value(_) => {
+        Fault::Value(_) | Fault::TooLong => {
             let (module, name) = parts(job.value.as_str());
             value_text(alloc, texts, module, name)
         }
@@ -289,8 +375,8 @@ pub fn text_number(alloc: Global, texts: &[Vec<u8>], job: &Job, fault: &Fault) -
             let (module, _) = parts(name.as_str());
             module_text(alloc, texts, 0, module)
         }
-        Fault::Memory | Fault::File(_) | Fault::BadWords(_) | Fault::Help(_) => None,
-        Fault::TooLong | Fault::Device => None,
+        Fault::Memory | Fault::File(_) | Fault::BadWords(_) | Fault::Help(_) => Ok(None),
+        Fault::Device => Ok(None),
     }
 }
 
@@ -328,18 +414,26 @@ fn token_of(text: &[u8], tokens: &[Token], fault: &Fault, value: &str) -> Option
             name.as_str(),
         ),
         Fault::Value(inner) => of_value(text, tokens, inner, value),
+        Fault::TooLong => find_assigned(text, tokens, value),
         _ => None,
     }
 }
 
 /// The octet of its text at which a fault stands, where it stands there.
-pub fn octet_of(alloc: Global, text: &[u8], fault: &Fault, value: &str) -> Option<usize> {
+pub fn octet_of(
+    alloc: Global,
+    text: &[u8],
+    fault: &Fault,
+    value: &str,
+) -> Result<Option<usize>, AllocError> {
     if let Fault::Text(_, inner) = fault {
-        return of_octets(inner);
+        return Ok(of_octets(inner));
     }
-    let tokens = text::lex(alloc, text).ok()?;
-    let place = token_of(text, tokens.as_slice(), fault, value)?;
-    Some(start(text, tokens.as_slice(), place))
+    let tokens = tokens_in(alloc, text)?;
+    match token_of(text, tokens.as_slice(), fault, value) {
+        Some(place) => Ok(Some(start(text, tokens.as_slice(), place))),
+        None => Ok(None),
+    }
 }
 
 /// The line and the column of an octet, both from 1, the column in characters.

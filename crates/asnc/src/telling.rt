@@ -2,7 +2,7 @@
 
 use crate::fault::{Construct, Fault, ValueFault};
 use crate::line::on_one_line;
-use crate::place::{line_and_column, octet_of, parts, spelling, text_number};
+use crate::place::{line_and_column, octet_of, parts, spelling, text_number, tokens_in};
 use crate::request::Job;
 use notation::SyntaxFault;
 use resolve::{Limit, NameFault};
@@ -32,11 +32,14 @@ fn can_follow(alloc: Global, front: &[u8], count: usize, word: &str) -> Result<b
     text.extend_from_slice(front)?;
     text.push(b' ')?;
     text.extend_from_slice(word.as_bytes())?;
-    let Ok(tokens) = text::lex(alloc, text.as_slice()) else {
-        return Ok(false);
+    let tokens = match text::lex(alloc, text.as_slice()) {
+        Ok(tokens) => tokens,
+        Err(LexFault::Memory) => return Err(AllocError),
+        Err(_) => return Ok(false),
     };
     match parse(alloc, text.as_slice(), tokens.as_slice()) {
         Ok(_) => Ok(true),
+        Err(SyntaxFault::Memory) => Err(AllocError),
         Err(SyntaxFault::Unexpected(place)) => Ok(place > count),
         Err(_) => Ok(false),
     }
@@ -114,10 +117,7 @@ fn of_tree(
     text: &[u8],
     fault: &SyntaxFault,
 ) -> Result<(String, String), AllocError> {
-    let tokens = match text::lex(alloc, text) {
-        Ok(tokens) => tokens,
-        Err(_) => Vec::new(alloc),
-    };
+    let tokens = tokens_in(alloc, text)?;
     match fault {
         SyntaxFault::Memory => Ok((
             String::from_str(alloc, "1 Memory")?,
@@ -195,7 +195,7 @@ fn of_names(alloc: Global, fault: &NameFault) -> Result<(String, String), AllocE
         }
         NameFault::Twice(_, name) => Ok((
             String::from_str(alloc, "30 Twice")?,
-            format!(in alloc; "the name {name} is given a second time here")?,
+            format!(in alloc; "the name {name}, or its number, is given a second time here")?,
         )),
         NameFault::UnknownName(module, name) => Ok((
             String::from_str(alloc, "31 UnknownName")?,
@@ -361,7 +361,7 @@ pub fn report(
     texts: &[Vec<u8>],
     fault: &Fault,
 ) -> Result<String, AllocError> {
-    let number = match text_number(alloc, texts, job, fault) {
+    let number = match text_number(alloc, texts, job, fault)? {
         Some(number) => number,
         None => texts.len(),
     };
@@ -375,7 +375,7 @@ pub fn report(
         return on_one_line(alloc, line.as_str());
     };
     let (_, value) = parts(job.value.as_str());
-    let line = match octet_of(alloc, text, fault, value) {
+    let line = match octet_of(alloc, text, fault, value)? {
         Some(octet) => {
             let (line, column) = line_and_column(text, octet);
             format!(in alloc; "error {name}: {file}:{line}:{column}: {words}")?

@@ -218,3 +218,29 @@ fn nesting(rt: HostRuntime) -> Result<(), Fail> {
     );
     Ok(())
 }
+
+// What a program prints of a refusal: its number, its name and its place.
+#[test]
+fn faults_have_numbers(rt: HostRuntime) -> Result<(), Fail> {
+    let rows = [
+        (SyntaxFault::Memory, "1 Memory"),
+        (
+            SyntaxFault::Limit(Limit::Nesting, 128),
+            "2 Limit(Nesting) at token 128",
+        ),
+        (
+            SyntaxFault::Limit(Limit::Integer, 3),
+            "2 Limit(Integer) at token 3",
+        ),
+        (
+            SyntaxFault::Limit(Limit::TagNumber, 4),
+            "2 Limit(TagNumber) at token 4",
+        ),
+        (SyntaxFault::Unexpected(5), "20 Unexpected at token 5"),
+        (SyntaxFault::OutOfProfile(6), "21 OutOfProfile at token 6"),
+    ];
+    for (fault, text) in rows {
+        assert_eq!(rt; fault.to_string(rt.alloc())?.as_str(), text);
+    }
+    Ok(())
+}

@@ -1,12 +1,15 @@
 -- Faults that exclude what is linked.
 use Rattle.std.proofs.Common.{◌≡◌, ◌⊎◌, inl, inr, ℕ, zero, suc, ◌<◌, List, Some, map, refl, sym, subst, ap, ◌∙◌, arith, string_bytes}
 use Rattle.std.specs.Prelude.{slice_get}
+use Rattle.std.proofs.lemmas.Option.{slice_get_within}
 use Rattle.syntax.specs.Tree.{ModuleTree}
 use Rattle.resolve.specs.declared.fault.NameFault.{NameFault}
 use Rattle.resolve.specs.declared.fault.NameFault.TheVariants as faults
 use Rattle.resolve.specs.declared.fault.Limit.TheVariants as limits
 use Rattle.resolve.specs.Links.{IsNamesFault}
-use Rattle.resolve.specs.Modules.{StandsIn, AreDistinct, assigned_names, IsExported, AreNamed, AreFew}
+use Rattle.resolve.specs.Modules.{StandsIn, AreDistinct, assigned_names, type_count, value_count, IsExported, AreNamed, AreFew}
+use Rattle.resolve.proofs.Behind.{types_count, values_count}
+use Rattle.resolve.proofs.Counting.{past_more}
 use Rattle.resolve.proofs.Distinct.{stands_map}
 
 compare : (i j : ℕ) → (i < j) ⊎ ((j < i) ⊎ (i ≡ j))
@@ -37,7 +40,7 @@ one_module ms a b d s t e =
 
 pub names_exclude : (ms : List ModuleTree) (e : NameFault) → IsNamesFault ms e → AreNamed ms → AreFew ms → ⊥
 names_exclude ms faults.Memory f n w = f
-names_exclude ms (faults.Twice m y) f n w = elim f [ inl t ↦ n.modules (string_bytes y) t | inr r ↦ n.names r.tree (r.number, r.there) (string_bytes y) r.twice ]
+names_exclude ms (faults.Twice m y) f n w = elim f [ inl t ↦ n.modules (string_bytes y) t.1 | inr r ↦ n.names r.tree (r.number, r.there) (string_bytes y) r.twice ]
 names_exclude ms (faults.UnknownName m y) f n w =
     elim f [
       | inl r ↦ r.unassigned (n.exports r.tree r.names (string_bytes y) r.there r.list r.listed)
@@ -51,9 +54,9 @@ names_exclude ms (faults.UnknownModule m y) f n w =
     let o = n.imports f.tree (string_bytes y) f.name f.there f.imports in
     f.nowhere (o.there.0, stands_map (λ (m : ModuleTree). m.name) ms o.there.0 o.tree o.there.1 ∙ ap Some o.named)
 names_exclude ms (faults.Circular m y) f n w = f
-names_exclude ms (faults.Limit limits.Modules m y) f n w = let a = w.modules in absurd (omega (arith, a, f))
-names_exclude ms (faults.Limit limits.Types m y) f n w = let a = w.types in absurd (omega (arith, a, f))
-names_exclude ms (faults.Limit limits.Values m y) f n w = let a = w.values in absurd (omega (arith, a, f))
+names_exclude ms (faults.Limit limits.Modules m y) f n w = let a = w.modules in let b = slice_get_within ms 256 f.tree f.there in absurd (omega (arith, a, b))
+names_exclude ms (faults.Limit limits.Types m y) f n w = let a = w.types in let b = past_more type_count types_count 4096 ms (string_bytes m) (string_bytes y) f in absurd (omega (arith, a, b))
+names_exclude ms (faults.Limit limits.Values m y) f n w = let a = w.values in let b = past_more value_count values_count 65536 ms (string_bytes m) (string_bytes y) f in absurd (omega (arith, a, b))
 names_exclude ms (faults.Limit limits.Members m y) f n w = f
 names_exclude ms (faults.Limit limits.Items m y) f n w = f
 names_exclude ms (faults.Limit limits.NamedBit m y) f n w = f

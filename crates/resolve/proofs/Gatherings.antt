@@ -8,8 +8,8 @@ use Rattle.resolve.specs.declared.fault.NameFault.TheVariants as faults
 use Rattle.resolve.specs.declared.gather.Gathered.{Gathered}
 use Rattle.resolve.specs.declared.gather.Tables.{Tables}
 use Rattle.resolve.specs.declared.names.Assigned.{Assigned}
-use Rattle.resolve.specs.Faults.{IsTwice}
-use Rattle.resolve.specs.Gathered.{names_of, Adds, HasGathered, IsTaken, IsRepeated, IsNamingFault}
+use Rattle.resolve.specs.Faults.{IsTwice, IsTaken, IsRepeated}
+use Rattle.resolve.specs.Gathered.{names_of, Adds, HasGathered, IsNamingFault}
 use Rattle.resolve.specs.Gathering.{name_of, named_from, roots_from, values_from, owned_by, imports_of}
 use Rattle.resolve.specs.Modules.{StandsIn, StandsTwice, AreDistinct, names_in, value_count, all_assignments, scopes_from, owned_from}
 use Rattle.resolve.specs.Names.{Module, under}

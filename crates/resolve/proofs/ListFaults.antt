@@ -9,7 +9,8 @@ use Rattle.resolve.specs.declared.fault.Limit.TheVariants as limits
 use Rattle.resolve.specs.Modules.{StandsIn, StandsTwice}
 use Rattle.resolve.specs.Sound.{signed, given_numbers, IsSoundKind}
 use Rattle.resolve.specs.SoundFaults.{IsTwiceIn, HasFarBit, HasGreatNumber}
-use Rattle.resolve.specs.Soundness.{AddsGiven, IsRepeated, IsNumberFault, IsPlaceFault, IsItemFault, IsKindFault}
+use Rattle.resolve.specs.Faults.{IsTaken}
+use Rattle.resolve.specs.Soundness.{AddsGiven, IsNumberFault, IsPlaceFault, IsItemFault, IsKindFault}
 use Rattle.resolve.specs.Table.{Kind, simple, an_integer, a_bit_string, an_enumerated}
 use Rattle.resolve.proofs.Halfway.{Halfway, halfway_step, halfway_twice, halfway_here, map_get}
 
@@ -17,7 +18,7 @@ use Rattle.resolve.proofs.Halfway.{Halfway, halfway_step, halfway_twice, halfway
 abbrev pub Tells : Name → Name → Kind → Result (Unit {0}) NameFault → Type 0
 Tells M a k r = MatchResult r (λ _. IsSoundKind k) (IsKindFault M a k)
 
-pub names_fault : (M a : Name) (k : Kind) (P : Name → Type 0) (xs done rest : List Name) (x : Name) (e : NameFault) → ((y : Name) → StandsTwice xs y → IsTwiceIn k y) → Halfway P xs done (x ∷ rest) → IsRepeated M x done e → IsKindFault M a k e
+pub names_fault : (M a : Name) (k : Kind) (P : Name → Type 0) (xs done rest : List Name) (x : Name) (e : NameFault) → ((y : Name) → StandsTwice xs y → IsTwiceIn k y) → Halfway P xs done (x ∷ rest) → IsTaken M x done e → IsKindFault M a k e
 names_fault M a k P xs done rest x faults.Memory f h u = tt
 names_fault M a k P xs done rest x (faults.Twice m y) f h u = (u.0, f (string_bytes y) (subst (λ z. StandsTwice xs z) (sym u.1) (halfway_twice P xs done rest x h u.2)))
 names_fault M a k P xs done rest x (faults.Limit l m y) f h u = absurd u

@@ -132,7 +132,7 @@ module _ (ms : List (Name × Module)) (hs : List (Name × TagDefault)) (gs : Lis
   table_exclude apart few unfolds faults.Memory n f = n refl
   table_exclude apart few unfolds (faults.UnknownName m y) n f = unknown_not (string_bytes m) (string_bytes y) f
   table_exclude apart few unfolds (faults.Circular m y) n f = circular_not apart unfolds (string_bytes m) (string_bytes y) f
-  table_exclude apart few unfolds (faults.Limit limits.Types m y) n f = let g = f all.sources all.all in let l = as_long ms hs gs roots ts all in absurd (omega (arith, g, l, few))
+  table_exclude apart few unfolds (faults.Limit limits.Types m y) n f = let g = f.more all.sources all.all in let w = slice_get_within all.sources 65536 g.0 g.1 in let l = as_long ms hs gs roots ts all in absurd (omega (arith, w, l, few))
   table_exclude apart few unfolds (faults.Limit limits.Modules m y) n f = f
   table_exclude apart few unfolds (faults.Limit limits.Values m y) n f = f
   table_exclude apart few unfolds (faults.Limit limits.Members m y) n f = f

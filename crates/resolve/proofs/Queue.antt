@@ -1,5 +1,5 @@
 -- Types that are numbered, and those that still wait.
-use Rattle.std.proofs.Common.{◌≡◌, ℕ, zero, suc, ◌<◌, ◌+◌, ◌++◌, List, [], ◌∷◌, length, Some, refl, sym, subst, ap, ◌∙◌, append_assoc, length-append, arith}
+use Rattle.std.proofs.Common.{◌≡◌, ℕ, zero, suc, ◌<◌, ◌≤◌, ◌+◌, ◌++◌, List, [], ◌∷◌, length, Some, refl, sym, subst, ap, ◌∙◌, append_assoc, length-append, arith}
 use Rattle.std.specs.Prelude.{slice_get}
 use Rattle.std.specs.List.{AllByRecursion}
 use Rattle.notation.specs.Tree.{Name}
@@ -12,6 +12,7 @@ use Rattle.resolve.specs.Names.{Module}
 use Rattle.resolve.specs.Table.{Type'}
 use Rattle.resolve.specs.Numbering.{Source, parts_of, member_sources, all_parts, IsTop, AreTops, AreNumbered, Occurs, directly, inside, AllAssigned, AreMore}
 use Rattle.resolve.specs.Faults.{IsSourceFault, IsNumberingFault}
+use Rattle.resolve.proofs.Distinct.{left, right}
 
 -- every type that still waits stands in an assignment
 abbrev AllOccur : List Source → List Source → Type 0
@@ -82,6 +83,17 @@ all_append i (x ∷ xs) ys =
 all_one : (i : ℕ) (s : Source) → all_parts i (s ∷ []) ≡ parts_of s.assignment i s.tree
 all_one i s = append_nil (parts_of s.assignment i s.tree)
 
+-- b lies behind a, and not c further
+beyond : (a b c : ℕ) → a ≤ b → b < a + c → (q : ℕ) × (b ≡ a + q) × (q < c)
+beyond zero b c l m = (b, omega arith, omega (arith, m))
+beyond (suc a) zero c l m = absurd (omega (arith, l))
+beyond (suc a) (suc b) c l m = let r = beyond a b c (omega (arith, l)) (omega (arith, m)) in (r.0, omega (arith, r.1), r.2)
+
+item_at : {X : Type 0} (xs : List X) (k : ℕ) → k < length xs → (x : X) × (slice_get xs k ≡ Some x)
+item_at [] k l = absurd (omega (arith, l))
+item_at (x ∷ xs) zero l = (x, refl)
+item_at (x ∷ xs) (suc k) l = item_at xs k (omega (arith, l))
+
 module _ (ms : List (Name × Module)) (hs : List (Name × TagDefault)) (gs : List (ℕ × Name)) where
   tops_more : (i n : ℕ) (ss : List Source) (ts : List Type') (s : Source) (t : Type') → AreTops ms hs gs i n ss ts → IsTop ms hs gs (n + length (all_parts i ss)) s t → AreTops ms hs gs i n (ss ++ s ∷ []) (ts ++ t ∷ [])
   tops_more i n [] [] s t a h = let e : n + 0 ≡ n = omega arith in (subst (λ k. IsTop ms hs gs k s t) e h, tt)
@@ -137,28 +149,42 @@ module _ (ms : List (Name × Module)) (hs : List (Name × TagDefault)) (gs : Lis
   pub halfway_end : (roots : List Source) (ts : List Type') (k : ℕ) → IsHalfway ms hs gs roots ts [] k → AreNumbered ms hs gs roots ts
   halfway_end roots ts k h = record { sources = h.done; all = sym (h.all ∙ append_nil h.done); tops = h.tops }
 
-  more_than : (roots : List Source) (ts : List Type') (s : Source) (rest : List Source) (k : ℕ) → IsHalfway ms hs gs roots ts (s ∷ rest) k → 65536 < k + 1 + length rest + length (parts_of s.assignment k s.tree) → AreMore 65536 roots
-  more_than roots ts s rest k h l = λ ss e.
+  -- a numbering of all begins with the types that wait and the parts of the first of them
+  begins_parts : (roots : List Source) (ts : List Type') (s : Source) (rest : List Source) (k : ℕ) → (h : IsHalfway ms hs gs roots ts (s ∷ rest) k) → (ss : List Source) → ss ≡ roots ++ all_parts 0 ss →
+      (more : List Source) × (ss ≡ (h.done ++ s ∷ rest) ++ (parts_of s.assignment k s.tree ++ more))
+  begins_parts roots ts s rest k h ss e =
       let b = begins_more roots ts s rest k h ss e in
       let z = h.done ++ s ∷ [] in
       let x = all_parts (0 + length z) b.0 in
       let p = parts_of s.assignment k s.tree in
-      let one : length ss ≡ length (roots ++ all_parts 0 ss) = ap length e in
-      let two : length (all_parts 0 ss) ≡ length (all_parts 0 z ++ x) = ap (λ q. length (all_parts 0 q)) b.1 ∙ ap length (all_append 0 z b.0) in
-      let three : length (all_parts 0 z) ≡ length (all_parts 0 h.done ++ p) = ap length (parts_next roots ts s rest k h) in
-      omega (arith, one, two, three, length-append roots (all_parts 0 ss), length-append (all_parts 0 z) x, length-append (all_parts 0 h.done) p, number_is roots ts s rest k h, l)
+      let a = all_parts 0 h.done in
+      let two : all_parts 0 ss ≡ a ++ (p ++ x) = ap (all_parts 0) b.1 ∙ all_append 0 z b.0 ∙ ap (λ l. l ++ x) (parts_next roots ts s rest k h) ∙ append_assoc a p x in
+      (x, e ∙ ap (λ l. roots ++ l) two ∙ sym (append_assoc roots a (p ++ x)) ∙ ap (λ l. l ++ (p ++ x)) h.all)
 
-  pub halfway_fault : (roots : List Source) (ts : List Type') (s : Source) (rest : List Source) (k : ℕ) (e : NameFault) → IsHalfway ms hs gs roots ts (s ∷ rest) k → IsSourceFault ms hs gs k (k + 1 + length rest) s e → IsNumberingFault ms hs gs roots e
-  halfway_fault roots ts s rest k faults.Memory h f = tt
-  halfway_fault roots ts s rest k (faults.UnknownName m y) h f = record { assignment = s.assignment; owner = f.0; assigns = f.1; default = f.2; tree = s.tree; occurs = h.occur.0; assigned = f.3; header = f.4; unknown = f.5 }
-  halfway_fault roots ts s rest k (faults.Limit limits.Types m y) h f = more_than roots ts s rest k h f
-  halfway_fault roots ts s rest k (faults.Limit limits.Modules m y) h f = absurd f
-  halfway_fault roots ts s rest k (faults.Limit limits.Values m y) h f = absurd f
-  halfway_fault roots ts s rest k (faults.Limit limits.Members m y) h f = absurd f
-  halfway_fault roots ts s rest k (faults.Limit limits.Items m y) h f = absurd f
-  halfway_fault roots ts s rest k (faults.Limit limits.NamedBit m y) h f = absurd f
-  halfway_fault roots ts s rest k (faults.Limit limits.Integer m y) h f = absurd f
-  halfway_fault roots ts s rest k (faults.Twice m y) h f = absurd f
-  halfway_fault roots ts s rest k (faults.NotExported m y) h f = absurd f
-  halfway_fault roots ts s rest k (faults.Circular m y) h f = absurd f
-  halfway_fault roots ts s rest k (faults.UnknownModule m y) h f = absurd f
+  more_than : (roots : List Source) (ts : List Type') (s : Source) (rest : List Source) (k : ℕ) → IsHalfway ms hs gs roots ts (s ∷ rest) k → k + 1 + length rest ≤ 65536 → 65536 < k + 1 + length rest + length (parts_of s.assignment k s.tree) → AreMore 65536 s.assignment roots
+  more_than roots ts s rest k h f l = λ ss e.
+      let b = begins_parts roots ts s rest k h ss e in
+      let p = parts_of s.assignment k s.tree in
+      let front = h.done ++ s ∷ rest in
+      let long : length front ≡ k + 1 + length rest = omega (arith, length-append h.done (s ∷ rest), h.count) in
+      let q = beyond (length front) 65536 (length p) (omega (arith, long, f)) (omega (arith, long, l)) in
+      let one = item_at p q.0 q.2 in (
+        one.0,
+        ap (λ n. slice_get ss n) q.1 ∙ ap (λ y. slice_get y (length front + q.0)) b.1 ∙ right front (p ++ b.0) q.0 ∙ left p b.0 q.0 one.0 one.1,
+        at_all (λ c. c.assignment ≡ s.assignment) p q.0 one.0 (parts_of_one (λ a. a ≡ s.assignment) s.assignment k s.tree refl) one.1,
+      )
+
+  pub halfway_fault : (roots : List Source) (ts : List Type') (s : Source) (rest : List Source) (k : ℕ) (e : NameFault) → IsHalfway ms hs gs roots ts (s ∷ rest) k → k + 1 + length rest ≤ 65536 → IsSourceFault ms hs gs k (k + 1 + length rest) s e → IsNumberingFault ms hs gs roots e
+  halfway_fault roots ts s rest k faults.Memory h w f = tt
+  halfway_fault roots ts s rest k (faults.UnknownName m y) h w f = record { assignment = s.assignment; owner = f.0; assigns = f.1; default = f.2; tree = s.tree; occurs = h.occur.0; assigned = f.3; header = f.4; unknown = f.5 }
+  halfway_fault roots ts s rest k (faults.Limit limits.Types m y) h w f = record { assignment = s.assignment; owner = f.0; default = f.1; more = more_than roots ts s rest k h w f.4; assigned = f.2; header = f.3 }
+  halfway_fault roots ts s rest k (faults.Limit limits.Modules m y) h w f = absurd f
+  halfway_fault roots ts s rest k (faults.Limit limits.Values m y) h w f = absurd f
+  halfway_fault roots ts s rest k (faults.Limit limits.Members m y) h w f = absurd f
+  halfway_fault roots ts s rest k (faults.Limit limits.Items m y) h w f = absurd f
+  halfway_fault roots ts s rest k (faults.Limit limits.NamedBit m y) h w f = absurd f
+  halfway_fault roots ts s rest k (faults.Limit limits.Integer m y) h w f = absurd f
+  halfway_fault roots ts s rest k (faults.Twice m y) h w f = absurd f
+  halfway_fault roots ts s rest k (faults.NotExported m y) h w f = absurd f
+  halfway_fault roots ts s rest k (faults.Circular m y) h w f = absurd f
+  halfway_fault roots ts s rest k (faults.UnknownModule m y) h w f = absurd f

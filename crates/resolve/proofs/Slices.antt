@@ -1,5 +1,5 @@
 -- A linked program, and its parts as they lie in memory.
-use Rattle.std.proofs.Common.{◌≡◌, ℕ, ◌<◌, List, length, Some, map, sym, subst, ap, ◌∙◌, length-append, arith}
+use Rattle.std.proofs.Common.{◌≡◌, ℕ, ◌<◌, List, length, Some, map, refl, sym, subst, ap, ◌∙◌, arith}
 use Rattle.std.specs.Prelude.{slice_get}
 use Rattle.std.proofs.lemmas.List.{length-map}
 use Rattle.notation.specs.Tree.{Name}
@@ -13,12 +13,12 @@ use Rattle.resolve.specs.declared.table.ValueAt.{ValueAt}
 use Rattle.resolve.specs.declared.table.Written.{Written}
 use Rattle.resolve.specs.Faults.{IsTypesLimit, IsTableFault}
 use Rattle.resolve.specs.Names.{Module}
-use Rattle.resolve.specs.Numbering.{Source}
+use Rattle.resolve.specs.Numbering.{Source, all_parts}
 use Rattle.resolve.specs.Program.{Program, IsWhole}
 use Rattle.resolve.specs.Seen.{type_of, types_of, header_of, assignment_of, value_of}
 use Rattle.resolve.specs.Soundness.{program}
 use Rattle.resolve.specs.Table.{Type', IsClosed, HasMembers, HasElements}
-use Rattle.resolve.proofs.Distinct.{stands_map}
+use Rattle.resolve.proofs.Distinct.{left, stands_map}
 
 module _ (p : Program) (w : IsWhole p) (ns : List (Name × Module)) (hs : List Header) (gs : List Assignment) (ts : List Written) (vs : List ValueAt)
     (en : ns ≡ p.modules) (eh : map header_of hs ≡ p.headers) (eg : map assignment_of gs ≡ p.assignments) (et : types_of ts ≡ p.types) (ev : map value_of vs ≡ p.values) where
@@ -59,17 +59,25 @@ module _ (p : Program) (w : IsWhole p) (ns : List (Name × Module)) (hs : List H
       ∙ ap (λ l. program p.modules p.headers p.assignments p.types l) ev
 
 -- more assignments than there may be types
-pub more_roots : (ms : List (Name × Module)) (hs : List (Name × TagDefault)) (gs : List (ℕ × Name)) (roots : List Source) (e : NameFault) → IsTypesLimit e → 65536 < length roots → IsTableFault ms hs gs roots e
-more_roots ms hs gs roots faults.Memory l h = tt
-more_roots ms hs gs roots (faults.Limit limits.Types m y) l h = λ ss e. omega (arith, h, ap length e, length-append {A = Source})
-more_roots ms hs gs roots (faults.Limit limits.Modules m y) l h = absurd l
-more_roots ms hs gs roots (faults.Limit limits.Values m y) l h = absurd l
-more_roots ms hs gs roots (faults.Limit limits.Members m y) l h = absurd l
-more_roots ms hs gs roots (faults.Limit limits.Items m y) l h = absurd l
-more_roots ms hs gs roots (faults.Limit limits.NamedBit m y) l h = absurd l
-more_roots ms hs gs roots (faults.Limit limits.Integer m y) l h = absurd l
-more_roots ms hs gs roots (faults.Twice m y) l h = absurd l
-more_roots ms hs gs roots (faults.UnknownName m y) l h = absurd l
-more_roots ms hs gs roots (faults.NotExported m y) l h = absurd l
-more_roots ms hs gs roots (faults.Circular m y) l h = absurd l
-more_roots ms hs gs roots (faults.UnknownModule m y) l h = absurd l
+pub more_roots : (ms : List (Name × Module)) (hs : List (Name × TagDefault)) (gs : List (ℕ × Name)) (roots : List Source) (s : Source) (owner : ℕ) (M x : Name) (d : TagDefault) (e : NameFault) →
+    slice_get roots 65536 ≡ Some s → slice_get gs s.assignment ≡ Some (owner, x) → slice_get hs owner ≡ Some (M, d) → IsTypesLimit M x e → IsTableFault ms hs gs roots e
+more_roots ms hs gs roots s owner M x d faults.Memory r g h l = tt
+more_roots ms hs gs roots s owner M x d (faults.Limit limits.Types m y) r g h l = record {
+  assignment = s.assignment;
+  owner = owner;
+  default = d;
+  more = λ ss e. (s, ap (λ z. slice_get z 65536) e ∙ left roots (all_parts 0 ss) 65536 s r, refl);
+  assigned = g ∙ ap (λ z. Some (owner, z)) (sym l.1);
+  header = h ∙ ap (λ z. Some (z, d)) (sym l.0);
+}
+more_roots ms hs gs roots s owner M x d (faults.Limit limits.Modules m y) r g h l = absurd l
+more_roots ms hs gs roots s owner M x d (faults.Limit limits.Values m y) r g h l = absurd l
+more_roots ms hs gs roots s owner M x d (faults.Limit limits.Members m y) r g h l = absurd l
+more_roots ms hs gs roots s owner M x d (faults.Limit limits.Items m y) r g h l = absurd l
+more_roots ms hs gs roots s owner M x d (faults.Limit limits.NamedBit m y) r g h l = absurd l
+more_roots ms hs gs roots s owner M x d (faults.Limit limits.Integer m y) r g h l = absurd l
+more_roots ms hs gs roots s owner M x d (faults.Twice m y) r g h l = absurd l
+more_roots ms hs gs roots s owner M x d (faults.UnknownName m y) r g h l = absurd l
+more_roots ms hs gs roots s owner M x d (faults.NotExported m y) r g h l = absurd l
+more_roots ms hs gs roots s owner M x d (faults.Circular m y) r g h l = absurd l
+more_roots ms hs gs roots s owner M x d (faults.UnknownModule m y) r g h l = absurd l

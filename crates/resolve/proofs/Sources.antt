@@ -1,16 +1,17 @@
 -- What stands at a number.
-use Rattle.std.proofs.Common.{◌≡◌, ℕ, ◌<◌, List, length, Some, map, refl, sym, subst, ap, ◌∙◌, option_map, get_or, string_bytes}
+use Rattle.std.proofs.Common.{◌≡◌, ℕ, ◌<◌, ◌+◌, List, length, Some, map, refl, sym, subst, ap, ◌∙◌, option_map, get_or, string_bytes}
 use Rattle.std.specs.Prelude.{slice_get}
 use Rattle.std.proofs.lemmas.Option.{slice_get-map, slice_get_read}
 use Rattle.notation.specs.Tree.{Name}
 use Rattle.syntax.specs.declared.tree.TagDefault.{TagDefault}
 use Rattle.resolve.specs.declared.fault.NameFault.{NameFault}
 use Rattle.resolve.specs.declared.fault.NameFault.TheVariants as faults
+use Rattle.resolve.specs.declared.fault.Limit.TheVariants as limits
 use Rattle.resolve.specs.declared.table.Assignment.{Assignment}
 use Rattle.resolve.specs.declared.table.Header.{Header}
 use Rattle.resolve.specs.Names.{Module}
-use Rattle.resolve.specs.Numbering.{Source, RefersToNothing}
-use Rattle.resolve.specs.Faults.{IsUnknown, IsSourceFault}
+use Rattle.resolve.specs.Numbering.{Source, RefersToNothing, parts_of}
+use Rattle.resolve.specs.Faults.{IsUnknown, IsTypesLimit, IsSourceFault}
 use Rattle.resolve.specs.Seen.{assignment_of, header_of}
 
 pub assignment_at : (gs : List Assignment) (i : ℕ) (g : Assignment) → i < length gs → g ≡ get_or gs i g → slice_get (map assignment_of gs) i ≡ Some (assignment_of g)
@@ -29,3 +30,21 @@ unknown_source ms hs gs i n s M d owner x (faults.Twice m y) g h u = absurd u
 unknown_source ms hs gs i n s M d owner x (faults.NotExported m y) g h u = absurd u
 unknown_source ms hs gs i n s M d owner x (faults.Circular m y) g h u = absurd u
 unknown_source ms hs gs i n s M d owner x (faults.UnknownModule m y) g h u = absurd u
+
+-- a type whose parts are too many stands in the assignment that the fault tells
+pub limit_source : (ms : List (Name × Module)) (hs : List (Name × TagDefault)) (gs : List (ℕ × Name)) (i n : ℕ) (s : Source) (M : Name) (d : TagDefault) (owner : ℕ) (x : Name) (e : NameFault) →
+    slice_get gs s.assignment ≡ Some (owner, x) → slice_get hs owner ≡ Some (M, d) → 65536 < n + length (parts_of s.assignment i s.tree) → IsTypesLimit M x e → IsSourceFault ms hs gs i n s e
+limit_source ms hs gs i n s M d owner x faults.Memory g h l u = tt
+limit_source ms hs gs i n s M d owner x (faults.Limit limits.Types m y) g h l u =
+    (owner, d, g ∙ ap (λ z. Some (owner, z)) (sym u.1), h ∙ ap (λ z. Some (z, d)) (sym u.0), l)
+limit_source ms hs gs i n s M d owner x (faults.Limit limits.Modules m y) g h l u = absurd u
+limit_source ms hs gs i n s M d owner x (faults.Limit limits.Values m y) g h l u = absurd u
+limit_source ms hs gs i n s M d owner x (faults.Limit limits.Members m y) g h l u = absurd u
+limit_source ms hs gs i n s M d owner x (faults.Limit limits.Items m y) g h l u = absurd u
+limit_source ms hs gs i n s M d owner x (faults.Limit limits.NamedBit m y) g h l u = absurd u
+limit_source ms hs gs i n s M d owner x (faults.Limit limits.Integer m y) g h l u = absurd u
+limit_source ms hs gs i n s M d owner x (faults.Twice m y) g h l u = absurd u
+limit_source ms hs gs i n s M d owner x (faults.UnknownName m y) g h l u = absurd u
+limit_source ms hs gs i n s M d owner x (faults.NotExported m y) g h l u = absurd u
+limit_source ms hs gs i n s M d owner x (faults.Circular m y) g h l u = absurd u
+limit_source ms hs gs i n s M d owner x (faults.UnknownModule m y) g h l u = absurd u

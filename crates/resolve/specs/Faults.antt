@@ -6,6 +6,7 @@ use Rattle.resolve.specs.declared.fault.NameFault.{NameFault}
 use Rattle.resolve.specs.declared.fault.NameFault.TheVariants as faults
 use Rattle.resolve.specs.declared.fault.Limit.TheVariants as limits
 use Rattle.resolve.specs.declared.names.Assigned.TheVariants as assigned
+use Rattle.resolve.specs.Modules.{StandsIn, StandsTwice}
 use Rattle.resolve.specs.Names.{Module, Refers, under}
 use Rattle.syntax.specs.declared.tree.TagDefault.{TagDefault}
 use Rattle.resolve.specs.Numbering.{Source, Occurs, AreMore, AreNumbered, RefersToNothing, parts_of}
@@ -35,23 +36,33 @@ pub record HasUnknown (ms : List (Name × Module)) (hs : List (Name × TagDefaul
   pub header : slice_get hs owner ≡ Some (M, default)
   pub unknown : RefersToNothing ms M tree x
 
+-- behind 65,536 others stands a type in the assignment of name x in module M
+pub record HasTooMany (hs : List (Name × TagDefault)) (gs : List (ℕ × Name)) (roots : List Source) (M x : Name) : Type 0 where
+  pub assignment : ℕ
+  pub owner : ℕ
+  pub default : TagDefault
+  pub more : AreMore 65536 assignment roots
+  pub assigned : slice_get gs assignment ≡ Some (owner, x)
+  pub header : slice_get hs owner ≡ Some (M, default)
+
 -- why types can't be numbered
 abbrev pub IsNumberingFault : List (Name × Module) → List (Name × TagDefault) → List (ℕ × Name) → List Source → NameFault → Type 0
 IsNumberingFault ms hs gs roots faults.Memory = Unit {0}
 IsNumberingFault ms hs gs roots (faults.UnknownName m y) = HasUnknown ms hs gs roots (string_bytes m) (string_bytes y)
-IsNumberingFault ms hs gs roots (faults.Limit limits.Types m y) = AreMore 65536 roots
+IsNumberingFault ms hs gs roots (faults.Limit limits.Types m y) = HasTooMany hs gs roots (string_bytes m) (string_bytes y)
 IsNumberingFault ms hs gs roots e = ⊥
 
-abbrev pub IsTypesLimit : NameFault → Type 0
-IsTypesLimit faults.Memory = Unit {0}
-IsTypesLimit (faults.Limit limits.Types m y) = Unit {0}
-IsTypesLimit e = ⊥
+-- memory ran out, or the limit of types is passed at name x of module M
+abbrev pub IsTypesLimit : Name → Name → NameFault → Type 0
+IsTypesLimit M x faults.Memory = Unit {0}
+IsTypesLimit M x (faults.Limit limits.Types m y) = (string_bytes m ≡ M) × (string_bytes y ≡ x)
+IsTypesLimit M x e = ⊥
 
 -- why type i, whose parts would be numbered from n on, can't be numbered
 abbrev pub IsSourceFault : List (Name × Module) → List (Name × TagDefault) → List (ℕ × Name) → ℕ → ℕ → Source → NameFault → Type 0
 IsSourceFault ms hs gs i n s faults.Memory = Unit {0}
 IsSourceFault ms hs gs i n s (faults.UnknownName m y) = (owner : ℕ) × (assigns : Name) × (d : TagDefault) × (slice_get gs s.assignment ≡ Some (owner, assigns)) × (slice_get hs owner ≡ Some (string_bytes m, d)) × RefersToNothing ms (string_bytes m) s.tree (string_bytes y)
-IsSourceFault ms hs gs i n s (faults.Limit limits.Types m y) = 65536 < n + length (parts_of s.assignment i s.tree)
+IsSourceFault ms hs gs i n s (faults.Limit limits.Types m y) = (owner : ℕ) × (d : TagDefault) × (slice_get gs s.assignment ≡ Some (owner, string_bytes y)) × (slice_get hs owner ≡ Some (string_bytes m, d)) × (65536 < n + length (parts_of s.assignment i s.tree))
 IsSourceFault ms hs gs i n s e = ⊥
 
 -- memory ran out, or in module M name x already stands in a table of names
@@ -59,6 +70,18 @@ abbrev pub IsTwice : {X : Type 0} → Name → Name → List (Name × X) → Nam
 IsTwice M x es faults.Memory = Unit {0}
 IsTwice {X} M x es (faults.Twice m y) = (string_bytes m ≡ M) × (string_bytes y ≡ x) × (a : X) × (under x es ≡ Some a)
 IsTwice M x es e = ⊥
+
+-- memory ran out, or in module M name x is one of these already
+abbrev pub IsTaken : Name → Name → List Name → NameFault → Type 0
+IsTaken M x xs faults.Memory = Unit {0}
+IsTaken M x xs (faults.Twice m y) = (string_bytes m ≡ M) × (string_bytes y ≡ x) × StandsIn xs x
+IsTaken M x xs e = ⊥
+
+-- memory ran out, or in module M a name stands twice among these
+abbrev pub IsRepeated : Name → List Name → NameFault → Type 0
+IsRepeated M xs faults.Memory = Unit {0}
+IsRepeated M xs (faults.Twice m y) = (string_bytes m ≡ M) × StandsTwice xs (string_bytes y)
+IsRepeated M xs e = ⊥
 
 -- type i comes back to itself; it stands in the assignment of name x in module M
 pub record IsCircularAt (ms : List (Name × Module)) (hs : List (Name × TagDefault)) (gs : List (ℕ × Name)) (roots : List Source) (M x : Name) : Type 0 where

@@ -10,8 +10,8 @@ use Rattle.resolve.specs.declared.gather.Tables.{Tables}
 use Rattle.resolve.specs.declared.gather.Gathered.{Gathered}
 use Rattle.resolve.specs.declared.names.Assigned.{Assigned}
 use Rattle.resolve.specs.Gathering.{roots_from, values_from, owned_by}
-use Rattle.resolve.specs.Links.{IsNamesFault}
-use Rattle.resolve.specs.Modules.{StandsIn, StandsTwice, AreDistinct, IsExported, names_in, scopes_from, headers_of, owned_from, roots_of, values_of}
+use Rattle.resolve.specs.Links.{IsPastHere, IsNamesFault}
+use Rattle.resolve.specs.Modules.{StandsIn, AreDistinct, IsExported, type_count, value_count, names_in, scopes_from, headers_of, owned_from, roots_of, values_of}
 use Rattle.resolve.specs.Names.{Module, Meaning, IsApart, under}
 use Rattle.resolve.specs.Numbering.{Source, AllAssigned, HaveNoPlace, AreNumbered}
 use Rattle.resolve.specs.Program.{Program, Value, IsGiven}
@@ -49,29 +49,17 @@ HasGathered ms g = AreGathered ms (seen module_of g.modules.entries) (map header
 
 -- ---- faults
 
--- memory ran out, or in module M name x is one of these already
-abbrev pub IsTaken : Name → Name → List Name → NameFault → Type 0
-IsTaken M x xs faults.Memory = Unit {0}
-IsTaken M x xs (faults.Twice m y) = (string_bytes m ≡ M) × (string_bytes y ≡ x) × StandsIn xs x
-IsTaken M x xs e = ⊥
-
--- memory ran out, or in module M a name stands twice among these
-abbrev pub IsRepeated : Name → List Name → NameFault → Type 0
-IsRepeated M xs faults.Memory = Unit {0}
-IsRepeated M xs (faults.Twice m y) = (string_bytes m ≡ M) × StandsTwice xs (string_bytes y)
-IsRepeated M xs e = ⊥
-
 -- memory ran out, or something is wrong with the names of modules
 abbrev pub IsNamingFault : List ModuleTree → NameFault → Type 0
 IsNamingFault ms faults.Memory = Unit {0}
 IsNamingFault ms e = IsNamesFault ms e
 
--- memory ran out, or there are more types or more values than there may be
-abbrev pub IsPastCount : ℕ → ℕ → NameFault → Type 0
-IsPastCount t v faults.Memory = Unit {0}
-IsPastCount t v (faults.Limit limits.Types m y) = 4096 < t
-IsPastCount t v (faults.Limit limits.Values m y) = 65536 < v
-IsPastCount t v e = ⊥
+-- memory ran out, or one of these assignments, in module M, passes the limit; t types and v values stand before these
+abbrev pub IsPastCount : ℕ → ℕ → Name → List AssignmentTree → NameFault → Type 0
+IsPastCount t v M gs faults.Memory = Unit {0}
+IsPastCount t v M gs (faults.Limit limits.Types m y) = (string_bytes m ≡ M) × IsPastHere type_count 4096 t gs (string_bytes y)
+IsPastCount t v M gs (faults.Limit limits.Values m y) = (string_bytes m ≡ M) × IsPastHere value_count 65536 v gs (string_bytes y)
+IsPastCount t v M gs e = ⊥
 
 -- ---- what is exported and imported
 

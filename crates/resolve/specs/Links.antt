@@ -1,11 +1,12 @@
 -- Modules that are linked, and why modules can't be.
-use Rattle.std.specs.Prelude.{◌≡◌, ◌<◌, ◌≤◌, ◌⊎◌, ℕ, List, Some, map, length, slice_get, string_bytes}
+use Rattle.std.specs.Prelude.{◌≡◌, ◌≤◌, ◌+◌, ◌⊎◌, ◌++◌, ℕ, List, [], ◌∷◌, Some, map, length, slice_get, string_bytes}
 use Rattle.notation.specs.Tree.{Name}
-use Rattle.syntax.specs.Tree.{ModuleTree}
+use Rattle.syntax.specs.Tree.{AssignmentTree, ModuleTree}
 use Rattle.resolve.specs.declared.fault.NameFault.{NameFault}
 use Rattle.resolve.specs.declared.fault.NameFault.TheVariants as faults
 use Rattle.resolve.specs.declared.fault.Limit.TheVariants as limits
 use Rattle.resolve.specs.Faults.{IsTableFault}
+use Rattle.resolve.specs.Gathering.{name_of}
 use Rattle.resolve.specs.Modules.{StandsIn, StandsTwice, assigned_names, names_in, IsExported, Imports, AreNamed, type_count, value_count, all_assignments, AreFew, scopes_from, headers_of, owned_from, roots_of, values_of}
 use Rattle.resolve.specs.Numbering.{AreNumbered}
 use Rattle.resolve.specs.Program.{Program}
@@ -41,6 +42,32 @@ pub record IsNamedTwice (ms : List ModuleTree) (M x : Name) : Type 0 where
   pub named : tree.name ≡ M
   pub twice : StandsTwice (names_in tree) x
 
+-- module M is the one behind 256 others; the fault tells its name twice
+pub record IsPastModules (ms : List ModuleTree) (M x : Name) : Type 0 where
+  pub tree : ModuleTree
+  pub there : slice_get ms 256 ≡ Some tree
+  pub named : tree.name ≡ M
+  pub same : x ≡ M
+
+-- of what is counted, n stand before the assignment of name x, k of them before all of these, and it is one more
+pub record IsPastHere (count : List AssignmentTree → ℕ) (n k : ℕ) (gs : List AssignmentTree) (x : Name) : Type 0 where
+  pub before : List AssignmentTree
+  pub given : AssignmentTree
+  pub behind : List AssignmentTree
+  pub splits : before ++ given ∷ behind ≡ gs
+  pub assigns : name_of given ≡ x
+  pub full : k + count before ≡ n
+  pub counted : count (given ∷ []) ≡ 1
+
+-- of what is counted, n stand before the assignment of name x in module M, and it is one more
+pub record IsPast (count : List AssignmentTree → ℕ) (n : ℕ) (ms : List ModuleTree) (M x : Name) : Type 0 where
+  pub before : List ModuleTree
+  pub tree : ModuleTree
+  pub behind : List ModuleTree
+  pub splits : before ++ tree ∷ behind ≡ ms
+  pub named : tree.name ≡ M
+  pub here : IsPastHere count n (count (all_assignments before)) tree.assignments x
+
 -- module M exports name x, which it doesn't assign
 pub record ExportsNothing (ms : List ModuleTree) (M x : Name) : Type 0 where
   pub tree : ModuleTree
@@ -72,13 +99,13 @@ pub record ImportsNowhere (ms : List ModuleTree) (M N : Name) : Type 0 where
 
 -- why the names of modules have no meaning, or more than one
 abbrev pub IsNamesFault : List ModuleTree → NameFault → Type 0
-IsNamesFault ms (faults.Twice m y) = StandsTwice (map (λ t. t.name) ms) (string_bytes y) ⊎ IsNamedTwice ms (string_bytes m) (string_bytes y)
+IsNamesFault ms (faults.Twice m y) = ((string_bytes m ≡ string_bytes y) × StandsTwice (map (λ t. t.name) ms) (string_bytes y)) ⊎ IsNamedTwice ms (string_bytes m) (string_bytes y)
 IsNamesFault ms (faults.UnknownName m y) = ExportsNothing ms (string_bytes m) (string_bytes y) ⊎ ImportsFrom ms (string_bytes m) (string_bytes y) (λ n. StandsIn (assigned_names n) (string_bytes y) → ⊥)
 IsNamesFault ms (faults.NotExported m y) = ImportsFrom ms (string_bytes m) (string_bytes y) (λ n. StandsIn (assigned_names n) (string_bytes y) × (IsExported n.exports (string_bytes y) → ⊥))
 IsNamesFault ms (faults.UnknownModule m y) = ImportsNowhere ms (string_bytes m) (string_bytes y)
-IsNamesFault ms (faults.Limit limits.Modules m y) = 256 < length ms
-IsNamesFault ms (faults.Limit limits.Types m y) = 4096 < type_count (all_assignments ms)
-IsNamesFault ms (faults.Limit limits.Values m y) = 65536 < value_count (all_assignments ms)
+IsNamesFault ms (faults.Limit limits.Modules m y) = IsPastModules ms (string_bytes m) (string_bytes y)
+IsNamesFault ms (faults.Limit limits.Types m y) = IsPast type_count 4096 ms (string_bytes m) (string_bytes y)
+IsNamesFault ms (faults.Limit limits.Values m y) = IsPast value_count 65536 ms (string_bytes m) (string_bytes y)
 IsNamesFault ms e = ⊥
 
 -- The fault stands: memory ran out, or something is wrong with the names, with the types that they stand for, or with what stands in those.

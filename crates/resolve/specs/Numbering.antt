@@ -107,9 +107,9 @@ pub data Occurs (roots : List Source) (a : ℕ) : TypeTree → Type 0 where
   directly : (k : ℕ) (s : Source) → slice_get roots k ≡ Some s → s.assignment ≡ a → Occurs roots a s.tree
   inside : {t : TypeTree} (i k : ℕ) (s : Source) → Occurs roots a t → slice_get (parts_of a i t) k ≡ Some s → Occurs roots a s.tree
 
--- the types that stand in these assignments are more than n
-abbrev pub AreMore : ℕ → List Source → Type 0
-AreMore n roots = (ss : List Source) → ss ≡ roots ++ all_parts 0 ss → n < length ss
+-- the types that stand in these assignments are more than n: type n stands in assignment a
+abbrev pub AreMore : ℕ → ℕ → List Source → Type 0
+AreMore n a roots = (ss : List Source) → ss ≡ roots ++ all_parts 0 ss → (s : Source) × (slice_get ss n ≡ Some s) × (s.assignment ≡ a)
 
 -- these types stand in the first n assignments
 abbrev pub AllAssigned : ℕ → List Source → Type 0

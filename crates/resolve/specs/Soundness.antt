@@ -20,12 +20,6 @@ use Rattle.resolve.specs.Table.{Kind, Type'}
 abbrev pub texts : List (String Global) → List Name
 texts = map string_bytes
 
--- memory ran out, or name x of module M is among these names
-abbrev pub IsRepeated : Name → Name → List Name → NameFault → Type 0
-IsRepeated M x xs faults.Memory = Unit {0}
-IsRepeated M x xs (faults.Twice m y) = (string_bytes m ≡ M) × (string_bytes y ≡ x) × StandsIn xs x
-IsRepeated M x xs e = ⊥
-
 -- memory ran out, or number z of name x is among these numbers, or it passes the limit of INTEGER in assignment a of module M
 abbrev pub IsNumberFault : Name → Name → Name → ℤ → List ℤ → NameFault → Type 0
 IsNumberFault M a x z zs faults.Memory = Unit {0}

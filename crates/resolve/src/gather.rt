@@ -1,14 +1,15 @@
 //! What modules give: their names, and the types and values of their assignments, numbered in order.
 
 ghost use Rattle.std.specs.Prelude.{◌≡◌, ◌++◌, ◌∷◌, [], IfOk, IfErr, OnOk, length, map, option_map, None, List, string_bytes};
-ghost use Rattle.syntax.specs.Tree.{AssignmentTree, ModuleTree, assignment_of as given_of, import_of, module_tree_of, type_tree_of};
+ghost use Rattle.notation.specs.Tree.{tree_of};
+ghost use Rattle.syntax.specs.Tree.{AssignmentTree, ModuleTree, assigns_type, assigns_value, assignment_of as given_of, import_of, module_tree_of, type_tree_of};
 ghost use Rattle.resolve.specs.declared.fault.NameFault.TheVariants as faults;
 ghost use Rattle.resolve.specs.Scopes.{seen, module_of};
 ghost use Rattle.resolve.specs.Names.{under};
 ghost use Rattle.resolve.specs.Seen.{assignment_of, value_of, sources_of};
-ghost use Rattle.resolve.specs.Faults.{IsTwice};
+ghost use Rattle.resolve.specs.Faults.{IsTwice, IsTaken, IsRepeated};
 ghost use Rattle.resolve.specs.Gathering.{name_of, named_from, imports_of};
-ghost use Rattle.resolve.specs.Gathered.{names_of, Adds, HasGathered, IsTaken, IsRepeated, IsNamingFault};
+ghost use Rattle.resolve.specs.Gathered.{names_of, Adds, HasGathered, IsNamingFault};
 ghost use Rattle.resolve.specs.Modules.{AreDistinct};
 
 use crate::exports::Exports;
@@ -94,6 +95,64 @@ fn place(
     Ok(())
 }
 
+/// Adds the assignment of a type to the names and tables.
+fn add_type(
+    alloc: Global,
+    owner: usize,
+    within: &str,
+    given: TypeAssignment,
+    assigned: &mut IndexMap<String, Assigned>,
+    tables: &mut Tables,
+) -> Result<(), NameFault>
+    ensures named { OnOk result (seen (λ a. a) assigned.new.entries ≡ seen (λ a. a) assigned.old.entries ++ named_from (length tables.old.assignments.items) (length tables.old.values.items) (assigns_type (string_bytes given.name) (type_tree_of given.syntax) ∷ [])) }
+    ensures fresh { OnOk result (under (string_bytes given.name) (seen (λ a. a) assigned.old.entries) ≡ None) }
+    ensures adds { OnOk result (Adds owner (assigns_type (string_bytes given.name) (type_tree_of given.syntax) ∷ []) tables.old tables.new) }
+    ensures fault { IfErr result (IsTwice within.now (string_bytes given.name) (seen (λ a. a) assigned.old.entries)) }
+{
+    let TypeAssignment { name, syntax } = given;
+    let meaning = Assigned::Type(tables.assignments.len());
+    match name_once(alloc, within, name.as_str(), meaning, assigned) {
+        Ok(()) => {}
+        Err(fault) => return Err(fault),
+    }
+    place(owner, name, syntax, tables)?;
+    Ok(())
+}
+
+/// Adds the assignment of a value to the names and tables.
+fn add_value(
+    alloc: Global,
+    owner: usize,
+    within: &str,
+    given: ValueAssignment,
+    assigned: &mut IndexMap<String, Assigned>,
+    tables: &mut Tables,
+) -> Result<(), NameFault>
+    ensures named { OnOk result (seen (λ a. a) assigned.new.entries ≡ seen (λ a. a) assigned.old.entries ++ named_from (length tables.old.assignments.items) (length tables.old.values.items) (assigns_value (string_bytes given.name) (type_tree_of given.syntax) (tree_of given.value) ∷ [])) }
+    ensures fresh { OnOk result (under (string_bytes given.name) (seen (λ a. a) assigned.old.entries) ≡ None) }
+    ensures adds { OnOk result (Adds owner (assigns_value (string_bytes given.name) (type_tree_of given.syntax) (tree_of given.value) ∷ []) tables.old tables.new) }
+    ensures fault { IfErr result (IsTwice within.now (string_bytes given.name) (seen (λ a. a) assigned.old.entries)) }
+{
+    let ValueAssignment {
+        name,
+        syntax,
+        value,
+    } = given;
+    let meaning = Assigned::Value(tables.values.len());
+    match name_once(alloc, within, name.as_str(), meaning, assigned) {
+        Ok(()) => {}
+        Err(fault) => return Err(fault),
+    }
+    let number = tables.assignments.len();
+    tables.values.push(ValueAt {
+        assignment: number,
+        ty: number,
+        syntax: value,
+    })?;
+    place(owner, name, syntax, tables)?;
+    Ok(())
+}
+
 /// Adds an assignment to the names and tables.
 fn add(
     alloc: Global,
@@ -108,42 +167,15 @@ fn add(
     ensures adds { OnOk result (Adds owner (given_of given ∷ []) tables.old tables.new) }
     ensures fault { IfErr result (IsTwice within.now (name_of (given_of given)) (seen (λ a. a) assigned.old.entries)) }
 {
-    let number = tables.assignments.len();
     match given {
-        Given::Type(TypeAssignment { name, syntax }) => {
-            match name_once(
-                alloc,
-                within,
-                name.as_str(),
-                Assigned::Type(number),
-                assigned,
-            ) {
-                Ok(()) => {}
-                Err(fault) => return Err(fault),
-            }
-            place(owner, name, syntax, tables)?;
-            Ok(())
-        }
-        Given::Value(
-            ValueAssignment {
-                name,
-                syntax,
-                value,
-            },
-        ) => {
-            let meaning = Assigned::Value(tables.values.len());
-            match name_once(alloc, within, name.as_str(), meaning, assigned) {
-                Ok(()) => {}
-                Err(fault) => return Err(fault),
-            }
-            tables.values.push(ValueAt {
-                assignment: number,
-                ty: number,
-                syntax: value,
-            })?;
-            place(owner, name, syntax, tables)?;
-            Ok(())
-        }
+        Given::Type(ty) => match add_type(alloc, owner, within, ty, assigned, tables) {
+            Ok(()) => Ok(()),
+            Err(fault) => Err(fault),
+        },
+        Given::Value(value) => match add_value(alloc, owner, within, value, assigned, tables) {
+            Ok(()) => Ok(()),
+            Err(fault) => Err(fault),
+        },
     }
 }
 

@@ -29,7 +29,7 @@ fn count(
     ensures counted_values { OnOk result (counts.new.values ≡ counts.old.values + value_count (map given_of givens.now)) }
     ensures types { OnOk result (counts.new.types ≤ 4096) }
     ensures values { OnOk result (counts.new.values ≤ 65536) }
-    ensures fault { IfErr result (IsPastCount (counts.old.types + type_count (map given_of givens.now)) (counts.old.values + value_count (map given_of givens.now))) }
+    ensures fault { IfErr result (IsPastCount counts.old.types counts.old.values within.now (map given_of givens.now)) }
 {
     for given in givens {
         match given {
@@ -64,7 +64,7 @@ fn count_all(alloc: Global, modules: &[Module], counts: &mut Counts) -> Result<(
     requires values { counts.old.values ≡ 0 }
     ensures types { OnOk result (type_count (all_assignments (map module_tree_of modules.now)) ≤ 4096) }
     ensures values { OnOk result (value_count (all_assignments (map module_tree_of modules.now)) ≤ 65536) }
-    ensures fault { IfErr result (IsPastCount (type_count (all_assignments (map module_tree_of modules.now))) (value_count (all_assignments (map module_tree_of modules.now)))) }
+    ensures fault { IfErr result (IsNamingFault (map module_tree_of modules.now)) }
 {
     for given in modules {
         match count(alloc, given.name.as_str(), &given.assignments, counts) {

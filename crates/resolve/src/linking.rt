@@ -32,7 +32,8 @@ fn assemble(alloc: Global, gathered: Gathered) -> Result<Linked, NameFault>
         values,
     } = tables;
     if roots.len() > 65536 {
-        let assignment = &assignments[65536];
+        let source = &roots[65536];
+        let assignment = &assignments[source.assignment];
         let header = &headers[assignment.module];
         return Err(too_many(alloc, header, assignment));
     }

@@ -3,10 +3,11 @@
 ghost use Rattle.std.specs.Prelude.{ℕ, ℤ, ◌≡◌, ◌<◌, ◌≤◌, ◌++◌, ◌∷◌, [], IfOk, IfErr, OnOk, MatchOption, MatchResult, length, map};
 ghost use Rattle.asn_base.specs.Typed.{IsWithinLimit};
 ghost use Rattle.syntax.specs.Tree.{number_of, bit_of, item_of};
+ghost use Rattle.resolve.specs.Faults.{IsTaken};
 ghost use Rattle.resolve.specs.Modules.{StandsIn};
 ghost use Rattle.resolve.specs.Seen.{part_of, plain_of, kind_of};
 ghost use Rattle.resolve.specs.Sound.{signed, IsSoundPlain, IsSoundKind};
-ghost use Rattle.resolve.specs.Soundness.{texts, AddsGiven, IsRepeated, IsNumberFault, IsPlaceFault, IsItemFault, IsKindFault};
+ghost use Rattle.resolve.specs.Soundness.{texts, AddsGiven, IsNumberFault, IsPlaceFault, IsItemFault, IsKindFault};
 ghost use Rattle.resolve.specs.Table.{simple, an_integer, a_bit_string, an_enumerated, members as list_of};
 
 use crate::fault::{Limit, NameFault};
@@ -43,7 +44,7 @@ fn name_once(
 ) -> Result<(), NameFault>
     ensures added { OnOk result (texts names.new.keys ≡ texts names.old.keys ++ name.now ∷ []) }
     ensures fresh { OnOk result (StandsIn (texts names.old.keys) name.now → ⊥) }
-    ensures fault { IfErr result (IsRepeated within.now name.now (texts names.old.keys)) }
+    ensures fault { IfErr result (IsTaken within.now name.now (texts names.old.keys)) }
 {
     if names.contains(name) {
         return Err(NameFault::Twice(

@@ -229,7 +229,7 @@ fn take_apart(
 
 /// The fault that more types are written than may be, at an assignment.
 pub(crate) fn too_many(alloc: Global, header: &Header, assignment: &Assignment) -> NameFault
-    ensures { IsTypesLimit result }
+    ensures { IsTypesLimit (string_bytes header.now.name) (string_bytes assignment.now.name) result }
 {
     let module = String::from_str(alloc, header.name.as_str());
     let name = String::from_str(alloc, assignment.name.as_str());

@@ -1,7 +1,11 @@
 use super::*;
+use notation::ValueSyntax;
 use std::alloc::Global;
 use std::test::*;
-use syntax::Module;
+use syntax::{
+    Assignment as Given, EnumeratedItem, Member, Module, NamedNumber, PresenceSyntax, TagDefault,
+    TypeAssignment, TypeSyntax, ValueAssignment,
+};
 
 fn module(alloc: Global, text: &str) -> Result<Module, Fail> {
     let octets = text.as_bytes();
@@ -18,19 +22,11 @@ fn linking(alloc: Global, texts: &[&str]) -> Result<Result<Linked, NameFault>, F
     Ok(link(alloc, modules))
 }
 
-/// A fault's name, with the module and the name that it tells.
-fn told(fault: &NameFault) -> (&'static str, &str, &str) {
-    match fault {
-        NameFault::Memory => ("Memory", "", ""),
-        NameFault::Limit(Limit::NamedBit, m, x) => ("Limit(NamedBit)", m.as_str(), x.as_str()),
-        NameFault::Limit(Limit::Members, m, x) => ("Limit(Members)", m.as_str(), x.as_str()),
-        NameFault::Limit(Limit::Modules, m, x) => ("Limit(Modules)", m.as_str(), x.as_str()),
-        NameFault::Limit(_, m, x) => ("Limit", m.as_str(), x.as_str()),
-        NameFault::Twice(m, x) => ("Twice", m.as_str(), x.as_str()),
-        NameFault::UnknownName(m, x) => ("UnknownName", m.as_str(), x.as_str()),
-        NameFault::NotExported(m, x) => ("NotExported", m.as_str(), x.as_str()),
-        NameFault::Circular(m, x) => ("Circular", m.as_str(), x.as_str()),
-        NameFault::UnknownModule(m, x) => ("UnknownModule", m.as_str(), x.as_str()),
+/// The words of what linking these modules answers: those of its fault, or that there is none.
+fn said(alloc: Global, modules: Vec<Module>) -> Result<String, Fail> {
+    match link(alloc, modules) {
+        Ok(_) => Ok(String::from_str(alloc, "linked")?),
+        Err(fault) => Ok(format!(in alloc; "{fault}")?),
     }
 }
 
@@ -45,8 +41,9 @@ fn is_refused(
     match linking(alloc, texts)? {
         Ok(_) => Ok(false),
         Err(fault) => {
-            let (n, m, x) = told(&fault);
-            Ok(n == name && m == at && x == what)
+            let said = format!(in alloc; "{fault}")?;
+            let wanted = format!(in alloc; "{name}: {at}.{what}")?;
+            Ok(said.as_str() == wanted.as_str())
         }
     }
 }
@@ -83,22 +80,22 @@ fn imports_and_exports_are_refused(rt: HostRuntime) -> Result<(), Fail> {
     let other = "B DEFINITIONS ::= BEGIN U ::= NULL END";
     let passed_on = "B DEFINITIONS ::= BEGIN IMPORTS T FROM C; END";
     let third = "C DEFINITIONS ::= BEGIN T ::= NULL END";
-    assert!(rt; is_refused(rt.alloc(), &[IMPORTER, none], "NotExported", "A", "T")?);
-    assert!(rt; is_refused(rt.alloc(), &[IMPORTER], "UnknownModule", "A", "B")?);
-    assert!(rt; is_refused(rt.alloc(), &[IMPORTER, other], "UnknownName", "A", "T")?);
+    assert!(rt; is_refused(rt.alloc(), &[IMPORTER, none], "32 NotExported", "A", "T")?);
+    assert!(rt; is_refused(rt.alloc(), &[IMPORTER], "34 UnknownModule", "A", "B")?);
+    assert!(rt; is_refused(rt.alloc(), &[IMPORTER, other], "31 UnknownName", "A", "T")?);
     assert!(rt;
         is_refused(
             rt.alloc(),
             &[IMPORTER, passed_on, third],
-            "UnknownName",
+            "31 UnknownName",
             "A",
             "T"
         )?
     );
     let unassigned = "M DEFINITIONS ::= BEGIN EXPORTS T, U; T ::= NULL END";
-    assert!(rt; is_refused(rt.alloc(), &[unassigned], "UnknownName", "M", "U")?);
+    assert!(rt; is_refused(rt.alloc(), &[unassigned], "31 UnknownName", "M", "U")?);
     let imported = "A DEFINITIONS ::= BEGIN EXPORTS T; IMPORTS T FROM C; END";
-    assert!(rt; is_refused(rt.alloc(), &[imported, third], "UnknownName", "A", "T")?);
+    assert!(rt; is_refused(rt.alloc(), &[imported, third], "31 UnknownName", "A", "T")?);
     let listed_twice = "M DEFINITIONS ::= BEGIN EXPORTS T, T; T ::= NULL END";
     assert!(rt; linking(rt.alloc(), &[listed_twice])?.is_ok());
     Ok(())
@@ -109,20 +106,26 @@ fn names_stand_once(rt: HostRuntime) -> Result<(), Fail> {
     let third = "C DEFINITIONS ::= BEGIN T ::= NULL END";
     let fourth = "D DEFINITIONS ::= BEGIN T ::= NULL END";
     let one = "M DEFINITIONS ::= BEGIN T ::= INTEGER T ::= NULL END";
-    assert!(rt; is_refused(rt.alloc(), &[one], "Twice", "M", "T")?);
+    assert!(rt; is_refused(rt.alloc(), &[one], "30 Twice", "M", "T")?);
     let two = "M DEFINITIONS ::= BEGIN IMPORTS T FROM C; T ::= INTEGER END";
-    assert!(rt; is_refused(rt.alloc(), &[two, third], "Twice", "M", "T")?);
+    assert!(rt; is_refused(rt.alloc(), &[two, third], "30 Twice", "M", "T")?);
     let three = "M DEFINITIONS ::= BEGIN IMPORTS T FROM C T FROM D; END";
-    assert!(rt; is_refused(rt.alloc(), &[three, third, fourth], "Twice", "M", "T")?);
+    assert!(rt; is_refused(rt.alloc(), &[three, third, fourth], "30 Twice", "M", "T")?);
     let four = "M DEFINITIONS ::= BEGIN IMPORTS T, T FROM C; END";
-    assert!(rt; is_refused(rt.alloc(), &[four, third], "Twice", "M", "T")?);
-    assert!(rt; is_refused(rt.alloc(), &[third, third], "Twice", "C", "C")?);
+    assert!(rt; is_refused(rt.alloc(), &[four, third], "30 Twice", "M", "T")?);
+    assert!(rt; is_refused(rt.alloc(), &[third, third], "30 Twice", "C", "C")?);
     let members = "M DEFINITIONS ::= BEGIN T ::= SET OF CHOICE {a NULL, b NULL, a INTEGER} END";
-    assert!(rt; is_refused(rt.alloc(), &[members], "Twice", "M", "a")?);
+    assert!(rt; is_refused(rt.alloc(), &[members], "30 Twice", "M", "a")?);
+    let values = "M DEFINITIONS ::= BEGIN v NULL ::= NULL w NULL ::= NULL v NULL ::= NULL END";
+    assert!(rt; is_refused(rt.alloc(), &[values], "30 Twice", "M", "v")?);
+    let second = "M DEFINITIONS ::= BEGIN T ::= SEQUENCE {a NULL, a NULL} END";
+    assert!(rt; is_refused(rt.alloc(), &[third, second], "30 Twice", "M", "a")?);
+    let bits = "M DEFINITIONS ::= BEGIN T ::= BIT STRING {a(1), b(2), c(1)} END";
+    assert!(rt; is_refused(rt.alloc(), &[bits], "30 Twice", "M", "c")?);
     let numbers = "M DEFINITIONS ::= BEGIN T ::= INTEGER {a(1), b(1)} END";
-    assert!(rt; is_refused(rt.alloc(), &[numbers], "Twice", "M", "b")?);
+    assert!(rt; is_refused(rt.alloc(), &[numbers], "30 Twice", "M", "b")?);
     let items = "M DEFINITIONS ::= BEGIN T ::= ENUMERATED {a, b(5), c(-5), d(5)} END";
-    assert!(rt; is_refused(rt.alloc(), &[items], "Twice", "M", "d")?);
+    assert!(rt; is_refused(rt.alloc(), &[items], "30 Twice", "M", "d")?);
     let unnumbered = "M DEFINITIONS ::= BEGIN T ::= ENUMERATED {a, b(0), c(1)} END";
     assert!(rt; linking(rt.alloc(), &[unnumbered])?.is_ok());
     Ok(())
@@ -131,7 +134,7 @@ fn names_stand_once(rt: HostRuntime) -> Result<(), Fail> {
 #[test]
 fn names_have_meanings(rt: HostRuntime) -> Result<(), Fail> {
     let ty = "M DEFINITIONS ::= BEGIN T ::= [1] SEQUENCE {a SET OF U} END";
-    assert!(rt; is_refused(rt.alloc(), &[ty], "UnknownName", "M", "U")?);
+    assert!(rt; is_refused(rt.alloc(), &[ty], "31 UnknownName", "M", "U")?);
     let own = "M DEFINITIONS ::= BEGIN T ::= M.U U ::= NULL END";
     assert!(rt; linking(rt.alloc(), &[own])?.is_ok());
     let not_imported = "M DEFINITIONS ::= BEGIN T ::= B.T END";
@@ -139,7 +142,7 @@ fn names_have_meanings(rt: HostRuntime) -> Result<(), Fail> {
         is_refused(
             rt.alloc(),
             &[not_imported, EXPORTER],
-            "UnknownName",
+            "31 UnknownName",
             "M",
             "T"
         )?
@@ -147,13 +150,13 @@ fn names_have_meanings(rt: HostRuntime) -> Result<(), Fail> {
     let imported = "M DEFINITIONS ::= BEGIN IMPORTS T FROM B; U ::= B.T END";
     assert!(rt; linking(rt.alloc(), &[imported, EXPORTER])?.is_ok());
     let value = "M DEFINITIONS ::= BEGIN v INTEGER ::= M.w END";
-    assert!(rt; is_refused(rt.alloc(), &[value], "UnknownName", "M", "w")?);
+    assert!(rt; is_refused(rt.alloc(), &[value], "31 UnknownName", "M", "w")?);
     let inner = "M DEFINITIONS ::= BEGIN T ::= SEQUENCE {a INTEGER DEFAULT M.w} END";
-    assert!(rt; is_refused(rt.alloc(), &[inner], "UnknownName", "M", "w")?);
+    assert!(rt; is_refused(rt.alloc(), &[inner], "31 UnknownName", "M", "w")?);
     let end = "M DEFINITIONS ::= BEGIN T ::= INTEGER (0..M.w) END";
-    assert!(rt; is_refused(rt.alloc(), &[end], "UnknownName", "M", "w")?);
+    assert!(rt; is_refused(rt.alloc(), &[end], "31 UnknownName", "M", "w")?);
     let size = "M DEFINITIONS ::= BEGIN T ::= SEQUENCE (SIZE (M.w)) OF NULL END";
-    assert!(rt; is_refused(rt.alloc(), &[size], "UnknownName", "M", "w")?);
+    assert!(rt; is_refused(rt.alloc(), &[size], "31 UnknownName", "M", "w")?);
     let all =
         "M DEFINITIONS ::= BEGIN T ::= SEQUENCE (SIZE (M.w)) OF INTEGER (0..M.w) w INTEGER ::= 3 v INTEGER ::= M.w END";
     assert!(rt; linking(rt.alloc(), &[all])?.is_ok());
@@ -163,19 +166,180 @@ fn names_have_meanings(rt: HostRuntime) -> Result<(), Fail> {
 #[test]
 fn circles_are_refused(rt: HostRuntime) -> Result<(), Fail> {
     let pair = "M DEFINITIONS ::= BEGIN P ::= Q Q ::= P END";
-    assert!(rt; is_refused(rt.alloc(), &[pair], "Circular", "M", "P")?);
+    assert!(rt; is_refused(rt.alloc(), &[pair], "33 Circular", "M", "P")?);
     let tagged = "M DEFINITIONS ::= BEGIN P ::= [1] P END";
-    assert!(rt; is_refused(rt.alloc(), &[tagged], "Circular", "M", "P")?);
+    assert!(rt; is_refused(rt.alloc(), &[tagged], "33 Circular", "M", "P")?);
     let component = "M DEFINITIONS ::= BEGIN P ::= SEQUENCE {p P} END";
     assert!(rt; linking(rt.alloc(), &[component])?.is_ok());
     let element = "M DEFINITIONS ::= BEGIN L ::= SEQUENCE OF L END";
     assert!(rt; linking(rt.alloc(), &[element])?.is_ok());
     let default = "M DEFINITIONS ::= BEGIN T ::= SEQUENCE {a [1] U DEFAULT {}} U ::= SET OF T END";
-    assert!(rt; is_refused(rt.alloc(), &[default], "Circular", "M", "T")?);
+    assert!(rt; is_refused(rt.alloc(), &[default], "33 Circular", "M", "T")?);
+    let second =
+        "N DEFINITIONS ::= BEGIN S ::= SEQUENCE OF R R ::= SET {b SET {a S DEFAULT {}}} END";
+    let first = "M DEFINITIONS ::= BEGIN T ::= NULL END";
+    assert!(rt; is_refused(rt.alloc(), &[first, second], "33 Circular", "N", "R")?);
     let optional = "M DEFINITIONS ::= BEGIN T ::= SEQUENCE {a T OPTIONAL} END";
     assert!(rt; linking(rt.alloc(), &[optional])?.is_ok());
     let other = "M DEFINITIONS ::= BEGIN T ::= SEQUENCE {a L DEFAULT {}} L ::= SEQUENCE OF L END";
     assert!(rt; linking(rt.alloc(), &[other])?.is_ok());
+    Ok(())
+}
+
+/// So many assignments of types, numbered from 0.
+fn types(alloc: Global, count: usize) -> Result<Vec<Given>, Fail> {
+    let mut assignments = Vec::new(alloc);
+    for number in 0..count {
+        assignments.push(Given::Type(TypeAssignment {
+            name: format!(in alloc; "T{number}")?,
+            syntax: TypeSyntax::Null,
+        }))?;
+    }
+    Ok(assignments)
+}
+
+/// So many assignments of values behind others, numbered from 0.
+fn values(alloc: Global, before: Vec<Given>, count: usize) -> Result<Vec<Given>, Fail> {
+    let mut assignments = before;
+    for number in 0..count {
+        assignments.push(Given::Value(ValueAssignment {
+            name: format!(in alloc; "v{number}")?,
+            syntax: TypeSyntax::Boolean,
+            value: ValueSyntax::True,
+        }))?;
+    }
+    Ok(assignments)
+}
+
+/// A list of so many members.
+fn list(alloc: Global, count: usize) -> Result<TypeSyntax, Fail> {
+    let mut members = Vec::new(alloc);
+    for number in 0..count {
+        members.push(Member {
+            name: format!(in alloc; "a{number}")?,
+            syntax: TypeSyntax::Null,
+            presence: PresenceSyntax::Mandatory,
+        })?;
+    }
+    Ok(TypeSyntax::Sequence(members))
+}
+
+/// The type T, behind others.
+fn with_type(alloc: Global, before: Vec<Given>, syntax: TypeSyntax) -> Result<Vec<Given>, Fail> {
+    let mut assignments = before;
+    assignments.push(Given::Type(TypeAssignment {
+        name: String::from_str(alloc, "T")?,
+        syntax,
+    }))?;
+    Ok(assignments)
+}
+
+fn module_of(alloc: Global, name: &str, assignments: Vec<Given>) -> Result<Module, Fail> {
+    Ok(Module {
+        name: String::from_str(alloc, name)?,
+        tag_default: TagDefault::Explicit,
+        exports: None,
+        imports: Vec::new(alloc),
+        assignments,
+    })
+}
+
+/// What is said of module L, which assigns one type, and module M behind it.
+fn said_of(alloc: Global, assignments: Vec<Given>) -> Result<String, Fail> {
+    let mut modules = Vec::new(alloc);
+    modules.push(module_of(alloc, "L", types(alloc, 1)?)?)?;
+    modules.push(module_of(alloc, "M", assignments)?)?;
+    said(alloc, modules)
+}
+
+/// What is said of so many modules.
+fn said_of_modules(alloc: Global, count: usize) -> Result<String, Fail> {
+    let mut modules = Vec::new(alloc);
+    for number in 0..count {
+        let name = format!(in alloc; "M{number}")?;
+        modules.push(module_of(alloc, name.as_str(), Vec::new(alloc))?)?;
+    }
+    said(alloc, modules)
+}
+
+#[test]
+fn modules_are_few(rt: HostRuntime) -> Result<(), Fail> {
+    let alloc = rt.alloc();
+    assert_eq!(rt; said_of_modules(alloc, 256)?.as_str(), "linked");
+    assert_eq!(rt;
+        said_of_modules(alloc, 258)?.as_str(),
+        "2 Limit(Modules): M256.M256"
+    );
+    Ok(())
+}
+
+#[test]
+fn type_assignments_are_few(rt: HostRuntime) -> Result<(), Fail> {
+    let alloc = rt.alloc();
+    assert_eq!(rt; said_of(alloc, types(alloc, 4095)?)?.as_str(), "linked");
+    assert_eq!(rt;
+        said_of(alloc, types(alloc, 4097)?)?.as_str(),
+        "2 Limit(Types): M.T4095"
+    );
+    Ok(())
+}
+
+#[test]
+fn written_types_are_few(rt: HostRuntime) -> Result<(), Fail> {
+    let alloc = rt.alloc();
+    // With the types of L and of M, the list and its members.
+    let full = with_type(alloc, Vec::new(alloc), list(alloc, 65534)?)?;
+    assert_eq!(rt; said_of(alloc, full)?.as_str(), "2 Limit(Members): M.T");
+    let more = with_type(alloc, Vec::new(alloc), list(alloc, 65535)?)?;
+    assert_eq!(rt; said_of(alloc, more)?.as_str(), "2 Limit(Types): M.T");
+    let assigned = values(alloc, types(alloc, 4)?, 65535)?;
+    assert_eq!(rt;
+        said_of(alloc, assigned)?.as_str(),
+        "2 Limit(Types): M.v65531"
+    );
+    Ok(())
+}
+
+#[test]
+fn value_assignments_are_few(rt: HostRuntime) -> Result<(), Fail> {
+    let alloc = rt.alloc();
+    let full = values(alloc, Vec::new(alloc), 65535)?;
+    assert_eq!(rt; said_of(alloc, full)?.as_str(), "linked");
+    let more = values(alloc, Vec::new(alloc), 65538)?;
+    assert_eq!(rt; said_of(alloc, more)?.as_str(), "2 Limit(Values): M.v65536");
+    Ok(())
+}
+
+#[test]
+fn lists_are_short(rt: HostRuntime) -> Result<(), Fail> {
+    let alloc = rt.alloc();
+    let full = with_type(alloc, types(alloc, 1)?, list(alloc, 256)?)?;
+    assert_eq!(rt; said_of(alloc, full)?.as_str(), "linked");
+    let more = with_type(alloc, types(alloc, 1)?, list(alloc, 257)?)?;
+    assert_eq!(rt; said_of(alloc, more)?.as_str(), "2 Limit(Members): M.T");
+    let mut items = Vec::new(alloc);
+    for number in 0..1025 {
+        items.push(EnumeratedItem {
+            name: format!(in alloc; "a{number}")?,
+            number: None,
+        })?;
+    }
+    let enumerated = with_type(alloc, types(alloc, 1)?, TypeSyntax::Enumerated(items))?;
+    assert_eq!(rt; said_of(alloc, enumerated)?.as_str(), "2 Limit(Items): M.T");
+    Ok(())
+}
+
+#[test]
+fn numbers_are_small(rt: HostRuntime) -> Result<(), Fail> {
+    let alloc = rt.alloc();
+    let mut numbers = Vec::new(alloc);
+    numbers.push(NamedNumber {
+        name: String::from_str(alloc, "a")?,
+        minus: false,
+        number: 170141183460469231731687303715884105728,
+    })?;
+    let great = with_type(alloc, types(alloc, 1)?, TypeSyntax::NamedInteger(numbers))?;
+    assert_eq!(rt; said_of(alloc, great)?.as_str(), "2 Limit(Integer): M.T");
     Ok(())
 }
 
@@ -184,6 +348,14 @@ fn limits_are_kept(rt: HostRuntime) -> Result<(), Fail> {
     let bit = "M DEFINITIONS ::= BEGIN T ::= BIT STRING {a(65535)} END";
     assert!(rt; linking(rt.alloc(), &[bit])?.is_ok());
     let far = "M DEFINITIONS ::= BEGIN T ::= BIT STRING {a(65536)} END";
-    assert!(rt; is_refused(rt.alloc(), &[far], "Limit(NamedBit)", "M", "T")?);
+    assert!(rt; is_refused(rt.alloc(), &[far], "2 Limit(NamedBit)", "M", "T")?);
+    Ok(())
+}
+
+#[test]
+fn faults_have_numbers(rt: HostRuntime) -> Result<(), Fail> {
+    let alloc = rt.alloc();
+    let memory = format!(in alloc; "{}", NameFault::Memory)?;
+    assert_eq!(rt; memory.as_str(), "1 Memory");
     Ok(())
 }

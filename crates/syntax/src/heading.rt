@@ -1,6 +1,6 @@
 //! Reading the head of a module: its default for tags and its exports.
 
-ghost use Rattle.std.specs.Prelude.{◌≡◌, map, option_map, IfOk, string_bytes};
+ghost use Rattle.std.specs.Prelude.{map, option_map, IfOk, string_bytes};
 ghost use Rattle.grammar.specs.Lexeme.{lexemes};
 ghost use Rattle.grammar.specs.Reading.{listed_at};
 ghost use Rattle.notation.specs.Given.{Gives, AreTokens};

@@ -22,6 +22,8 @@ pub use tree::{
 #[cfg(test)]
 mod heading_tests;
 #[cfg(test)]
+mod production_tests;
+#[cfg(test)]
 mod tests;
 #[cfg(test)]
 mod type_tests;

@@ -1,13 +1,12 @@
 //! Reading a module from its first token on.
 
-ghost use Rattle.std.specs.Prelude.{◌≡◌, [], ◌∷◌, map, length, IfOk, Ok, slice_range, string_bytes};
+ghost use Rattle.std.specs.Prelude.{◌≡◌, map, length, IfOk, Ok, slice_range, string_bytes};
 ghost use Rattle.text.specs.declared.token.TokenKind.TheVariants as kinds;
 ghost use Rattle.grammar.specs.Lexeme.{lexemes};
 ghost use Rattle.grammar.specs.Reading.{many_at};
 ghost use Rattle.grammar.specs.Manies.{is_begun_by};
 ghost use Rattle.grammar.specs.Places.{small};
 ghost use Rattle.notation.specs.Given.{Gives, IsTokenOf, AreTokens};
-ghost use Rattle.notation.specs.Reading.{value_at};
 ghost use Rattle.syntax.specs.Tree.{assignment_of, module_tree_of};
 ghost use Rattle.syntax.specs.Reading.{definitions_at, assign_at, begin_at, end_at, type_assigned_at, value_assigned_at, begins_assignment, assignment_at, assignments_at};
 ghost use Rattle.syntax.specs.ModuleReading.{begun_at, heading_at, module_at};

@@ -1,6 +1,6 @@
 //! Reading a tag and the word behind it.
 
-ghost use Rattle.std.specs.Prelude.{◌≡◌, ◌<◌, IfOk};
+ghost use Rattle.std.specs.Prelude.{◌<◌, IfOk};
 ghost use Rattle.grammar.specs.Lexeme.{lexemes};
 ghost use Rattle.grammar.specs.Places.{small};
 ghost use Rattle.notation.specs.Given.{Gives, AreTokens};

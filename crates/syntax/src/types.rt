@@ -1,6 +1,6 @@
 //! Reading a type from its first token on.
 
-ghost use Rattle.std.specs.Prelude.{◌≡◌, [], ◌-◌, map, option_map, IfOk, MatchOption, Some, None, slice_range};
+ghost use Rattle.std.specs.Prelude.{◌≡◌, ◌-◌, map, option_map, IfOk, Some, None, slice_range};
 ghost use Rattle.text.specs.declared.token.TokenKind.TheVariants as kinds;
 ghost use Rattle.grammar.specs.Lexeme.{lexemes};
 ghost use Rattle.grammar.specs.Places.{small};
@@ -9,7 +9,7 @@ ghost use Rattle.notation.specs.Given.{Gives, IsTokenOf, AreTokens};
 ghost use Rattle.notation.specs.Reading.{value_at};
 ghost use Rattle.syntax.specs.Tree.{type_tree_of, type_member_of, presence_of, type_members};
 ghost use Rattle.syntax.specs.Types.{type_of_word, with_members};
-ghost use Rattle.syntax.specs.TypeReading.{string_at, identifier_at, one_word_at, ref_at, default_at, presence_at, component_at, bare_at, some_members_at, members_at, body_at, alternatives_at, choice_at, inside_tag_at, tagged_at, object_at, octets_at, one_type_at, plain_at, of_at, list_at, structure_at, behind_at, type_step, type_at};
+ghost use Rattle.syntax.specs.TypeReading.{string_at, identifier_at, one_word_at, type_in_at, ref_at, default_at, presence_at, component_at, bare_at, some_members_at, members_at, body_at, alternatives_at, choice_at, inside_tag_at, tagged_at, object_at, octets_at, one_type_at, plain_at, of_at, list_at, structure_at, behind_at, type_step, type_at};
 
 use crate::constrained::{list_size, with_constraints};
 use crate::named::{bit_string, enumerated, integer};
@@ -120,8 +120,38 @@ fn octets<'a>(text: &[u8], tokens: &'a [Token]) -> Result<(TypeSyntax, &'a [Toke
     Ok((TypeSyntax::OctetString, rest))
 }
 
+/// Reads the type's name that stands behind a module's name and a dot.
+#[tactic(auto, unfolding(crate::specs::TypeReading::type_in_at))]
+fn type_in<'a>(
+    alloc: Global,
+    text: &[u8],
+    module_name: Token,
+    tokens: &'a [Token],
+) -> Result<(TypeSyntax, &'a [Token]), ReadError>
+    requires tokens { AreTokens text.now tokens.now }
+    requires before { IsTokenOf text.now module_name }
+    requires name { module_name.kind ≡ kinds.TypeReference }
+    ensures read { Gives (λ x. (type_tree_of x.0, lexemes text.now x.1.now)) result (type_in_at (slice_range text.now module_name.span.start module_name.span.end) (lexemes text.now tokens.now)) }
+    ensures rest { IfOk result (λ x. AreTokens text.now x.1.now) }
+{
+    match tokens {
+        [
+            name @ Token {
+                kind: TokenKind::TypeReference,
+                ..
+            },
+            rest @ ..,
+        ] => {
+            let module_name = name_of(alloc, text, module_name)?;
+            let name = name_of(alloc, text, *name)?;
+            Ok((TypeSyntax::Reference(Some(module_name), name), rest))
+        }
+        _ => Err(ReadError::Unexpected(tokens.len())),
+    }
+}
+
 /// Reads what stands behind a name (X.680, clause 14.1).
-#[tactic(auto, unfolding(crate::specs::TypeReading::ref_at, crate::specs::TypeReading::type_in_at))]
+#[tactic(auto, unfolding(crate::specs::TypeReading::ref_at))]
 fn reference<'a>(
     alloc: Global,
     text: &[u8],
@@ -140,23 +170,8 @@ fn reference<'a>(
                 kind: TokenKind::Mark(Mark::Dot),
                 ..
             },
-            name @ Token {
-                kind: TokenKind::TypeReference,
-                ..
-            },
             rest @ ..,
-        ] => {
-            let module_name = name_of(alloc, text, first)?;
-            let name = name_of(alloc, text, *name)?;
-            Ok((TypeSyntax::Reference(Some(module_name), name), rest))
-        }
-        [
-            Token {
-                kind: TokenKind::Mark(Mark::Dot),
-                ..
-            },
-            rest @ ..,
-        ] => Err(ReadError::Unexpected(rest.len())),
+        ] => type_in(alloc, text, first, rest),
         _ => Ok((
             TypeSyntax::Reference(None, name_of(alloc, text, first)?),
             tokens,

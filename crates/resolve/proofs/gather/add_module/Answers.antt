@@ -14,7 +14,8 @@ returns-in-Some-clause-fault c = λ ms rest h.
     let t = module_tree_of c.args.given in
     let ss = seen module_of c.args.gathered.now.modules.entries in
     let u : under t.name ss ≡ Some (module_of c.in-Some.field-0.now) = ap (λ z. under z ss) (sym c.as_str.ensures.value) ∙ sym c.scope_of.ensures ∙ ap (option_map (λ s. module_of s.now)) c.in-Some.is in
-    inl (module_twice ms rest t c.args.gathered.now (module_of c.in-Some.field-0.now) h u)
+    let name : string_bytes c.in_ok-from_str-in-Some.field-0 ≡ string_bytes c.args.given.name = search rules in
+    inl (name, module_twice ms rest t c.args.gathered.now (module_of c.in-Some.field-0.now) h u)
 
 pub returns-in_ok-insert-in-Ok-clause-ok : goal.returns-in_ok-insert-in-Ok-clause-ok
 returns-in_ok-insert-in-Ok-clause-ok c = λ ms h.

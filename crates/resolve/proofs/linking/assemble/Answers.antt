@@ -1,12 +1,43 @@
-use Rattle.std.proofs.Common.{◌<◌, inl, length, map, arith}
-use Rattle.std.proofs.lemmas.List.{length-map}
+use Rattle.std.proofs.Common.{◌≡◌, ◌<◌, inl, length, map, Some, refl, arith, string_bytes}
+use Rattle.std.specs.Prelude.{slice_get}
+use Rattle.std.proofs.lemmas.Option.{slice_get_read}
 use Rattle.resolve.specs.Scopes.{seen, module_of}
 use Rattle.resolve.specs.Seen.{header_of, assignment_of, source_of, sources_of}
+use Rattle.resolve.proofs.Distinct.{stands_map}
+use Rattle.resolve.proofs.Queue.{at_all}
 use Rattle.resolve.proofs.Slices.{more_roots}
+use Rattle.resolve.proofs.Sources.{assignment_at, header_at}
 use Rattle.resolve.proofs.linking.assemble.Goals as goal
+
+pub index-assignment-requires : goal.index-assignment-requires
+index-assignment-requires c =
+    let g = c.args.gathered in
+    let s = c.index-source.result.now in
+    let inside : 65536 < length g.tables.roots.items = omega arith in
+    let there = stands_map source_of g.tables.roots.items 65536 s (slice_get_read g.tables.roots.items (length g.tables.roots.items) 65536 s refl inside c.index-source.ensures) in
+    let within = at_all (λ r. r.assignment < length g.tables.assignments.items) (sources_of g.tables.roots.items) 65536 (source_of s) c.requires.ready.assigned there in
+    omega (arith, within)
+
+pub index-header-requires : goal.index-header-requires
+index-header-requires c =
+    let g = c.args.gathered in
+    let s = c.index-source.result.now in
+    let a = c.index-assignment.result.now in
+    let inside : 65536 < length g.tables.roots.items = omega arith in
+    let there = stands_map source_of g.tables.roots.items 65536 s (slice_get_read g.tables.roots.items (length g.tables.roots.items) 65536 s refl inside c.index-source.ensures) in
+    let within : s.assignment < length g.tables.assignments.items = at_all (λ r. r.assignment < length g.tables.assignments.items) (sources_of g.tables.roots.items) 65536 (source_of s) c.requires.ready.assigned there in
+    let placed = c.requires.ready.placed s.assignment a (slice_get_read g.tables.assignments.items (length g.tables.assignments.items) s.assignment a refl within c.index-assignment.ensures) in
+    omega (arith, placed)
 
 pub returns-then-len-gt65536-clause-fault : goal.returns-then-len-gt65536-clause-fault
 returns-then-len-gt65536-clause-fault c =
     let g = c.args.gathered in
-    let h : 65536 < length (sources_of g.tables.roots.items) = omega (arith, length-map g.tables.roots.items source_of) in
-    inl (more_roots (seen module_of g.modules.entries) (map header_of g.headers.items) (map assignment_of g.tables.assignments.items) (sources_of g.tables.roots.items) c.too_many.result c.too_many.ensures h)
+    let s = c.index-source.result.now in
+    let a = c.index-assignment.result.now in
+    let h = c.index-header.result.now in
+    let inside : 65536 < length g.tables.roots.items = omega arith in
+    let there = stands_map source_of g.tables.roots.items 65536 s (slice_get_read g.tables.roots.items (length g.tables.roots.items) 65536 s refl inside c.index-source.ensures) in
+    let within : s.assignment < length g.tables.assignments.items = at_all (λ r. r.assignment < length g.tables.assignments.items) (sources_of g.tables.roots.items) 65536 (source_of s) c.requires.ready.assigned there in
+    let placed = c.requires.ready.placed s.assignment a (slice_get_read g.tables.assignments.items (length g.tables.assignments.items) s.assignment a refl within c.index-assignment.ensures) in
+    inl (more_roots (seen module_of g.modules.entries) (map header_of g.headers.items) (map assignment_of g.tables.assignments.items) (sources_of g.tables.roots.items) (source_of s) a.module (string_bytes h.name) (string_bytes a.name) h.default c.too_many.result there
+    (assignment_at g.tables.assignments.items s.assignment a within c.index-assignment.ensures) (header_at g.headers.items a.module h placed c.index-header.ensures) c.too_many.ensures)

@@ -24,7 +24,7 @@ pub returns-in-Err-clause-fault : goal.returns-in-Err-clause-fault
 returns-in-Err-clause-fault c =
     let rest = c.pop_front.new.self.items in
     let h = subst (λ l. IsHalfway c.args.names.now (map header_of c.args.headers.now) (map assignment_of c.args.assignments.now) (sources_of c.args.roots.items) (types_of c.loop-number.types.items) (sources_of l) c.loop-number.number) c.in-Some.ensures.items c.loop-number.invariant.halfway in
-    halfway_fault c.args.names.now (map header_of c.args.headers.now) (map assignment_of c.args.assignments.now) (sources_of c.args.roots.items) (types_of c.loop-number.types.items) (source_of c.in-Some.source) (sources_of rest) c.loop-number.number c.in-Err.fault h
+    halfway_fault c.args.names.now (map header_of c.args.headers.now) (map assignment_of c.args.assignments.now) (sources_of c.args.roots.items) (types_of c.loop-number.types.items) (source_of c.in-Some.source) (sources_of rest) c.loop-number.number c.in-Err.fault h (omega (arith, c.loop-number.invariant.few, ap length c.in-Some.ensures.items, length-map rest source_of))
     (subst (λ n. IsSourceFault c.args.names.now (map header_of c.args.headers.now) (map assignment_of c.args.assignments.now) c.loop-number.number (c.loop-number.number + 1 + n) (source_of c.in-Some.source) c.in-Err.fault) (sym (length-map rest source_of)) c.in-Err.ensures.fault)
 
 pub loop-number-preserved : goal.loop-number-preserved

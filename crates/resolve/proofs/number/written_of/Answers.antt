@@ -4,7 +4,7 @@ use Rattle.resolve.specs.Seen.{kind_of, header_of, assignment_of, source_of}
 use Rattle.resolve.specs.Numbering.{IsKind}
 use Rattle.resolve.specs.Faults.{IsUnknown}
 use Rattle.syntax.specs.Tree.{type_tree_of}
-use Rattle.resolve.proofs.Sources.{assignment_at, header_at, unknown_source}
+use Rattle.resolve.proofs.Sources.{assignment_at, header_at, unknown_source, limit_source}
 use Rattle.resolve.proofs.number.written_of.Goals as goal
 
 pub bounds-headers-assignment : goal.bounds-headers-assignment
@@ -34,3 +34,12 @@ returns-in-Err-clause-fault c =
     (assignment_at c.args.assignments.now c.args.source.assignment c.index-assignments-source.result c.requires.assigned c.index-assignments-source.is)
     (header_at c.args.headers.now c.index-assignments-source.result.module c.index-headers-assignment.result here c.index-headers-assignment.is)
     (subst (λ m. IsUnknown c.args.names.now m (type_tree_of c.args.source.syntax) c.in-Err.fault) c.as_str.ensures.value c.in-Err.ensures.fault)
+
+pub returns-then-first-parts_count-clause-fault : goal.returns-then-first-parts_count-clause-fault
+returns-then-first-parts_count-clause-fault c =
+    let here = c.requires.placed c.args.source.assignment c.index-assignments-source.result (slice_get_read c.args.assignments.now (length c.args.assignments.now) c.args.source.assignment c.index-assignments-source.result refl c.requires.assigned c.index-assignments-source.is) in
+    let parts = c.parts_count.ensures c.args.source.assignment c.args.number in
+    limit_source c.args.names.now (map header_of c.args.headers.now) (map assignment_of c.args.assignments.now) c.args.number (c.args.number + 1 + length c.args.parts.now.items) (source_of c.args.source) (string_bytes c.index-headers-assignment.result.name) c.index-headers-assignment.result.default c.index-assignments-source.result.module (string_bytes c.index-assignments-source.result.name) c.too_many.result
+    (assignment_at c.args.assignments.now c.args.source.assignment c.index-assignments-source.result c.requires.assigned c.index-assignments-source.is)
+    (header_at c.args.headers.now c.index-assignments-source.result.module c.index-headers-assignment.result here c.index-headers-assignment.is)
+    (omega (arith, parts)) c.too_many.ensures

@@ -1,0 +1,119 @@
+-- Worked rows: what tokens say, what stands at a place, and what parts are.
+use Rattle.std.proofs.Common.{arith, ◌≡◌, ℕ, ◌^◌, inl, inr, true, false, List, [], ◌∷◌, ◌++◌, length, length-append, Some, None, refl, ap}
+use Rattle.text.specs.declared.token.TokenKind.TheVariants as kinds
+use Rattle.text.specs.declared.token.Mark.TheVariants.{Comma, OpenBrace, CloseBrace}
+use Rattle.text.specs.Octets.{is_hex}
+use Rattle.grammar.specs.Lexeme.{Lexeme, TypeRef, Ident, Number, BString, HString, CString, Mark, digit_of, single_quotes, lexeme_at}
+use Rattle.grammar.specs.Grammar.{Grammar, token, mark, number_of, ◌∙◌, many, listed, braces, optional, cut_off}
+use Rattle.grammar.specs.Places.{any, small, IsRead, IsFirst, PassesLimit}
+
+-- ---- what tokens say
+
+-- '0A F'H is 0, 10 and 15
+hex_digits : lexeme_at (39 ∷ 48 ∷ 65 ∷ 32 ∷ 70 ∷ 39 ∷ 72 ∷ []) kinds.HexString 0 7 ≡ HString (0 ∷ 10 ∷ 15 ∷ [])
+unfolding digit_of is_hex
+hex_digits = refl
+
+-- '1B'H is 1 and 11, and '1'B is 1 alone
+letter_inside : lexeme_at (39 ∷ 49 ∷ 66 ∷ 39 ∷ 72 ∷ []) kinds.HexString 0 5 ≡ HString (1 ∷ 11 ∷ [])
+unfolding digit_of is_hex
+letter_inside = refl
+
+letter_behind : lexeme_at (39 ∷ 49 ∷ 39 ∷ 66 ∷ []) kinds.BinaryString 0 4 ≡ BString (1 ∷ [])
+unfolding digit_of is_hex
+letter_behind = refl
+
+-- "a""b" is a"b
+quote_inside : lexeme_at (34 ∷ 97 ∷ 34 ∷ 34 ∷ 98 ∷ 34 ∷ []) kinds.CharacterString 0 6 ≡ CString (97 ∷ 34 ∷ 98 ∷ [])
+unfolding single_quotes
+quote_inside = refl
+
+-- "''" is two apostrophes
+apostrophes : lexeme_at (34 ∷ 39 ∷ 39 ∷ 34 ∷ []) kinds.CharacterString 0 4 ≡ CString (39 ∷ 39 ∷ [])
+unfolding single_quotes
+apostrophes = refl
+
+-- in Ab cd 10, the names and the number
+a_type_name : lexeme_at (65 ∷ 98 ∷ 32 ∷ 99 ∷ 100 ∷ 32 ∷ 49 ∷ 48 ∷ []) kinds.TypeReference 0 2 ≡ TypeRef (65 ∷ 98 ∷ [])
+a_type_name = refl
+
+a_value_name : lexeme_at (65 ∷ 98 ∷ 32 ∷ 99 ∷ 100 ∷ 32 ∷ 49 ∷ 48 ∷ []) kinds.Identifier 3 5 ≡ Ident (99 ∷ 100 ∷ [])
+a_value_name = refl
+
+a_number : lexeme_at (65 ∷ 98 ∷ 32 ∷ 99 ∷ 100 ∷ 32 ∷ 49 ∷ 48 ∷ []) kinds.Number 6 8 ≡ Number 10
+a_number = refl
+
+-- ---- what stands at a place
+
+-- 2 to the 127 passes the limit, and one less doesn't
+least_too_great : small (2 ^ 127) ≡ false
+least_too_great = refl
+
+greatest : small 170141183460469231731687303715884105727 ≡ true
+greatest = refl
+
+-- the limit is passed at the number itself
+passed_at_a_number : PassesLimit (number_of small) (number_of any) (Number (2 ^ 127) ∷ []) 0 0
+passed_at_a_number = record { from = omega arith; to = omega arith; before = inl refl; goes_on = inr (2 ^ 127, refl, refl); after = not_within }
+  where
+    not_within : (number_of small).CanGoOn (Number (2 ^ 127) ∷ []) → ⊥
+    not_within (inl e) = absurd cc
+    not_within (inr (n, f, e)) = absurd cc
+
+-- no limit is passed where the lexemes end
+passed_before_the_end : {A : Type 0} (limited beyond : Grammar A) (ts : List Lexeme) (start : ℕ) → PassesLimit limited beyond ts start (length ts) → ⊥
+passed_before_the_end limited beyond ts start p = let lt = p.to in absurd (omega arith)
+
+-- "," alone is no whole of ", ,", so their end is the first fault; of "," it is none
+missing_comma : IsFirst (mark Comma ∙ mark Comma) (Mark Comma ∷ []) 0 1
+missing_comma = record { from = omega arith; to = omega arith; before = inl (inr (tt, refl)); after = λ lt. absurd (omega arith); none = λ e x h. one x h }
+  where
+    one : (x : _) → (mark Comma ∙ mark Comma).Is x (Mark Comma ∷ []) → ⊥
+    one x (u, v, e, p, q) = two u v e p q
+      where
+        two : (u v : List Lexeme) → Mark Comma ∷ [] ≡ u ++ v → u ≡ Mark Comma ∷ [] → v ≡ Mark Comma ∷ [] → ⊥
+        two u v e p q = omega (arith, ap length e, ap length p, ap length q, length-append u v)
+
+no_missing_comma : IsFirst (mark Comma) (Mark Comma ∷ []) 0 1 → ⊥
+no_missing_comma f = f.none refl tt refl
+
+-- of ", ," both are read, and not the first alone
+two_commas : IsRead (many (mark Comma)) (many (mark Comma)) (Mark Comma ∷ Mark Comma ∷ []) 0 (tt ∷ tt ∷ []) 2
+two_commas = record { from = omega arith; to = omega arith; is = (Mark Comma ∷ [], Mark Comma ∷ [], refl, refl, (Mark Comma ∷ [], [], refl, refl, refl)); ends = λ lt. absurd (omega arith) }
+
+one_comma : IsRead (many (mark Comma)) (many (mark Comma)) (Mark Comma ∷ Mark Comma ∷ []) 0 (tt ∷ []) 1 → ⊥
+one_comma r = r.ends (omega arith) (tt ∷ [], Mark Comma ∷ [], Mark Comma ∷ [], refl, (Mark Comma ∷ [], [], refl, refl, refl), inr (tt, refl))
+
+-- ---- parts
+
+abbrev a_name : Lexeme
+a_name = Ident (97 ∷ [])
+
+abbrev b_name : Lexeme
+b_name = Ident (98 ∷ [])
+
+-- a, b is a list of two names, and a its front with b to come
+two_names : (listed (token Ident)).Is ((97 ∷ []) ∷ (98 ∷ []) ∷ []) (a_name ∷ Mark Comma ∷ b_name ∷ [])
+two_names = (
+  (97 ∷ [], (98 ∷ []) ∷ []),
+  refl,
+  (a_name ∷ [], Mark Comma ∷ b_name ∷ [], refl, refl, (Mark Comma ∷ b_name ∷ [], [], refl, ((tt, 98 ∷ []), refl, (Mark Comma ∷ [], b_name ∷ [], refl, refl, refl)), refl)),
+)
+
+one_name_and_comma : (listed (token Ident)).CanGoOn (a_name ∷ Mark Comma ∷ [])
+one_name_and_comma = inr (97 ∷ [], a_name ∷ [], Mark Comma ∷ [], refl, refl, ([], [], Mark Comma ∷ [], refl, refl, inr (tt, Mark Comma ∷ [], [], refl, refl, inl refl)))
+
+-- a name in braces
+in_braces : (braces (token Ident)).Is (97 ∷ []) (Mark OpenBrace ∷ a_name ∷ Mark CloseBrace ∷ [])
+in_braces = ((tt, (97 ∷ [], tt)), refl, (Mark OpenBrace ∷ [], a_name ∷ Mark CloseBrace ∷ [], refl, refl, (a_name ∷ [], Mark CloseBrace ∷ [], refl, refl, refl)))
+
+-- nothing is an optional name that is missing, and a name one that is there
+no_name : (optional (token Ident)).Is None []
+no_name = refl
+
+some_name : (optional (token Ident)).Is (Some (97 ∷ [])) (a_name ∷ [])
+some_name = refl
+
+-- what is cut off is never whole
+never_whole : (x : ℕ) (ts : List Lexeme) → (cut_off {A = ℕ}).Is x ts → ⊥
+never_whole x ts h = h

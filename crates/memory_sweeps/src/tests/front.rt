@@ -1,0 +1,112 @@
+//! `link`, `tag` and `tags_of`.
+
+use super::{Starved, TURNS, sweep};
+use asn_base::schema::TypeId;
+use resolve::{Linked, NameFault, link};
+use std::alloc::Global;
+use std::test::Fail;
+use syntax::{Module, parse};
+use tagging::{TagFault, tag, tags_of};
+use text::lex;
+
+const A: &str = "A DEFINITIONS AUTOMATIC TAGS ::= BEGIN IMPORTS T, v FROM B;\n\
+    U ::= SEQUENCE { a INTEGER {one(1), two(2)}, b T OPTIONAL, c BIT STRING {x(0), y(9)} DEFAULT {x} }\n\
+    E ::= ENUMERATED {p, q(5), r}  w U ::= { a v, b {n 7} } END";
+
+const B: &str =
+    "B DEFINITIONS ::= BEGIN EXPORTS T, v; T ::= [1] SEQUENCE { n Num } Num ::= [2] [3] [4] INTEGER v Num ::= 1 END";
+
+fn module(alloc: Global, text: &str) -> Result<Module, Fail> {
+    let octets = text.as_bytes();
+    let tokens = lex(alloc, octets).ok().ok_or("tokens")?;
+    Ok(parse(alloc, octets, &tokens).ok().ok_or("tree")?)
+}
+
+fn both(alloc: Global) -> Result<Vec<Module>, Fail> {
+    let mut modules = Vec::with_capacity(alloc, 2)?;
+    modules.push(module(alloc, A)?)?;
+    modules.push(module(alloc, B)?)?;
+    Ok(modules)
+}
+
+/// Whether a refusal is one for want of memory.
+fn refused(fault: &NameFault) -> Result<bool, Fail> {
+    match fault {
+        NameFault::Memory => Ok(false),
+        _ => Err("another fault".into()),
+    }
+}
+
+/// Modules for each turn, since a call takes what it is given.
+#[derive(Drop)]
+struct Linker {
+    modules: Vec<Vec<Module>>,
+}
+
+impl Starved for Linker {
+    fn answers(&mut self, alloc: Global, _turn: usize) -> Result<bool, Fail> {
+        let modules = self.modules.pop().ok_or("a turn too many")?;
+        let linked = match link(alloc, modules) {
+            Ok(linked) => linked,
+            Err(fault) => return refused(&fault),
+        };
+        if linked.types().len() == 14 {
+            Ok(true)
+        } else {
+            Err("other types".into())
+        }
+    }
+}
+
+#[derive(Drop)]
+struct Tagger<'a> {
+    linked: &'a Linked,
+}
+
+impl<'a> Starved for Tagger<'a> {
+    fn answers(&mut self, alloc: Global, _turn: usize) -> Result<bool, Fail> {
+        let tagged = match tag(alloc, self.linked) {
+            Ok(tagged) => tagged,
+            Err(TagFault::Memory) => return Ok(false),
+            Err(_) => return Err("another fault".into()),
+        };
+        for index in 0..self.linked.types().len() {
+            let path = tags_of(alloc, &tagged, TypeId { index });
+            if !path.is_ok_and(|p| p.len() <= 4) {
+                return Err("up to four tags take no memory".into());
+            }
+        }
+        Ok(true)
+    }
+}
+
+#[test]
+fn link_with_ever_more_memory(rt: HostRuntime) -> Result<(), Fail> {
+    let alloc = rt.alloc();
+    let mut modules = Vec::with_capacity(alloc, 2 * TURNS)?;
+    for _ in 0..2 * TURNS + 1 {
+        modules.push(both(alloc)?)?;
+    }
+    let mut linker = Linker { modules };
+    assert!(rt; linker.answers(alloc, 0)?);
+    if let Some((refused, done)) = sweep(alloc, &mut linker)? {
+        eprintln!(rt; "link: refused {refused}, done {done}")?;
+        assert!(rt; refused > 100);
+        assert!(rt; done > 100);
+    }
+    Ok(())
+}
+
+#[test]
+fn tag_with_ever_more_memory(rt: HostRuntime) -> Result<(), Fail> {
+    let alloc = rt.alloc();
+    let linked = link(alloc, both(alloc)?).ok().ok_or("linked")?;
+    let mut tagger = Tagger { linked: &linked };
+    assert!(rt; tagger.answers(alloc, 0)?);
+    if let Some((refused, done)) = sweep(alloc, &mut tagger)? {
+        eprintln!(rt; "tag: refused {refused}, done {done}")?;
+        assert!(rt; refused > 2);
+        assert!(rt; done > 100);
+    }
+    Ok(())
+}

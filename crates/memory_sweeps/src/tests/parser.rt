@@ -1,0 +1,127 @@
+//! `parse`, `value_at`, `constraint_at` and `size_at`.
+
+use super::{Starved, sweep};
+use notation::{SyntaxFault, constraint_at, size_at, value_at};
+use std::alloc::Global;
+use std::test::Fail;
+use syntax::parse;
+use text::{LexFault, lex};
+
+const MODULE: &str =
+    "M {iso 3 other(7)} DEFINITIONS AUTOMATIC TAGS ::= BEGIN EXPORTS T, v; IMPORTS A, b FROM B;\n\
+    T ::= SEQUENCE { a INTEGER (0..7 | 9), b BIT STRING {x(0), y(1)}, c [1] EXPLICIT OCTET STRING (SIZE (1..4)) OPTIONAL }\n\
+    v T ::= { a 5, b '1010'B, c '00FF'H }\n\
+    U ::= CHOICE { x BOOLEAN, y NULL, z SEQUENCE (SIZE (2)) OF T, e ENUMERATED {p(1), q} }\n\
+    w U ::= z : { v, {a 1, b {x}}, M.v }\n\
+    END\n";
+
+const VALUE: &str = "{ a 5, b '1010'B, c { one : \"text\", { 1 2 840 }, { M.v, w } }, d -7 }";
+
+const CONSTRAINT: &str = "(FROM (\"a\"..\"z\" | \"0\"..\"9\" | \"-\"))";
+
+const SIZE: &str = "SIZE (1..4 | M.least..most | 9..MAX)";
+
+/// What is read.
+#[derive(Clone, Copy, Debug, PartialEq)]
+enum Part {
+    Module,
+    Value,
+    Constraint,
+    Size,
+}
+
+/// How many tokens a part of a text takes (of a module: how many assignments it has), once the text is cut into tokens.
+/// None where there is not enough memory.
+fn taken(alloc: Global, part: Part, text: &[u8]) -> Result<Option<usize>, Fail> {
+    let tokens = match lex(alloc, text) {
+        Ok(tokens) => tokens,
+        Err(LexFault::Memory) => return Ok(None),
+        Err(_) => return Err("tokens".into()),
+    };
+    let read = match part {
+        Part::Module => parse(alloc, text, &tokens).map(|m| m.assignments.len()),
+        Part::Value => value_at(alloc, text, &tokens, 0, 0).map(|x| x.1),
+        Part::Constraint => constraint_at(alloc, text, &tokens, 0).map(|x| x.1),
+        Part::Size => size_at(alloc, text, &tokens, 0).map(|x| x.1),
+    };
+    match read {
+        Ok(taken) => Ok(Some(taken)),
+        Err(SyntaxFault::Memory) => Ok(None),
+        Err(_) => Err("another fault".into()),
+    }
+}
+
+#[derive(Drop)]
+struct Parser<'a> {
+    part: Part,
+    text: &'a [u8],
+    taken: usize,
+}
+
+impl<'a> Starved for Parser<'a> {
+    fn answers(&mut self, alloc: Global, _turn: usize) -> Result<bool, Fail> {
+        match taken(alloc, self.part, self.text)? {
+            Some(taken) if taken == self.taken => Ok(true),
+            Some(_) => Err("another tree".into()),
+            None => Ok(false),
+        }
+    }
+}
+
+/// A sweep over a part of the notation, which takes so many tokens, or has so many assignments.
+fn sweep_part(
+    alloc: Global,
+    part: Part,
+    text: &str,
+    taken: usize,
+) -> Result<Option<(usize, usize)>, Fail> {
+    let mut parser = Parser {
+        part,
+        text: text.as_bytes(),
+        taken,
+    };
+    if !parser.answers(alloc, 0)? {
+        return Err("refused with ample memory".into());
+    }
+    sweep(alloc, &mut parser)
+}
+
+#[test]
+fn parse_with_ever_more_memory(rt: HostRuntime) -> Result<(), Fail> {
+    if let Some((refused, done)) = sweep_part(rt.alloc(), Part::Module, MODULE, 4)? {
+        eprintln!(rt; "parse: refused {refused}, done {done}")?;
+        assert!(rt; refused > 100);
+        assert!(rt; done > 20);
+    }
+    Ok(())
+}
+
+#[test]
+fn values_with_ever_more_memory(rt: HostRuntime) -> Result<(), Fail> {
+    if let Some((refused, done)) = sweep_part(rt.alloc(), Part::Value, VALUE, 32)? {
+        eprintln!(rt; "value_at: refused {refused}, done {done}")?;
+        assert!(rt; refused > 50);
+        assert!(rt; done > 100);
+    }
+    Ok(())
+}
+
+#[test]
+fn constraints_with_ever_more_memory(rt: HostRuntime) -> Result<(), Fail> {
+    if let Some((refused, done)) = sweep_part(rt.alloc(), Part::Constraint, CONSTRAINT, 14)? {
+        eprintln!(rt; "constraint_at: refused {refused}, done {done}")?;
+        assert!(rt; refused > 20);
+        assert!(rt; done > 100);
+    }
+    Ok(())
+}
+
+#[test]
+fn sizes_with_ever_more_memory(rt: HostRuntime) -> Result<(), Fail> {
+    if let Some((refused, done)) = sweep_part(rt.alloc(), Part::Size, SIZE, 16)? {
+        eprintln!(rt; "size_at: refused {refused}, done {done}")?;
+        assert!(rt; refused > 20);
+        assert!(rt; done > 100);
+    }
+    Ok(())
+}
