@@ -17,11 +17,8 @@ mod telling;
 mod typing;
 mod words;
 
-pub use fault::{Construct, Fault, ValueFault, status};
+pub use fault::{Construct, Fault, ValueFault, number, status};
 pub use kit::{Kit, faults_exclude};
 pub use request::{Given, Job, Verb};
 pub use telling::report;
 pub use words::job;
-
-#[cfg(test)]
-mod tests;

@@ -19,8 +19,3 @@ pub use constraint::{
 pub use constraint_answer::{constraint_at, size_at};
 pub use fault::{Limit, ReadError, SyntaxFault};
 pub use tree::{Named, ValueSyntax};
-
-#[cfg(test)]
-mod constraint_tests;
-#[cfg(test)]
-mod tests;

@@ -27,8 +27,3 @@ pub use sound::faults_exclude_sound;
 pub use table::{
     Assignment, Component, ElementsKind, ListKind, Place, Shape, Simple, ValueAt, Written,
 };
-
-#[cfg(test)]
-mod sound_tests;
-#[cfg(test)]
-mod tests;

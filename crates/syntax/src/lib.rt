@@ -18,12 +18,3 @@ pub use tree::{
     Assignment, EnumeratedItem, Import, Keyword, Member, Module, NamedBit, NamedNumber,
     PresenceSyntax, TagDefault, TypeAssignment, TypeSyntax, ValueAssignment,
 };
-
-#[cfg(test)]
-mod heading_tests;
-#[cfg(test)]
-mod production_tests;
-#[cfg(test)]
-mod tests;
-#[cfg(test)]
-mod type_tests;

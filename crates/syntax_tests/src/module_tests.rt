@@ -1,7 +1,7 @@
-use super::*;
 use notation::ValueSyntax;
 use std::alloc::Global;
 use std::test::*;
+use syntax::{Assignment, Limit, Module, SyntaxFault, TagDefault, TypeSyntax, parse};
 
 fn parsed(alloc: Global, text: &[u8]) -> Option<Result<Module, SyntaxFault>> {
     let tokens = text::lex(alloc, text).ok()?;

@@ -1,7 +1,7 @@
-use super::*;
 use std::alloc::Global;
 use std::process::Abort;
 use std::test::*;
+use syntax::{Module, SyntaxFault, parse};
 
 // Each production of the grammar, accepted and refused, and each word and mark that is refused by name.
 

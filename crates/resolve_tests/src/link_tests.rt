@@ -1,11 +1,8 @@
-use super::*;
-use notation::ValueSyntax;
+use crate::common::{list, module_of, said, said_of, types, values, with_type};
+use resolve::{Found, Linked, NameFault, link};
 use std::alloc::Global;
 use std::test::*;
-use syntax::{
-    Assignment as Given, EnumeratedItem, Member, Module, NamedNumber, PresenceSyntax, TagDefault,
-    TypeAssignment, TypeSyntax, ValueAssignment,
-};
+use syntax::{EnumeratedItem, Module, NamedNumber, TypeSyntax};
 
 fn module(alloc: Global, text: &str) -> Result<Module, Fail> {
     let octets = text.as_bytes();
@@ -20,14 +17,6 @@ fn linking(alloc: Global, texts: &[&str]) -> Result<Result<Linked, NameFault>, F
         modules.push(module(alloc, text)?)?;
     }
     Ok(link(alloc, modules))
-}
-
-/// The words of what linking these modules answers: those of its fault, or that there is none.
-fn said(alloc: Global, modules: Vec<Module>) -> Result<String, Fail> {
-    match link(alloc, modules) {
-        Ok(_) => Ok(String::from_str(alloc, "linked")?),
-        Err(fault) => Ok(format!(in alloc; "{fault}")?),
-    }
 }
 
 /// Whether linking these modules is refused with this fault, at this module and name.
@@ -184,72 +173,6 @@ fn circles_are_refused(rt: HostRuntime) -> Result<(), Fail> {
     let other = "M DEFINITIONS ::= BEGIN T ::= SEQUENCE {a L DEFAULT {}} L ::= SEQUENCE OF L END";
     assert!(rt; linking(rt.alloc(), &[other])?.is_ok());
     Ok(())
-}
-
-/// So many assignments of types, numbered from 0.
-fn types(alloc: Global, count: usize) -> Result<Vec<Given>, Fail> {
-    let mut assignments = Vec::new(alloc);
-    for number in 0..count {
-        assignments.push(Given::Type(TypeAssignment {
-            name: format!(in alloc; "T{number}")?,
-            syntax: TypeSyntax::Null,
-        }))?;
-    }
-    Ok(assignments)
-}
-
-/// So many assignments of values behind others, numbered from 0.
-fn values(alloc: Global, before: Vec<Given>, count: usize) -> Result<Vec<Given>, Fail> {
-    let mut assignments = before;
-    for number in 0..count {
-        assignments.push(Given::Value(ValueAssignment {
-            name: format!(in alloc; "v{number}")?,
-            syntax: TypeSyntax::Boolean,
-            value: ValueSyntax::True,
-        }))?;
-    }
-    Ok(assignments)
-}
-
-/// A list of so many members.
-fn list(alloc: Global, count: usize) -> Result<TypeSyntax, Fail> {
-    let mut members = Vec::new(alloc);
-    for number in 0..count {
-        members.push(Member {
-            name: format!(in alloc; "a{number}")?,
-            syntax: TypeSyntax::Null,
-            presence: PresenceSyntax::Mandatory,
-        })?;
-    }
-    Ok(TypeSyntax::Sequence(members))
-}
-
-/// The type T, behind others.
-fn with_type(alloc: Global, before: Vec<Given>, syntax: TypeSyntax) -> Result<Vec<Given>, Fail> {
-    let mut assignments = before;
-    assignments.push(Given::Type(TypeAssignment {
-        name: String::from_str(alloc, "T")?,
-        syntax,
-    }))?;
-    Ok(assignments)
-}
-
-fn module_of(alloc: Global, name: &str, assignments: Vec<Given>) -> Result<Module, Fail> {
-    Ok(Module {
-        name: String::from_str(alloc, name)?,
-        tag_default: TagDefault::Explicit,
-        exports: None,
-        imports: Vec::new(alloc),
-        assignments,
-    })
-}
-
-/// What is said of module L, which assigns one type, and module M behind it.
-fn said_of(alloc: Global, assignments: Vec<Given>) -> Result<String, Fail> {
-    let mut modules = Vec::new(alloc);
-    modules.push(module_of(alloc, "L", types(alloc, 1)?)?)?;
-    modules.push(module_of(alloc, "M", assignments)?)?;
-    said(alloc, modules)
 }
 
 /// What is said of so many modules.

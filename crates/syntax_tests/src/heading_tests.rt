@@ -1,6 +1,6 @@
-use super::*;
 use std::alloc::Global;
 use std::test::*;
+use syntax::{Limit, Module, SyntaxFault, TagDefault, parse};
 
 /// What a text is read as.
 fn parsed(alloc: Global, text: &str) -> Option<Result<Module, SyntaxFault>> {

@@ -1,4 +1,4 @@
-use super::*;
+use notation::{Limit, SyntaxFault, ValueSyntax, value_at};
 use std::alloc::Global;
 use std::test::*;
 

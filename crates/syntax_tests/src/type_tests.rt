@@ -1,8 +1,8 @@
-use super::*;
 use asn_base::tag::Class;
 use notation::{ConstraintSyntax, ValueSyntax};
 use std::alloc::Global;
 use std::test::*;
+use syntax::{Assignment, Keyword, Limit, Module, PresenceSyntax, SyntaxFault, TypeSyntax, parse};
 
 /// What is answered for a module with this at the place of a type, which begins at token 6.
 fn answer(alloc: Global, written: &str) -> Result<Result<Module, SyntaxFault>, Fail> {

@@ -1,4 +1,7 @@
-use super::*;
+use notation::{
+    ConstraintSyntax, EndSyntax, Limit, RangeSyntax, SizeSyntax, SyntaxFault, constraint_at,
+    size_at,
+};
 use std::alloc::Global;
 use std::test::*;
 
