@@ -3,6 +3,7 @@ use asnc::{Construct, Fault, ValueFault, report};
 use notation::SyntaxFault;
 use resolve::{Limit, NameFault};
 use std::alloc::{AllocError, Global};
+use std::process::Abort;
 use std::test::*;
 use text::LexFault;
 
@@ -467,79 +468,104 @@ fn lines_of_constructs(rt: HostRuntime) -> Result<(), Fail> {
     Ok(())
 }
 
+/// Whether this is told of a type and a value in texts, each in its file.
+fn tells_in_files(
+    rt: &impl Abort,
+    alloc: Global,
+    texts: &[&str],
+    ty: &str,
+    value: &str,
+    want: &str,
+) -> Result<(), Fail> {
+    let job = job_on(alloc, ty, value, &["a.asn", "b.asn", "c.asn"])?;
+    let octets = texts_of(alloc, texts)?;
+    let line = told(alloc, &job, octets.as_slice())?;
+    assert_eq!(rt; line.as_str(), want, "at {ty} {value}");
+    Ok(())
+}
+
 /// What is told of a fault in two or three texts, each in its file.
 #[test]
 fn lines_in_files(rt: HostRuntime) -> Result<(), Fail> {
+    let alloc = rt.alloc();
     let a = "A DEFINITIONS ::= BEGIN IMPORTS T, w FROM B;\n  v T ::= {n 7} u T ::= w END";
     let b = "B DEFINITIONS ::= BEGIN\n  T ::= SEQUENCE {n INTEGER}\n  w T ::= {n TRUE} END";
-    for (texts, ty, value, want) in [
-        ([a, b].as_slice(), "B.T", "A.v", "3003020107"),
-        (
-            [a, b].as_slice(),
-            "B.Q",
-            "A.v",
-            "error 31 UnknownName: b.asn: the module has no type B.Q",
-        ),
-        (
-            [a, b].as_slice(),
-            "C.T",
-            "A.v",
-            "error 31 UnknownName: the module has no type C.T",
-        ),
-        (
-            [a, b].as_slice(),
-            "A.T",
-            "B.v",
-            "error 31 UnknownName: b.asn: the module has no value B.v",
-        ),
-        (
-            [a, b].as_slice(),
-            "A.T",
-            "v",
-            "error 31 UnknownName: the module has no value v",
-        ),
-        (
-            [a, b].as_slice(),
-            "A.T",
-            "A.w",
-            "error 60 NotOfType: b.asn:3:3: A.w is no value of the type A.T: it is of another kind, or its components stand in another order",
-        ),
-        (
-            [a, b].as_slice(),
-            "A.T",
-            "A.u",
-            "error 60 NotOfType: a.asn:2:17: A.u is no value of the type A.T: it is of another kind, or its components stand in another order",
-        ),
-        (
-            [a, b, a].as_slice(),
-            "A.T",
-            "A.v",
-            "error 30 Twice: c.asn:1:1: the name A, or its number, is given a second time here",
-        ),
-        (
-            [a, "B DEFINITIONS ::= BEGIN T ::= SEQUENCE {n INTEGER} END"].as_slice(),
-            "A.T",
-            "A.v",
-            "error 31 UnknownName: a.asn:1:36: w has no meaning in the module A that it needs here",
-        ),
-        (
-            [
-                "A DEFINITIONS ::= BEGIN IMPORTS T, w FROM B; v T ::= w END",
-                "B DEFINITIONS ::= BEGIN T ::= SEQUENCE {n INTEGER}\n w T ::= {k 1} END",
-            ]
-            .as_slice(),
-            "A.T",
-            "A.v",
-            "error 62 UnknownItem: a.asn:1:46: k is neither a component of the type A.T nor a value",
-        ),
-    ] {
-        let files = ["a.asn", "b.asn", "c.asn"];
-        let named = files.get(..texts.len()).unwrap_or(&[]);
-        let job = job_on(rt.alloc(), ty, value, named)?;
-        let octets = texts_of(rt.alloc(), texts)?;
-        let line = told(rt.alloc(), &job, octets.as_slice())?;
-        assert_eq!(rt; line.as_str(), want, "at {texts:?} {ty} {value}");
-    }
+    tells_in_files(&rt, alloc, &[a, b], "B.T", "A.v", "3003020107")?;
+    tells_in_files(
+        &rt,
+        alloc,
+        &[a, b],
+        "B.Q",
+        "A.v",
+        "error 31 UnknownName: b.asn: the module has no type B.Q",
+    )?;
+    tells_in_files(
+        &rt,
+        alloc,
+        &[a, b],
+        "C.T",
+        "A.v",
+        "error 31 UnknownName: the module has no type C.T",
+    )?;
+    tells_in_files(
+        &rt,
+        alloc,
+        &[a, b],
+        "A.T",
+        "B.v",
+        "error 31 UnknownName: b.asn: the module has no value B.v",
+    )?;
+    tells_in_files(
+        &rt,
+        alloc,
+        &[a, b],
+        "A.T",
+        "v",
+        "error 31 UnknownName: the module has no value v",
+    )?;
+    tells_in_files(
+        &rt,
+        alloc,
+        &[a, b],
+        "A.T",
+        "A.w",
+        "error 60 NotOfType: b.asn:3:3: A.w is no value of the type A.T: it is of another kind, or its components stand in another order",
+    )?;
+    tells_in_files(
+        &rt,
+        alloc,
+        &[a, b],
+        "A.T",
+        "A.u",
+        "error 60 NotOfType: a.asn:2:17: A.u is no value of the type A.T: it is of another kind, or its components stand in another order",
+    )?;
+    tells_in_files(
+        &rt,
+        alloc,
+        &[a, b, a],
+        "A.T",
+        "A.v",
+        "error 30 Twice: c.asn:1:1: the name A, or its number, is given a second time here",
+    )?;
+    tells_in_files(
+        &rt,
+        alloc,
+        &[a, "B DEFINITIONS ::= BEGIN T ::= SEQUENCE {n INTEGER} END"],
+        "A.T",
+        "A.v",
+        "error 31 UnknownName: a.asn:1:36: w has no meaning in the module A that it needs here",
+    )?;
+    tells_in_files(
+        &rt,
+        alloc,
+        &[
+            "A DEFINITIONS ::= BEGIN IMPORTS T, w FROM B; v T ::= w END",
+            "B DEFINITIONS ::= BEGIN T ::= SEQUENCE {n INTEGER}\n w T ::= {k 1} END",
+        ],
+        "A.T",
+        "A.v",
+        "error 62 UnknownItem: a.asn:1:46: k is neither a component of the type A.T nor a value",
+    )?;
     Ok(())
 }
 
@@ -563,9 +589,9 @@ fn listed(
     Ok(text)
 }
 
-/// Limits that texts pass, and an encoding of 256 texts of 65,600 octets.
+/// Lists with one member and one item too many.
 #[test]
-fn lines_of_limits(rt: HostRuntime) -> Result<(), Fail> {
+fn lines_of_long_lists(rt: HostRuntime) -> Result<(), Fail> {
     let text = listed(
         rt.alloc(),
         "M DEFINITIONS ::= BEGIN\nT ::= SEQUENCE {",
@@ -590,6 +616,12 @@ fn lines_of_limits(rt: HostRuntime) -> Result<(), Fail> {
         line.as_str(),
         "error 2 Limit(Items): m.asn:2:1: an enumeration here has more than 1024 items"
     );
+    Ok(())
+}
+
+/// One brace too many.
+#[test]
+fn the_line_of_nesting(rt: HostRuntime) -> Result<(), Fail> {
     let mut text = String::from_str(rt.alloc(), "M DEFINITIONS ::= BEGIN v T ::=\n")?;
     for _ in 0..129 {
         text.push_str("{a ")?;
@@ -599,6 +631,12 @@ fn lines_of_limits(rt: HostRuntime) -> Result<(), Fail> {
         line.as_str(),
         "error 2 Limit(Nesting): m.asn:2:385: more than 128 braces are open here"
     );
+    Ok(())
+}
+
+/// One module too many.
+#[test]
+fn the_line_of_many_modules(rt: HostRuntime) -> Result<(), Fail> {
     let mut texts = Vec::new(rt.alloc());
     let mut files = Vec::new(rt.alloc());
     for number in 0..257 {
@@ -614,6 +652,12 @@ fn lines_of_limits(rt: HostRuntime) -> Result<(), Fail> {
         line.as_str(),
         "error 2 Limit(Modules): m.asn:1:1: more than 256 modules are linked"
     );
+    Ok(())
+}
+
+/// An encoding of 256 texts of 65,600 octets.
+#[test]
+fn the_line_of_a_long_encoding(rt: HostRuntime) -> Result<(), Fail> {
     let mut text = listed(
         rt.alloc(),
         "M DEFINITIONS ::= BEGIN T ::= SEQUENCE {",
@@ -635,138 +679,224 @@ fn lines_of_limits(rt: HostRuntime) -> Result<(), Fail> {
     Ok(())
 }
 
-/// What is told of a fault alone, with a file that is empty, and what the fault itself prints.
+/// Whether this is told of a fault alone, with a file that is empty, and this is what the fault itself prints.
+fn tells(
+    rt: &impl Abort,
+    alloc: Global,
+    fault: Fault,
+    line: &str,
+    printed: &str,
+) -> Result<(), Fail> {
+    let job = job_on(alloc, "M.T", "M.v", &["m.asn"])?;
+    let texts = texts_of(alloc, &[""])?;
+    let told = report(alloc, &job, texts.as_slice(), &fault)?;
+    assert_eq!(rt; told.as_str(), line);
+    assert_eq!(rt; fault.to_string(alloc)?.as_str(), printed);
+    Ok(())
+}
+
+/// Faults of no text.
 #[test]
-fn lines_of_faults(rt: HostRuntime) -> Result<(), Fail> {
-    let text = |text: &str| String::from_str(rt.alloc(), text);
-    for (fault, line, printed) in [
-        (
-            Fault::Memory,
-            "error 1 Memory: out of memory",
-            "error 1 Memory: out of memory",
-        ),
-        (
-            Fault::File(text("x")?),
-            "error 3 File: x could not be read",
-            "error 3 File: x: the file can not be read",
-        ),
-        (
-            Fault::BadWords(text("x y")?),
-            "error 4 BadWords: x y",
-            "error 4 BadWords: x y",
-        ),
-        (Fault::Help(text("x\ny")?), "error 5 Help: x y", "x\ny"),
-        (
-            Fault::Device,
-            "error 72 Device: the output could not be written",
-            "error 72 Device: the output could not be written",
-        ),
-        (
-            Fault::TooLong,
-            "error 71 TooLong: the encoding has more than 16777216 octets",
-            "error 71 TooLong: the encoding has more than 16777216 octets",
-        ),
-        (
-            Fault::NoType(text("M.T")?),
-            "error 31 UnknownName: the module has no type M.T",
-            "error 31 UnknownName: M.T",
-        ),
-        (
-            Fault::NoValue(text("M.v")?),
-            "error 31 UnknownName: the module has no value M.v",
-            "error 31 UnknownName: M.v",
-        ),
-        (
-            Fault::OutOfProfile(Construct::Tag, text("M")?, text("T")?),
-            "error 21 OutOfProfile a tag: this compiler leaves out a tag",
-            "error 21 OutOfProfile: M.T",
-        ),
-        (
-            Fault::Text(0, LexFault::Memory),
-            "error 1 Memory: m.asn: out of memory",
-            "error 1 Memory",
-        ),
-        (
-            Fault::Text(0, LexFault::Limit(text::Limit::Text, 16_777_216)),
-            "error 2 Limit(Text): m.asn:1:1: the text has more than 16777216 octets",
-            "error 2 Limit(Text) at 16777216",
-        ),
-        (
-            Fault::Tree(0, SyntaxFault::Memory),
-            "error 1 Memory: m.asn: out of memory",
-            "error 1 Memory",
-        ),
-        (
-            Fault::Tree(0, SyntaxFault::Unexpected(7)),
-            "error 20 Unexpected: m.asn:1:1: found the end of the text",
-            "error 20 Unexpected at token 7",
-        ),
-        (
-            Fault::Name(NameFault::Memory),
-            "error 1 Memory: out of memory",
-            "error 1 Memory",
-        ),
-        (
-            Fault::Name(NameFault::Limit(Limit::Types, text("M")?, text("T")?)),
-            "error 2 Limit(Types): more than 4096 types are assigned, or more than 65536 are written",
-            "error 2 Limit(Types): M.T",
-        ),
-        (
-            Fault::Name(NameFault::Limit(Limit::Values, text("M")?, text("v")?)),
-            "error 2 Limit(Values): more than 65536 values are assigned",
-            "error 2 Limit(Values): M.v",
-        ),
-        (
-            Fault::Name(NameFault::Limit(Limit::Integer, text("M")?, text("T")?)),
-            "error 2 Limit(Integer): numbers are from -2^127 to 2^127 - 1",
-            "error 2 Limit(Integer): M.T",
-        ),
-        (
-            Fault::Value(ValueFault::Memory),
-            "error 1 Memory: out of memory",
-            "error 1 Memory",
-        ),
-        (
-            Fault::Value(ValueFault::Integer),
-            "error 2 Limit(Integer): numbers are from -2^127 to 2^127 - 1",
-            "error 2 Limit(Integer)",
-        ),
-        (
-            Fault::Value(ValueFault::UnknownName(text("w")?)),
-            "error 31 UnknownName: w is no value of its module",
-            "error 31 UnknownName: w",
-        ),
-        (
-            Fault::Value(ValueFault::Circular(text("w")?)),
-            "error 33 Circular: the value w comes back to itself",
-            "error 33 Circular: w",
-        ),
-        (
-            Fault::Value(ValueFault::NotOfType),
-            "error 60 NotOfType: M.v is no value of the type M.T: it is of another kind, or its components stand in another order",
-            "error 60 NotOfType",
-        ),
-        (
-            Fault::Value(ValueFault::UnknownItem(text("w")?)),
-            "error 62 UnknownItem: w is neither a component of the type M.T nor a value",
-            "error 62 UnknownItem: w",
-        ),
-        (
-            Fault::Value(ValueFault::Missing(text("a")?)),
-            "error 63 Missing: M.v gives no value for the component a of the type M.T",
-            "error 63 Missing: a",
-        ),
-        (
-            Fault::Value(ValueFault::Repeated(text("a")?)),
-            "error 64 Repeated: the component a is given a value a second time here",
-            "error 64 Repeated: a",
-        ),
-    ] {
-        let job = job_on(rt.alloc(), "M.T", "M.v", &["m.asn"])?;
-        let texts = texts_of(rt.alloc(), &[""])?;
-        let told = report(rt.alloc(), &job, texts.as_slice(), &fault)?;
-        assert_eq!(rt; told.as_str(), line);
-        assert_eq!(rt; fault.to_string(rt.alloc())?.as_str(), printed);
-    }
+fn lines_of_calls(rt: HostRuntime) -> Result<(), Fail> {
+    let alloc = rt.alloc();
+    let text = |text: &str| String::from_str(alloc, text);
+    tells(
+        &rt,
+        alloc,
+        Fault::Memory,
+        "error 1 Memory: out of memory",
+        "error 1 Memory: out of memory",
+    )?;
+    tells(
+        &rt,
+        alloc,
+        Fault::File(text("x")?),
+        "error 3 File: x could not be read",
+        "error 3 File: x: the file can not be read",
+    )?;
+    tells(
+        &rt,
+        alloc,
+        Fault::BadWords(text("x y")?),
+        "error 4 BadWords: x y",
+        "error 4 BadWords: x y",
+    )?;
+    tells(
+        &rt,
+        alloc,
+        Fault::Device,
+        "error 72 Device: the output could not be written",
+        "error 72 Device: the output could not be written",
+    )?;
+    tells(
+        &rt,
+        alloc,
+        Fault::TooLong,
+        "error 71 TooLong: the encoding has more than 16777216 octets",
+        "error 71 TooLong: the encoding has more than 16777216 octets",
+    )?;
+    tells(
+        &rt,
+        alloc,
+        Fault::NoType(text("M.T")?),
+        "error 31 UnknownName: the module has no type M.T",
+        "error 31 UnknownName: M.T",
+    )?;
+    tells(
+        &rt,
+        alloc,
+        Fault::NoValue(text("M.v")?),
+        "error 31 UnknownName: the module has no value M.v",
+        "error 31 UnknownName: M.v",
+    )?;
+    tells(
+        &rt,
+        alloc,
+        Fault::OutOfProfile(Construct::Tag, text("M")?, text("T")?),
+        "error 21 OutOfProfile a tag: this compiler leaves out a tag",
+        "error 21 OutOfProfile: M.T",
+    )?;
+    tells(
+        &rt,
+        alloc,
+        Fault::Help(text("x\ny")?),
+        "error 5 Help: x y",
+        "x\ny",
+    )?;
+    Ok(())
+}
+
+/// Faults of the octets and tokens of a text.
+#[test]
+fn lines_of_texts_alone(rt: HostRuntime) -> Result<(), Fail> {
+    let alloc = rt.alloc();
+    tells(
+        &rt,
+        alloc,
+        Fault::Text(0, LexFault::Memory),
+        "error 1 Memory: m.asn: out of memory",
+        "error 1 Memory",
+    )?;
+    tells(
+        &rt,
+        alloc,
+        Fault::Text(0, LexFault::Limit(text::Limit::Text, 16_777_216)),
+        "error 2 Limit(Text): m.asn:1:1: the text has more than 16777216 octets",
+        "error 2 Limit(Text) at 16777216",
+    )?;
+    tells(
+        &rt,
+        alloc,
+        Fault::Tree(0, SyntaxFault::Memory),
+        "error 1 Memory: m.asn: out of memory",
+        "error 1 Memory",
+    )?;
+    tells(
+        &rt,
+        alloc,
+        Fault::Tree(0, SyntaxFault::Unexpected(7)),
+        "error 20 Unexpected: m.asn:1:1: found the end of the text",
+        "error 20 Unexpected at token 7",
+    )?;
+    Ok(())
+}
+
+/// Faults of names.
+#[test]
+fn lines_of_names_alone(rt: HostRuntime) -> Result<(), Fail> {
+    let alloc = rt.alloc();
+    let text = |text: &str| String::from_str(alloc, text);
+    tells(
+        &rt,
+        alloc,
+        Fault::Name(NameFault::Memory),
+        "error 1 Memory: out of memory",
+        "error 1 Memory",
+    )?;
+    tells(
+        &rt,
+        alloc,
+        Fault::Name(NameFault::Limit(Limit::Types, text("M")?, text("T")?)),
+        "error 2 Limit(Types): more than 4096 types are assigned, or more than 65536 are written",
+        "error 2 Limit(Types): M.T",
+    )?;
+    tells(
+        &rt,
+        alloc,
+        Fault::Name(NameFault::Limit(Limit::Values, text("M")?, text("v")?)),
+        "error 2 Limit(Values): more than 65536 values are assigned",
+        "error 2 Limit(Values): M.v",
+    )?;
+    tells(
+        &rt,
+        alloc,
+        Fault::Name(NameFault::Limit(Limit::Integer, text("M")?, text("T")?)),
+        "error 2 Limit(Integer): numbers are from -2^127 to 2^127 - 1",
+        "error 2 Limit(Integer): M.T",
+    )?;
+    Ok(())
+}
+
+/// Faults of values.
+#[test]
+fn lines_of_values_alone(rt: HostRuntime) -> Result<(), Fail> {
+    let alloc = rt.alloc();
+    let text = |text: &str| String::from_str(alloc, text);
+    tells(
+        &rt,
+        alloc,
+        Fault::Value(ValueFault::Memory),
+        "error 1 Memory: out of memory",
+        "error 1 Memory",
+    )?;
+    tells(
+        &rt,
+        alloc,
+        Fault::Value(ValueFault::Integer),
+        "error 2 Limit(Integer): numbers are from -2^127 to 2^127 - 1",
+        "error 2 Limit(Integer)",
+    )?;
+    tells(
+        &rt,
+        alloc,
+        Fault::Value(ValueFault::UnknownName(text("w")?)),
+        "error 31 UnknownName: w is no value of its module",
+        "error 31 UnknownName: w",
+    )?;
+    tells(
+        &rt,
+        alloc,
+        Fault::Value(ValueFault::Circular(text("w")?)),
+        "error 33 Circular: the value w comes back to itself",
+        "error 33 Circular: w",
+    )?;
+    tells(
+        &rt,
+        alloc,
+        Fault::Value(ValueFault::NotOfType),
+        "error 60 NotOfType: M.v is no value of the type M.T: it is of another kind, or its components stand in another order",
+        "error 60 NotOfType",
+    )?;
+    tells(
+        &rt,
+        alloc,
+        Fault::Value(ValueFault::UnknownItem(text("w")?)),
+        "error 62 UnknownItem: w is neither a component of the type M.T nor a value",
+        "error 62 UnknownItem: w",
+    )?;
+    tells(
+        &rt,
+        alloc,
+        Fault::Value(ValueFault::Missing(text("a")?)),
+        "error 63 Missing: M.v gives no value for the component a of the type M.T",
+        "error 63 Missing: a",
+    )?;
+    tells(
+        &rt,
+        alloc,
+        Fault::Value(ValueFault::Repeated(text("a")?)),
+        "error 64 Repeated: the component a is given a value a second time here",
+        "error 64 Repeated: a",
+    )?;
     Ok(())
 }
