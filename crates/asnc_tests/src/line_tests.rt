@@ -472,12 +472,13 @@ fn lines_of_constructs(rt: HostRuntime) -> Result<(), Fail> {
 fn tells_in_files(
     rt: &impl Abort,
     alloc: Global,
+    files: &[&str],
     texts: &[&str],
     ty: &str,
     value: &str,
     want: &str,
 ) -> Result<(), Fail> {
-    let job = job_on(alloc, ty, value, &["a.asn", "b.asn", "c.asn"])?;
+    let job = job_on(alloc, ty, value, files)?;
     let octets = texts_of(alloc, texts)?;
     let line = told(alloc, &job, octets.as_slice())?;
     assert_eq!(rt; line.as_str(), want, "at {ty} {value}");
@@ -488,12 +489,15 @@ fn tells_in_files(
 #[test]
 fn lines_in_files(rt: HostRuntime) -> Result<(), Fail> {
     let alloc = rt.alloc();
+    let two = ["a.asn", "b.asn"];
+    let three = ["a.asn", "b.asn", "c.asn"];
     let a = "A DEFINITIONS ::= BEGIN IMPORTS T, w FROM B;\n  v T ::= {n 7} u T ::= w END";
     let b = "B DEFINITIONS ::= BEGIN\n  T ::= SEQUENCE {n INTEGER}\n  w T ::= {n TRUE} END";
-    tells_in_files(&rt, alloc, &[a, b], "B.T", "A.v", "3003020107")?;
+    tells_in_files(&rt, alloc, &two, &[a, b], "B.T", "A.v", "3003020107")?;
     tells_in_files(
         &rt,
         alloc,
+        &two,
         &[a, b],
         "B.Q",
         "A.v",
@@ -502,6 +506,7 @@ fn lines_in_files(rt: HostRuntime) -> Result<(), Fail> {
     tells_in_files(
         &rt,
         alloc,
+        &two,
         &[a, b],
         "C.T",
         "A.v",
@@ -510,6 +515,7 @@ fn lines_in_files(rt: HostRuntime) -> Result<(), Fail> {
     tells_in_files(
         &rt,
         alloc,
+        &two,
         &[a, b],
         "A.T",
         "B.v",
@@ -518,6 +524,7 @@ fn lines_in_files(rt: HostRuntime) -> Result<(), Fail> {
     tells_in_files(
         &rt,
         alloc,
+        &two,
         &[a, b],
         "A.T",
         "v",
@@ -526,6 +533,7 @@ fn lines_in_files(rt: HostRuntime) -> Result<(), Fail> {
     tells_in_files(
         &rt,
         alloc,
+        &two,
         &[a, b],
         "A.T",
         "A.w",
@@ -534,6 +542,7 @@ fn lines_in_files(rt: HostRuntime) -> Result<(), Fail> {
     tells_in_files(
         &rt,
         alloc,
+        &two,
         &[a, b],
         "A.T",
         "A.u",
@@ -542,6 +551,7 @@ fn lines_in_files(rt: HostRuntime) -> Result<(), Fail> {
     tells_in_files(
         &rt,
         alloc,
+        &three,
         &[a, b, a],
         "A.T",
         "A.v",
@@ -550,6 +560,7 @@ fn lines_in_files(rt: HostRuntime) -> Result<(), Fail> {
     tells_in_files(
         &rt,
         alloc,
+        &two,
         &[a, "B DEFINITIONS ::= BEGIN T ::= SEQUENCE {n INTEGER} END"],
         "A.T",
         "A.v",
@@ -558,6 +569,7 @@ fn lines_in_files(rt: HostRuntime) -> Result<(), Fail> {
     tells_in_files(
         &rt,
         alloc,
+        &two,
         &[
             "A DEFINITIONS ::= BEGIN IMPORTS T, w FROM B; v T ::= w END",
             "B DEFINITIONS ::= BEGIN T ::= SEQUENCE {n INTEGER}\n w T ::= {k 1} END",
