@@ -4,6 +4,7 @@ mod Groups
 mod Lasts
 mod Leading
 mod Lists
+mod Names
 pub mod Notated
 mod Onlies
 mod Openings
@@ -13,3 +14,4 @@ mod Types
 mod Typings
 mod Unfoldings
 mod Walks
+mod Wrongs

@@ -5,7 +5,7 @@ use Rattle.std.proofs.Common.{Bool, true, false, not}
 use Rattle.std.specs.Global.{Global}
 use Rattle.asn_base.specs.declared.schema.Resolved.{Resolved as Resolved'}
 use Rattle.asn_base.specs.declared.schema.Core.TheVariants as cores
-use Rattle.std.proofs.lemmas.List.{map-append, take_all, length-map}
+use Rattle.std.proofs.lemmas.List.{map-append, take_all}
 use Rattle.std.proofs.lemmas.Option.{slice_get-map, slice_get_read}
 use Rattle.asn_base.specs.declared.tag.Tag.{Tag}
 use Rattle.asn_base.specs.declared.value.Value.{Value}
@@ -20,7 +20,7 @@ use Rattle.notation.specs.declared.tree.ValueSyntax.{ValueSyntax}
 use Rattle.resolve.specs.Program.{Program}
 use Rattle.asnc.specs.declared.fault.ValueFault.{ValueFault}
 use Rattle.asnc.specs.Notations.{IsLast, IsOnlyLast, IsLeaf, Notation, leaf, sequence, Fields, no_field, field, Lacks, fields_in}
-use Rattle.asnc.proofs.Lists.{one_taken, same_name, its_own}
+use Rattle.asnc.proofs.Lists.{one_taken, same_name}
 
 abbrev pub IsNoSequence : Kind → Type 0
 IsNoSequence (a_sequence e cs) = ⊥
@@ -118,12 +118,6 @@ stand_fields m s M (d ∷ cs) (g ∷ fs) [] h = absurd h
 stand_fields m s M (d ∷ cs) (g ∷ fs) (None ∷ os) h = absurd h
 stand_fields m s M (d ∷ cs) (g ∷ fs) (Some w ∷ os) h = field h.0 h.1 (stand_fields m s M cs fs os h.2)
 
-pub fields_long : (m : Program) (s : List Resolved) (M : Name) (cs : List Component) (fs : List (Name × Tree)) (r : _) → Fields m s M cs fs r → length cs ≡ length fs
-fields_long m s M [] [] r no_field = refl
-fields_long m s M [] (f ∷ fs) r h = elim h [ ]
-fields_long m s M (c ∷ cs) [] r h = elim h [ ]
-fields_long m s M (c ∷ cs) (f ∷ fs) r (field e n h) = ap suc (fields_long m s M cs fs _ h)
-
 pub fields_at : (m : Program) (s : List Resolved) (M : Name) (cs : List Component) (fs : List (Name × Tree)) (r : _) (i : ℕ) (c : Component) (f : Name × Tree) → Fields m s M cs fs r → slice_get cs i ≡ Some c → slice_get fs i ≡ Some f → (c.name ≡ f.0) × ((v : AbstractValue) × Notation m s M c.type f.1 v)
 fields_at m s M [] [] r i c f no_field d e = absurd cc
 fields_at m s M [] (g ∷ fs) r i c f h d e = elim h [ ]
@@ -131,14 +125,11 @@ fields_at m s M (b ∷ cs) [] r i c f h d e = elim h [ ]
 fields_at m s M (b ∷ cs) (g ∷ fs) r zero c f (field h n k) d e = let p : b ≡ c = cc in let q : g ≡ f = cc in subst (λ x. (x.name ≡ f.0) × ((v : AbstractValue) × Notation m s M x.type f.1 v)) p (subst (λ x. (b.name ≡ x.0) × ((v : AbstractValue) × Notation m s M b.type x.1 v)) q (h, (_, n)))
 fields_at m s M (b ∷ cs) (g ∷ fs) r (suc i) c f (field h n k) d e = fields_at m s M cs fs _ i c f k d e
 
-component_at : (cs : List Component') (i : ℕ) (c : Component') → i < length cs → c ≡ get_or cs i c → slice_get (map component_of cs) i ≡ Some (component_of c)
+pub component_at : (cs : List Component') (i : ℕ) (c : Component') → i < length cs → c ≡ get_or cs i c → slice_get (map component_of cs) i ≡ Some (component_of c)
 component_at cs i c l e = slice_get-map component_of cs i ∙ ap (option_map component_of) (slice_get_read cs (length cs) i c refl l e)
 
-named_at : (fs : List (Named ValueSyntax)) (i : ℕ) (f : Named ValueSyntax) → i < length fs → f ≡ get_or fs i f → slice_get (map member_of fs) i ≡ Some (member_of f)
+pub named_at : (fs : List (Named ValueSyntax)) (i : ℕ) (f : Named ValueSyntax) → i < length fs → f ≡ get_or fs i f → slice_get (map member_of fs) i ≡ Some (member_of f)
 named_at fs i f l e = slice_get-map member_of fs i ∙ ap (option_map member_of) (slice_get_read fs (length fs) i f refl l e)
-
-pub lacks_long : (m : Program) (s : List Resolved) (M : Name) (cs : List Component') (fs : List (Named ValueSyntax)) (fault : ValueFault) → (length cs ≡ length fs → ⊥) → Lacks (Fields m s M (map component_of cs) (map member_of fs)) fault
-lacks_long m s M cs fs fault n = inr (λ r h. (let e = fields_long m s M (map component_of cs) (map member_of fs) r h in let a = length-map cs component_of in let b = length-map fs member_of in n (sym a ∙ e ∙ b)))
 
 pub equal_names : (a b x y : Name) → a ≡ x → b ≡ y → false ≡ not (bytes_eq a b) → x ≡ y
 equal_names a b x y e f g = sym e ∙ same_name a b (truth (bytes_eq a b) g) ∙ f
@@ -146,18 +137,6 @@ equal_names a b x y e f g = sym e ∙ same_name a b (truth (bytes_eq a b) g) ∙
     truth : (c : Bool) → false ≡ not c → c ≡ true
     truth true h = refl
     truth false h = absurd cc
-
-unequal_names : (a b x y : Name) → a ≡ x → b ≡ y → true ≡ not (bytes_eq a b) → x ≡ y → ⊥
-unequal_names a b x y e f g h =
-    let q : a ≡ b = e ∙ h ∙ sym f in
-    let k : bytes_eq a b ≡ true = subst (λ z. bytes_eq a z ≡ true) q (its_own a) in
-    let n : true ≡ not true = g ∙ ap not k in
-    absurd cc
-
-pub lacks_names : (m : Program) (s : List Resolved) (M : Name) (cs : List Component') (fs : List (Named ValueSyntax)) (i : ℕ) (c : Component') (f : Named ValueSyntax) (a b : Name) (fault : ValueFault) → i < length cs → c ≡ get_or cs i c → i < length fs → f ≡ get_or fs i f
-    → a ≡ string_bytes c.name → b ≡ string_bytes f.name → true ≡ not (bytes_eq a b) → Lacks (Fields m s M (map component_of cs) (map member_of fs)) fault
-lacks_names m s M cs fs i c f a b fault l e k g o p n =
-    inr (λ r h. unequal_names a b (string_bytes c.name) (string_bytes f.name) o p n (fields_at m s M (map component_of cs) (map member_of fs) r i (component_of c) (member_of f) h (component_at cs i c l e) (named_at fs i f k g)).0)
 
 pub lacks_at : (m : Program) (s : List Resolved) (M : Name) (cs : List Component') (fs : List (Named ValueSyntax)) (i : ℕ) (c : Component') (f : Named ValueSyntax) (fault : ValueFault) → i < length cs → c ≡ get_or cs i c → i < length fs → f ≡ get_or fs i f
     → Lacks (Notation m s M c.ty.index (tree_of f.value)) fault → Lacks (Fields m s M (map component_of cs) (map member_of fs)) fault

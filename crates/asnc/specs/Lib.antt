@@ -6,4 +6,5 @@ pub mod Opening
 pub mod Resolving
 pub mod Status
 pub mod Walks
+pub mod Wrong
 pub mod Writing

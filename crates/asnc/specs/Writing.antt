@@ -11,7 +11,9 @@ use Rattle.asn_base.specs.Typed.{IsValue}
 use Rattle.der_writer.specs.Long.{IsTooLong}
 use Rattle.asnc.specs.declared.fault.Fault.{Fault}
 use Rattle.asnc.specs.declared.fault.Fault.TheVariants as faults
+use Rattle.asnc.specs.declared.fault.ValueFault.{ValueFault}
 use Rattle.asnc.specs.declared.fault.ValueFault.TheVariants as values
+use Rattle.asnc.specs.Wrong.{IsWrong}
 
 -- The first text names a type, the second a value: its notation stands for a value under that type, the octets are its one encoding by the distinguished rules, and none is shorter.
 pub record IsEncoded (p : Program) (s : List Resolved) (ty named o : List ℕ) : Type 0 where
@@ -28,8 +30,12 @@ pub record IsEncoded (p : Program) (s : List Resolved) (ty named o : List ℕ) :
   pub only : (q : List ℕ) → Der s type value 0 q → q ≡ o
   pub shortest : Shortest s type value o
 
--- The texts name a type and a value, and under the type the value's notation stands for no value of it: for none, or for one that is none of its values.
-pub record StandsForNone (p : Program) (s : List Resolved) (ty named : List ℕ) : Type 0 where
+-- what is wrong with a notation that is a value of none of the type's: it stands for no value, as the fault tells, or for one that is none of the type's
+abbrev pub IsNone : Program → List Resolved → Name → ℕ → Tree → ValueFault → Type 0
+IsNone p s M t n fault = (((v : AbstractValue) → Notation p s M t n v → ⊥) × IsWrong p s M t n fault) ⊎ ((fault ≡ values.NotOfType) × ((v : AbstractValue) × Notation p s M t n v × (IsValue s t v → ⊥)))
+
+-- The texts name a type and a value, and under the type the value's notation stands for no value of it.
+pub record StandsForNone (p : Program) (s : List Resolved) (ty named : List ℕ) (fault : ValueFault) : Type 0 where
   pub type : ℕ
   pub typed : TypeNamed p ty type
   pub number : ℕ
@@ -37,7 +43,7 @@ pub record StandsForNone (p : Program) (s : List Resolved) (ty named : List ℕ)
   pub within : Name
   pub notation : Tree
   pub at : IsValueAt p number within notation
-  pub none : ((v : AbstractValue) → Notation p s within type notation v → ⊥) ⊎ ((v : AbstractValue) × Notation p s within type notation v × (IsValue s type v → ⊥))
+  pub none : IsNone p s within type notation fault
 
 -- The texts name a type and a value, and the encoding of what the value's notation stands for is too long.
 pub record StandsForLong (p : Program) (s : List Resolved) (ty named : List ℕ) : Type 0 where
@@ -52,11 +58,11 @@ pub record StandsForLong (p : Program) (s : List Resolved) (ty named : List ℕ)
   pub stands : Notation p s within type notation value
   pub long : IsTooLong s type value
 
--- The refusal stands: the first text names no type; it names one, and the second no value; the value's notation stands for no value of the type; the encoding is too long. Memory speaks of none of them.
+-- The refusal stands: the first text names no type; it names one, and the second no value; the value's notation stands for no value of the type, as the fault of values tells; the encoding is too long. Memory speaks of none of them.
 abbrev pub IsNotEncoded : Program → List Resolved → List ℕ → List ℕ → Fault → Type 0
 IsNotEncoded p s ty named (faults.NoType x) = (t : ℕ) → TypeNamed p ty t → ⊥
 IsNotEncoded p s ty named (faults.NoValue x) = ((t : ℕ) × TypeNamed p ty t) × ((i : ℕ) → ValueNamed p named i → ⊥)
-IsNotEncoded p s ty named (faults.Value f) = (f ≡ values.Memory) ⊎ StandsForNone p s ty named
+IsNotEncoded p s ty named (faults.Value f) = (f ≡ values.Memory) ⊎ StandsForNone p s ty named f
 IsNotEncoded p s ty named faults.TooLong = StandsForLong p s ty named
 IsNotEncoded p s ty named faults.Memory = ⊤
 IsNotEncoded p s ty named fault = ⊥

@@ -3,6 +3,7 @@
 ghost use Rattle.std.specs.Prelude.{◌≡◌, ℕ, IfOk, IfErr, MatchResult, map, option_map};
 ghost use Rattle.notation.specs.Tree.{Name, Tree, tree_of, member_of};
 ghost use Rattle.asnc.specs.Notations.{truth_in, number_in, binary_in, hex_in, fields_in, IsOwn, IsLast, IsOnlyLast, MeansValue, NamesValue, Lacks};
+ghost use Rattle.asnc.specs.Wrong.{IsLost};
 
 use crate::fault::ValueFault;
 use crate::program::{assigned, meant, notation_at, value_at};
@@ -115,7 +116,8 @@ fn settled<'a>(
     notation: &'a ValueSyntax,
 ) -> Result<(&'a str, &'a ValueSyntax), ValueFault>
     requires nothing { (j : ℕ) → MeansValue scope.now within.now (tree_of notation.now) j → ⊥ }
-    ensures { MatchResult result (λ u. IsOnlyLast scope.now within.now (tree_of notation.now) u.0.now (tree_of u.1.now)) (Lacks (λ (w : Name × Tree). IsLast scope.now within.now (tree_of notation.now) w.0 w.1)) }
+    ensures last { MatchResult result (λ u. IsOnlyLast scope.now within.now (tree_of notation.now) u.0.now (tree_of u.1.now)) (Lacks (λ (w : Name × Tree). IsLast scope.now within.now (tree_of notation.now) w.0 w.1)) }
+    ensures fault { IfErr result (NamesValue (tree_of notation.now)) }
 {
     match plain(notation) {
         Ok(own) => Ok((within, own)),
@@ -130,7 +132,8 @@ pub fn behind_all<'a>(
     within: &'a str,
     notation: &'a ValueSyntax,
 ) -> Result<(&'a str, &'a ValueSyntax), ValueFault>
-    ensures { MatchResult result (λ u. IsOnlyLast scope.now within.now (tree_of notation.now) u.0.now (tree_of u.1.now)) (Lacks (λ (w : Name × Tree). IsLast scope.now within.now (tree_of notation.now) w.0 w.1)) }
+    ensures last { MatchResult result (λ u. IsOnlyLast scope.now within.now (tree_of notation.now) u.0.now (tree_of u.1.now)) (Lacks (λ (w : Name × Tree). IsLast scope.now within.now (tree_of notation.now) w.0 w.1)) }
+    ensures fault { IfErr result (IsLost scope.now within.now (tree_of notation.now)) }
 {
     let linked = scope.program();
     match meant(linked, within, notation) {

@@ -4,6 +4,7 @@ ghost use Rattle.std.specs.Prelude.{◌≡◌, ◌<◌, ◌↔◌, ℕ, IfOk, If
 ghost use Rattle.notation.specs.Tree.{Name, Tree};
 ghost use Rattle.asnc.specs.Notations.{AreReferred, IsValueLast, RefersTo, listed};
 ghost use Rattle.asnc.specs.Walks.{EndsAt, ComesBack, Reaches, IsWithin};
+ghost use Rattle.asnc.specs.Wrong.{LeadsTo};
 
 use crate::program::referred;
 use resolve::Linked;
@@ -83,6 +84,8 @@ impl Scope {
         requires inside { start < length self.now.values }
         ensures same { IfOk result (λ c. (K : Name) (l : Tree) → (IsValueLast self.now start K l ↔ IsValueLast self.now c K l)) }
         ensures ends { IfOk result (λ c. (j : ℕ) → RefersTo self.now c j → ⊥) }
+        ensures leads { MatchResult result (LeadsTo self.now start) (LeadsTo self.now start) }
+        ensures back { IfErr result (λ c. (j : ℕ) × RefersTo self.now c j × LeadsTo self.now j c) }
         ensures none { IfErr result (λ c. (K : Name) (l : Tree) → IsValueLast self.now start K l → ⊥) }
         ensures within { MatchResult result (λ c. c < length self.now.values) (λ c. c < length self.now.values) }
     {

@@ -1,13 +1,16 @@
 //! The value that a notation stands for under a type.
 
 ghost use Rattle.std.specs.Prelude.{◌≡◌, ◌<◌, ℕ, length, slice_get, Some, IsSomeAnd};
-ghost use Rattle.std.specs.Prelude.{map, IfOk, IfErr, MatchOption, option_map};
+ghost use Rattle.std.specs.Prelude.{map, IfOk, IfErr, MatchOption, option_map, IfSome, true, false, bytes_eq, string_bytes};
 ghost use Rattle.asn_base.specs.Abstract.{abstract, row_of_options};
 ghost use Rattle.asn_base.specs.Types.{a_boolean, an_integer, an_octet_string, Constraint as Constraint'};
 ghost use Rattle.asn_base.specs.Typed.{IsWithinLimit};
 ghost use Rattle.notation.specs.Tree.{tree_of, member_of};
 ghost use Rattle.asnc.specs.Notations.{IsLeaf, Notation, Fields, Lacks, signed};
-ghost use Rattle.std.specs.List.{AllByRecursion};
+ghost use Rattle.asnc.specs.Wrong.{component_names, field_names, AreIn, IsDisorder, IsKindFault, IsWrong, AreWrong};
+ghost use Rattle.resolve.specs.Modules.{StandsIn, StandsTwice, AreDistinct};
+ghost use Rattle.notation.specs.Tree.{Name};
+ghost use Rattle.std.specs.List.{AllByRecursion, list_any};
 ghost use Rattle.asn_base.specs.Accepted.{IsSimpleMember, IsSimple};
 ghost use Rattle.asn_base.specs.Seen.{component_of, kind_of};
 
@@ -44,6 +47,7 @@ fn with_sign(minus: bool, number: u128) -> Option<i128>
 fn truth(notation: &ValueSyntax) -> Result<Value, ValueFault>
     ensures value { IfOk result (λ v. IsLeaf a_boolean (tree_of notation.now) (abstract v)) }
     ensures none { IfErr result (Lacks (IsLeaf a_boolean (tree_of notation.now))) }
+    ensures fault { IfErr result (IsKindFault a_boolean (tree_of notation.now)) }
 {
     abstract_values();
     match truth_in(notation) {
@@ -56,6 +60,7 @@ fn truth(notation: &ValueSyntax) -> Result<Value, ValueFault>
 fn integer(notation: &ValueSyntax) -> Result<Value, ValueFault>
     ensures value { (c : Constraint') → IfOk result (λ v. IsLeaf (an_integer c) (tree_of notation.now) (abstract v)) }
     ensures none { (c : Constraint') → IfErr result (Lacks (IsLeaf (an_integer c) (tree_of notation.now))) }
+    ensures fault { (c : Constraint') → IfErr result (IsKindFault (an_integer c) (tree_of notation.now)) }
 {
     abstract_values();
     match number_in(notation) {
@@ -71,6 +76,7 @@ fn integer(notation: &ValueSyntax) -> Result<Value, ValueFault>
 fn octet_string(alloc: Global, notation: &ValueSyntax) -> Result<Value, ValueFault>
     ensures value { (c : Constraint') → IfOk result (λ v. IsLeaf (an_octet_string c) (tree_of notation.now) (abstract v)) }
     ensures none { (c : Constraint') → IfErr result (Lacks (IsLeaf (an_octet_string c) (tree_of notation.now))) }
+    ensures fault { (c : Constraint') → IfErr result (IsKindFault (an_octet_string c) (tree_of notation.now)) }
 {
     abstract_values();
     if let Some(digits) = binary_in(notation) {
@@ -91,48 +97,107 @@ fn octet_string(alloc: Global, notation: &ValueSyntax) -> Result<Value, ValueFau
 }
 
 /// Whether a component has this name.
-fn is_among(components: &[Component], name: &str) -> bool {
+fn is_component(components: &[Component], name: &str) -> bool
+    ensures { result ≡ list_any (λ c. bytes_eq (string_bytes c.name) name.now) components.now }
+{
     components.iter().any(|c| c.name.as_str() == name)
 }
 
-/// How many of the fields have this name.
-fn count(fields: &[Named<ValueSyntax>], name: &str) -> usize {
-    fields.iter().filter(|f| f.name.as_str() == name).count()
+/// Whether a field has this name.
+fn is_field(fields: &[Named<ValueSyntax>], name: &str) -> bool
+    ensures { result ≡ list_any (λ f. bytes_eq (string_bytes f.name) name.now) fields.now }
+{
+    fields.iter().any(|f| f.name.as_str() == name)
 }
 
-/// What is wrong with fields that don't stand in the components' order.
+/// The first field whose name no component has.
+fn unknown_field(components: &[Component], fields: &[Named<ValueSyntax>]) -> Option<usize>
+    ensures within { IfSome result (λ k. k < length fields.now) }
+    ensures found { MatchOption result (AreIn (field_names (map member_of fields.now)) (component_names (map component_of components.now))) (λ k. (x : Name) → slice_get (field_names (map member_of fields.now)) k ≡ Some x → StandsIn (component_names (map component_of components.now)) x → ⊥) }
+{
+    for k in 0..fields.len() {
+        if !is_component(components, fields[k].name.as_str()) {
+            return Some(k);
+        }
+    }
+    None
+}
+
+/// The first field whose name stands before it too.
+fn repeated_field(fields: &[Named<ValueSyntax>]) -> Option<usize>
+    ensures within { IfSome result (λ k. k < length fields.now) }
+    ensures found { MatchOption result (AreDistinct (field_names (map member_of fields.now))) (λ k. (x : Name) → slice_get (field_names (map member_of fields.now)) k ≡ Some x → StandsTwice (field_names (map member_of fields.now)) x) }
+{
+    for k in 0..fields.len() {
+        if is_field(&fields[..k], fields[k].name.as_str()) {
+            return Some(k);
+        }
+    }
+    None
+}
+
+/// The first component that has no field.
+fn missing_component(components: &[Component], fields: &[Named<ValueSyntax>]) -> Option<usize>
+    ensures within { IfSome result (λ k. k < length components.now) }
+    ensures found { MatchOption result (AreIn (component_names (map component_of components.now)) (field_names (map member_of fields.now))) (λ k. (x : Name) → slice_get (component_names (map component_of components.now)) k ≡ Some x → StandsIn (field_names (map member_of fields.now)) x → ⊥) }
+{
+    for k in 0..components.len() {
+        if !is_field(fields, components[k].name.as_str()) {
+            return Some(k);
+        }
+    }
+    None
+}
+
+/// Whether the fields have the components' names, in their order.
+fn are_in_order(components: &[Component], fields: &[Named<ValueSyntax>]) -> bool
+    ensures yes { result ≡ true → component_names (map component_of components.now) ≡ field_names (map member_of fields.now) }
+    ensures long { result ≡ true → length components.now ≡ length fields.now }
+    ensures no { result ≡ false → component_names (map component_of components.now) ≡ field_names (map member_of fields.now) → ⊥ }
+{
+    if components.len() != fields.len() {
+        return false;
+    }
+    for k in 0..components.len() {
+        if components[k].name.as_str() != fields[k].name.as_str() {
+            return false;
+        }
+    }
+    true
+}
+
+/// What is wrong with fields that don't have the components' names in their order.
 fn disorder(
     components: &[Component],
     fields: &[Named<ValueSyntax>],
-) -> Result<ValueFault, AllocError> {
-    for field in fields {
-        if !is_among(components, field.name.as_str()) {
-            return Ok(ValueFault::UnknownItem(field.name.clone()?));
-        }
+) -> Result<ValueFault, AllocError>
+    requires differs { component_names (map component_of components.now) ≡ field_names (map member_of fields.now) → ⊥ }
+    ensures { IfOk result (IsDisorder (component_names (map component_of components.now)) (field_names (map member_of fields.now))) }
+{
+    if let Some(k) = unknown_field(components, fields) {
+        return Ok(ValueFault::UnknownItem(fields[k].name.clone()?));
     }
-    for field in fields {
-        if count(fields, field.name.as_str()) > 1 {
-            return Ok(ValueFault::Repeated(field.name.clone()?));
-        }
+    if let Some(k) = repeated_field(fields) {
+        return Ok(ValueFault::Repeated(fields[k].name.clone()?));
     }
-    for component in components {
-        if count(fields, component.name.as_str()) == 0 {
-            return Ok(ValueFault::Missing(component.name.clone()?));
-        }
+    if let Some(k) = missing_component(components, fields) {
+        return Ok(ValueFault::Missing(components[k].name.clone()?));
     }
     Ok(ValueFault::NotOfType)
 }
 
 /// The value of a type that holds no others.
 fn typed_leaf(alloc: Global, core: &Core, notation: &ValueSyntax) -> Result<Value, ValueFault>
+    requires simple { IsSimple (kind_of core.now) }
     ensures value { IfOk result (λ v. IsLeaf (kind_of core.now) (tree_of notation.now) (abstract v)) }
     ensures none { IfErr result (Lacks (IsLeaf (kind_of core.now) (tree_of notation.now))) }
+    ensures fault { IfErr result (IsKindFault (kind_of core.now) (tree_of notation.now)) }
 {
     match core {
         Core::Boolean => truth(notation),
         Core::Integer(_) => integer(notation),
         Core::OctetString(_) => octet_string(alloc, notation),
-        Core::Sequence(_) => Err(ValueFault::NotOfType),
+        Core::Sequence(_) => unreachable!(),
     }
 }
 
@@ -148,6 +213,7 @@ fn typed_component(
     requires simple { IsSomeAnd (slice_get schema.now id.index) (λ r. IsSimple r.kind) }
     ensures value { IfOk result (λ v. Notation scope.now schema.now within.now id.index (tree_of notation.now) (abstract v)) }
     ensures none { IfErr result (Lacks (Notation scope.now schema.now within.now id.index (tree_of notation.now))) }
+    ensures fault { IfErr result (IsWrong scope.now schema.now within.now id.index (tree_of notation.now)) }
 {
     match behind_all(alloc, scope, within, notation) {
         Ok((_, last)) => {
@@ -170,17 +236,15 @@ fn typed_fields(
     requires simple { AllByRecursion (IsSimpleMember schema.now) (map component_of components.now) }
     ensures values { IfOk result (λ vs. Fields scope.now schema.now within.now (map component_of components.now) (map member_of fields.now) (row_of_options (map (option_map abstract) vs.items))) }
     ensures none { IfErr result (Lacks (Fields scope.now schema.now within.now (map component_of components.now) (map member_of fields.now))) }
+    ensures fault { IfErr result (AreWrong scope.now schema.now within.now (map component_of components.now) (map member_of fields.now)) }
 {
-    if components.len() != fields.len() {
+    if !are_in_order(components, fields) {
         return Err(disorder(components, fields)?);
     }
     let mut values = Vec::new(alloc);
     for i in 0..components.len() {
         let component = &components[i];
         let field = &fields[i];
-        if component.name.as_str() != field.name.as_str() {
-            return Err(disorder(components, fields)?);
-        }
         match typed_component(alloc, scope, schema, component.ty, within, &field.value) {
             Ok(value) => values.push(Some(value))?,
             Err(fault) => return Err(fault),
@@ -201,6 +265,7 @@ pub fn typed(
     requires { id.index < length schema.now }
     ensures value { IfOk result (λ v. Notation scope.now schema.now within.now id.index (tree_of notation.now) (abstract v)) }
     ensures none { IfErr result (Lacks (Notation scope.now schema.now within.now id.index (tree_of notation.now))) }
+    ensures fault { IfErr result (IsWrong scope.now schema.now within.now id.index (tree_of notation.now)) }
 {
     abstract_values();
     let (module, last) = match behind_all(alloc, scope, within, notation) {

@@ -50,6 +50,14 @@ fn values_and_refusals(rt: HostRuntime) -> Result<(), Fail> {
             "T ::= SEQUENCE {a INTEGER, b OCTET STRING} v T ::= {a 1, c 2}",
             "62",
         ),
+        (
+            "T ::= SEQUENCE {a INTEGER, b INTEGER} v T ::= {a TRUE, c 2}",
+            "62",
+        ),
+        (
+            "T ::= SEQUENCE {a INTEGER, b INTEGER} v T ::= {a TRUE, b 2}",
+            "60",
+        ),
         ("T ::= OCTET STRING v T ::= '101'B", "0401A0"),
         ("T ::= OCTET STRING v T ::= ''H", "0400"),
         ("T ::= SEQUENCE {} v T ::= {}", "3000"),
