@@ -1,17 +1,11 @@
 -- From tokens to lexemes, and from what is read to what is answered.
-use Rattle.std.proofs.Common.{◌≡◌, ℕ, zero, suc, ◌-◌, Bool, true, false, List, [], ◌∷◌, length, take, drop, refl, sym, ap, subst, ◌∙◌ as ◌⋆◌, arith}
-use Rattle.std.specs.List.{All, AllByRecursion, slice_get}
-use Rattle.std.specs.Prelude.{if◌then◌else◌}
+use Rattle.std.proofs.Common.{ℕ, zero, suc, ◌-◌, List, [], ◌∷◌, length, take, drop, sym, subst, arith}
+use Rattle.std.specs.List.{All, AllByRecursion}
 use Rattle.text.specs.declared.token.Token.{Token}
 use Rattle.text.specs.Items.{IsToken}
 use Rattle.text.specs.Text.{IsText, IsSmall, IsSpanWithin, Holds, holds_none, holds_gap, holds_token}
-use Rattle.grammar.specs.Lexeme.{Lexeme}
-use Rattle.grammar.specs.Places.{Limited, free, IsFirst}
 use Rattle.grammar.specs.Texts.{from_slice}
-use Rattle.notation.specs.declared.fault.SyntaxFault.{SyntaxFault}
-use Rattle.notation.specs.declared.fault.SyntaxFault.TheVariants as faults
 use Rattle.notation.specs.Given.{AreTokens, IsLexed}
-use Rattle.notation.specs.Answer.{is_refused_at, unexpected, Stands}
 
 holds_tokens : (x : List ℕ) (i j : ℕ) (ts : List Token) → Holds x i j ts → AllByRecursion (IsToken x) ts
 holds_tokens x i j ts (holds_none e) = tt

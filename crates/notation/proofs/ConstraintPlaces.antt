@@ -1,6 +1,6 @@
 -- What is read from a place on is a constraint or a size there, all of them are read, and a fault is the first one.
-use Rattle.std.proofs.Common.{◌≡◌, ℕ, inl, inr, Bool, true, false, List, [], ◌∷◌, ◌++◌, Option, Some, None, Ok, Err, refl, sym, ap, ◌∙◌ as ◌⋆◌}
-use Rattle.text.specs.declared.token.Mark.TheVariants.{Range, Dot, OpenParenthesis, CloseParenthesis, Minus}
+use Rattle.std.proofs.Common.{◌≡◌, ℕ, inl, inr, Bool, true, false, List, [], ◌∷◌, ◌++◌, Option, Some, None, Ok, refl, sym, ap, ◌∙◌ as ◌⋆◌}
+use Rattle.text.specs.declared.token.Mark.TheVariants.{Range, OpenParenthesis, CloseParenthesis, Minus}
 use Rattle.text.specs.declared.reserved.Word.TheVariants.{From, Size, Min, Max}
 use Rattle.grammar.specs.Lexeme.{Lexeme, Number, Word, Mark}
 use Rattle.grammar.specs.Grammar.{Grammar, token, mark, word, number_of, ◌∙◌, ◌∣◌, ◌⇒◌, many, behind}
@@ -12,7 +12,7 @@ use Rattle.grammar.specs.Numbers.{Past}
 use Rattle.grammar.specs.Places.{any, small, free, unbounded}
 use Rattle.grammar.specs.Answers.{Reads, unbound}
 use Rattle.notation.specs.Rules.{Rules, Ruled}
-use Rattle.notation.specs.Constraint.{EndTree, number_end, name_end, RangeTree, only, between, ConstraintTree, values_in, sizes_in, chars_in}
+use Rattle.notation.specs.Constraint.{EndTree, number_end, name_end, only, between, values_in, sizes_in, chars_in}
 use Rattle.notation.specs.ConstraintGrammar.{parens, or, by_or, ref, chars, end, range, ranges, size, constraint, flat}
 use Rattle.notation.specs.ConstraintReading.{is_open, is_size, size_at, constraint_at}
 use Rattle.notation.proofs.ConstraintParts.{rule_size, rule_constraint}

@@ -1,9 +1,8 @@
 -- The reader of values refuses no front of what stands in braces, and reads each whole.
 use Rattle.std.proofs.Common.{◌≡◌, ℕ, inl, inr, Bool, true, false, List, [], ◌∷◌, ◌++◌, Ok, refl, sym, ap, subst, ◌∙◌ as ◌⋆◌, arith}
 use Rattle.std.proofs.lemmas.List.{append-nil}
-use Rattle.text.specs.declared.token.Mark.TheVariants.{Comma, Colon, Minus, OpenBrace, CloseBrace}
-use Rattle.grammar.specs.Lexeme.{Lexeme, Ident, Number, Word, Mark}
-use Rattle.text.specs.declared.reserved.Word.TheVariants.{True, False, Null}
+use Rattle.text.specs.declared.token.Mark.TheVariants.{Comma, Colon, CloseBrace}
+use Rattle.grammar.specs.Lexeme.{Lexeme, Ident, Number, Mark}
 use Rattle.grammar.specs.Grammar.{Grammar, token, mark, number_of, ◌∙◌, ◌⇒◌, IsMany, many, listed}
 use Rattle.grammar.specs.Reading.{Read, Reader, ◌>>=◌, closed_at, named_at, fitting}
 use Rattle.grammar.specs.Laws.{Follows, Passes, Stands, Finds, seq_front, seq_whole, passes_on, passes_made, stands_made}

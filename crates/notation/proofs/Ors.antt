@@ -1,5 +1,5 @@
 -- What the loops over parts with "|" or UNION between them keep.
-use Rattle.std.proofs.Common.{◌≡◌, ℕ, suc, ◌≤◌, Bool, true, false, List, [], ◌∷◌, ◌++◌, length, Some, None, Ok, Err, refl, sym, ap, subst, ◌∙◌ as ◌⋆◌, arith}
+use Rattle.std.proofs.Common.{◌≡◌, suc, ◌≤◌, true, false, List, [], ◌∷◌, ◌++◌, length, Some, None, Ok, Err, refl, sym, ap, ◌∙◌ as ◌⋆◌, arith}
 use Rattle.text.specs.declared.token.Mark.TheVariants.{Bar}
 use Rattle.text.specs.declared.reserved.Word.TheVariants.{Union}
 use Rattle.grammar.specs.Lexeme.{Lexeme, Word, Mark}

@@ -1,5 +1,5 @@
 -- The trees of constraints, without where they lie in memory. A name is the list of its octets.
-use Rattle.std.specs.Prelude.{ℕ, Option, Some, None, Bool, List, map, option_map, string_bytes}
+use Rattle.std.specs.Prelude.{ℕ, Option, Bool, List, map, option_map, string_bytes}
 use Rattle.notation.specs.declared.constraint.EndSyntax.{EndSyntax}
 use Rattle.notation.specs.declared.constraint.EndSyntax.TheVariants as ends
 use Rattle.notation.specs.declared.constraint.RangeSyntax.{RangeSyntax}
@@ -9,7 +9,6 @@ use Rattle.notation.specs.declared.constraint.SizeSyntax.{SizeSyntax}
 use Rattle.notation.specs.declared.constraint.CharsSyntax.{CharsSyntax}
 use Rattle.notation.specs.declared.constraint.ConstraintSyntax.{ConstraintSyntax}
 use Rattle.notation.specs.declared.constraint.ConstraintSyntax.TheVariants as constraints
-use Rattle.notation.specs.Tree.{Name}
 
 pub data EndTree : Type 0 where
   -- is it behind a minus, and its digits' value

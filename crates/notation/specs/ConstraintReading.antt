@@ -1,5 +1,5 @@
 -- Reading constraints from left to right.
-use Rattle.std.specs.Prelude.{ℕ, suc, Bool, true, false, List, [], ◌∷◌, length, Option, Some, None, Ok}
+use Rattle.std.specs.Prelude.{ℕ, Bool, true, false, List, ◌∷◌, length, Option, Some, None, Ok}
 use Rattle.text.specs.declared.token.Mark.TheVariants.{Range, Dot, OpenParenthesis, CloseParenthesis, Bar, Minus}
 use Rattle.text.specs.declared.reserved.Word.TheVariants.{From, Size, Union, Min, Max}
 use Rattle.grammar.specs.Lexeme.{Lexeme, TypeRef, Ident, Number, CString, Word, Mark}

@@ -3,7 +3,7 @@ use Rattle.std.specs.Prelude.{◌≡◌, ℕ, suc, ◌≤◌, Bool, true, false,
 use Rattle.std.proofs.Common.{refl, sym, ap, subst, ◌∙◌ as ◌⋆◌}
 use Rattle.text.specs.declared.token.Mark.TheVariants.{Colon, Minus, OpenBrace}
 use Rattle.text.specs.declared.reserved.Word.TheVariants.{True, False, Null}
-use Rattle.grammar.specs.Lexeme.{Lexeme, TypeRef, Ident, Number, BString, HString, CString, Word, Mark}
+use Rattle.grammar.specs.Lexeme.{Lexeme, Number, Word, Mark}
 use Rattle.grammar.specs.Grows.{Grows}
 use Rattle.grammar.specs.Laws.{nowhere, deeper, wider, Sound, Finds}
 use Rattle.grammar.specs.Lists.{IsSolid}

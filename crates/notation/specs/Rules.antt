@@ -1,11 +1,11 @@
 -- What a production and its reader owe each other, made of what their parts do.
-use Rattle.std.proofs.Common.{◌≡◌, ℕ, ◌≤◌, ◌⊎◌, inl, inr, Bool, true, false, List, [], ◌∷◌, ◌++◌, length, Option, Some, None, Ok, Err, refl, sym, ap, subst, ◌∙◌ as ◌⋆◌, arith}
+use Rattle.std.proofs.Common.{◌≡◌, ℕ, ◌≤◌, inl, inr, Bool, true, false, List, [], ◌∷◌, ◌++◌, length, Ok, Err, refl, sym, ap, subst, arith}
 use Rattle.text.specs.declared.token.Mark.TheVariants.{Comma}
 use Rattle.grammar.specs.Lexeme.{Lexeme, Number, Mark}
 use Rattle.grammar.specs.Grammar.{Grammar, token, number_of, ◌∙◌, ◌∣◌, ◌⇒◌, many, optional, behind, listed, only}
 use Rattle.grammar.specs.Grows.{Grows}
-use Rattle.grammar.specs.Reading.{Limit, Integer, Nesting, Read, Reader, ◌>>=◌, stop, fitting, many_at, listed_at}
-use Rattle.grammar.specs.Laws.{Sound, Follows, Passes, Stands, Finds, then_read, seq_sound, seq_front, seq_whole, seq_part, nowhere, deeper, wider}
+use Rattle.grammar.specs.Reading.{Limit, Integer, Read, Reader, ◌>>=◌, stop, fitting, many_at, listed_at}
+use Rattle.grammar.specs.Laws.{Sound, Follows, Passes, Stands, Finds, then_read, seq_sound, seq_front, seq_whole, seq_part}
 use Rattle.grammar.specs.Lists.{IsSolid, no_lexeme, head_is, seq_first, seq_solid, with_comma, listed_sound, finds_listed}
 use Rattle.grammar.specs.Numbers.{Past, fitting_sound, fitting_passes, fitting_shrinks, fitting_stands}
 use Rattle.grammar.specs.Parts.{SoundReader, IsKind, token_sound, token_finds, token_solid, made_sound, made_finds, made_solid, seq_finds, open_finds, open_solid, pair_sound, pair_finds, pair_solid, pick, pick_sound, pick_finds, either_solid, perhaps, optional_sound, optional_finds, same_sound, same_finds}

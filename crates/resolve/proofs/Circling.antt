@@ -1,5 +1,5 @@
 -- Circles through defaults, and the parts of types.
-use Rattle.std.proofs.Common.{◌≡◌, ℕ, ◌<◌, List, length, Option, Some, None, get_or, Vec, Global, refl, sym, subst, ap, ◌∙◌}
+use Rattle.std.proofs.Common.{◌≡◌, ℕ, ◌<◌, List, length, Some, Vec, Global, refl, sym, subst, ap, ◌∙◌}
 use Rattle.std.specs.Prelude.{slice_get}
 use Rattle.std.proofs.lemmas.Option.{slice_get_within, get_or_from_slice_get}
 use Rattle.notation.specs.Tree.{Tree}
@@ -11,7 +11,7 @@ use Rattle.resolve.specs.declared.table.Component.{Component}
 use Rattle.resolve.specs.Seen.{kind_of}
 use Rattle.resolve.specs.Table.{Part, Kind, simple, reference, tagged, members, elements, Type', behind, behind_of, Is, IsClosed, HasMembers, HasElements}
 use Rattle.resolve.specs.Sound.{IsPart, referred, behind_tag, member, element, Reaches, IsDefaultCircle}
-use Rattle.resolve.specs.Reach.{HasParts, IsDefault, IsDefaulted, LeadsTo}
+use Rattle.resolve.specs.Reach.{HasParts, IsDefault, LeadsTo}
 
 is_default : (o : PresenceTree) → IsDefault o → (v : Tree) × (o ≡ default v)
 is_default mandatory h = absurd h

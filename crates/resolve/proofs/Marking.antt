@@ -1,6 +1,6 @@
 -- Marks of types: one after the other, and what marked types lead to.
-use Rattle.std.proofs.Common.{◌≡◌, ◌⊎◌, inl, inr, ℕ, zero, suc, ◌+◌, ◌<◌, ◌≤◌, ◌==◌, Bool, true, false, cond, eqb, List, [], ◌∷◌, ◌++◌, length, Option, Some, None, refl, sym, subst, ap, ◌∙◌, arith, set, replicate, map, option_map, get_or, eq-eqb}
-use Rattle.std.specs.Prelude.{slice_get, IsTrue, ◌↔◌}
+use Rattle.std.proofs.Common.{◌≡◌, ◌⊎◌, inl, inr, ℕ, zero, suc, ◌+◌, ◌<◌, ◌≤◌, ◌==◌, Bool, true, false, cond, eqb, List, [], ◌∷◌, ◌++◌, length, Option, Some, refl, sym, subst, ap, ◌∙◌, arith, set, replicate, map, option_map, get_or, eq-eqb}
+use Rattle.std.specs.Prelude.{slice_get, IsTrue}
 use Rattle.std.proofs.lemmas.Bool.{eqb-true, cases_Bool}
 use Rattle.std.proofs.lemmas.List.{length-set, get_or-replicate, length-replicate}
 use Rattle.std.proofs.lemmas.Option.{slice_get_within, slice_get-map, slice_get_read, slice_get-get_or, get_or_from_slice_get}
@@ -12,9 +12,9 @@ use Rattle.resolve.specs.declared.table.ElementsKind.{ElementsKind}
 use Rattle.resolve.specs.declared.table.ListKind.{ListKind}
 use Rattle.resolve.specs.Modules.{StandsIn}
 use Rattle.resolve.specs.Seen.{part_of}
-use Rattle.resolve.specs.Table.{Plain, Part, Kind, simple, reference, tagged, members, elements, Type'}
+use Rattle.resolve.specs.Table.{Plain, Part, simple, reference, tagged, members, elements, Type'}
 use Rattle.resolve.specs.Sound.{IsPart, referred, behind_tag, member, element, Reaches, itself, onward}
-use Rattle.resolve.specs.Reach.{HasParts, HasDefault, IsDefaulted, LeadsTo, IsMarked, AreUpTo, unmarked, Marks, MarksReached}
+use Rattle.resolve.specs.Reach.{HasDefault, IsDefaulted, LeadsTo, IsMarked, AreUpTo, unmarked, Marks, MarksReached}
 
 -- ---- lists
 

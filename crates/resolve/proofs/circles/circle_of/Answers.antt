@@ -1,4 +1,4 @@
-use Rattle.std.proofs.Common.{◌≡◌, ◌∙◌, length, replicate, sym, subst, ap, arith}
+use Rattle.std.proofs.Common.{◌≡◌, ◌∙◌, length, replicate, sym, subst, ap}
 use Rattle.std.proofs.lemmas.List.{length-replicate}
 use Rattle.resolve.specs.Reach.{AreUpTo}
 use Rattle.resolve.proofs.Marking.{no_marks}

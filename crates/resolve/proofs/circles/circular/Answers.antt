@@ -1,7 +1,7 @@
-use Rattle.std.proofs.Common.{rules, ◌≡◌, ◌<◌, length, Some, refl, sym, subst, ap, ◌∙◌, string_bytes}
+use Rattle.std.proofs.Common.{rules, ◌≡◌, length, Some, refl, sym, subst, ap, ◌∙◌, string_bytes}
 use Rattle.std.specs.Prelude.{slice_get}
 use Rattle.std.proofs.lemmas.Option.{slice_get_read}
-use Rattle.resolve.specs.Seen.{type_of, types_of}
+use Rattle.resolve.specs.Seen.{type_of}
 use Rattle.resolve.specs.Sound.{IsDefaultCircle}
 use Rattle.resolve.proofs.Tables.{type_at}
 use Rattle.resolve.proofs.Sources.{assignment_at, header_at}

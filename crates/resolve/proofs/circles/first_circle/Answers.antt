@@ -1,4 +1,4 @@
-use Rattle.std.proofs.Common.{◌≡◌, ◌<◌, inl, inr, length, subst, arith}
+use Rattle.std.proofs.Common.{◌<◌, inl, inr, subst, arith}
 use Rattle.std.proofs.lemmas.Option.{slice_get_within}
 use Rattle.resolve.specs.Seen.{types_of}
 use Rattle.resolve.specs.Sound.{IsDefaultCircle}

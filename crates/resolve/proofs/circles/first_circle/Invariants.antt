@@ -1,4 +1,4 @@
-use Rattle.std.proofs.Common.{◌≡◌, ℕ, ◌<◌, length}
+use Rattle.std.proofs.Common.{ℕ, ◌<◌}
 use Rattle.resolve.specs.Seen.{types_of}
 use Rattle.resolve.specs.Sound.{IsDefaultCircle}
 use Rattle.resolve.specs.Reach.{AreUpTo}

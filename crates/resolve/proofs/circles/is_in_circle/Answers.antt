@@ -1,4 +1,4 @@
-use Rattle.std.proofs.Common.{◌≡◌, ◌∙◌, map, length, refl, sym, subst, ap, arith}
+use Rattle.std.proofs.Common.{◌≡◌, ◌∙◌, map, refl, sym, subst, ap, arith}
 use Rattle.resolve.specs.declared.table.Written.{Written}
 use Rattle.resolve.specs.Seen.{part_of, type_of, types_of, kind_of}
 use Rattle.resolve.specs.Sound.{IsPart, member}

@@ -1,5 +1,4 @@
-use Rattle.std.proofs.Common.{◌≡◌, ◌<◌, inl, length, map, Some, refl, arith, string_bytes}
-use Rattle.std.specs.Prelude.{slice_get}
+use Rattle.std.proofs.Common.{◌<◌, inl, length, map, refl, arith, string_bytes}
 use Rattle.std.proofs.lemmas.Option.{slice_get_read}
 use Rattle.resolve.specs.Scopes.{seen, module_of}
 use Rattle.resolve.specs.Seen.{header_of, assignment_of, source_of, sources_of}

@@ -1,4 +1,4 @@
-use Rattle.std.proofs.Common.{◌≡◌, ◌<◌, length, map, refl, subst, arith}
+use Rattle.std.proofs.Common.{◌≡◌, length, map, refl, subst, arith}
 use Rattle.std.proofs.lemmas.List.{length-map}
 use Rattle.resolve.specs.Seen.{part_of}
 use Rattle.resolve.specs.Reach.{Marks}

@@ -1,4 +1,4 @@
-use Rattle.std.proofs.Common.{◌≡◌, ◌+◌, ◌<◌, ◌++◌, [], ◌∷◌, length, subst, ap, ◌∙◌, arith, length-append}
+use Rattle.std.proofs.Common.{◌≡◌, ◌+◌, ◌<◌, [], ◌∷◌, length, subst, ap, ◌∙◌, arith, length-append}
 use Rattle.resolve.specs.Seen.{type_of, types_of}
 use Rattle.resolve.specs.Reach.{unmarked}
 use Rattle.resolve.proofs.Tables.{type_at, as_long}
