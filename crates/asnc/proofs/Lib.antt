@@ -8,6 +8,7 @@ mod Names
 pub mod Notated
 mod Onlies
 mod Openings
+mod Outside
 mod Refused
 mod Simple
 mod Types

@@ -17,7 +17,8 @@ use Rattle.resolve.specs.Links.{Links, IsLinkFault}
 use Rattle.resolve.specs.Program.{Program}
 use Rattle.asnc.specs.declared.fault.Fault.{Fault}
 use Rattle.asnc.specs.declared.fault.Fault.TheVariants as faults
-use Rattle.asnc.specs.FirstPath.{IsFirstPath, IsOutsideFault}
+use Rattle.asnc.specs.FirstPath.{IsFirstPath}
+use Rattle.asnc.specs.LeftOut.{IsOutsideFault}
 use Rattle.asnc.specs.Opening.{IsModule, IsKitOf, SaysMemory, octets_of}
 use Rattle.asnc.specs.Status.{name_number_of}
 use Rattle.asnc.proofs.Lists.{seen_here}
@@ -72,7 +73,7 @@ refused_memory R f P xs k x l e r ys z = let t = zip_at R (map f xs) ys k (f x) 
 
 outside_memory : (p : Program) (e : Fault) → IsFirstPath p → IsOutsideFault p e → SaysMemory e
 outside_memory p faults.Memory f h = refl
-outside_memory p (faults.OutOfProfile c m x) f h = absurd (excludes p (string_bytes m) (string_bytes x) h f)
+outside_memory p (faults.OutOfProfile c m x) f h = absurd (excludes p c (string_bytes m) (string_bytes x) h f)
 outside_memory p (faults.Text i n) f h = absurd h
 outside_memory p (faults.Tree i n) f h = absurd h
 outside_memory p (faults.File n) f h = absurd h

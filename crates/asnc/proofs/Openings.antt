@@ -8,7 +8,9 @@ use Rattle.syntax.specs.Tree.{ModuleTree}
 use Rattle.resolve.specs.Program.{Program}
 use Rattle.asnc.specs.declared.fault.Fault.{Fault}
 use Rattle.asnc.specs.declared.fault.Fault.TheVariants as faults
-use Rattle.asnc.specs.FirstPath.{IsFirstPath, IsOutside, IsFirstType, IsFirstNotation}
+use Rattle.asnc.specs.FirstPath.{IsFirstPath, IsFirstType, IsFirstNotation}
+use Rattle.asnc.specs.LeftOut.{IsOutside}
+use Rattle.asnc.specs.declared.fault.Construct.{Construct}
 use Rattle.asnc.specs.Opening.{IsModule, IsRefusedAt, IsTextFault, IsNoKit, StandsIn, octets_of}
 use Rattle.syntax.specs.declared.tree.TagDefault.TheVariants.{Explicit}
 use Rattle.asnc.proofs.Lists.{seen_here, all_at}
@@ -76,7 +78,7 @@ kit_stands xs ms (faults.NoValue n) z h = absurd h
 kit_stands xs ms faults.TooLong z h = absurd h
 kit_stands xs ms faults.Device z h = absurd h
 
-pub excludes : (p : Program) (M x : Name) → IsOutside p M x → IsFirstPath p → ⊥
-excludes p M x (inl t) f = t.other (all_at (λ h. h.1 ≡ Explicit) p.headers t.number (M, t.default) f.headers t.there)
-excludes p M x (inr (inl t)) f = t.such (all_at (IsFirstType p.types) p.types t.number t.written f.types t.there)
-excludes p M x (inr (inr t)) f = t.such (all_at (λ v. IsFirstNotation v.notation) p.values t.number t.value f.values t.there)
+pub excludes : (p : Program) (c : Construct) (M x : Name) → IsOutside p c M x → IsFirstPath p → ⊥
+excludes p c M x (inl t) f = t.other (all_at (λ h. h.1 ≡ Explicit) p.headers t.number (M, t.default) f.headers t.there)
+excludes p c M x (inr (inl t)) f = t.such.0 (all_at (IsFirstType p.types) p.types t.number t.written f.types t.there)
+excludes p c M x (inr (inr t)) f = t.such.0 (all_at (λ v. IsFirstNotation v.notation) p.values t.number t.value f.values t.there)

@@ -1,5 +1,6 @@
 pub mod CommandLine
 pub mod FirstPath
+pub mod LeftOut
 pub mod Named
 pub mod Notations
 pub mod Opening

@@ -16,7 +16,8 @@ use Rattle.resolve.specs.Program.{Program}
 use Rattle.resolve.specs.Links.{Links, IsLinkFault}
 use Rattle.asnc.specs.declared.fault.Fault.{Fault}
 use Rattle.asnc.specs.declared.fault.Fault.TheVariants as faults
-use Rattle.asnc.specs.FirstPath.{IsFirstPath, IsOutsideFault}
+use Rattle.asnc.specs.FirstPath.{IsFirstPath}
+use Rattle.asnc.specs.LeftOut.{IsOutsideFault}
 use Rattle.asnc.specs.Status.{number_of}
 use Rattle.asnc.specs.Resolving.{AreTypes}
 

@@ -1,6 +1,6 @@
 //! The programs that this compiler takes today.
 
-ghost use Rattle.std.specs.Prelude.{◌≡◌, ◌<◌, ⊤, ℕ, MatchOption, MatchResult, IfErr, OnOk, length, map, Some, slice_get};
+ghost use Rattle.std.specs.Prelude.{◌≡◌, ◌<◌, ⊤, ℕ, MatchOption, MatchResult, IfErr, IfSome, OnOk, length, map, Some, slice_get};
 ghost use Rattle.std.specs.List.{AllByRecursion};
 ghost use Rattle.notation.specs.Tree.{members, member_of, tree_of};
 ghost use Rattle.resolve.specs.Program.{Value};
@@ -10,7 +10,12 @@ ghost use Rattle.resolve.specs.declared.table.ListKind.TheVariants as lists;
 ghost use Rattle.syntax.specs.declared.tree.TagDefault.{TagDefault as TagDefault'};
 ghost use Rattle.syntax.specs.declared.tree.TagDefault.TheVariants as defaults;
 ghost use Rattle.notation.specs.Tree.{Name};
-ghost use Rattle.asnc.specs.FirstPath.{IsBasic, IsFirstMember, IsFirstKind, IsFirstType, IsFirstNotation, AreFirstFields, IsFirstPath, IsOutsideFault, PartsInside, TellsAssignment, TellsModule};
+ghost use Rattle.asnc.specs.FirstPath.{IsBasic, IsFirstMember, IsFirstKind, IsFirstType, IsFirstNotation, AreFirstFields, IsFirstPath, PartsInside};
+ghost use Rattle.asnc.specs.LeftOut as out;
+ghost use Rattle.asnc.specs.LeftOut.{plain_construct, core_construct, tags_construct, IsPartOut, IsKindOut, IsTypeOut, IsNotationOut, IsOutsideFault, TellsAssignment, TellsModule};
+ghost use Rattle.resolve.specs.Modules.{StandsIn};
+ghost use Rattle.resolve.specs.Table.{Part};
+ghost use Rattle.notation.specs.Tree.{Tree};
 
 use crate::fault::{Construct, Fault};
 use crate::program::{assigned, header_at, type_at, value_at};
@@ -23,7 +28,8 @@ use syntax::{PresenceSyntax, TagDefault};
 
 /// The construct that a type which holds no other is, where it is left out.
 fn outside_simple(held: &Simple) -> Option<Construct>
-    ensures { MatchOption result (IsBasic (simple (plain_of held.now))) (λ _. IsBasic (simple (plain_of held.now)) → ⊥) }
+    ensures first { MatchOption result (IsBasic (simple (plain_of held.now))) (λ _. IsBasic (simple (plain_of held.now)) → ⊥) }
+    ensures construct { IfSome result (λ c. plain_construct (plain_of held.now) ≡ Some c) }
 {
     match held {
         Simple::Boolean | Simple::OctetString => None,
@@ -47,7 +53,9 @@ fn outside_simple(held: &Simple) -> Option<Construct>
 }
 
 /// The construct that a list of members is.
-fn list_construct(kind: ListKind) -> Construct {
+fn list_construct(kind: ListKind) -> Construct
+    ensures { result ≡ out.list_construct kind }
+{
     match kind {
         ListKind::Sequence => Construct::Sequence,
         ListKind::Set => Construct::Set,
@@ -56,7 +64,9 @@ fn list_construct(kind: ListKind) -> Construct {
 }
 
 /// The construct that a type with elements is.
-fn elements_construct(kind: ElementsKind) -> Construct {
+fn elements_construct(kind: ElementsKind) -> Construct
+    ensures { result ≡ out.elements_construct kind }
+{
     match kind {
         ElementsKind::SequenceOf => Construct::SequenceOf,
         ElementsKind::SetOf => Construct::SetOf,
@@ -65,7 +75,8 @@ fn elements_construct(kind: ElementsKind) -> Construct {
 
 /// The construct that a member's type is behind its references, where it is left out there.
 fn outside_core(shape: &Shape) -> Option<Construct>
-    ensures { MatchOption result (IsBasic (kind_of shape.now)) (λ _. IsBasic (kind_of shape.now) → ⊥) }
+    ensures first { MatchOption result (IsBasic (kind_of shape.now)) (λ _. IsBasic (kind_of shape.now) → ⊥) }
+    ensures construct { IfSome result (λ c. core_construct (kind_of shape.now) ≡ Some c) }
 {
     match shape {
         Shape::Simple(simple) => outside_simple(simple),
@@ -79,7 +90,8 @@ fn outside_core(shape: &Shape) -> Option<Construct>
 fn outside_part(types: &[Written], part: &Component) -> Option<Construct>
     requires linked { IsLinked (types_of types.now) }
     requires inside { part.now.ty < length types.now }
-    ensures { MatchOption result (IsFirstMember (types_of types.now) (part_of part.now)) (λ _. IsFirstMember (types_of types.now) (part_of part.now) → ⊥) }
+    ensures first { MatchOption result (IsFirstMember (types_of types.now) (part_of part.now)) (λ _. IsFirstMember (types_of types.now) (part_of part.now) → ⊥) }
+    ensures construct { IfSome result (IsPartOut (types_of types.now) (part_of part.now)) }
 {
     match &part.presence {
         PresenceSyntax::Mandatory => {
@@ -95,7 +107,8 @@ fn outside_part(types: &[Written], part: &Component) -> Option<Construct>
 fn outside_parts(types: &[Written], parts: &[Component]) -> Option<Construct>
     requires linked { IsLinked (types_of types.now) }
     requires inside { PartsInside (types_of types.now) (list_of lists.Sequence (map part_of parts.now)) }
-    ensures { MatchOption result (AllByRecursion (IsFirstMember (types_of types.now)) (map part_of parts.now)) (λ _. AllByRecursion (IsFirstMember (types_of types.now)) (map part_of parts.now) → ⊥) }
+    ensures first { MatchOption result (AllByRecursion (IsFirstMember (types_of types.now)) (map part_of parts.now)) (λ _. AllByRecursion (IsFirstMember (types_of types.now)) (map part_of parts.now) → ⊥) }
+    ensures construct { IfSome result (λ c. (q : Part) × StandsIn (map part_of parts.now) q × IsPartOut (types_of types.now) q c) }
 {
     for part in parts {
         if let Some(construct) = outside_part(types, part) {
@@ -109,15 +122,18 @@ fn outside_parts(types: &[Written], parts: &[Component]) -> Option<Construct>
 fn outside_shape(types: &[Written], shape: &Shape) -> Option<Construct>
     requires linked { IsLinked (types_of types.now) }
     requires inside { PartsInside (types_of types.now) (kind_of shape.now) }
-    ensures { MatchOption result (IsFirstKind (types_of types.now) (kind_of shape.now)) (λ _. IsFirstKind (types_of types.now) (kind_of shape.now) → ⊥) }
+    ensures first { MatchOption result (IsFirstKind (types_of types.now) (kind_of shape.now)) (λ _. IsFirstKind (types_of types.now) (kind_of shape.now) → ⊥) }
+    ensures construct { IfSome result (IsKindOut (types_of types.now) (kind_of shape.now)) }
 {
     match shape {
         Shape::Simple(simple) => outside_simple(simple),
         Shape::Reference(_) => None,
         Shape::Tagged(_, _, _) => Some(Construct::Tag),
-        Shape::Members(ListKind::Sequence, parts) => outside_parts(types, parts.as_slice()),
-        Shape::Members(ListKind::Set, _) => Some(Construct::Set),
-        Shape::Members(ListKind::Choice, _) => Some(Construct::Choice),
+        Shape::Members(kind, parts) => match kind {
+            ListKind::Sequence => outside_parts(types, parts.as_slice()),
+            ListKind::Set => Some(Construct::Set),
+            ListKind::Choice => Some(Construct::Choice),
+        },
         Shape::Elements(kind, _, _) => Some(elements_construct(*kind)),
     }
 }
@@ -126,7 +142,8 @@ fn outside_shape(types: &[Written], shape: &Shape) -> Option<Construct>
 fn outside_type(types: &[Written], written: &Written) -> Option<Construct>
     requires linked { IsLinked (types_of types.now) }
     requires inside { PartsInside (types_of types.now) (kind_of written.now.shape) }
-    ensures { MatchOption result (IsFirstType (types_of types.now) (type_of written.now)) (λ _. IsFirstType (types_of types.now) (type_of written.now) → ⊥) }
+    ensures first { MatchOption result (IsFirstType (types_of types.now) (type_of written.now)) (λ _. IsFirstType (types_of types.now) (type_of written.now) → ⊥) }
+    ensures construct { IfSome result (IsTypeOut (types_of types.now) (type_of written.now)) }
 {
     if !written.constraints.is_empty() {
         return Some(Construct::Constraint);
@@ -137,7 +154,7 @@ fn outside_type(types: &[Written], written: &Written) -> Option<Construct>
 /// The first type in which something is left out.
 fn check_types(types: &[Written]) -> Result<(), (usize, Construct)>
     requires linked { IsLinked (types_of types.now) }
-    ensures { MatchResult result (λ _. AllByRecursion (IsFirstType (types_of types.now)) (types_of types.now)) (λ e. (t : Type') × (slice_get (types_of types.now) e.0 ≡ Some t) × (IsFirstType (types_of types.now) t → ⊥)) }
+    ensures { MatchResult result (λ _. AllByRecursion (IsFirstType (types_of types.now)) (types_of types.now)) (λ e. (t : Type') × (slice_get (types_of types.now) e.0 ≡ Some t) × (IsFirstType (types_of types.now) t → ⊥) × IsTypeOut (types_of types.now) t e.1) }
 {
     for number in 0..types.len() {
         if let Some(construct) = outside_type(types, &types[number]) {
@@ -150,7 +167,8 @@ fn check_types(types: &[Written]) -> Result<(), (usize, Construct)>
 /// The construct in a notation that is left out.
 #[cycle(outside)]
 fn outside_notation(notation: &ValueSyntax) -> Option<Construct>
-    ensures { MatchOption result (IsFirstNotation (tree_of notation.now)) (λ _. IsFirstNotation (tree_of notation.now) → ⊥) }
+    ensures first { MatchOption result (IsFirstNotation (tree_of notation.now)) (λ _. IsFirstNotation (tree_of notation.now) → ⊥) }
+    ensures construct { IfSome result (IsNotationOut (tree_of notation.now)) }
 {
     match notation {
         ValueSyntax::True | ValueSyntax::False | ValueSyntax::Number(_, _) => None,
@@ -168,7 +186,8 @@ fn outside_notation(notation: &ValueSyntax) -> Option<Construct>
 /// The first construct in the components of a notation that is left out.
 #[cycle(outside)]
 fn outside_fields(fields: &[Named<ValueSyntax>]) -> Option<Construct>
-    ensures { MatchOption result (AreFirstFields (members (map member_of fields.now))) (λ _. AreFirstFields (members (map member_of fields.now)) → ⊥) }
+    ensures first { MatchOption result (AreFirstFields (members (map member_of fields.now))) (λ _. AreFirstFields (members (map member_of fields.now)) → ⊥) }
+    ensures construct { IfSome result (λ c. (f : Name × Tree) × StandsIn (map member_of fields.now) f × IsNotationOut f.1 c) }
 {
     for field in fields {
         if let Some(construct) = outside_notation(&field.value) {
@@ -180,7 +199,7 @@ fn outside_fields(fields: &[Named<ValueSyntax>]) -> Option<Construct>
 
 /// The first value in which something is left out.
 fn check_values(values: &[ValueAt]) -> Result<(), (usize, Construct)>
-    ensures { MatchResult result (λ _. AllByRecursion (λ (v : Value). IsFirstNotation v.notation) (map value_of values.now)) (λ e. (v : Value) × (slice_get (map value_of values.now) e.0 ≡ Some v) × (IsFirstNotation v.notation → ⊥)) }
+    ensures { MatchResult result (λ _. AllByRecursion (λ (v : Value). IsFirstNotation v.notation) (map value_of values.now)) (λ e. (v : Value) × (slice_get (map value_of values.now) e.0 ≡ Some v) × (IsFirstNotation v.notation → ⊥) × IsNotationOut v.notation e.1) }
 {
     for number in 0..values.len() {
         if let Some(construct) = outside_notation(&values[number].syntax) {
@@ -192,7 +211,8 @@ fn check_values(values: &[ValueAt]) -> Result<(), (usize, Construct)>
 
 /// The construct that a tag default is, where it is left out.
 fn outside_default(default: TagDefault) -> Option<Construct>
-    ensures { MatchOption result (default ≡ defaults.Explicit) (λ _. default ≡ defaults.Explicit → ⊥) }
+    ensures first { MatchOption result (default ≡ defaults.Explicit) (λ _. default ≡ defaults.Explicit → ⊥) }
+    ensures construct { result ≡ tags_construct default }
 {
     match default {
         TagDefault::Explicit => None,
@@ -203,7 +223,7 @@ fn outside_default(default: TagDefault) -> Option<Construct>
 
 /// The first module whose tag default is left out.
 fn check_headers(headers: &[Header]) -> Result<(), (usize, Construct)>
-    ensures { MatchResult result (λ _. AllByRecursion (λ (h : Name × TagDefault'). h.1 ≡ defaults.Explicit) (map header_of headers.now)) (λ e. (h : Name × TagDefault') × (slice_get (map header_of headers.now) e.0 ≡ Some h) × (h.1 ≡ defaults.Explicit → ⊥)) }
+    ensures { MatchResult result (λ _. AllByRecursion (λ (h : Name × TagDefault'). h.1 ≡ defaults.Explicit) (map header_of headers.now)) (λ e. (h : Name × TagDefault') × (slice_get (map header_of headers.now) e.0 ≡ Some h) × (h.1 ≡ defaults.Explicit → ⊥) × (tags_construct h.1 ≡ Some e.1)) }
 {
     for number in 0..headers.len() {
         if let Some(construct) = outside_default(headers[number].default) {
@@ -216,7 +236,7 @@ fn check_headers(headers: &[Header]) -> Result<(), (usize, Construct)>
 /// The fault that a construct is left out in an assignment.
 fn out_of_profile(alloc: Global, linked: &Linked, number: usize, construct: Construct) -> Fault
     requires inside { number < length linked.now.assignments }
-    ensures { TellsAssignment linked.now number result }
+    ensures { TellsAssignment linked.now number construct result }
 {
     let (within, name) = assigned(linked, number);
     let module = String::from_str(alloc, within);
@@ -229,7 +249,7 @@ fn out_of_profile(alloc: Global, linked: &Linked, number: usize, construct: Cons
 
 /// The fault that the tag default of a module is left out.
 fn tags_otherwise(alloc: Global, header: &Header, construct: Construct) -> Fault
-    ensures { TellsModule header.now result }
+    ensures { TellsModule header.now construct result }
 {
     match String::from_str(alloc, header.name.as_str()) {
         Ok(module) => Fault::OutOfProfile(construct, module, String::new(alloc)),

@@ -11,7 +11,9 @@ ghost use Rattle.resolve.specs.declared.names.Assigned.{Assigned as Assigned'};
 ghost use Rattle.resolve.specs.Program.{IsThere, Program};
 ghost use Rattle.resolve.specs.Sound.{AreSound};
 ghost use Rattle.asnc.specs.declared.fault.Fault.{Fault as Fault'};
-ghost use Rattle.asnc.specs.FirstPath.{IsFirstPath, IsOutside, IsOutsideFault};
+ghost use Rattle.asnc.specs.FirstPath.{IsFirstPath};
+ghost use Rattle.asnc.specs.LeftOut.{IsOutside, IsOutsideFault};
+ghost use Rattle.asnc.specs.declared.fault.Construct.{Construct as Construct'};
 ghost use Rattle.asnc.specs.Named.{IsNamed, IsQualified, TypeNamed, ValueNamed};
 ghost use Rattle.asnc.specs.Opening.{IsKitOf, IsModule, IsNoKit, IsOpened, SaysMemory, StandsIn, octets_of};
 ghost use Rattle.asnc.specs.Resolving.{AreTypes};
@@ -95,7 +97,7 @@ fn kit_of(alloc: Global, modules: Vec<Module>) -> Result<Kit, Fault>
 /// program is one that this compiler takes. So a linked program has a kit just where nothing is left out.
 pub fn faults_exclude()
     ensures texts { (x : List ℕ) (m : ModuleTree) (f : LexFault) → (f ≡ no_memory → ⊥) → Stands x f → IsModule x m → ⊥ }
-    ensures programs { (p : Program) (M x : Name) → IsOutside p M x → IsFirstPath p → ⊥ }
+    ensures programs { (p : Program) (c : Construct') (M x : Name) → IsOutside p c M x → IsFirstPath p → ⊥ }
 {
     text::law::tokens_or_fault();
 }

@@ -9,4 +9,4 @@ outside_type-requires-clause-inside c =
     (seen_here type_of c.args.types.now c.loop-number.number c.index-types-number.result c.loop-number-test.true c.index-types-number.is)
 
 pub returns-in-Some : goal.returns-in-Some
-returns-in-Some c = (type_of c.index-types-number.result, seen_here type_of c.args.types.now c.loop-number.number c.index-types-number.result c.loop-number-test.true c.index-types-number.is, c.in-Some.ensures)
+returns-in-Some c = (type_of c.index-types-number.result, seen_here type_of c.args.types.now c.loop-number.number c.index-types-number.result c.loop-number-test.true c.index-types-number.is, c.in-Some.ensures.first, c.in-Some.ensures.construct)
