@@ -1,5 +1,7 @@
 use asnc::{Fault, Given, Job, Kit, Verb, report};
 use std::alloc::{AllocError, Global};
+use std::process::Abort;
+use std::test::*;
 
 /// The words of a command line.
 pub fn words(alloc: Global, texts: &[&str]) -> Result<Vec<String>, AllocError> {
@@ -53,4 +55,20 @@ pub fn told_of(alloc: Global, text: &str) -> Result<String, AllocError> {
     let job = job_on(alloc, "M.T", "M.v", &["m.asn"])?;
     let texts = texts_of(alloc, &[text])?;
     told(alloc, &job, texts.as_slice())
+}
+
+/// Whether this is told of a fault alone, with a file that is empty, and this is what the fault itself prints.
+pub fn tells(
+    rt: &impl Abort,
+    alloc: Global,
+    fault: Fault,
+    line: &str,
+    printed: &str,
+) -> Result<(), Fail> {
+    let job = job_on(alloc, "M.T", "M.v", &["m.asn"])?;
+    let texts = texts_of(alloc, &[""])?;
+    let told = report(alloc, &job, texts.as_slice(), &fault)?;
+    assert_eq!(rt; told.as_str(), line);
+    assert_eq!(rt; fault.to_string(alloc)?.as_str(), printed);
+    Ok(())
 }

@@ -4,8 +4,16 @@
 #[cfg(test)]
 mod common;
 #[cfg(test)]
+mod construct_line_tests;
+#[cfg(test)]
+mod file_line_tests;
+#[cfg(test)]
 mod job_tests;
 #[cfg(test)]
 mod kit_tests;
 #[cfg(test)]
-mod line_tests;
+mod limit_line_tests;
+#[cfg(test)]
+mod name_line_tests;
+#[cfg(test)]
+mod text_line_tests;
