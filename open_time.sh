@@ -3,6 +3,14 @@
 # the least of five runs each, in milliseconds. The time grows as the text does.
 set -euo pipefail
 
+if [[ $# -eq 1 && ($1 == --help || $1 == -h) ]]; then
+  printf '%s\n' "usage: open_time.sh   (says how long the program takes to open modules of growing size)"
+  exit 0
+fi
+if [[ $# -ne 0 ]]; then
+  printf '%s\n' "usage: open_time.sh" >&2
+  exit 2
+fi
 here=$(dirname "$(readlink -f "${BASH_SOURCE[0]}")")
 "$here/asnc" --help >/dev/null
 folder=$(mktemp -d)

@@ -2,8 +2,21 @@
 # Runs each command that the README shows behind "$ ./asnc" and compares what it prints with what the README shows.
 set -euo pipefail
 
+usage="usage: tour.sh [PAGE]   (runs the commands of PAGE, README.md where none is named, and compares what they print)"
+if [[ $# -eq 1 && ($1 == --help || $1 == -h) ]]; then
+  printf '%s\n' "$usage"
+  exit 0
+fi
+if [[ $# -gt 1 || ${1:-README.md} == -* ]]; then
+  printf '%s\n' "$usage" >&2
+  exit 2
+fi
+readme=$(readlink -f -- "${1:-$(dirname "$(readlink -f "${BASH_SOURCE[0]}")")/README.md}")
+if [[ ! -f $readme ]]; then
+  printf '%s\n' "tour.sh: $readme is not there" >&2
+  exit 2
+fi
 cd "$(dirname "$(readlink -f "${BASH_SOURCE[0]}")")"
-readme=${1:-README.md}
 ran=0
 failed=0
 command=
@@ -36,5 +49,5 @@ while IFS= read -r line; do
   fi
 done <"$readme"
 check
-printf '%s\n' "tour: $ran commands of $readme, $failed differ"
+printf '%s\n' "tour: $ran commands of $(basename "$readme"), $failed differ"
 [[ $ran -gt 0 && $failed -eq 0 ]]
