@@ -53,14 +53,12 @@ copy() {
   done
 }
 
-# furnish CRATE: makes the room a repository of this crate and those that it stands on.
+# furnish CRATE: makes the room a repository of this crate and those that it stands on. What is there already stays.
 furnish() {
   local crate low
   low=$(below "$1")
-  rm -rf "${room:?}"
-  mkdir -p "$room/crates"
   for crate in $low; do
-    copy "$crate" out/rlib
+    [[ -d $room/crates/$crate ]] || copy "$crate" out/rlib
   done
   copy "$1" out/incremental
   awk -v kept=" $1 ${low//$'\n'/ } " '{ split($0, part, /[ :]/); if (index(kept, " " part[1] " ")) print }' \
@@ -88,7 +86,7 @@ swap() {
   return 1
 }
 
-# apply EDIT FOLDER: makes the changes of an edit in a copy of its crate.
+# apply EDIT: makes the changes of an edit in the copy of its crate.
 apply() {
   local line file='' old=''
   while IFS= read -r line || [[ -n $line ]]; do
@@ -97,10 +95,10 @@ apply() {
       'old: '*) old=${line#old: } ;;
       'new:'*)
         line=${line#new:}
-        swap "$2/$file" "$old" "${line# }" || return 1
+        swap "$room/crates/$crate/$file" "$old" "${line# }" || return 1
         ;;
     esac
-  done <"$1"
+  done <"$folder/$1"
 }
 
 # places EDIT: each place that an edit changes, as file, number of line.
@@ -114,7 +112,7 @@ places() {
         printf '%s %s\n' "$file" "${number:-0}"
         ;;
     esac
-  done <"$1"
+  done <"$folder/$1"
 }
 
 # function_at FILE LINE: the function of the crate that stands there, by its cycle and by its whole name; nothing where none does.
@@ -177,7 +175,7 @@ study() {
 # or a goal stayed open. What only waits for a function that it calls isn't refused.
 refused_in() {
   local path=${1#"$crate"::}
-  grep -F "proofs/${path//:://}/" "$log" | grep -qE '^[^ ]+\.antt:[0-9]+:[0-9]+: error' && return 0
+  grep -F "proofs/${path//:://}/" "$log" | grep -v 'was not admitted' | grep -qE '^[^ ]+\.antt:[0-9]+:[0-9]+: error' && return 0
   grep -F "fn $1: " "$log" | grep -qE ': not proved$|did not prove'
 }
 
@@ -200,7 +198,7 @@ is_unread() {
 tell() {
   local name=${1##*/}
   rows+=("$crate"$'\t'"${name%.edit}"$'\t'"${2:--}"$'\t'"$3"$'\t'"$took")
-  edits_told=$((edits_told + 1))
+  settled=$((settled + 1))
   [[ $3 == refused ]] || wrong=$((wrong + 1))
   unset "pending[$1]"
 }
@@ -219,8 +217,10 @@ judge_alone() {
   local function
   if [[ $verdict == proved ]]; then
     tell "$1" "$(first_function "$1")" PASSED
-  elif [[ -z $verdict ]]; then
+  elif [[ -z $verdict ]] && grep -qE '^(\./)?src/[^ ]+:[0-9]+:[0-9]+: error' "$log"; then
     tell "$1" "$(first_function "$1")" "DOESN'T COMPILE"
+  elif [[ -z $verdict ]]; then
+    tell "$1" "$(first_function "$1")" "NO VERDICT"
   elif [[ ${alone[$1]} == definition ]] && is_unread; then
     tell "$1" "$(told_elsewhere)" "CAN'T BE READ"
   else
@@ -261,7 +261,7 @@ renew() {
     [[ ! -d $folder/$part ]] || cp -a "$folder/$part" "$room/crates/$crate/$part"
   done
   rm -rf "${room:?}/crates/$crate/out/incremental"
-  cp -a "$room/kept" "$room/crates/$crate/out/incremental"
+  cp -a "$kept" "$room/crates/$crate/out/incremental"
 }
 
 # fill: makes the changes of the next round: edits of different functions, or one that is to be tried alone.
@@ -274,7 +274,7 @@ fill() {
     for unit in ${units[$edit]}; do
       [[ $taken != *" $unit "* ]] || continue 2
     done
-    if ! apply "$edit" "$room/crates/$crate"; then
+    if ! apply "$edit"; then
       alone[$edit]=place
       fill
       return 0
@@ -291,7 +291,7 @@ one_alone() {
     if [[ -n ${pending[$edit]:-} ]]; then
       round=("$edit")
       took=0
-      apply "$edit" "$room/crates/$crate" && return 0
+      apply "$edit" && return 0
       tell "$edit" - "CAN'T BE APPLIED"
       renew
     fi
@@ -301,7 +301,7 @@ one_alone() {
 
 # try_round: fills a round, checks it, and judges its edits.
 try_round() {
-  local edit began=$SECONDS before=$edits_told
+  local edit began=$SECONDS before=$settled
   fill
   if [[ ${#round[@]} -eq 0 ]]; then
     one_alone || return 0
@@ -315,8 +315,8 @@ try_round() {
   for edit in "${round[@]}"; do
     judge "$edit"
   done
-  say "$crate: a round of ${#round[@]} edits, $((edits_told - before)) settled, $took s"
-  if [[ $edits_told -eq $before ]]; then
+  say "$crate: a round of ${#round[@]} edits, $((settled - before)) settled, $took s"
+  if [[ $settled -eq $before ]]; then
     for edit in "${round[@]}"; do
       alone[$edit]=${alone[$edit]:-waits}
     done
@@ -325,27 +325,42 @@ try_round() {
 
 # try_above EDIT: tries an edit that has a line "with: CRATE" by a check of that crate, which stands on the edited one.
 try_above() {
-  local above began=$SECONDS
-  above=$(sed -n 's/^with: //p' "$1")
-  furnish "$above"
-  if ! apply "$1" "$room/crates/$crate"; then
+  local upper began=$SECONDS
+  upper=$(sed -n 's/^with: //p' "$folder/$1")
+  rm -rf "${room:?}"
+  furnish "$upper"
+  if apply "$1"; then
+    prove "$upper"
+    took=$((SECONDS - began))
+    judge_alone "$1"
+  else
     tell "$1" - "CAN'T BE APPLIED"
-    return 0
   fi
-  prove "$above"
-  took=$((SECONDS - began))
-  judge_alone "$1"
+  rm -rf "${room:?}"
+}
+
+# list_edits: notes the crate's edits, of its folder trial and with --all of must-fail too.
+list_edits() {
+  local edit
+  edits=() above=() pending=() alone=() functions=() units=()
+  for edit in "$folder"/trial/*.edit ${all:+"$folder"/must-fail/*.edit}; do
+    [[ -f $edit ]] || continue
+    edit=${edit#"$folder/"}
+    edits+=("$edit")
+    if grep -q '^with: ' "$folder/$edit"; then
+      above+=("$edit")
+    else
+      pending[$edit]=yes
+    fi
+  done
 }
 
 # try_crate CRATE: tries the edits of a crate, in rounds.
 try_crate() {
-  local edit above=()
+  local edit
   crate=$1
   folder=$top/crates/$crate
-  edits=() pending=() alone=() functions=() units=()
-  for edit in "$folder"/trial/*.edit ${all:+"$folder"/must-fail/*.edit}; do
-    [[ ! -f $edit ]] || edits+=("$edit")
-  done
+  list_edits
   [[ ${#edits[@]} -gt 0 ]] || return 0
   furnish "$crate"
   prove "$crate"
@@ -355,15 +370,10 @@ try_crate() {
     unproved+=("$crate")
     return 0
   fi
-  mv "$room/crates/$crate/out/incremental" "$room/kept"
+  mv "$room/crates/$crate/out/incremental" "$kept"
   sed -nE 's/^fn ([^ ]+): .*/\1/p' "$log" >"$names_of"
   for edit in "${edits[@]}"; do
-    pending[$edit]=yes
     study "$edit"
-    ! grep -q '^with: ' "$edit" || above+=("$edit")
-  done
-  for edit in "${above[@]}"; do
-    unset "pending[$edit]"
   done
   while [[ ${#pending[@]} -gt 0 ]]; do
     try_round
@@ -371,15 +381,18 @@ try_crate() {
   for edit in "${above[@]}"; do
     try_above "$edit"
   done
+  rm -rf "$kept" "${room:?}/crates/$crate"
 }
 
-# table: what was tried, and how many.
+# table: what was tried, how many, and the seconds that it took and that processors worked.
 table() {
-  local row many=${#rows[@]}
+  local row many=${#rows[@]} worked
   for row in "${rows[@]}"; do
     printf '%s\n' "$row"
   done | awk -F '\t' '{ printf "%-11s %-46s %-44s %-18s %5d s\n", $1, $2, $3, $4, $5 }'
-  printf '%s\n' "trial: $many edits, $((many - wrong)) refused, $wrong not, in $SECONDS s"
+  times >"$log"
+  worked=$(awk -F '[ms ]+' 'NR == 2 { printf "%.0f", 60 * ($1 + $3) + $2 + $4 }' "$log")
+  printf '%s\n' "trial: $many edits, $((many - wrong)) refused, $wrong not; $SECONDS s, $worked processor seconds"
 }
 
 all= jobs=1 crates=()
@@ -407,9 +420,9 @@ command -v rt >/dev/null || refuse "the command rt of the Rattle kit is needed"
 
 work=$(mktemp -d)
 trap 'rm -rf "$work"' EXIT
-room=$work/room log=$work/log names_of=$work/names
+room=$work/room kept=$work/kept log=$work/log names_of=$work/names
 declare -A pending alone functions units
-rows=() unproved=() wrong=0 edits_told=0 took=0
+rows=() unproved=() edits=() above=() round=() wrong=0 settled=0 took=0
 for crate in "${crates[@]}"; do
   try_crate "$crate"
 done
