@@ -36,7 +36,12 @@ below() {
       todo[many = 1] = crate
       for (i = 1; i <= many; i++) {
         count = split(uses[todo[i]], low, " ")
-        for (k = 1; k <= count; k++) if (low[k] in uses && !(low[k] in seen)) { seen[low[k]]; todo[++many] = low[k]; print low[k] }
+        for (k = 1; k <= count; k++) {
+          if (!(low[k] in uses) || low[k] in seen) continue
+          seen[low[k]]
+          todo[++many] = low[k]
+          print low[k]
+        }
       }
     }' "$top/crates.txt"
 }
@@ -78,7 +83,11 @@ swap() {
     BEGIN { old = ENVIRON["OLD"]; new = ENVIRON["NEW"] }
     {
       said = ""
-      while ((at = index($0, old)) > 0) { said = said substr($0, 1, at - 1) new; $0 = substr($0, at + length(old)); found++ }
+      while ((at = index($0, old)) > 0) {
+        said = said substr($0, 1, at - 1) new
+        $0 = substr($0, at + length(old))
+        found++
+      }
       print said $0
     }
     END { exit found != 1 }' "$1" >"$1.swapped" && mv "$1.swapped" "$1" && return 0
@@ -115,7 +124,8 @@ places() {
   done <"$folder/$1"
 }
 
-# function_at FILE LINE: the function of the crate that stands there, by its cycle and by its whole name; nothing where none does.
+# function_at FILE LINE: the whole name of the function that stands there, and the cycle of functions that it is in or -;
+# nothing where no function stands.
 function_at() {
   local module=${1#src/} found cycle type name names
   module=${module%.rt}
@@ -123,13 +133,17 @@ function_at() {
   [[ $module == lib || $module == main ]] && module=
   found=$(awk -v line="$2" '
     NR > line { exit }
-    /^impl/ { type = $0; sub(/ *\{.*/, "", type); sub(/^impl(<[^>]*>)? */, "", type); sub(/<\x27[^>]*>/, "", type) }
+    /^impl/ {
+      type = $0
+      sub(/ *\{.*/, "", type); sub(/^impl(<[^>]*>)? */, "", type); sub(/<\x27[^>]*>/, "", type)
+    }
     /^}/ && !inside { type = "" }
     /^ *#\[cycle\(/ { cycle = $0; gsub(/.*\(|\).*/, "", cycle) }
     /^ *(pub(\([a-z]+\))? )?(const )?fn [a-z_0-9]+/ {
       match($0, /^ */); indent = RLENGTH
       if (!indent) type = ""
-      name = $0; sub(/^ *(pub(\([a-z]+\))? )?(const )?fn /, "", name); sub(/[^a-z_0-9].*/, "", name)
+      name = $0
+      sub(/^ *(pub(\([a-z]+\))? )?(const )?fn /, "", name); sub(/[^a-z_0-9].*/, "", name)
       inside = 1; its = cycle; cycle = ""
     }
     inside && NR < line && match($0, /^ *\}$/) && RLENGTH == indent + 1 { inside = 0 }
@@ -171,11 +185,12 @@ study() {
   [[ -n ${functions[$1]} ]] || alone[$1]=${alone[$1]:-place}
 }
 
-# refused_in FUNCTION: whether the last check refused this function, or cycle of functions, for itself: a written answer broke
-# or a goal stayed open. What only waits for a function that it calls isn't refused.
+# refused_in FUNCTION: whether the last check refused this function, or cycle of functions, for itself: a written answer
+# broke, or a goal stayed open. What only waits for a function that it calls isn't refused.
 refused_in() {
   local path=${1#"$crate"::}
-  grep -F "proofs/${path//:://}/" "$log" | grep -v 'was not admitted' | grep -qE '^[^ ]+\.antt:[0-9]+:[0-9]+: error' && return 0
+  grep -F "proofs/${path//:://}/" "$log" | grep -v 'was not admitted' |
+    grep -qE '^[^ ]+\.antt:[0-9]+:[0-9]+: error' && return 0
   grep -F "fn $1: " "$log" | grep -qE ': not proved$|did not prove'
 }
 
@@ -183,7 +198,8 @@ refused_in() {
 told_elsewhere() {
   local told
   told=$(sed -nE 's/^fn ([^ ]+): (not proved$|.*did not prove).*/\1/p' "$log" | head -n 1)
-  [[ -n $told ]] || told=$(sed -nE 's/^(\.\/)?(proofs|specs)\/([^:]+)\.antt:.*: error.*/\2\/\3/p' "$log" | head -n 1)
+  [[ -n $told ]] ||
+    told=$(sed -nE 's/^(\.\/)?(proofs|specs)\/([^:]+)\.antt:.*: error.*/\2\/\3/p' "$log" | head -n 1)
   printf '%s' "$told"
 }
 
@@ -232,8 +248,8 @@ judge_alone() {
   fi
 }
 
-# judge EDIT: what a check with several edits says of this one. What it doesn't settle is tried again, alone where the function was
-# proved, or where the crate wasn't read to the end and a file that the edit changes is told of.
+# judge EDIT: what a check with several edits says of this one. What it doesn't settle is tried again: alone where its
+# function was proved, or where the crate wasn't read to the end and a file that the edit changes is told of.
 judge() {
   local function file line
   for function in ${functions[$1]}; do
@@ -316,11 +332,13 @@ try_round() {
     judge "$edit"
   done
   say "$crate: a round of ${#round[@]} edits, $((settled - before)) settled, $took s"
-  if [[ $settled -eq $before ]]; then
-    for edit in "${round[@]}"; do
-      alone[$edit]=${alone[$edit]:-waits}
-    done
-  fi
+  [[ $settled -eq $before ]] || return 0
+  for edit in "${round[@]}"; do
+    [[ -z ${alone[$edit]:-} ]] || return 0
+  done
+  for edit in "${round[@]}"; do
+    alone[$edit]=waits
+  done
 }
 
 # try_above EDIT: tries an edit that has a line "with: CRATE" by a check of that crate, which stands on the edited one.
