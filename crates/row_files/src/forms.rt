@@ -1,0 +1,109 @@
+//! The octets that a text stands for.
+
+use crate::fault::RowFault;
+use crate::marks::Written;
+use crate::row::RowText;
+use std::alloc::{AllocError, Global};
+
+/// How the texts of a row are read.
+#[derive(Clone, Copy)]
+pub struct Form {
+    pub lines: bool,
+    pub repeat: bool,
+    pub hex: bool,
+}
+
+/// Whether a word is among others.
+pub fn is_among(words: &[String], word: &str) -> bool {
+    words.iter().any(|other| other.as_str() == word)
+}
+
+/// How a row with these words has its texts read.
+pub fn form_of(words: &[String]) -> Form {
+    Form {
+        lines: is_among(words, "lines"),
+        repeat: is_among(words, "repeat"),
+        hex: is_among(words, "hex"),
+    }
+}
+
+/// Writes a piece so many times, each with a blank behind it.
+fn put_times(out: &mut String, piece: &str, times: usize) -> Result<(), AllocError> {
+    for _ in 0..times {
+        out.push_str(piece)?;
+        out.push(' ')?;
+    }
+    Ok(())
+}
+
+/// What lines of numbers and pieces stand for.
+fn repeated(alloc: Global, text: &str, number: usize) -> Result<String, RowFault> {
+    let mut out = String::new(alloc);
+    for line in text.lines() {
+        let (times, piece) = line.split_once(' ').unwrap_or((line, ""));
+        let times = times
+            .parse::<usize>()
+            .map_err(|_| RowFault::NoNumber(number))?;
+        put_times(&mut out, piece, times)?;
+    }
+    Ok(out)
+}
+
+/// The octets that hexadecimal digits tell.
+fn octets_of_hex(alloc: Global, text: &str, number: usize) -> Result<Vec<u8>, RowFault> {
+    let mut digits = Vec::new(alloc);
+    for octet in text.as_bytes() {
+        if !octet.is_ascii_whitespace() {
+            digits.push(*octet)?;
+        }
+    }
+    hex::decode(alloc, &digits).map_err(|_| RowFault::NoHex(number))
+}
+
+/// The octets of a text.
+fn octets_of(alloc: Global, form: Form, text: &str, number: usize) -> Result<Vec<u8>, RowFault> {
+    let mut whole = String::from_str(alloc, text)?;
+    if form.repeat {
+        whole = repeated(alloc, text, number)?;
+    }
+    if form.hex {
+        return octets_of_hex(alloc, whole.as_str(), number);
+    }
+    Ok(whole.into_bytes())
+}
+
+/// Puts a text, or each of its lines, behind the texts of a row.
+pub fn put_texts(
+    alloc: Global,
+    texts: &mut Vec<RowText>,
+    form: Form,
+    written: &Written,
+) -> Result<(), RowFault> {
+    let lines = written.lines.as_str();
+    if !form.lines {
+        let text = lines.strip_suffix('\n').unwrap_or(lines);
+        return put_text(alloc, texts, form, written, text, written.line);
+    }
+    let mut number = written.line;
+    for line in lines.lines() {
+        number = number.saturating_add(1);
+        put_text(alloc, texts, form, written, line, number)?;
+    }
+    Ok(())
+}
+
+fn put_text(
+    alloc: Global,
+    texts: &mut Vec<RowText>,
+    form: Form,
+    written: &Written,
+    text: &str,
+    number: usize,
+) -> Result<(), RowFault> {
+    texts.push(RowText {
+        name: written.name.clone()?,
+        line: number,
+        octets: octets_of(alloc, form, text, number)?,
+    })?;
+    Ok(())
+}

@@ -1,0 +1,139 @@
+//! The lines of a file, sorted by their marks.
+
+use crate::fault::RowFault;
+use std::alloc::Global;
+
+/// A row as it is written.
+#[derive(Drop)]
+pub struct Block {
+    pub line: usize,
+    pub words: Vec<String>,
+    pub texts: Vec<Written>,
+}
+
+/// A text as it is written: its lines, each with its end.
+#[derive(Drop)]
+pub struct Written {
+    pub name: String,
+    pub line: usize,
+    pub lines: String,
+}
+
+/// What a line is.
+enum Line<'t> {
+    Row(&'t str),
+    End,
+    Text(&'t str),
+    Other(&'t str),
+}
+
+/// Where a line stands.
+#[derive(Clone, Copy)]
+enum Place {
+    Outside,
+    Row,
+    Text,
+}
+
+fn line_of(line: &str) -> Line<'_> {
+    if let Some(words) = line.strip_prefix("=== ") {
+        return Line::Row(words);
+    }
+    if let Some(name) = line.strip_prefix("--- ") {
+        return Line::Text(name);
+    }
+    if line == "===" {
+        Line::End
+    } else {
+        Line::Other(line)
+    }
+}
+
+fn is_comment(line: &str) -> bool {
+    line.is_empty() || line == "#" || line.starts_with("# ")
+}
+
+/// The row that begins with these words.
+fn block_of(alloc: Global, words: &str, number: usize) -> Result<Block, RowFault> {
+    let mut found = Vec::new(alloc);
+    for word in words.split_ascii_whitespace() {
+        found.push(String::from_str(alloc, word)?)?;
+    }
+    if found.is_empty() {
+        return Err(RowFault::NoRow(number));
+    }
+    Ok(Block {
+        line: number,
+        words: found,
+        texts: Vec::new(alloc),
+    })
+}
+
+/// Begins a text of the last row.
+fn begin_text(
+    alloc: Global,
+    blocks: &mut Vec<Block>,
+    name: &str,
+    number: usize,
+) -> Result<(), RowFault> {
+    let Some(block) = blocks.last_mut() else {
+        return Err(RowFault::NoRow(number));
+    };
+    block.texts.push(Written {
+        name: String::from_str(alloc, name)?,
+        line: number,
+        lines: String::new(alloc),
+    })?;
+    Ok(())
+}
+
+/// Puts a line behind those of the last text.
+fn put_line(blocks: &mut Vec<Block>, line: &str) -> Result<(), RowFault> {
+    if let Some(block) = blocks.last_mut()
+        && let Some(text) = block.texts.last_mut()
+    {
+        text.lines.push_str(line)?;
+        text.lines.push('\n')?;
+    }
+    Ok(())
+}
+
+/// Reads a line, and answers where the next one stands.
+fn read_line(
+    alloc: Global,
+    blocks: &mut Vec<Block>,
+    place: Place,
+    line: &str,
+    number: usize,
+) -> Result<Place, RowFault> {
+    match (line_of(line), place) {
+        (Line::Row(words), _) => {
+            blocks.push(block_of(alloc, words, number)?)?;
+            Ok(Place::Row)
+        }
+        (Line::End, _) => Ok(Place::Outside),
+        (Line::Text(_), Place::Outside) => Err(RowFault::NoRow(number)),
+        (Line::Text(name), _) => {
+            begin_text(alloc, blocks, name, number)?;
+            Ok(Place::Text)
+        }
+        (Line::Other(line), Place::Text) => {
+            put_line(blocks, line)?;
+            Ok(Place::Text)
+        }
+        (Line::Other(line), _) if is_comment(line) => Ok(place),
+        (Line::Other(_), _) => Err(RowFault::NoMark(number)),
+    }
+}
+
+/// The rows of a file, as they are written.
+pub fn blocks_of(alloc: Global, file: &str) -> Result<Vec<Block>, RowFault> {
+    let mut blocks = Vec::new(alloc);
+    let mut place = Place::Outside;
+    let mut number = 0usize;
+    for line in file.lines() {
+        number = number.saturating_add(1);
+        place = read_line(alloc, &mut blocks, place, line, number)?;
+    }
+    Ok(blocks)
+}
