@@ -27,11 +27,23 @@ pub fn form_of(words: &[String]) -> Form {
     }
 }
 
-/// Writes a piece so many times, each with a blank behind it.
+/// Writes a piece with a number at each `#`, and a blank behind it.
+fn put_copy(out: &mut String, piece: &str, number: usize) -> Result<(), AllocError> {
+    let mut is_first = true;
+    for part in piece.split('#') {
+        if !is_first {
+            write!(out, "{number}")?;
+        }
+        out.push_str(part)?;
+        is_first = false;
+    }
+    out.push(' ')
+}
+
+/// Writes a piece so many times, with the copy's number, from 0, at each `#`.
 fn put_times(out: &mut String, piece: &str, times: usize) -> Result<(), AllocError> {
-    for _ in 0..times {
-        out.push_str(piece)?;
-        out.push(' ')?;
+    for number in 0..times {
+        put_copy(out, piece, number)?;
     }
     Ok(())
 }

@@ -10,8 +10,8 @@
 //! Words of a row that change how its texts are read, in this order:
 //!
 //! - `lines`: each line is a text of its own.
-//! - `repeat`: each line is `NUMBER TEXT`, and stands for so many times TEXT, each with a blank behind it; all of a
-//!   text's lines stand one behind the other.
+//! - `repeat`: each line is `NUMBER TEXT`, and stands for so many times TEXT, each with a blank behind it, and with
+//!   its own number, from 0, in the place of each `#`. All of a text's lines stand one behind the other.
 //! - `hex`: the text is hexadecimal octets. White space is left out.
 #![tactic(auto)]
 

@@ -1,0 +1,89 @@
+//! Constraints as they are read.
+
+use crate::pieces::{put_number, put_reference, put_text};
+use notation::{CharsSyntax, ConstraintSyntax, EndSyntax, RangeSyntax, RangesSyntax, SizeSyntax};
+use std::alloc::AllocError;
+
+fn put_end(out: &mut String, end: &EndSyntax) -> Result<(), AllocError> {
+    match end {
+        EndSyntax::Number(minus, number) => put_number(out, *minus, *number),
+        EndSyntax::Reference(module, name) => put_reference(out, module, name.as_str()),
+    }
+}
+
+/// Writes an end, or the word that stands where there is none.
+fn put_end_or(out: &mut String, end: &Option<EndSyntax>, word: &str) -> Result<(), AllocError> {
+    match end {
+        Some(end) => put_end(out, end),
+        None => out.push_str(word),
+    }
+}
+
+fn put_range(out: &mut String, range: &RangeSyntax) -> Result<(), AllocError> {
+    match range {
+        RangeSyntax::Single(end) => put_end(out, end),
+        RangeSyntax::Between(least, greatest) => {
+            put_end_or(out, least, "MIN")?;
+            out.push_str("..")?;
+            put_end_or(out, greatest, "MAX")
+        }
+    }
+}
+
+fn put_ranges(out: &mut String, ranges: &RangesSyntax) -> Result<(), AllocError> {
+    let mut mark = "";
+    for range in &ranges.ranges {
+        out.push_str(mark)?;
+        put_range(out, range)?;
+        mark = " | ";
+    }
+    Ok(())
+}
+
+fn put_chars(out: &mut String, chars: &[CharsSyntax]) -> Result<(), AllocError> {
+    let mut mark = "";
+    for part in chars {
+        out.push_str(mark)?;
+        put_text(out, &part.first)?;
+        if let Some(last) = &part.last {
+            out.push_str("..")?;
+            put_text(out, last)?;
+        }
+        mark = " | ";
+    }
+    Ok(())
+}
+
+pub fn put_size(out: &mut String, size: &SizeSyntax) -> Result<(), AllocError> {
+    out.push_str("(SIZE ")?;
+    put_ranges(out, &size.sizes)?;
+    out.push(')')
+}
+
+pub fn put_constraint(out: &mut String, constraint: &ConstraintSyntax) -> Result<(), AllocError> {
+    match constraint {
+        ConstraintSyntax::Values(ranges) => {
+            out.push('(')?;
+            put_ranges(out, ranges)?;
+            out.push(')')
+        }
+        ConstraintSyntax::Size(size) => put_size(out, size),
+        ConstraintSyntax::From(chars) => {
+            out.push_str("(FROM ")?;
+            put_chars(out, chars)?;
+            out.push(')')
+        }
+    }
+}
+
+/// Writes constraints, each behind a blank.
+pub fn put_constraints(
+    out: &mut String,
+    constraints: &[ConstraintSyntax],
+) -> Result<(), AllocError> {
+    for constraint in constraints {
+        out.push(' ')?;
+        put_constraint(out, constraint)?;
+    }
+    Ok(())
+}

@@ -1,0 +1,70 @@
+//! Modules as they are read.
+
+use crate::pieces::put_names;
+use crate::types::put_type;
+use crate::values::put_value;
+use std::alloc::AllocError;
+use syntax::{Assignment, Import, Module, TagDefault};
+
+fn put_assignment(out: &mut String, assignment: &Assignment) -> Result<(), AllocError> {
+    match assignment {
+        Assignment::Type(assignment) => {
+            write!(out, "{} ::= ", assignment.name)?;
+            put_type(out, &assignment.syntax)
+        }
+        Assignment::Value(assignment) => {
+            write!(out, "{} ", assignment.name)?;
+            put_type(out, &assignment.syntax)?;
+            out.push_str(" ::= ")?;
+            put_value(out, &assignment.value)
+        }
+    }
+}
+
+pub fn put_assignments(out: &mut String, assignments: &[Assignment]) -> Result<(), AllocError> {
+    if assignments.is_empty() {
+        return out.push_str("nothing");
+    }
+    let mut mark = "";
+    for assignment in assignments {
+        out.push_str(mark)?;
+        put_assignment(out, assignment)?;
+        mark = "; ";
+    }
+    Ok(())
+}
+
+fn put_imports(out: &mut String, imports: &[Import]) -> Result<(), AllocError> {
+    if imports.is_empty() {
+        return out.push_str("none");
+    }
+    let mut mark = "";
+    for import in imports {
+        out.push_str(mark)?;
+        put_names(out, &import.names)?;
+        write!(out, " FROM {}", import.module)?;
+        mark = " ";
+    }
+    Ok(())
+}
+
+fn put_exports(out: &mut String, exports: &Option<Vec<String>>) -> Result<(), AllocError> {
+    match exports {
+        Some(names) => put_names(out, names),
+        None => out.push_str("ALL"),
+    }
+}
+
+pub fn put_module(out: &mut String, module: &Module) -> Result<(), AllocError> {
+    let tags = match module.tag_default {
+        TagDefault::Explicit => "EXPLICIT",
+        TagDefault::Implicit => "IMPLICIT",
+        TagDefault::Automatic => "AUTOMATIC",
+    };
+    write!(out, "{} {tags} TAGS; EXPORTS ", module.name)?;
+    put_exports(out, &module.exports)?;
+    out.push_str("; IMPORTS ")?;
+    put_imports(out, &module.imports)?;
+    out.push_str("; ")?;
+    put_assignments(out, &module.assignments)
+}

@@ -1,0 +1,54 @@
+//! Small parts of what is written.
+
+use std::alloc::AllocError;
+
+/// Writes octets: printable ones as they are, others as `\xNN`.
+pub fn put_octets(out: &mut String, octets: &[u8]) -> Result<(), AllocError> {
+    for octet in octets {
+        if octet.is_ascii_graphic() || *octet == b' ' {
+            out.push(char::from(*octet))?;
+        } else {
+            write!(out, "\\x{octet:02X}")?;
+        }
+    }
+    Ok(())
+}
+
+/// Writes a text between back quotes.
+pub fn put_text(out: &mut String, octets: &[u8]) -> Result<(), AllocError> {
+    out.push('`')?;
+    put_octets(out, octets)?;
+    out.push('`')
+}
+
+pub fn put_number(out: &mut String, minus: bool, number: u128) -> Result<(), AllocError> {
+    if minus {
+        out.push('-')?;
+    }
+    write!(out, "{number}")
+}
+
+/// Writes a name, behind the name of a module if one is given.
+pub fn put_reference(
+    out: &mut String,
+    module: &Option<String>,
+    name: &str,
+) -> Result<(), AllocError> {
+    if let Some(module) = module {
+        write!(out, "{module}.")?;
+    }
+    out.push_str(name)
+}
+
+/// Writes names with commas between them, or that there are none.
+pub fn put_names(out: &mut String, names: &[String]) -> Result<(), AllocError> {
+    if names.is_empty() {
+        return out.push_str("none");
+    }
+    let mut mark = "";
+    for name in names {
+        write!(out, "{mark}{name}")?;
+        mark = ", ";
+    }
+    Ok(())
+}
