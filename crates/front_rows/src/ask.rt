@@ -160,12 +160,7 @@ fn answer_module(
 }
 
 /// Writes what a row asks of a text's tokens.
-fn answer_part(
-    alloc: Global,
-    out: &mut String,
-    row: &Row,
-    text: &[u8],
-) -> Result<(), AllocError> {
+fn answer_part(alloc: Global, out: &mut String, row: &Row, text: &[u8]) -> Result<(), AllocError> {
     let tokens = match text::lex(alloc, text) {
         Ok(tokens) => tokens,
         Err(fault) => return write!(out, "{fault}"),
@@ -189,12 +184,7 @@ fn put_memory(out: &mut String, what: &[u8]) -> Result<(), AllocError> {
 }
 
 /// Writes what a row asks of a text.
-pub fn answer(
-    alloc: Global,
-    out: &mut String,
-    row: &Row,
-    octets: &[u8],
-) -> Result<(), AllocError> {
+pub fn answer(alloc: Global, out: &mut String, row: &Row, octets: &[u8]) -> Result<(), AllocError> {
     if let Some((before, behind)) = around(row.command()) {
         return answer_module(alloc, out, row, octets, before, behind);
     }

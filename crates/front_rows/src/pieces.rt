@@ -52,3 +52,8 @@ pub fn put_names(out: &mut String, names: &[String]) -> Result<(), AllocError> {
     }
     Ok(())
 }
+
+/// Writes a comma before each part but the first.
+pub fn put_comma(out: &mut String, is_first: bool) -> Result<(), AllocError> {
+    if is_first { Ok(()) } else { out.push_str(", ") }
+}

@@ -60,7 +60,11 @@ pub fn put_tokens(out: &mut String, text: &[u8], tokens: &[Token]) -> Result<(),
     let mut mark = "";
     for token in tokens {
         let kind = kind_text(token.kind);
-        write!(out, "{mark}{kind} {}..{} ", token.span.start, token.span.end)?;
+        write!(
+            out,
+            "{mark}{kind} {}..{} ",
+            token.span.start, token.span.end
+        )?;
         put_spelling(out, text, *token)?;
         mark = " | ";
     }

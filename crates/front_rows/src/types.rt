@@ -1,14 +1,12 @@
 //! Types as they are read.
 
 use crate::constraints::{put_constraints, put_size};
-use crate::pieces::{put_number, put_reference};
+use crate::pieces::{put_comma, put_number, put_reference};
 use crate::values::put_value;
 use asn_base::tag::{Class, Tag};
 use notation::SizeSyntax;
 use std::alloc::AllocError;
-use syntax::{
-    EnumeratedItem, Keyword, Member, NamedBit, NamedNumber, PresenceSyntax, TypeSyntax,
-};
+use syntax::{EnumeratedItem, Keyword, Member, NamedBit, NamedNumber, PresenceSyntax, TypeSyntax};
 
 fn put_named_numbers(out: &mut String, numbers: &[NamedNumber]) -> Result<(), AllocError> {
     let mut mark = "{";
@@ -74,12 +72,13 @@ fn put_presence(out: &mut String, presence: &PresenceSyntax) -> Result<(), Alloc
 #[cycle(put_type)]
 fn put_members(out: &mut String, members: &[Member<TypeSyntax>]) -> Result<(), AllocError> {
     out.push('{')?;
-    let mut mark = "";
+    let mut is_first = true;
     for member in members {
-        write!(out, "{mark}{} ", member.name)?;
+        put_comma(out, is_first)?;
+        write!(out, "{} ", member.name)?;
         put_type(out, &member.syntax)?;
         put_presence(out, &member.presence)?;
-        mark = ", ";
+        is_first = false;
     }
     out.push('}')
 }

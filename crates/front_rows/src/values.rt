@@ -1,6 +1,6 @@
 //! Values as they are read.
 
-use crate::pieces::{put_number, put_reference, put_text};
+use crate::pieces::{put_comma, put_number, put_reference, put_text};
 use notation::{Named, ValueSyntax};
 use std::alloc::AllocError;
 
@@ -25,11 +25,11 @@ fn put_numbers(out: &mut String, numbers: &[u128]) -> Result<(), AllocError> {
 #[cycle(put_value)]
 fn put_items(out: &mut String, items: &[ValueSyntax]) -> Result<(), AllocError> {
     out.push_str("items{")?;
-    let mut mark = "";
+    let mut is_first = true;
     for item in items {
-        out.push_str(mark)?;
+        put_comma(out, is_first)?;
         put_value(out, item)?;
-        mark = ", ";
+        is_first = false;
     }
     out.push('}')
 }
@@ -37,11 +37,12 @@ fn put_items(out: &mut String, items: &[ValueSyntax]) -> Result<(), AllocError> 
 #[cycle(put_value)]
 fn put_fields(out: &mut String, fields: &[Named<ValueSyntax>]) -> Result<(), AllocError> {
     out.push_str("fields{")?;
-    let mut mark = "";
+    let mut is_first = true;
     for field in fields {
-        write!(out, "{mark}{} = ", field.name)?;
+        put_comma(out, is_first)?;
+        write!(out, "{} = ", field.name)?;
         put_value(out, &field.value)?;
-        mark = ", ";
+        is_first = false;
     }
     out.push('}')
 }

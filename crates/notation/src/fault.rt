@@ -8,7 +8,7 @@ use std::alloc::{AllocError, AllocFailed};
 use thiserror::Error;
 
 /// A limit that is passed.
-#[derive(Clone, Copy, Debug, PartialEq, Eq)]
+#[derive(Clone, Copy, Debug)]
 pub enum Limit {
     /// At most 128 braces, tags, list types and values of alternatives are open at one place.
     Nesting,
@@ -52,7 +52,7 @@ impl<T: Drop> From<AllocFailed<T>> for SyntaxFault {
 }
 
 /// Why a part could not be read, with the number of tokens from the first wrong one on.
-#[derive(Debug, Drop)]
+#[derive(Drop)]
 pub enum ReadError {
     /// There was not enough memory.
     Memory,

@@ -4,7 +4,7 @@ use asn_base::tag::Tag;
 use notation::{ConstraintSyntax, SizeSyntax, ValueSyntax};
 
 /// A module as it is written (X.680, clause 13.1).
-#[derive(Debug, Drop)]
+#[derive(Drop)]
 pub struct Module {
     pub name: String,
     /// What tags in the module are if nothing else stands behind them.
@@ -18,7 +18,7 @@ pub struct Module {
 }
 
 /// What stands before `TAGS` (X.680, clause 13.2).
-#[derive(Clone, Copy, Debug, PartialEq, Eq)]
+#[derive(Clone, Copy, Debug)]
 pub enum TagDefault {
     /// `EXPLICIT TAGS`, or nothing.
     Explicit,
@@ -29,28 +29,28 @@ pub enum TagDefault {
 }
 
 /// Names, one at least, and the module that they are imported from: `a, B FROM Module` (X.680, clause 13.13).
-#[derive(Debug, Drop)]
+#[derive(Drop)]
 pub struct Import {
     pub names: Vec<String>,
     pub module: String,
 }
 
 /// An assignment (X.680, clause 13.1).
-#[derive(Debug, Drop)]
+#[derive(Drop)]
 pub enum Assignment {
     Type(TypeAssignment),
     Value(ValueAssignment),
 }
 
 /// `Name ::= Type` (X.680, clause 16.1).
-#[derive(Debug, Drop)]
+#[derive(Drop)]
 pub struct TypeAssignment {
     pub name: String,
     pub syntax: TypeSyntax,
 }
 
 /// `name Type ::= value` (X.680, clause 16.2).
-#[derive(Debug, Drop)]
+#[derive(Drop)]
 pub struct ValueAssignment {
     pub name: String,
     pub syntax: TypeSyntax,
@@ -58,7 +58,7 @@ pub struct ValueAssignment {
 }
 
 /// A type as it is written (X.680, clause 17.1).
-#[derive(Debug, Drop)]
+#[derive(Drop)]
 pub enum TypeSyntax {
     /// `BOOLEAN`
     Boolean,
@@ -105,7 +105,7 @@ pub enum TypeSyntax {
 }
 
 /// The word behind a tag (X.680, clause 31.2.1).
-#[derive(Clone, Copy, Debug, PartialEq, Eq)]
+#[derive(Clone, Copy, Debug)]
 pub enum Keyword {
     /// Neither word.
     Absent,
@@ -138,7 +138,7 @@ pub struct EnumeratedItem {
 }
 
 /// A member of a SEQUENCE, a SET or a CHOICE (X.680, clause 25.1): its name, its type and whether it may be absent.
-#[derive(Debug, Drop)]
+#[derive(Drop)]
 pub struct Member<T> {
     pub name: String,
     pub syntax: T,
