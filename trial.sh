@@ -237,7 +237,7 @@ judge_alone() {
     tell "$1" "$(first_function "$1")" "DOESN'T COMPILE"
   elif [[ -z $verdict ]]; then
     tell "$1" "$(first_function "$1")" "NO VERDICT"
-  elif [[ ${alone[$1]} == definition ]] && is_unread; then
+  elif [[ ${alone[$1]:-} == definition ]] && is_unread; then
     tell "$1" "$(told_elsewhere)" "CAN'T BE READ"
   else
     for function in ${functions[$1]}; do
