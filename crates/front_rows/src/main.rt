@@ -12,7 +12,7 @@
 //! - `octets`: the octets that the text stands for.
 //! - `memory`: what is printed where memory runs out, of `lexical items` or `modules`.
 //!
-//! In a row with the word `brief` a tree is told only by `read`. Octets that are not printable ASCII are written `\xNN`.
+//! In a row with the word `brief` a tree is told only by `read`. Octets that are not printable ASCII are `\xNN`.
 //!
 //! Trees are written as notation that tells apart what one notation may mean. `numbers{1 2}`, `items{1, 2}` and
 //! `fields{a = 1, b = 2}` are values in braces; a text stands between back quotes, two quotes as one. `<..>` stands

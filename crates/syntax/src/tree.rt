@@ -105,7 +105,7 @@ pub enum TypeSyntax {
 }
 
 /// The word behind a tag (X.680, clause 31.2.1).
-#[derive(Clone, Copy, Debug)]
+#[derive(Clone, Copy, Debug, PartialEq, Eq)]
 pub enum Keyword {
     /// Neither word.
     Absent,
