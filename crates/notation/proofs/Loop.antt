@@ -13,15 +13,15 @@ use Rattle.grammar.specs.Loops.{Shrinks, sound_short, regroup, listed_fail, comm
 use Rattle.notation.specs.declared.fault.ReadError.{ReadError}
 use Rattle.notation.specs.declared.fault.ReadError.TheVariants as errors
 use Rattle.notation.specs.declared.fault.Limit.TheVariants as limits
-use Rattle.notation.specs.declared.tree.ValueSyntax.{ValueSyntax}
-use Rattle.notation.specs.declared.tree.ValueSyntax.TheViews.{Fields}
-use Rattle.notation.specs.declared.tree.ValueSyntax.TheVariants.{rolls-Fields}
-use Rattle.notation.specs.declared.tree.ValueSyntax.TheOpen as opened
-use Rattle.notation.specs.declared.tree.ValueSyntax.TheShapes.{former-ValueSyntax-Fields-0-at-2}
-use Rattle.notation.specs.declared.tree.ValueSyntax.TheFolds.{fold-roll-ValueSyntax}
-use Rattle.notation.specs.declared.tree.Named.{Named}
+use Rattle.trees.specs.declared.value.ValueSyntax.{ValueSyntax}
+use Rattle.trees.specs.declared.value.ValueSyntax.TheViews.{Fields}
+use Rattle.trees.specs.declared.value.ValueSyntax.TheVariants.{rolls-Fields}
+use Rattle.trees.specs.declared.value.ValueSyntax.TheOpen as opened
+use Rattle.trees.specs.declared.value.ValueSyntax.TheShapes.{former-ValueSyntax-Fields-0-at-2}
+use Rattle.trees.specs.declared.value.ValueSyntax.TheFolds.{fold-roll-ValueSyntax}
+use Rattle.trees.specs.declared.value.Named.{Named}
 use Rattle.notation.specs.Given.{Fails}
-use Rattle.notation.specs.Tree.{Name, Tree, fields, members, layer, tree_of, member_of}
+use Rattle.trees.specs.Values.{Name, Tree, fields, members, layer, tree_of, member_of}
 use Rattle.notation.specs.Value.{value}
 use Rattle.notation.specs.Reading.{alternative_at, step_at, value_at, next_number, numbers_at}
 use Rattle.notation.proofs.Sounds.{value_sound}

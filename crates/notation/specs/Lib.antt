@@ -1,5 +1,5 @@
-pub mod Tree
-pub mod Constraint
+pub use Rattle.trees.specs.Values
+pub use Rattle.trees.specs.Constraints
 pub mod Value
 pub mod ConstraintGrammar
 pub mod Reading

@@ -10,7 +10,7 @@ use Rattle.grammar.specs.Places.{any, small}
 use Rattle.notation.specs.Laws.{starts}
 use Rattle.notation.specs.Value.{value}
 use Rattle.syntax.specs.PartLaws.{PartLaws}
-use Rattle.syntax.specs.Types.{type}
+use Rattle.syntax.specs.TypeGrammar.{type}
 use Rattle.syntax.specs.Syntax.{assignment}
 use Rattle.syntax.specs.Reading.{begins_assignment, assignment_at}
 use Rattle.syntax.proofs.Items.{is_end}

@@ -10,12 +10,13 @@ use Rattle.grammar.specs.Manies.{Consumes, consumes}
 use Rattle.grammar.specs.Places.{small}
 use Rattle.grammar.specs.Grows.{Grows, same_grows, seq_grows, made_grows, either_grows, behind_grows}
 use Rattle.grammar.specs.Parts.{SoundReader, token_sound, token_finds, token_solid, seq_finds, pair_sound, pair_finds, pair_solid, pick, pick_sound, pick_finds, either_solid, same_sound, same_finds}
-use Rattle.notation.specs.Tree.{Tree}
+use Rattle.trees.specs.Values.{Tree}
 use Rattle.notation.specs.Value.{value}
 use Rattle.notation.specs.Reading.{value_at}
 use Rattle.notation.specs.Laws.{goes_on}
-use Rattle.syntax.specs.Tree.{TypeTree, AssignmentTree, assigns_type, assigns_value}
-use Rattle.syntax.specs.Types.{type}
+use Rattle.trees.specs.Types.{TypeTree}
+use Rattle.trees.specs.Modules.{AssignmentTree, assigns_type, assigns_value}
+use Rattle.syntax.specs.TypeGrammar.{type}
 use Rattle.syntax.specs.TypeReading.{type_at}
 use Rattle.syntax.specs.Reading.{assign_at, module_name_at, then_at, typed_at, begins_assignment, assignment_at}
 use Rattle.syntax.specs.PartLaws.{PartLaws}

@@ -10,9 +10,9 @@ use Rattle.grammar.specs.Lists.{no_lexeme, is_ident, with_comma}
 use Rattle.grammar.specs.Loops.{Shrinks, sound_short}
 use Rattle.grammar.specs.Parts.{IsKind, pick, perhaps}
 use Rattle.notation.specs.Rules.{Rules, either, rule_token, rule_made, rule_seq, rule_behind, rule_lead, rule_pick, rule_listed, loose_optional, rule_read, made, read_again, one_at, one_is}
-use Rattle.notation.specs.Tree.{Name}
-use Rattle.syntax.specs.declared.tree.TagDefault.{TagDefault}
-use Rattle.syntax.specs.declared.tree.TagDefault.TheVariants as defaults
+use Rattle.trees.specs.Values.{Name}
+use Rattle.trees.specs.declared.module.TagDefault.{TagDefault}
+use Rattle.trees.specs.declared.module.TagDefault.TheVariants as defaults
 use Rattle.syntax.specs.Reading.{tags_at, module_name_at}
 use Rattle.syntax.specs.Heading.{default_words, symbol, symbols, names_in, exports}
 use Rattle.syntax.specs.HeadingReading.{tag_word_at, default_words_at, semicolon_at, symbol_at, some_exports_at, all_exports_at, no_exports_at, exported_at, exports_at}

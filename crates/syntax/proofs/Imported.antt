@@ -18,8 +18,8 @@ use Rattle.notation.specs.Parens.{rule_parens}
 use Rattle.notation.specs.Rules.{Rules, either, rule_token, rule_made, rule_seq, rule_behind, rule_tail, rule_lead, rule_pair, rule_pick, loose_optional, loose_many, rule_read, rule_tests, is_number, number_at, rule_number, fitting_made, made, read_again, one_at, one_is}
 use Rattle.notation.specs.ConstraintReading.{is_open, parens_at}
 use Rattle.notation.specs.ConstraintGrammar.{parens}
-use Rattle.notation.specs.Tree.{Name}
-use Rattle.syntax.specs.Tree.{ImportTree}
+use Rattle.trees.specs.Values.{Name}
+use Rattle.trees.specs.Modules.{ImportTree}
 use Rattle.syntax.specs.Reading.{module_name_at}
 use Rattle.syntax.specs.Heading.{arc, oid, import_from, imports}
 use Rattle.syntax.specs.ImportReading.{begins_arc, begins_symbol, arc_number_at, behind_arc_at, arc_at, more_arcs_at, arcs_at, oid_at, behind_module_at, module_ref_at, from_module_at, import_from_at, imported_at, imports_at}

@@ -15,22 +15,22 @@ use Rattle.grammar.specs.Manies.{Consumes, consumes, is_begun_by, many_fail}
 use Rattle.notation.specs.declared.fault.ReadError.{ReadError}
 use Rattle.notation.specs.declared.fault.ReadError.TheVariants as errors
 use Rattle.notation.specs.Given.{Fails}
-use Rattle.notation.specs.Constraint.{RangeTree, ConstraintTree}
+use Rattle.trees.specs.Constraints.{RangeTree, ConstraintTree}
 use Rattle.notation.specs.ConstraintGrammar.{parens, constraint}
 use Rattle.notation.specs.ConstraintReading.{parens_at, constraint_at}
 use Rattle.notation.specs.Rules.{number_at, made}
-use Rattle.notation.specs.Tree.{Name, Tree}
+use Rattle.trees.specs.Values.{Name, Tree}
 use Rattle.notation.specs.Value.{value}
 use Rattle.notation.specs.Reading.{value_at}
-use Rattle.syntax.specs.declared.tree.TypeSyntax.{TypeSyntax}
-use Rattle.syntax.specs.declared.tree.TypeSyntax.TheViews as views
-use Rattle.syntax.specs.declared.tree.TypeSyntax.TheVariants.{rolls-Sequence, rolls-Set, rolls-Choice}
-use Rattle.syntax.specs.declared.tree.TypeSyntax.TheOpen as opened
-use Rattle.syntax.specs.declared.tree.TypeSyntax.TheShapes.{former-TypeSyntax-Sequence-0-at-3}
-use Rattle.syntax.specs.declared.tree.TypeSyntax.TheFolds.{fold-roll-TypeSyntax}
-use Rattle.syntax.specs.declared.tree.Member.{Member}
-use Rattle.syntax.specs.Tree.{PresenceTree, presence_of, TypeTree, a_sequence, a_set, a_choice, a_constrained, type_members, type_layer, type_tree_of, type_member_of}
-use Rattle.syntax.specs.Types.{list_of, constrained, signed, member, alternative, type}
+use Rattle.trees.specs.declared.types.TypeSyntax.{TypeSyntax}
+use Rattle.trees.specs.declared.types.TypeSyntax.TheViews as views
+use Rattle.trees.specs.declared.types.TypeSyntax.TheVariants.{rolls-Sequence, rolls-Set, rolls-Choice}
+use Rattle.trees.specs.declared.types.TypeSyntax.TheOpen as opened
+use Rattle.trees.specs.declared.types.TypeSyntax.TheShapes.{former-TypeSyntax-Sequence-0-at-3}
+use Rattle.trees.specs.declared.types.TypeSyntax.TheFolds.{fold-roll-TypeSyntax}
+use Rattle.trees.specs.declared.types.Member.{Member}
+use Rattle.trees.specs.Types.{PresenceTree, presence_of, TypeTree, a_sequence, a_set, a_choice, a_constrained, type_members, type_layer, type_tree_of, type_member_of}
+use Rattle.syntax.specs.TypeGrammar.{list_of, constrained, signed, member, alternative, type}
 use Rattle.syntax.specs.TypeReading.{component_at, bare_at, body_at, choice_at, tagged_at, signed_at, item_number_at, one_type_at, with_constraints_at, plain_at, list_size_at, of_at, list_at, structure_at, behind_at, type_step, type_at}
 use Rattle.syntax.specs.PartLaws.{PartLaws}
 use Rattle.syntax.proofs.TypeParts.{rule_number_named, rule_bit_named, rule_item}

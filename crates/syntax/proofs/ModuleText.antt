@@ -13,7 +13,7 @@ use Rattle.grammar.specs.Places.{any, small, free, unbounded}
 use Rattle.grammar.specs.Answers.{Reads, unbound}
 use Rattle.grammar.specs.Parts.{SoundReader, token_sound, token_finds, token_solid, seq_finds, open_finds, open_solid}
 use Rattle.notation.specs.Rules.{Rules, either, no_left, no_right, bor_left, bor_right}
-use Rattle.syntax.specs.Tree.{AssignmentTree, ModuleTree}
+use Rattle.trees.specs.Modules.{AssignmentTree, ModuleTree}
 use Rattle.syntax.specs.Heading.{HeadTree, head}
 use Rattle.syntax.specs.Syntax.{assignment, module_of, module_text}
 use Rattle.syntax.specs.Reading.{end_at, begins_assignment, assignment_at, assignments_at}

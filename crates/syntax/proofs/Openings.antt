@@ -9,7 +9,7 @@ use Rattle.grammar.specs.Laws.{more, Sound, Follows, Passes, Stands, Finds, pass
 use Rattle.grammar.specs.Lists.{is_ident, seq_first, seq_solid, named_sound, finds_named}
 use Rattle.grammar.specs.Parts.{SoundReader, token_finds, token_solid, cut_off_finds, cut_off_solid, pair_sound, pair_finds, pair_solid, same_sound, same_finds}
 use Rattle.notation.specs.Rules.{Owes, OwesLoosely, Same, rule_token, rule_behind, rule_read, rule_same, made, read_again, taken, one_at, one_is}
-use Rattle.syntax.specs.Types.{opens}
+use Rattle.syntax.specs.TypeGrammar.{opens}
 
 -- ---- small rules
 

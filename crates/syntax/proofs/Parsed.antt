@@ -13,7 +13,7 @@ use Rattle.notation.specs.declared.fault.Limit.TheVariants as limits
 use Rattle.notation.specs.declared.fault.SyntaxFault.TheVariants as faults
 use Rattle.notation.specs.Given.{limit_of}
 use Rattle.notation.specs.Answer.{Stands}
-use Rattle.syntax.specs.Tree.{ModuleTree}
+use Rattle.trees.specs.Modules.{ModuleTree}
 use Rattle.syntax.specs.Syntax.{module_text}
 use Rattle.syntax.specs.ModuleReading.{module_at}
 use Rattle.syntax.proofs.Assigned.{AssignmentLaws}

@@ -13,7 +13,7 @@ use Rattle.notation.specs.declared.fault.ReadError.{ReadError}
 use Rattle.notation.specs.declared.fault.ReadError.TheVariants as errors
 use Rattle.notation.specs.Given.{Fails}
 use Rattle.notation.specs.Rules.{made}
-use Rattle.syntax.specs.Types.{TagNumber, application_tag, private_tag, context_tag}
+use Rattle.syntax.specs.TypeGrammar.{TagNumber, application_tag, private_tag, context_tag}
 use Rattle.syntax.specs.TypeReading.{by_limit, bracket_at, low, low_number_at, low_end_at, tag_number_at, tag_end_at, application_at, private_at, context_at}
 
 -- ---- tags of one class and number are equal

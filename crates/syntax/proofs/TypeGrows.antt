@@ -6,10 +6,10 @@ use Rattle.grammar.specs.Grammar.{Grammar, number_of, ◌∙◌, ◌∣◌, ◌�
 use Rattle.grammar.specs.Grows.{Grows, same_grows, number_grows, seq_grows, made_grows, either_grows, many_grows, behind_grows, listed_grows, braces_grows}
 use Rattle.notation.specs.Rules.{bor}
 use Rattle.notation.specs.ConstraintGrammar.{parens, size, constraint}
-use Rattle.notation.specs.Tree.{Tree}
+use Rattle.trees.specs.Values.{Tree}
 use Rattle.notation.specs.Value.{value}
-use Rattle.syntax.specs.Tree.{TypeTree}
-use Rattle.syntax.specs.Types.{opens, members, choice, signed, integer, bit_string, enumerated, tag_number, tag_end, tag, tagged, one_type, list, type_with, type}
+use Rattle.trees.specs.Types.{TypeTree}
+use Rattle.syntax.specs.TypeGrammar.{opens, members, choice, signed, integer, bit_string, enumerated, tag_number, tag_end, tag, tagged, one_type, list, type_with, type}
 
 same : {A : Type 0} {a : Grammar A} → Grows a a
 same {A} {a} = same_grows a

@@ -12,13 +12,13 @@ use Rattle.grammar.specs.Numbers.{Past}
 use Rattle.grammar.specs.Parts.{pick, perhaps}
 use Rattle.notation.specs.Parens.{rule_parens}
 use Rattle.notation.specs.Rules.{Owes, OwesLoosely, Rules, asked, either, rule_token, rule_made, rule_seq, rule_behind, rule_tail, rule_pick, rule_listed, loose_optional, loose_made, rule_read, is_number, number_at, rule_number, fitting_made, made, read_again, one_at}
-use Rattle.notation.specs.Tree.{Name}
+use Rattle.trees.specs.Values.{Name}
 use Rattle.notation.specs.ConstraintGrammar.{parens}
 use Rattle.notation.specs.ConstraintReading.{is_open, parens_at}
-use Rattle.syntax.specs.declared.tree.Keyword.{Keyword}
-use Rattle.syntax.specs.declared.tree.Keyword.TheVariants as keywords
-use Rattle.syntax.specs.Tree.{TypeTree, an_enumerated, a_named_integer}
-use Rattle.syntax.specs.Types.{referred, integer_with, bits_with, keyword_of, TagNumber, application_tag, private_tag, context_tag, ref, sequence_or_set, keyword, tag_fits, signed, integer, bit_string, enumerated, tag_end, tag}
+use Rattle.trees.specs.declared.types.Keyword.{Keyword}
+use Rattle.trees.specs.declared.types.Keyword.TheVariants as keywords
+use Rattle.trees.specs.Types.{TypeTree, an_enumerated, a_named_integer}
+use Rattle.syntax.specs.TypeGrammar.{referred, integer_with, bits_with, keyword_of, TagNumber, application_tag, private_tag, context_tag, ref, sequence_or_set, keyword, tag_fits, signed, integer, bit_string, enumerated, tag_end, tag}
 use Rattle.syntax.specs.Reading.{module_name_at}
 use Rattle.syntax.specs.TypeReading.{string_at, type_in_at, ref_at, keyword_at, list_in_at, tag_end_at, application_at, private_at, context_at, tag_at, negative_at, signed_at, given_at, item_number_at, numbers_in_at, bits_in_at, items_in_at, integer_at, bits_at, bit_string_at, enumerated_at}
 use Rattle.syntax.proofs.Items.{is_closed, closed_is, is_typeref, typeref_is}

@@ -13,13 +13,13 @@ use Rattle.grammar.specs.Parts.{pick, perhaps}
 use Rattle.notation.specs.Laws.{goes_on}
 use Rattle.notation.specs.Parens.{rule_parens}
 use Rattle.notation.specs.Rules.{Owes, OwesLoosely, Rules, Same, Ruled, asked, either, rule_token, rule_made, rule_seq, rule_behind, rule_tail, rule_lead, rule_pick, rule_listed, loose_optional, loose_many, loose_made, rule_read, rule_tests, rule_same, is_number, made, one_at}
-use Rattle.notation.specs.Tree.{Name, Tree}
-use Rattle.notation.specs.Constraint.{RangeTree, ConstraintTree}
+use Rattle.trees.specs.Values.{Name, Tree}
+use Rattle.trees.specs.Constraints.{RangeTree, ConstraintTree}
 use Rattle.notation.specs.ConstraintGrammar.{parens, size, constraint}
 use Rattle.notation.specs.ConstraintReading.{is_open, is_size, parens_at, size_at, constraint_at}
-use Rattle.syntax.specs.declared.tree.Keyword.{Keyword}
-use Rattle.syntax.specs.Tree.{PresenceTree, mandatory, optional as may_be_absent, default, TypeTree, an_object_identifier, an_octet_string, a_choice, a_tagged, TypeMembers, type_members}
-use Rattle.syntax.specs.Types.{opens, members_of, with_members, list_of, present, constrained, sequence_or_set, keyword, presence, member, alternative, members, choice, tag_fits, tag, tagged, one_type, type_with}
+use Rattle.trees.specs.declared.types.Keyword.{Keyword}
+use Rattle.trees.specs.Types.{PresenceTree, mandatory, optional as may_be_absent, default, TypeTree, an_object_identifier, an_octet_string, a_choice, a_tagged, TypeMembers, type_members}
+use Rattle.syntax.specs.TypeGrammar.{opens, members_of, with_members, list_of, present, constrained, sequence_or_set, keyword, presence, member, alternative, members, choice, tag_fits, tag, tagged, one_type, type_with}
 use Rattle.syntax.specs.TypeReading.{identifier_at, string_at, one_word_at, keyword_at, default_at, presence_at, component_at, bare_at, list_in_at, some_members_at, members_at, body_at, alternatives_at, choice_at, tag_at, inside_tag_at, tagged_at, object_at, octets_at, one_type_at, constraints_at, with_constraints_at, plain_at, some_size_at, size_in_parens_at, list_size_at, of_at, list_at, structure_at, behind_at, type_step}
 use Rattle.syntax.proofs.Items.{is_closed, closed_is, is_typeref}
 use Rattle.syntax.proofs.TypeLexemes.{is_object_word, is_octet_word, is_bit_word, is_integer_word, is_enumerated_word, is_choice_word, is_sequence_word, is_set_word, is_of_word, of_word_one, is_optional_word, is_default_word, is_open_bracket, open_bracket_one, is_application_word, is_private_word, is_dot, rule_object_word, rule_octet_word, rule_choice_word, rule_optional_word, rule_default_word, rule_string, rule_identifier}

@@ -11,8 +11,8 @@ use Rattle.grammar.specs.Lists.{no_lexeme, head_is}
 use Rattle.grammar.specs.Numbers.{Past}
 use Rattle.grammar.specs.Parts.{SoundReader}
 use Rattle.notation.specs.Rules.{Rules, bor, bor_left, bor_right, is_number}
-use Rattle.syntax.specs.Tree.{TypeTree}
-use Rattle.syntax.specs.Types.{type_of_word, one_word, TagNumber, tag_fits, tag_number}
+use Rattle.trees.specs.Types.{TypeTree}
+use Rattle.syntax.specs.TypeGrammar.{type_of_word, one_word, TagNumber, tag_fits, tag_number}
 use Rattle.syntax.specs.TypeReading.{known, one_word_at, by_limit, tag_number_at}
 
 le_same : (us : List Lexeme) → length us ≤ length us

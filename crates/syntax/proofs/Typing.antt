@@ -15,7 +15,7 @@ use Rattle.notation.specs.ConstraintGrammar.{size, constraint}
 use Rattle.notation.specs.ConstraintReading.{is_open, is_size, size_at, constraint_at}
 use Rattle.notation.specs.Value.{value}
 use Rattle.notation.specs.Reading.{value_at}
-use Rattle.syntax.specs.Types.{tag_fits, type}
+use Rattle.syntax.specs.TypeGrammar.{tag_fits, type}
 use Rattle.syntax.specs.TypeReading.{type_at}
 use Rattle.syntax.specs.PartLaws.{PartLaws}
 use Rattle.syntax.proofs.TypeSteps.{type_starts, type_ends, rule_step}

@@ -4,11 +4,11 @@ use Rattle.text.specs.declared.token.Mark.TheVariants.{Assign, Semicolon}
 use Rattle.text.specs.declared.reserved.Word.TheVariants.{Definitions, Explicit, Implicit, Automatic, Tags, Begin, Exports, All, Imports, From}
 use Rattle.grammar.specs.Lexeme.{TypeRef, Ident, Word, Mark}
 use Rattle.grammar.specs.Grammar.{Grammar, token, mark, word, number_of, ◌∙◌, ◌∣◌, ◌⇒◌, many, optional, behind, listed, braces}
-use Rattle.notation.specs.Tree.{Name}
+use Rattle.trees.specs.Values.{Name}
 use Rattle.notation.specs.ConstraintGrammar.{parens}
-use Rattle.syntax.specs.declared.tree.TagDefault.{TagDefault}
-use Rattle.syntax.specs.declared.tree.TagDefault.TheVariants as defaults
-use Rattle.syntax.specs.Tree.{ImportTree}
+use Rattle.trees.specs.declared.module.TagDefault.{TagDefault}
+use Rattle.trees.specs.declared.module.TagDefault.TheVariants as defaults
+use Rattle.trees.specs.Modules.{ImportTree}
 
 abbrev pub default_words : Grammar TagDefault
 default_words =

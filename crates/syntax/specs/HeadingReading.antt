@@ -4,9 +4,9 @@ use Rattle.text.specs.declared.token.Mark.TheVariants.{Semicolon}
 use Rattle.text.specs.declared.reserved.Word.TheVariants.{Explicit, Implicit, Automatic, Exports, All}
 use Rattle.grammar.specs.Lexeme.{TypeRef, Ident, Word, Mark}
 use Rattle.grammar.specs.Reading.{Reader, ◌>>=◌, stop, listed_at}
-use Rattle.notation.specs.Tree.{Name}
-use Rattle.syntax.specs.declared.tree.TagDefault.{TagDefault}
-use Rattle.syntax.specs.declared.tree.TagDefault.TheVariants as defaults
+use Rattle.trees.specs.Values.{Name}
+use Rattle.trees.specs.declared.module.TagDefault.{TagDefault}
+use Rattle.trees.specs.declared.module.TagDefault.TheVariants as defaults
 use Rattle.syntax.specs.Reading.{tags_at}
 
 unfoldable pub tag_word_at : Reader TagDefault

@@ -4,10 +4,10 @@ use Rattle.text.specs.declared.token.Mark.TheVariants.{OpenBrace, OpenParenthesi
 use Rattle.text.specs.declared.reserved.Word.TheVariants.{Imports, From}
 use Rattle.grammar.specs.Lexeme.{Lexeme, TypeRef, Ident, Number, Word, Mark}
 use Rattle.grammar.specs.Reading.{Reader, ◌>>=◌, stop, fitting, closed_at, listed_at, many_at}
-use Rattle.notation.specs.Tree.{Name}
+use Rattle.trees.specs.Values.{Name}
 use Rattle.notation.specs.Rules.{number_at}
 use Rattle.notation.specs.ConstraintReading.{parens_at}
-use Rattle.syntax.specs.Tree.{ImportTree}
+use Rattle.trees.specs.Modules.{ImportTree}
 use Rattle.syntax.specs.HeadingReading.{semicolon_at, symbol_at}
 
 abbrev pub begins_arc : Lexeme → Bool

@@ -1,5 +1,6 @@
-pub mod Tree
-pub mod Types
+pub use Rattle.trees.specs.Types
+pub use Rattle.trees.specs.Modules
+pub mod TypeGrammar
 pub mod TypeReading
 pub mod PartLaws
 pub mod Syntax

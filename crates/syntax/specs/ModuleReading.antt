@@ -3,10 +3,10 @@ use Rattle.std.specs.Prelude.{ℕ, Bool, List, [], ◌∷◌, Option, None, Ok}
 use Rattle.text.specs.declared.reserved.Word.TheVariants.{Explicit, Implicit, Automatic, Exports, Imports}
 use Rattle.grammar.specs.Lexeme.{Word}
 use Rattle.grammar.specs.Reading.{Reader, ◌>>=◌}
-use Rattle.notation.specs.Tree.{Name}
-use Rattle.syntax.specs.declared.tree.TagDefault.{TagDefault}
-use Rattle.syntax.specs.declared.tree.TagDefault.TheVariants as defaults
-use Rattle.syntax.specs.Tree.{ImportTree, ModuleTree}
+use Rattle.trees.specs.Values.{Name}
+use Rattle.trees.specs.declared.module.TagDefault.{TagDefault}
+use Rattle.trees.specs.declared.module.TagDefault.TheVariants as defaults
+use Rattle.trees.specs.Modules.{ImportTree, ModuleTree}
 use Rattle.syntax.specs.Heading.{HeadTree, head_of}
 use Rattle.syntax.specs.Syntax.{module_of}
 use Rattle.syntax.specs.Reading.{definitions_at, assign_at, begin_at, then_at, assignments_at}

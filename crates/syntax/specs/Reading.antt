@@ -4,10 +4,11 @@ use Rattle.text.specs.declared.token.Mark.TheVariants.{Assign}
 use Rattle.text.specs.declared.reserved.Word.TheVariants.{Definitions, Tags, Begin, End}
 use Rattle.grammar.specs.Lexeme.{Lexeme, TypeRef, Ident, Word, Mark}
 use Rattle.grammar.specs.Reading.{Reader, ◌>>=◌, stop, many_at}
-use Rattle.notation.specs.Tree.{Tree}
+use Rattle.trees.specs.Values.{Tree}
 use Rattle.notation.specs.Reading.{value_at}
 use Rattle.syntax.specs.TypeReading.{type_at}
-use Rattle.syntax.specs.Tree.{TypeTree, AssignmentTree, assigns_type, assigns_value}
+use Rattle.trees.specs.Types.{TypeTree}
+use Rattle.trees.specs.Modules.{AssignmentTree, assigns_type, assigns_value}
 
 -- ---- lexemes alone
 

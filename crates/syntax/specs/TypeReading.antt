@@ -7,15 +7,15 @@ use Rattle.text.specs.declared.reserved.Word.TheVariants as words
 use Rattle.asn_base.specs.declared.tag.Tag.{Tag}
 use Rattle.grammar.specs.Lexeme.{Lexeme, TypeRef, Ident, Number, Word, Mark}
 use Rattle.grammar.specs.Reading.{TagNumber as TagLimit, Beyond, Read, Reader, ◌>>=◌, stop, fitting, opened, closed_at, listed_at, named_at, many_at}
-use Rattle.notation.specs.Tree.{Name, Tree}
-use Rattle.notation.specs.Constraint.{RangeTree, ConstraintTree}
+use Rattle.trees.specs.Values.{Name, Tree}
+use Rattle.trees.specs.Constraints.{RangeTree, ConstraintTree}
 use Rattle.notation.specs.Rules.{number_at}
 use Rattle.notation.specs.ConstraintReading.{is_open, parens_at, size_at, constraint_at}
 use Rattle.notation.specs.Reading.{value_at}
-use Rattle.syntax.specs.declared.tree.Keyword.{Keyword}
-use Rattle.syntax.specs.declared.tree.Keyword.TheVariants as keywords
-use Rattle.syntax.specs.Tree.{PresenceTree, mandatory, optional as may_be_absent, default, TypeTree, an_integer, an_octet_string, type_reference, an_object_identifier, a_named_integer, a_bit_string, an_enumerated, a_choice, a_tagged, TypeMembers, no_member, type_members}
-use Rattle.syntax.specs.Types.{type_of_word, with_members, list_of, constrained, TagNumber, application_tag, private_tag, context_tag}
+use Rattle.trees.specs.declared.types.Keyword.{Keyword}
+use Rattle.trees.specs.declared.types.Keyword.TheVariants as keywords
+use Rattle.trees.specs.Types.{PresenceTree, mandatory, optional as may_be_absent, default, TypeTree, an_integer, an_octet_string, type_reference, an_object_identifier, a_named_integer, a_bit_string, an_enumerated, a_choice, a_tagged, TypeMembers, no_member, type_members}
+use Rattle.syntax.specs.TypeGrammar.{type_of_word, with_members, list_of, constrained, TagNumber, application_tag, private_tag, context_tag}
 
 -- ---- words and names
 

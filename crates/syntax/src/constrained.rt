@@ -6,12 +6,12 @@ ghost use Rattle.grammar.specs.Manies.{is_begun_by};
 ghost use Rattle.grammar.specs.Places.{small};
 ghost use Rattle.grammar.specs.Reading.{many_at};
 ghost use Rattle.notation.specs.Given.{Gives, AreTokens};
-ghost use Rattle.notation.specs.Constraint.{size_of, constraint_of};
+ghost use Rattle.trees.specs.Constraints.{size_of, constraint_of};
 ghost use Rattle.notation.specs.ConstraintReading.{is_open, parens_at, constraint_at};
-ghost use Rattle.syntax.specs.Tree.{type_tree_of};
+ghost use Rattle.trees.specs.Types.{type_tree_of};
 ghost use Rattle.syntax.specs.TypeReading.{constraints_at, with_constraints_at, some_size_at, size_in_parens_at, list_size_at};
 
-use crate::tree::TypeSyntax;
+use trees::TypeSyntax;
 use notation::constraint_reading::{close, constraint, open, size};
 use notation::{ConstraintSyntax, ReadError, SizeSyntax};
 use std::alloc::Global;

@@ -8,7 +8,7 @@ ghost use Rattle.syntax.specs.Reading.{tags_at};
 ghost use Rattle.syntax.specs.HeadingReading.{tag_word_at, default_words_at, semicolon_at, symbol_at, some_exports_at, all_exports_at, no_exports_at, exported_at, exports_at};
 ghost use Rattle.syntax.specs.ModuleReading.{tag_default_at, export_list_at};
 
-use crate::tree::TagDefault;
+use trees::TagDefault;
 use notation::ReadError;
 use notation::decode::name_of;
 use notation::reading::comma;

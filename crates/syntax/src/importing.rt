@@ -8,12 +8,12 @@ ghost use Rattle.grammar.specs.Manies.{is_begun_by};
 ghost use Rattle.grammar.specs.Places.{small};
 ghost use Rattle.notation.specs.Given.{Gives, IsTokenOf, AreTokens};
 ghost use Rattle.notation.specs.Rules.{number_at};
-ghost use Rattle.syntax.specs.Tree.{import_of};
+ghost use Rattle.trees.specs.Modules.{import_of};
 ghost use Rattle.syntax.specs.ImportReading.{begins_arc, begins_symbol, arc_number_at, behind_arc_at, arc_at, more_arcs_at, arcs_at, oid_at, behind_module_at, module_ref_at, from_module_at, import_from_at, imported_at, imports_at};
 ghost use Rattle.syntax.specs.ModuleReading.{import_list_at};
 
 use crate::heading::{semicolon, symbols};
-use crate::tree::Import;
+use trees::Import;
 use notation::ReadError;
 use notation::constraint_reading::{close, open};
 use notation::decode::{name_of, small_number};

@@ -7,13 +7,13 @@ ghost use Rattle.grammar.specs.Reading.{many_at};
 ghost use Rattle.grammar.specs.Manies.{is_begun_by};
 ghost use Rattle.grammar.specs.Places.{small};
 ghost use Rattle.notation.specs.Given.{Gives, IsTokenOf, AreTokens};
-ghost use Rattle.syntax.specs.Tree.{assignment_of, module_tree_of};
+ghost use Rattle.trees.specs.Modules.{assignment_of, module_tree_of};
 ghost use Rattle.syntax.specs.Reading.{definitions_at, assign_at, begin_at, end_at, type_assigned_at, value_assigned_at, begins_assignment, assignment_at, assignments_at};
 ghost use Rattle.syntax.specs.ModuleReading.{begun_at, heading_at, module_at};
 
 use crate::heading::{export_list, tag_default};
 use crate::importing::{import_list, module_ref};
-use crate::tree::{Assignment, Module, TagDefault, TypeAssignment, ValueAssignment};
+use trees::{Assignment, Module, TagDefault, TypeAssignment, ValueAssignment};
 use crate::types::type_syntax;
 use notation::ReadError;
 use notation::decode::name_of;

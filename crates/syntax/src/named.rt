@@ -7,10 +7,10 @@ ghost use Rattle.grammar.specs.Reading.{listed_at, named_at};
 ghost use Rattle.notation.specs.Given.{Gives, AreTokens};
 ghost use Rattle.notation.specs.ConstraintReading.{parens_at};
 ghost use Rattle.notation.specs.Rules.{number_at};
-ghost use Rattle.syntax.specs.Tree.{number_of as named_number_of, bit_of, item_of, type_tree_of};
+ghost use Rattle.trees.specs.Types.{number_of as named_number_of, bit_of, item_of, type_tree_of};
 ghost use Rattle.syntax.specs.TypeReading.{negative_at, signed_at, given_at, item_number_at, numbers_in_at, bits_in_at, items_in_at, integer_at, bits_at, bit_string_at, enumerated_at};
 
-use crate::tree::{EnumeratedItem, NamedBit, NamedNumber, TypeSyntax};
+use trees::{EnumeratedItem, NamedBit, NamedNumber, TypeSyntax};
 use notation::constraint_reading::{close, open};
 use notation::decode::{name_of, number_of, small_number};
 use notation::reading::{closed, comma};

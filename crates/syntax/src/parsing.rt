@@ -5,11 +5,11 @@ ghost use Rattle.grammar.specs.Lexeme.{Lexeme, lexemes};
 ghost use Rattle.grammar.specs.Places.{small, free};
 ghost use Rattle.notation.specs.Given.{IsLexed};
 ghost use Rattle.notation.specs.Answer.{Stands};
-ghost use Rattle.syntax.specs.Tree.{ModuleTree, module_tree_of};
+ghost use Rattle.trees.specs.Modules.{ModuleTree, module_tree_of};
 ghost use Rattle.syntax.specs.Syntax.{module_text};
 
 use crate::modules::module;
-use crate::tree::Module;
+use trees::Module;
 use notation::refused::unexpected;
 use notation::{MAX_NESTING, ReadError, SyntaxFault};
 use std::alloc::Global;

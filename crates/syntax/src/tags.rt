@@ -6,7 +6,7 @@ ghost use Rattle.grammar.specs.Places.{small};
 ghost use Rattle.notation.specs.Given.{Gives, AreTokens};
 ghost use Rattle.syntax.specs.TypeReading.{keyword_at, bracket_at, low_number_at, low_end_at, application_at, private_at, context_at, tag_at};
 
-use crate::tree::Keyword;
+use trees::Keyword;
 use asn_base::tag::{Class, Tag};
 use notation::decode::number_of;
 use notation::{Limit, ReadError};

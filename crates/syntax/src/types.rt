@@ -7,14 +7,14 @@ ghost use Rattle.grammar.specs.Places.{small};
 ghost use Rattle.grammar.specs.Reading.{listed_at, named_at};
 ghost use Rattle.notation.specs.Given.{Gives, IsTokenOf, AreTokens};
 ghost use Rattle.notation.specs.Reading.{value_at};
-ghost use Rattle.syntax.specs.Tree.{type_tree_of, type_member_of, presence_of, type_members};
-ghost use Rattle.syntax.specs.Types.{type_of_word, with_members};
+ghost use Rattle.trees.specs.Types.{type_tree_of, type_member_of, presence_of, type_members};
+ghost use Rattle.syntax.specs.TypeGrammar.{type_of_word, with_members};
 ghost use Rattle.syntax.specs.TypeReading.{string_at, identifier_at, one_word_at, type_in_at, ref_at, default_at, presence_at, component_at, bare_at, some_members_at, members_at, body_at, alternatives_at, choice_at, inside_tag_at, tagged_at, object_at, octets_at, one_type_at, plain_at, of_at, list_at, structure_at, behind_at, type_step, type_at};
 
 use crate::constrained::{list_size, with_constraints};
 use crate::named::{bit_string, enumerated, integer};
 use crate::tags::{keyword, tag};
-use crate::tree::{Member, PresenceSyntax, TypeSyntax};
+use trees::{Member, PresenceSyntax, TypeSyntax};
 use notation::decode::name_of;
 use notation::reading::{closed, comma, value};
 use notation::{Limit, ReadError};

@@ -4,7 +4,7 @@ use Rattle.std.proofs.lemmas.List.{map_push, length-map}
 use Rattle.grammar.specs.Lexeme.{lexeme_of, lexemes}
 use Rattle.grammar.specs.Manies.{many_more, many_end}
 use Rattle.grammar.specs.Places.{small}
-use Rattle.notation.specs.Constraint.{constraint_of}
+use Rattle.trees.specs.Constraints.{constraint_of}
 use Rattle.notation.specs.ConstraintReading.{is_open, constraint_at}
 use Rattle.syntax.proofs.Loop.{constraint_consumes, many_gives_up}
 use Rattle.syntax.proofs.constrained.constraints.Goals as goal

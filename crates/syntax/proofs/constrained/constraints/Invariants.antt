@@ -3,7 +3,7 @@ use Rattle.grammar.specs.Lexeme.{lexemes}
 use Rattle.grammar.specs.Reading.{with_front, many_at}
 use Rattle.grammar.specs.Places.{small}
 use Rattle.notation.specs.Given.{AreTokens}
-use Rattle.notation.specs.Constraint.{constraint_of}
+use Rattle.trees.specs.Constraints.{constraint_of}
 use Rattle.notation.specs.ConstraintReading.{is_open, constraint_at}
 use Rattle.syntax.proofs.constrained.constraints.Given as goal
 

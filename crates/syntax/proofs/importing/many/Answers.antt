@@ -4,7 +4,7 @@ use Rattle.std.proofs.lemmas.List.{map_push, length-map}
 use Rattle.grammar.specs.Lexeme.{lexeme_of, lexemes}
 use Rattle.grammar.specs.Manies.{many_more, many_end}
 use Rattle.grammar.specs.Places.{small}
-use Rattle.syntax.specs.Tree.{import_of}
+use Rattle.trees.specs.Modules.{import_of}
 use Rattle.syntax.specs.ImportReading.{begins_symbol, import_from_at}
 use Rattle.syntax.proofs.Imported.{import_consumes}
 use Rattle.syntax.proofs.Loop.{many_gives_up}

@@ -3,7 +3,7 @@ use Rattle.grammar.specs.Lexeme.{lexemes}
 use Rattle.grammar.specs.Reading.{with_front, many_at}
 use Rattle.grammar.specs.Places.{small}
 use Rattle.notation.specs.Given.{AreTokens}
-use Rattle.syntax.specs.Tree.{import_of}
+use Rattle.trees.specs.Modules.{import_of}
 use Rattle.syntax.specs.ImportReading.{begins_symbol, import_from_at}
 use Rattle.syntax.proofs.importing.many.Given as goal
 

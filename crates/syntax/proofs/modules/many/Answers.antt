@@ -4,7 +4,7 @@ use Rattle.std.proofs.lemmas.List.{map_push, length-map}
 use Rattle.grammar.specs.Lexeme.{lexeme_of, lexemes}
 use Rattle.grammar.specs.Manies.{many_more, many_end}
 use Rattle.grammar.specs.Places.{small}
-use Rattle.syntax.specs.Tree.{assignment_of}
+use Rattle.trees.specs.Modules.{assignment_of}
 use Rattle.syntax.specs.Reading.{begins_assignment, assignment_at}
 use Rattle.syntax.proofs.Assigning.{assignment_consumes}
 use Rattle.syntax.proofs.Loop.{many_gives_up}

@@ -5,7 +5,7 @@ use Rattle.grammar.specs.Lexeme.{lexeme_of, lexemes}
 use Rattle.grammar.specs.Loops.{listed_first, commas_more, commas_end}
 use Rattle.grammar.specs.Places.{small}
 use Rattle.grammar.specs.Reading.{named_at}
-use Rattle.syntax.specs.Tree.{item_of}
+use Rattle.trees.specs.Types.{item_of}
 use Rattle.syntax.specs.TypeReading.{item_number_at}
 use Rattle.syntax.proofs.Loop.{listed_gives_up, commas_give_up, item_shrinks}
 use Rattle.syntax.proofs.named.items.Goals as goal

@@ -3,7 +3,7 @@ use Rattle.grammar.specs.Lexeme.{lexemes}
 use Rattle.grammar.specs.Places.{small}
 use Rattle.grammar.specs.Reading.{with_front, behind_commas_at, listed_at, named_at}
 use Rattle.notation.specs.Given.{AreTokens}
-use Rattle.syntax.specs.Tree.{item_of}
+use Rattle.trees.specs.Types.{item_of}
 use Rattle.syntax.specs.TypeReading.{item_number_at}
 use Rattle.syntax.proofs.named.items.Given as goal
 

@@ -7,7 +7,7 @@ use Rattle.grammar.specs.Places.{small}
 use Rattle.grammar.specs.Reading.{named_at}
 use Rattle.notation.specs.ConstraintReading.{parens_at}
 use Rattle.notation.specs.Rules.{number_at}
-use Rattle.syntax.specs.Tree.{bit_of}
+use Rattle.trees.specs.Types.{bit_of}
 use Rattle.syntax.proofs.Loop.{listed_gives_up, commas_give_up, bit_shrinks}
 use Rattle.syntax.proofs.named.named_bits.Goals as goal
 

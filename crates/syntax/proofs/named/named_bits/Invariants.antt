@@ -5,7 +5,7 @@ use Rattle.grammar.specs.Reading.{with_front, behind_commas_at, listed_at, named
 use Rattle.notation.specs.Given.{AreTokens}
 use Rattle.notation.specs.ConstraintReading.{parens_at}
 use Rattle.notation.specs.Rules.{number_at}
-use Rattle.syntax.specs.Tree.{bit_of}
+use Rattle.trees.specs.Types.{bit_of}
 use Rattle.syntax.proofs.named.named_bits.Given as goal
 
 abbrev pub invariant-loop-after : goal.invariant-loop-after

@@ -6,7 +6,7 @@ use Rattle.grammar.specs.Loops.{listed_first, commas_more, commas_end}
 use Rattle.grammar.specs.Places.{small}
 use Rattle.grammar.specs.Reading.{named_at}
 use Rattle.notation.specs.ConstraintReading.{parens_at}
-use Rattle.syntax.specs.Tree.{number_of}
+use Rattle.trees.specs.Types.{number_of}
 use Rattle.syntax.specs.TypeReading.{signed_at}
 use Rattle.syntax.proofs.Loop.{listed_gives_up, commas_give_up, number_shrinks}
 use Rattle.syntax.proofs.named.named_numbers.Goals as goal

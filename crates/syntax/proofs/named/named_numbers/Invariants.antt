@@ -4,7 +4,7 @@ use Rattle.grammar.specs.Places.{small}
 use Rattle.grammar.specs.Reading.{with_front, behind_commas_at, listed_at, named_at}
 use Rattle.notation.specs.Given.{AreTokens}
 use Rattle.notation.specs.ConstraintReading.{parens_at}
-use Rattle.syntax.specs.Tree.{number_of}
+use Rattle.trees.specs.Types.{number_of}
 use Rattle.syntax.specs.TypeReading.{signed_at}
 use Rattle.syntax.proofs.named.named_numbers.Given as goal
 

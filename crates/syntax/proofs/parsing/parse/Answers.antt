@@ -3,7 +3,7 @@ use Rattle.grammar.specs.Lexeme.{lexemes}
 use Rattle.grammar.specs.Reading.{Unexpected, Beyond}
 use Rattle.notation.specs.Given.{limit_of}
 use Rattle.notation.specs.Laws.{first_stands}
-use Rattle.syntax.specs.Tree.{module_tree_of}
+use Rattle.trees.specs.Modules.{module_tree_of}
 use Rattle.syntax.specs.Syntax.{module_text}
 use Rattle.syntax.proofs.Assigned.{assignment_laws}
 use Rattle.syntax.proofs.Parsed.{rest_le, left_le, is_there, is_same, no_rest, no_fault, first_rest, first_left, limit_stands, is_nil, not_nil}

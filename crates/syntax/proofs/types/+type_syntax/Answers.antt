@@ -6,7 +6,7 @@ use Rattle.grammar.specs.Reading.{named_at}
 use Rattle.grammar.specs.Loops.{listed_first, commas_more, commas_end}
 use Rattle.grammar.specs.Places.{small}
 use Rattle.notation.specs.Reading.{value_at}
-use Rattle.syntax.specs.Tree.{type_member_of}
+use Rattle.trees.specs.Types.{type_member_of}
 use Rattle.syntax.specs.TypeReading.{component_at, bare_at, type_at}
 use Rattle.syntax.proofs.Loop.{member_shrinks, alternative_shrinks, listed_gives_up, commas_give_up}
 use Rattle.syntax.proofs.types.+type_syntax.Goals as goal

@@ -4,7 +4,7 @@ use Rattle.grammar.specs.Places.{small}
 use Rattle.grammar.specs.Reading.{with_front, behind_commas_at, listed_at, named_at}
 use Rattle.notation.specs.Given.{AreTokens}
 use Rattle.notation.specs.Reading.{value_at}
-use Rattle.syntax.specs.Tree.{type_member_of}
+use Rattle.trees.specs.Types.{type_member_of}
 use Rattle.syntax.specs.TypeReading.{component_at, bare_at, type_at}
 use Rattle.syntax.proofs.types.+type_syntax.Given as goal
 

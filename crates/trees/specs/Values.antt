@@ -1,9 +1,9 @@
 -- The tree of a value, without where it lies in memory. A name is the list of its octets.
 use Rattle.std.specs.Prelude.{ℕ, Option, Some, None, Bool, List, [], ◌∷◌, map, string_bytes}
-use Rattle.notation.specs.declared.tree.ValueSyntax.{ValueSyntax}
-use Rattle.notation.specs.declared.tree.Named.{Named}
-use Rattle.notation.specs.declared.tree.ValueSyntax.TheOpen.{ValueSyntax-F, True, False, Null, Number, BinaryString, HexString, CharacterString, Reference, Chosen, Empty, Numbers, Items, Fields}
-use Rattle.notation.specs.declared.tree.ValueSyntax.TheFolds.{fold-ValueSyntax}
+use Rattle.trees.specs.declared.value.ValueSyntax.{ValueSyntax}
+use Rattle.trees.specs.declared.value.Named.{Named}
+use Rattle.trees.specs.declared.value.ValueSyntax.TheOpen.{ValueSyntax-F, True, False, Null, Number, BinaryString, HexString, CharacterString, Reference, Chosen, Empty, Numbers, Items, Fields}
+use Rattle.trees.specs.declared.value.ValueSyntax.TheFolds.{fold-ValueSyntax}
 
 abbrev pub Name : Type 0
 Name = List ℕ

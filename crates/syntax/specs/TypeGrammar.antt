@@ -8,13 +8,13 @@ use Rattle.asn_base.specs.declared.tag.Tag.{Tag}
 use Rattle.grammar.specs.Lexeme.{TypeRef, Ident, Number, Word, Mark}
 use Rattle.grammar.specs.Grammar.{Grammar, token, mark, word, number_of, ◌∙◌, ◌∣◌, ◌⇒◌, many, optional, behind, listed, braces, cut_off}
 use Rattle.notation.specs.Rules.{bor}
-use Rattle.notation.specs.Tree.{Name, Tree}
-use Rattle.notation.specs.Constraint.{RangeTree, ConstraintTree}
+use Rattle.trees.specs.Values.{Name, Tree}
+use Rattle.trees.specs.Constraints.{RangeTree, ConstraintTree}
 use Rattle.notation.specs.ConstraintGrammar.{parens, size, constraint}
 use Rattle.notation.specs.Value.{value}
-use Rattle.syntax.specs.declared.tree.Keyword.{Keyword}
-use Rattle.syntax.specs.declared.tree.Keyword.TheVariants as keywords
-use Rattle.syntax.specs.Tree.{PresenceTree, mandatory, optional as may_be_absent, default, TypeTree, a_boolean, an_integer, an_octet_string, type_reference, a_sequence, a_null, an_object_identifier, a_utf8_string, a_numeric_string, a_printable_string, an_ia5_string, a_visible_string, a_named_integer, a_bit_string, an_enumerated, a_set, a_choice, a_sequence_of, a_set_of, a_tagged, a_constrained, TypeMembers, no_member, type_members}
+use Rattle.trees.specs.declared.types.Keyword.{Keyword}
+use Rattle.trees.specs.declared.types.Keyword.TheVariants as keywords
+use Rattle.trees.specs.Types.{PresenceTree, mandatory, optional as may_be_absent, default, TypeTree, a_boolean, an_integer, an_octet_string, type_reference, a_sequence, a_null, an_object_identifier, a_utf8_string, a_numeric_string, a_printable_string, an_ia5_string, a_visible_string, a_named_integer, a_bit_string, an_enumerated, a_set, a_choice, a_sequence_of, a_set_of, a_tagged, a_constrained, TypeMembers, no_member, type_members}
 
 -- a part that opens one thing, where n more may be open at one place
 abbrev pub opens : {A : Type 0} → ℕ → Grammar A → Grammar A

@@ -1,14 +1,14 @@
 -- The trees of constraints, without where they lie in memory. A name is the list of its octets.
 use Rattle.std.specs.Prelude.{ℕ, Option, Bool, List, map, option_map, string_bytes}
-use Rattle.notation.specs.declared.constraint.EndSyntax.{EndSyntax}
-use Rattle.notation.specs.declared.constraint.EndSyntax.TheVariants as ends
-use Rattle.notation.specs.declared.constraint.RangeSyntax.{RangeSyntax}
-use Rattle.notation.specs.declared.constraint.RangeSyntax.TheVariants as ranges
-use Rattle.notation.specs.declared.constraint.RangesSyntax.{RangesSyntax}
-use Rattle.notation.specs.declared.constraint.SizeSyntax.{SizeSyntax}
-use Rattle.notation.specs.declared.constraint.CharsSyntax.{CharsSyntax}
-use Rattle.notation.specs.declared.constraint.ConstraintSyntax.{ConstraintSyntax}
-use Rattle.notation.specs.declared.constraint.ConstraintSyntax.TheVariants as constraints
+use Rattle.trees.specs.declared.constraint.EndSyntax.{EndSyntax}
+use Rattle.trees.specs.declared.constraint.EndSyntax.TheVariants as ends
+use Rattle.trees.specs.declared.constraint.RangeSyntax.{RangeSyntax}
+use Rattle.trees.specs.declared.constraint.RangeSyntax.TheVariants as ranges
+use Rattle.trees.specs.declared.constraint.RangesSyntax.{RangesSyntax}
+use Rattle.trees.specs.declared.constraint.SizeSyntax.{SizeSyntax}
+use Rattle.trees.specs.declared.constraint.CharsSyntax.{CharsSyntax}
+use Rattle.trees.specs.declared.constraint.ConstraintSyntax.{ConstraintSyntax}
+use Rattle.trees.specs.declared.constraint.ConstraintSyntax.TheVariants as constraints
 
 pub data EndTree : Type 0 where
   -- is it behind a minus, and its digits' value

@@ -1,23 +1,18 @@
--- The trees of types, assignments and modules, without where they lie in memory. A name is the list of its octets.
+-- The trees of types, without where they lie in memory. A name is the list of its octets.
 use Rattle.std.specs.Prelude.{ℕ, Bool, Option, Some, None, List, [], ◌∷◌, map, option_map, string_bytes}
 use Rattle.asn_base.specs.declared.tag.Tag.{Tag}
-use Rattle.syntax.specs.declared.tree.TypeSyntax.{TypeSyntax}
-use Rattle.syntax.specs.declared.tree.Member.{Member}
-use Rattle.syntax.specs.declared.tree.TypeSyntax.TheOpen.{TypeSyntax-F, Boolean, Integer, OctetString, Reference, Sequence, Null, ObjectIdentifier, Utf8String, NumericString, PrintableString, Ia5String, VisibleString, NamedInteger, BitString, Enumerated, Set, Choice, SequenceOf, SetOf, Tagged, Constrained}
-use Rattle.syntax.specs.declared.tree.TypeSyntax.TheFolds.{fold-TypeSyntax}
-use Rattle.syntax.specs.declared.tree.TagDefault.{TagDefault}
-use Rattle.syntax.specs.declared.tree.Assignment.{Assignment}
-use Rattle.syntax.specs.declared.tree.Assignment.TheVariants as assignments
-use Rattle.syntax.specs.declared.tree.Module.{Module}
-use Rattle.syntax.specs.declared.tree.Import.{Import}
-use Rattle.syntax.specs.declared.tree.Keyword.{Keyword}
-use Rattle.syntax.specs.declared.tree.NamedNumber.{NamedNumber}
-use Rattle.syntax.specs.declared.tree.NamedBit.{NamedBit}
-use Rattle.syntax.specs.declared.tree.EnumeratedItem.{EnumeratedItem}
-use Rattle.syntax.specs.declared.tree.PresenceSyntax.{PresenceSyntax}
-use Rattle.syntax.specs.declared.tree.PresenceSyntax.TheVariants as presences
-use Rattle.notation.specs.Tree.{Name, Tree, tree_of}
-use Rattle.notation.specs.Constraint.{RangeTree, ConstraintTree, size_of, constraint_of}
+use Rattle.trees.specs.declared.types.TypeSyntax.{TypeSyntax}
+use Rattle.trees.specs.declared.types.Member.{Member}
+use Rattle.trees.specs.declared.types.TypeSyntax.TheOpen.{TypeSyntax-F, Boolean, Integer, OctetString, Reference, Sequence, Null, ObjectIdentifier, Utf8String, NumericString, PrintableString, Ia5String, VisibleString, NamedInteger, BitString, Enumerated, Set, Choice, SequenceOf, SetOf, Tagged, Constrained}
+use Rattle.trees.specs.declared.types.TypeSyntax.TheFolds.{fold-TypeSyntax}
+use Rattle.trees.specs.declared.types.Keyword.{Keyword}
+use Rattle.trees.specs.declared.types.NamedNumber.{NamedNumber}
+use Rattle.trees.specs.declared.types.NamedBit.{NamedBit}
+use Rattle.trees.specs.declared.types.EnumeratedItem.{EnumeratedItem}
+use Rattle.trees.specs.declared.types.PresenceSyntax.{PresenceSyntax}
+use Rattle.trees.specs.declared.types.PresenceSyntax.TheVariants as presences
+use Rattle.trees.specs.Values.{Name, Tree, tree_of}
+use Rattle.trees.specs.Constraints.{RangeTree, ConstraintTree, size_of, constraint_of}
 
 -- whether a member may be absent, and its value then
 pub data PresenceTree : Type 0 where
@@ -107,37 +102,3 @@ type_tree_of = fold-TypeSyntax TypeTree type_layer
 
 abbrev pub type_member_of : Member TypeSyntax → Name × (TypeTree × PresenceTree)
 type_member_of m = (string_bytes m.name, (type_tree_of m.syntax, presence_of m.presence))
-
-pub data AssignmentTree : Type 0 where
-  assigns_type : List ℕ → TypeTree → AssignmentTree
-  assigns_value : List ℕ → TypeTree → Tree → AssignmentTree
-
-abbrev pub assignment_of : Assignment → AssignmentTree
-assignment_of (assignments.Type a) = assigns_type (string_bytes a.name) (type_tree_of a.syntax)
-assignment_of (assignments.Value a) = assigns_value (string_bytes a.name) (type_tree_of a.syntax) (tree_of a.value)
-
--- names, and the module that they are imported from
-pub record ImportTree : Type 0 where
-  pub names : List (List ℕ)
-  pub from : List ℕ
-
-abbrev pub import_of : Import → ImportTree
-import_of i = record { names = map string_bytes i.names.items; from = string_bytes i.module }
-
-pub record ModuleTree : Type 0 where
-  pub name : List ℕ
-  pub tag_default : TagDefault
-  -- all that are assigned, where no list is given
-  pub exports : Option (List (List ℕ))
-  pub imports : List ImportTree
-  pub assignments : List AssignmentTree
-
--- the tree that a module in memory holds
-abbrev pub module_tree_of : Module → ModuleTree
-module_tree_of m = record {
-  name = string_bytes m.name;
-  tag_default = m.tag_default;
-  exports = option_map (λ xs. map string_bytes xs.items) m.exports;
-  imports = map import_of m.imports.items;
-  assignments = map assignment_of m.assignments.items;
-}
