@@ -9,3 +9,4 @@ pub mod Parens
 pub mod Given
 pub mod Answer
 pub mod Laws
+pub mod Failing

@@ -39,7 +39,8 @@ pub fn parse(alloc: Global, text: &[u8], tokens: &[Token]) -> Result<Module, Syn
     ensures fault { IfErr result (Stands module_text (lexemes text.now tokens.now) 0 128) }
 {
     notation::law::lexed_tokens();
-    crate::law::parts_are_read();
+    module_head::law::heads_are_read();
+    type_syntax::law::types_are_read();
     match module(alloc, text, tokens, MAX_NESTING) {
         Ok((module, rest)) => {
             if rest.is_empty() {
@@ -58,5 +59,6 @@ pub fn parse(alloc: Global, text: &[u8], tokens: &[Token]) -> Result<Module, Syn
 pub fn one_module()
     ensures { (ts : List Lexeme) (m n : ModuleTree) → (free module_text).Is m ts → (free module_text).Is n ts → m ≡ n }
 {
-    crate::law::parts_are_read();
+    module_head::law::heads_are_read();
+    type_syntax::law::types_are_read();
 }
