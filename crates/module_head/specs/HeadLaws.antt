@@ -18,7 +18,7 @@ head_ends t = false
 
 -- fits is the reader's test on numbers, fits' the grammar's
 pub record HeadLaws : Type 0 where
-  pub head : (over : Limit → ℕ) (within : Bool) (fits fits' : ℕ → Bool)
+  pub read : (over : Limit → ℕ) (within : Bool) (fits fits' : ℕ → Bool)
       → ((n : ℕ) → fits n ≡ true → fits' n ≡ true)
       → Past (over Integer) ((n : ℕ) → fits' n ≡ true)
       → ((n : ℕ) → fits' n ≡ true → within ≡ true → fits n ≡ true)

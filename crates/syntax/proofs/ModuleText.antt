@@ -66,7 +66,7 @@ body_solid a = open_solid (many a) (word End) (λ p. p.0) (token_solid (λ (x : 
 module _ (heads : HeadLaws) (over : Limit → ℕ) (within : Bool) (fits fits' : ℕ → Bool) (grows : (n : ℕ) → fits n ≡ true → fits' n ≡ true) (past : Past (over Integer) ((n : ℕ) → fits' n ≡ true)) (room : (n : ℕ) → fits' n ≡ true → within ≡ true → fits n ≡ true)
     (n : ℕ) (a : Grammar AssignmentTree) where
   headed : Rules over within (head fits') is_typeref head_ends (head_at fits)
-  headed = heads.head over within fits fits' grows past room
+  headed = heads.read over within fits fits' grows past room
 
   body_sound : SoundReader over a (assignment_at fits n) → SoundReader over (body a) (assignments_at fits n)
   unfolding assignments_at

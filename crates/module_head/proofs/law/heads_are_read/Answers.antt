@@ -3,6 +3,6 @@ use Rattle.module_head.proofs.law.heads_are_read.Goals as goal
 
 pub returns : goal.returns
 returns c = record {
-  head = rule_head;
+  read = rule_head;
   grows = head_grows;
 }
