@@ -2,8 +2,8 @@
 use Rattle.std.proofs.Common.{◌≡◌, ◌↔◌, inl, inr, ℕ, Option, Some, None, refl, sym, string_bytes, subst}
 use Rattle.std.specs.Prelude.{Result, Ok, Err, MatchResult}
 use Rattle.std.specs.Borrow.{Bor}
-use Rattle.notation.specs.Tree.{Name, Tree, reference, tree_of}
-use Rattle.notation.specs.declared.tree.ValueSyntax.{ValueSyntax}
+use Rattle.trees.specs.Values.{Name, Tree, reference, tree_of}
+use Rattle.trees.specs.declared.value.ValueSyntax.{ValueSyntax}
 use Rattle.resolve.specs.Program.{Program}
 use Rattle.asnc.specs.declared.fault.ValueFault.{ValueFault}
 use Rattle.asnc.specs.declared.fault.ValueFault.TheVariants as faults

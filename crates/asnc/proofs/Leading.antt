@@ -2,7 +2,7 @@
 use Rattle.std.proofs.Common.{◌≡◌, ◌⊎◌, ◌↔◌, inl, inr, ℕ, zero, suc, ◌+◌, ◌<◌, ◌≤◌, List, [], ◌∷◌, ◌++◌, length, Option, Some, None, refl, sym, ap, ◌∙◌, arith, subst, get_or}
 use Rattle.std.specs.Prelude.{slice_get, Result, Ok, Err, IfOk, IfErr, MatchResult}
 use Rattle.std.proofs.lemmas.Option.{slice_get_within}
-use Rattle.notation.specs.Tree.{Name, Tree, reference}
+use Rattle.trees.specs.Values.{Name, Tree, reference}
 use Rattle.resolve.specs.declared.names.Assigned.{Assigned}
 use Rattle.resolve.specs.declared.names.Assigned.TheVariants as assigned
 use Rattle.resolve.specs.Names.{Module, Meaning, Refers, bare, within, across}

@@ -7,9 +7,9 @@ use Rattle.std.proofs.lemmas.List.{length-map}
 use Rattle.std.proofs.lemmas.Slice.Eq.{bytes_eq-Decides}
 use Rattle.asn_base.specs.declared.schema.Component.{Component as Component'}
 use Rattle.asn_base.specs.Seen.{component_of}
-use Rattle.notation.specs.Tree.{Name, member_of}
-use Rattle.notation.specs.declared.tree.Named.{Named}
-use Rattle.notation.specs.declared.tree.ValueSyntax.{ValueSyntax}
+use Rattle.trees.specs.Values.{Name, member_of}
+use Rattle.trees.specs.declared.value.Named.{Named}
+use Rattle.trees.specs.declared.value.ValueSyntax.{ValueSyntax}
 use Rattle.resolve.specs.Modules.{StandsIn, StandsTwice, AreDistinct}
 use Rattle.asnc.specs.Wrong.{component_names, field_names, AreIn}
 use Rattle.asnc.proofs.Lists.{seen_here}

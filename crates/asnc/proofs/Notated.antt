@@ -2,14 +2,14 @@
 use Rattle.std.proofs.Common.{◌≡◌, ℕ, zero, suc, ◌+◌, ◌<◌, List, [], ◌∷◌, ◌++◌, length, map, take, Option, Some, None, refl, sym, ap, ◌∙◌, option_map, string_bytes, subst, get_or}
 use Rattle.std.specs.Prelude.{slice_get, Vec, String}
 use Rattle.std.specs.Global.{Global}
-use Rattle.notation.specs.Tree.{Name, Tree, reference, Members, members, member_of, tree_of, layer}
-use Rattle.notation.specs.Tree as trees
-use Rattle.notation.specs.declared.tree.Named.{Named}
-use Rattle.notation.specs.declared.tree.ValueSyntax.{ValueSyntax}
-use Rattle.notation.specs.declared.tree.ValueSyntax.TheVariants as values
-use Rattle.notation.specs.declared.tree.ValueSyntax.TheOpen as open_
-use Rattle.notation.specs.declared.tree.ValueSyntax.TheShapes.{former-ValueSyntax-Fields-0-at-2}
-use Rattle.notation.specs.declared.tree.ValueSyntax.TheFolds.{fold-roll-ValueSyntax}
+use Rattle.trees.specs.Values.{Name, Tree, reference, Members, members, member_of, tree_of, layer}
+use Rattle.trees.specs.Values as trees
+use Rattle.trees.specs.declared.value.Named.{Named}
+use Rattle.trees.specs.declared.value.ValueSyntax.{ValueSyntax}
+use Rattle.trees.specs.declared.value.ValueSyntax.TheVariants as values
+use Rattle.trees.specs.declared.value.ValueSyntax.TheOpen as open_
+use Rattle.trees.specs.declared.value.ValueSyntax.TheShapes.{former-ValueSyntax-Fields-0-at-2}
+use Rattle.trees.specs.declared.value.ValueSyntax.TheFolds.{fold-roll-ValueSyntax}
 use Rattle.asnc.specs.FirstPath.{IsFirstNotation, AreFirstFields}
 use Rattle.asnc.specs.Notations.{named, fields_in}
 use Rattle.asnc.proofs.Lists.{one_taken, seen_here}

@@ -9,8 +9,8 @@ use Rattle.grammar.specs.Lexeme.{lexemes}
 use Rattle.grammar.specs.Places.{small}
 use Rattle.asn_base.specs.Types.{Resolved}
 use Rattle.syntax.specs.Syntax.{module_text}
-use Rattle.syntax.specs.declared.tree.Module.{Module}
-use Rattle.syntax.specs.Tree.{ModuleTree, module_tree_of}
+use Rattle.trees.specs.declared.module.Module.{Module}
+use Rattle.trees.specs.Modules.{ModuleTree, module_tree_of}
 use Rattle.resolve.specs.declared.fault.NameFault.{NameFault}
 use Rattle.resolve.specs.declared.fault.NameFault.TheVariants as names
 use Rattle.resolve.specs.Links.{Links, IsLinkFault}

@@ -3,8 +3,8 @@ use Rattle.std.proofs.Common.{◌≡◌, inl, inr, ℕ, zero, suc, ◌<◌, List
 use Rattle.std.specs.Prelude.{slice_get, Vec}
 use Rattle.std.specs.Global.{Global}
 use Rattle.std.specs.List.{AllZip}
-use Rattle.notation.specs.Tree.{Name}
-use Rattle.syntax.specs.Tree.{ModuleTree}
+use Rattle.trees.specs.Values.{Name}
+use Rattle.trees.specs.Modules.{ModuleTree}
 use Rattle.resolve.specs.Program.{Program}
 use Rattle.asnc.specs.declared.fault.Fault.{Fault}
 use Rattle.asnc.specs.declared.fault.Fault.TheVariants as faults
@@ -12,7 +12,7 @@ use Rattle.asnc.specs.FirstPath.{IsFirstPath, IsFirstType, IsFirstNotation}
 use Rattle.asnc.specs.LeftOut.{IsOutside}
 use Rattle.asnc.specs.declared.fault.Construct.{Construct}
 use Rattle.asnc.specs.Opening.{IsModule, IsRefusedAt, IsTextFault, IsNoKit, StandsIn, octets_of}
-use Rattle.syntax.specs.declared.tree.TagDefault.TheVariants.{Explicit}
+use Rattle.trees.specs.declared.module.TagDefault.TheVariants.{Explicit}
 use Rattle.asnc.proofs.Lists.{seen_here, all_at}
 
 zip_front : {A X Y : Type 0} (R : X → Y → Type 0) (f : A → X) (xs : List A) (k : ℕ) (ms : List Y) (i : ℕ) (y : X) → AllZip R (map f (take k xs)) ms → i < k → slice_get (map f xs) i ≡ Some y → (m : Y) × R y m

@@ -1,18 +1,18 @@
 -- Constructs that are left out, seen from what a search answers.
 use Rattle.std.proofs.Common.{◌≡◌, ℕ, List, [], ◌∷◌, Option, Some, None, refl, sym, ap, ◌∙◌, subst}
 use Rattle.std.specs.Prelude.{IfSome}
-use Rattle.notation.specs.Tree.{Name, Tree, members, tree_of, layer}
-use Rattle.notation.specs.Tree as trees
-use Rattle.notation.specs.declared.tree.ValueSyntax.{ValueSyntax}
-use Rattle.notation.specs.declared.tree.ValueSyntax.TheVariants as values
-use Rattle.notation.specs.declared.tree.ValueSyntax.TheOpen as open_
-use Rattle.notation.specs.declared.tree.ValueSyntax.TheFolds.{fold-roll-ValueSyntax}
+use Rattle.trees.specs.Values.{Name, Tree, members, tree_of, layer}
+use Rattle.trees.specs.Values as trees
+use Rattle.trees.specs.declared.value.ValueSyntax.{ValueSyntax}
+use Rattle.trees.specs.declared.value.ValueSyntax.TheVariants as values
+use Rattle.trees.specs.declared.value.ValueSyntax.TheOpen as open_
+use Rattle.trees.specs.declared.value.ValueSyntax.TheFolds.{fold-roll-ValueSyntax}
 use Rattle.resolve.specs.Modules.{StandsIn}
 use Rattle.resolve.specs.declared.table.ListKind.TheVariants.{Sequence}
 use Rattle.resolve.specs.declared.table.ElementsKind.{ElementsKind}
 use Rattle.resolve.specs.Table.{Part, Plain, Kind, simple, elements, Type'}
 use Rattle.resolve.specs.Table as tables
-use Rattle.syntax.specs.Tree.{mandatory}
+use Rattle.trees.specs.Types.{mandatory}
 use Rattle.asnc.specs.declared.fault.Construct.{Construct}
 use Rattle.asnc.specs.declared.fault.Construct.TheVariants as constructs
 use Rattle.asnc.specs.FirstPath.{Unfolds}

@@ -13,8 +13,8 @@ use Rattle.asn_base.specs.declared.constraint.Constraint.{Constraint as Constrai
 use Rattle.asn_base.specs.declared.schema.Core.{Core}
 use Rattle.asn_base.specs.declared.schema.Core.TheVariants as cores
 use Rattle.asn_base.specs.declared.schema.Resolved.{Resolved as Resolved'}
-use Rattle.syntax.specs.declared.tree.NamedNumber.{NamedNumber}
-use Rattle.syntax.specs.Tree.{number_of}
+use Rattle.trees.specs.declared.types.NamedNumber.{NamedNumber}
+use Rattle.trees.specs.Types.{number_of}
 use Rattle.resolve.specs.declared.table.Simple.{Simple}
 use Rattle.resolve.specs.declared.table.Simple.TheVariants as simples
 use Rattle.resolve.specs.declared.table.Shape.{Shape}

@@ -14,9 +14,9 @@ use Rattle.asn_base.specs.Abstract.{AbstractValue, abstract, row_of_options}
 use Rattle.asn_base.specs.Types.{Kind, a_sequence, Component, Resolved, Is}
 use Rattle.asn_base.specs.Accepted.{IsSimple}
 use Rattle.asn_base.specs.Seen.{component_of, kind_of, resolved_of}
-use Rattle.notation.specs.Tree.{Name, Tree, member_of, tree_of}
-use Rattle.notation.specs.declared.tree.Named.{Named}
-use Rattle.notation.specs.declared.tree.ValueSyntax.{ValueSyntax}
+use Rattle.trees.specs.Values.{Name, Tree, member_of, tree_of}
+use Rattle.trees.specs.declared.value.Named.{Named}
+use Rattle.trees.specs.declared.value.ValueSyntax.{ValueSyntax}
 use Rattle.resolve.specs.Program.{Program}
 use Rattle.asnc.specs.declared.fault.ValueFault.{ValueFault}
 use Rattle.asnc.specs.Notations.{IsLast, IsOnlyLast, IsLeaf, Notation, leaf, sequence, Fields, no_field, field, Lacks, fields_in}

@@ -2,7 +2,7 @@
 use Rattle.std.proofs.Common.{◌≡◌, ℕ, zero, suc, ◌<◌, List, [], ◌∷◌, length, Option, Some, None, refl, sym, ap, ◌∙◌, subst}
 use Rattle.std.specs.Prelude.{slice_get, slice_index_or, MatchOption}
 use Rattle.std.proofs.lemmas.Option.{slice_get_within}
-use Rattle.syntax.specs.Tree.{mandatory}
+use Rattle.trees.specs.Types.{mandatory}
 use Rattle.resolve.specs.Table as table
 use Rattle.resolve.specs.Table.{Part, Kind, simple, reference, tagged, members, elements, Type', next, IsCore, IsCircular, IsLinked}
 use Rattle.asnc.specs.Walks.{onward, walk, EndsAt}

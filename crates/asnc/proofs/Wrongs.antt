@@ -6,9 +6,9 @@ use Rattle.asn_base.specs.declared.schema.Component.{Component as Component'}
 use Rattle.asn_base.specs.Abstract.{AbstractValue}
 use Rattle.asn_base.specs.Types.{Kind, Component, Resolved, Is}
 use Rattle.asn_base.specs.Seen.{component_of}
-use Rattle.notation.specs.Tree.{Name, Tree, member_of}
-use Rattle.notation.specs.declared.tree.Named.{Named}
-use Rattle.notation.specs.declared.tree.ValueSyntax.{ValueSyntax}
+use Rattle.trees.specs.Values.{Name, Tree, member_of}
+use Rattle.trees.specs.declared.value.Named.{Named}
+use Rattle.trees.specs.declared.value.ValueSyntax.{ValueSyntax}
 use Rattle.resolve.specs.Program.{Program}
 use Rattle.asnc.specs.declared.fault.ValueFault.{ValueFault}
 use Rattle.asnc.specs.declared.fault.ValueFault.TheVariants as faults

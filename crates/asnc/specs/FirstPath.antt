@@ -1,10 +1,10 @@
 -- The programs that this compiler takes today.
 use Rattle.std.specs.Prelude.{◌≡◌, ◌<◌, ⊤, ℕ, List, [], length, Some, slice_get}
 use Rattle.std.specs.List.{AllByRecursion}
-use Rattle.notation.specs.Tree as trees
-use Rattle.notation.specs.Tree.{Name, Tree, Members, no_member, member_and}
-use Rattle.syntax.specs.declared.tree.TagDefault.TheVariants.{Explicit}
-use Rattle.syntax.specs.Tree.{mandatory}
+use Rattle.trees.specs.Values as trees
+use Rattle.trees.specs.Values.{Name, Tree, Members, no_member, member_and}
+use Rattle.trees.specs.declared.module.TagDefault.TheVariants.{Explicit}
+use Rattle.trees.specs.Types.{mandatory}
 use Rattle.resolve.specs.declared.table.ListKind.TheVariants.{Sequence}
 use Rattle.resolve.specs.Table.{a_boolean, an_integer, an_octet_string, Part, Kind, simple, reference, members, Type', IsCore}
 use Rattle.resolve.specs.Program.{Program}

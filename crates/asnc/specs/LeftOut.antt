@@ -1,10 +1,10 @@
 -- The constructs of a program that this compiler leaves out today, each by its name.
 use Rattle.std.specs.Prelude.{◌≡◌, ◌⊎◌, ⊤, ℕ, List, [], ◌∷◌, Option, Some, None, slice_get, string_bytes}
-use Rattle.notation.specs.Tree as trees
-use Rattle.notation.specs.Tree.{Name, Tree, Members}
-use Rattle.syntax.specs.declared.tree.TagDefault.{TagDefault}
-use Rattle.syntax.specs.declared.tree.TagDefault.TheVariants as defaults
-use Rattle.syntax.specs.Tree.{mandatory, optional, default}
+use Rattle.trees.specs.Values as trees
+use Rattle.trees.specs.Values.{Name, Tree, Members}
+use Rattle.trees.specs.declared.module.TagDefault.{TagDefault}
+use Rattle.trees.specs.declared.module.TagDefault.TheVariants as defaults
+use Rattle.trees.specs.Types.{mandatory, optional, default}
 use Rattle.resolve.specs.declared.table.ListKind.{ListKind}
 use Rattle.resolve.specs.declared.table.ListKind.TheVariants as lists
 use Rattle.resolve.specs.declared.table.ElementsKind.{ElementsKind}

@@ -1,6 +1,6 @@
 -- What a text of the form Module.Name names in a program (X.680, 14.1).
 use Rattle.std.specs.Prelude.{◌≡◌, ℕ, ◌<◌, List, ◌++◌, ◌∷◌, length, get_or}
-use Rattle.notation.specs.Tree.{Name}
+use Rattle.trees.specs.Values.{Name}
 use Rattle.resolve.specs.declared.names.Assigned.{Assigned}
 use Rattle.resolve.specs.declared.names.Assigned.TheVariants as assigned
 use Rattle.resolve.specs.Names.{Meaning}

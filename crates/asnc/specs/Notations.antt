@@ -5,8 +5,8 @@ use Rattle.asn_base.specs.declared.tag.Tag.{Tag}
 use Rattle.asn_base.specs.Abstract.{AbstractValue, boolean, integer, octets, fields, Row, end, present}
 use Rattle.asn_base.specs.Types.{Kind, a_boolean, an_integer, an_octet_string, a_sequence, Component, Constraint, Resolved, Is}
 use Rattle.asn_base.specs.Typed.{IsWithinLimit}
-use Rattle.notation.specs.Tree.{Name, Tree, yes, no, null, number, binary, hex, chars, reference, chosen, nothing, numbers, items, Members, no_member, member_and}
-use Rattle.notation.specs.Tree as trees
+use Rattle.trees.specs.Values.{Name, Tree, yes, no, null, number, binary, hex, chars, reference, chosen, nothing, numbers, items, Members, no_member, member_and}
+use Rattle.trees.specs.Values as trees
 use Rattle.resolve.specs.declared.names.Assigned.TheVariants as assigned
 use Rattle.resolve.specs.Names.{Refers}
 use Rattle.resolve.specs.Program.{Program, Value}

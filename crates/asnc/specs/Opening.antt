@@ -10,7 +10,7 @@ use Rattle.asn_base.specs.Types.{Resolved}
 use Rattle.notation.specs.Given.{IsLexed}
 use Rattle.notation.specs.Answer as answers
 use Rattle.syntax.specs.Syntax.{module_text}
-use Rattle.syntax.specs.Tree.{ModuleTree}
+use Rattle.trees.specs.Modules.{ModuleTree}
 use Rattle.notation.specs.declared.fault.SyntaxFault.{SyntaxFault}
 use Rattle.resolve.specs.Program.{Program}
 use Rattle.resolve.specs.Links.{Links, IsLinkFault}

@@ -3,7 +3,7 @@ use Rattle.std.specs.Prelude.{◌≡◌, ◌⊎◌, ⊤, ℕ, List}
 use Rattle.asn_base.specs.Abstract.{AbstractValue}
 use Rattle.asn_base.specs.Types.{Resolved}
 use Rattle.encodings.specs.Encoding.{Der, Shortest}
-use Rattle.notation.specs.Tree.{Name, Tree}
+use Rattle.trees.specs.Values.{Name, Tree}
 use Rattle.resolve.specs.Program.{Program}
 use Rattle.asnc.specs.Named.{TypeNamed, ValueNamed}
 use Rattle.asnc.specs.Notations.{IsValueAt, Notation}

@@ -5,7 +5,7 @@ use Rattle.asn_base.specs.declared.tag.Tag.{Tag}
 use Rattle.asn_base.specs.Abstract.{AbstractValue}
 use Rattle.asn_base.specs.Types.{Kind, a_boolean, an_integer, an_octet_string, a_sequence, Component, Resolved, Is}
 use Rattle.asn_base.specs.Typed.{IsWithinLimit}
-use Rattle.notation.specs.Tree.{Name, Tree, reference}
+use Rattle.trees.specs.Values.{Name, Tree, reference}
 use Rattle.resolve.specs.Modules.{StandsIn, StandsTwice, AreDistinct}
 use Rattle.resolve.specs.Program.{Program, Value}
 use Rattle.resolve.specs.Sound.{IsAssignment}

@@ -2,20 +2,20 @@
 
 ghost use Rattle.std.specs.Prelude.{◌≡◌, ◌<◌, ⊤, ℕ, MatchOption, MatchResult, IfErr, IfSome, OnOk, length, map, Some, slice_get};
 ghost use Rattle.std.specs.List.{AllByRecursion};
-ghost use Rattle.notation.specs.Tree.{members, member_of, tree_of};
+ghost use Rattle.trees.specs.Values.{members, member_of, tree_of};
 ghost use Rattle.resolve.specs.Program.{Value};
 ghost use Rattle.resolve.specs.Seen.{header_of, kind_of, part_of, plain_of, type_of, types_of, value_of};
 ghost use Rattle.resolve.specs.Table.{IsLinked, Type', simple, members as list_of};
 ghost use Rattle.resolve.specs.declared.table.ListKind.TheVariants as lists;
-ghost use Rattle.syntax.specs.declared.tree.TagDefault.{TagDefault as TagDefault'};
-ghost use Rattle.syntax.specs.declared.tree.TagDefault.TheVariants as defaults;
-ghost use Rattle.notation.specs.Tree.{Name};
+ghost use Rattle.trees.specs.declared.module.TagDefault.{TagDefault as TagDefault'};
+ghost use Rattle.trees.specs.declared.module.TagDefault.TheVariants as defaults;
+ghost use Rattle.trees.specs.Values.{Name};
 ghost use Rattle.asnc.specs.FirstPath.{IsBasic, IsFirstMember, IsFirstKind, IsFirstType, IsFirstNotation, AreFirstFields, IsFirstPath, PartsInside};
 ghost use Rattle.asnc.specs.LeftOut as out;
 ghost use Rattle.asnc.specs.LeftOut.{plain_construct, core_construct, tags_construct, IsPartOut, IsKindOut, IsTypeOut, IsNotationOut, IsOutsideFault, TellsAssignment, TellsModule};
 ghost use Rattle.resolve.specs.Modules.{StandsIn};
 ghost use Rattle.resolve.specs.Table.{Part};
-ghost use Rattle.notation.specs.Tree.{Tree};
+ghost use Rattle.trees.specs.Values.{Tree};
 
 use crate::fault::{Construct, Fault};
 use crate::program::{assigned, header_at, type_at, value_at};

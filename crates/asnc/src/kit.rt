@@ -2,11 +2,11 @@
 
 ghost use Rattle.std.specs.Prelude.{◌≡◌, ◌<◌, ◌↔◌, ℕ, List, length, map, Some, IfSome, IfOk, IfErr, MatchOption, MatchResult};
 ghost use Rattle.asn_base.specs.Types.{Resolved};
-ghost use Rattle.syntax.specs.Tree.{ModuleTree, module_tree_of};
+ghost use Rattle.trees.specs.Modules.{ModuleTree, module_tree_of};
 ghost use Rattle.text.specs.declared.fault.LexFault.{LexFault};
 ghost use Rattle.text.specs.declared.fault.LexFault.TheVariants.{Memory as no_memory};
 ghost use Rattle.text.specs.Text.{Stands};
-ghost use Rattle.notation.specs.Tree.{Name};
+ghost use Rattle.trees.specs.Values.{Name};
 ghost use Rattle.resolve.specs.declared.names.Assigned.{Assigned as Assigned'};
 ghost use Rattle.resolve.specs.Program.{IsThere, Program};
 ghost use Rattle.resolve.specs.Sound.{AreSound};

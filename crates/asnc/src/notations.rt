@@ -1,7 +1,7 @@
 //! What a notation tells by itself, and what it stands for behind its references.
 
 ghost use Rattle.std.specs.Prelude.{◌≡◌, ℕ, IfOk, IfErr, MatchResult, map, option_map};
-ghost use Rattle.notation.specs.Tree.{Name, Tree, tree_of, member_of};
+ghost use Rattle.trees.specs.Values.{Name, Tree, tree_of, member_of};
 ghost use Rattle.asnc.specs.Notations.{truth_in, number_in, binary_in, hex_in, fields_in, IsOwn, IsLast, IsOnlyLast, MeansValue, NamesValue, Lacks};
 ghost use Rattle.asnc.specs.Wrong.{IsLost};
 

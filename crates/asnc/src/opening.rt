@@ -2,7 +2,7 @@
 
 ghost use Rattle.std.specs.Prelude.{◌≡◌, ℕ, List, IfOk, IfErr, MatchResult, map};
 ghost use Rattle.std.specs.List.{AllZip};
-ghost use Rattle.syntax.specs.Tree.{ModuleTree, module_tree_of};
+ghost use Rattle.trees.specs.Modules.{ModuleTree, module_tree_of};
 ghost use Rattle.asnc.specs.Opening.{IsModule, IsTextFault, IsRefusedAt, SaysMemory, octets_of};
 
 use crate::fault::Fault;

@@ -1,7 +1,7 @@
 //! Parts of a linked program by number.
 
 ghost use Rattle.std.specs.Prelude.{◌≡◌, ◌<◌, ◌↔◌, ℕ, length, Some, slice_get, IfSome};
-ghost use Rattle.notation.specs.Tree.{tree_of};
+ghost use Rattle.trees.specs.Values.{tree_of};
 ghost use Rattle.resolve.specs.Seen.{assignment_of, header_of, type_of, value_of};
 ghost use Rattle.resolve.specs.Sound.{IsAssignment};
 ghost use Rattle.asnc.specs.Notations.{IsValueAt, MeansValue, RefersTo};

@@ -1,7 +1,7 @@
 //! A linked program, and where the references of its values lead.
 
 ghost use Rattle.std.specs.Prelude.{◌≡◌, ◌<◌, ◌↔◌, ℕ, IfOk, IfErr, MatchResult, length};
-ghost use Rattle.notation.specs.Tree.{Name, Tree};
+ghost use Rattle.trees.specs.Values.{Name, Tree};
 ghost use Rattle.asnc.specs.Notations.{AreReferred, IsValueLast, RefersTo, listed};
 ghost use Rattle.asnc.specs.Walks.{EndsAt, ComesBack, Reaches, IsWithin};
 ghost use Rattle.asnc.specs.Wrong.{LeadsTo};

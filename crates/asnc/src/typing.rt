@@ -5,11 +5,11 @@ ghost use Rattle.std.specs.Prelude.{map, IfOk, IfErr, MatchOption, option_map, I
 ghost use Rattle.asn_base.specs.Abstract.{abstract, row_of_options};
 ghost use Rattle.asn_base.specs.Types.{a_boolean, an_integer, an_octet_string, Constraint as Constraint'};
 ghost use Rattle.asn_base.specs.Typed.{IsWithinLimit};
-ghost use Rattle.notation.specs.Tree.{tree_of, member_of};
+ghost use Rattle.trees.specs.Values.{tree_of, member_of};
 ghost use Rattle.asnc.specs.Notations.{IsLeaf, Notation, Fields, Lacks, signed};
 ghost use Rattle.asnc.specs.Wrong.{component_names, field_names, AreIn, IsDisorder, IsKindFault, IsWrong, AreWrong};
 ghost use Rattle.resolve.specs.Modules.{StandsIn, StandsTwice, AreDistinct};
-ghost use Rattle.notation.specs.Tree.{Name};
+ghost use Rattle.trees.specs.Values.{Name};
 ghost use Rattle.std.specs.List.{AllByRecursion, list_any};
 ghost use Rattle.asn_base.specs.Accepted.{IsSimpleMember, IsSimple};
 ghost use Rattle.asn_base.specs.Seen.{component_of, kind_of};

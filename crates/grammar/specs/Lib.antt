@@ -11,3 +11,4 @@ pub mod Grows
 pub mod Texts
 pub mod Parts
 pub mod Manies
+pub mod Single

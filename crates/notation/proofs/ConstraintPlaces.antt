@@ -12,7 +12,7 @@ use Rattle.grammar.specs.Numbers.{Past}
 use Rattle.grammar.specs.Places.{any, small, free, unbounded}
 use Rattle.grammar.specs.Answers.{Reads, unbound}
 use Rattle.notation.specs.Rules.{Rules, Ruled}
-use Rattle.notation.specs.Constraint.{EndTree, number_end, name_end, only, between, values_in, sizes_in, chars_in}
+use Rattle.trees.specs.Constraints.{EndTree, number_end, name_end, only, between, values_in, sizes_in, chars_in}
 use Rattle.notation.specs.ConstraintGrammar.{parens, or, by_or, ref, chars, end, range, ranges, size, constraint, flat}
 use Rattle.notation.specs.ConstraintReading.{is_open, is_size, size_at, constraint_at}
 use Rattle.notation.proofs.ConstraintParts.{rule_size, rule_constraint}

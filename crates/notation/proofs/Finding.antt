@@ -8,7 +8,7 @@ use Rattle.grammar.specs.Reading.{Read, Reader, ◌>>=◌, closed_at, named_at, 
 use Rattle.grammar.specs.Laws.{Follows, Passes, Stands, Finds, seq_front, seq_whole, passes_on, passes_made, stands_made}
 use Rattle.grammar.specs.Lists.{IsSolid, Next, head_is, second_is, no_lexeme, is_rbrace, is_ident, finds_closed, finds_body, body_next, finds_named}
 use Rattle.grammar.specs.Numbers.{fitting_passes, fitting_shrinks, fitting_stands, fitting_behind}
-use Rattle.notation.specs.Tree.{Tree, numbers, items, fields, trees, members}
+use Rattle.trees.specs.Values.{Tree, numbers, items, fields, trees, members}
 use Rattle.notation.specs.Reading.{numbers_at, items_at, fields_at, follows_name, by_name_at, two_numbers_at, by_number_at, braced_at}
 use Rattle.notation.specs.Laws.{starts, goes_on}
 use Rattle.notation.proofs.Sounds.{three_numbers}

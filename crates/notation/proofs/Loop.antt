@@ -9,19 +9,19 @@ use Rattle.grammar.specs.Grammar.{token, ◌∙◌}
 use Rattle.grammar.specs.Reading.{Beyond, Integer, Read, Reader, ◌>>=◌, with_front, stop, fitting, behind_commas_at, listed_at, named_at, next_comma}
 use Rattle.grammar.specs.Laws.{nowhere}
 use Rattle.grammar.specs.Lists.{named_sound}
-use Rattle.grammar.specs.Loops.{Shrinks, sound_short, regroup, listed_fail, commas_fail}
+use Rattle.grammar.specs.Loops.{Shrinks, sound_short, regroup}
 use Rattle.notation.specs.declared.fault.ReadError.{ReadError}
 use Rattle.notation.specs.declared.fault.ReadError.TheVariants as errors
 use Rattle.notation.specs.declared.fault.Limit.TheVariants as limits
-use Rattle.notation.specs.declared.tree.ValueSyntax.{ValueSyntax}
-use Rattle.notation.specs.declared.tree.ValueSyntax.TheViews.{Fields}
-use Rattle.notation.specs.declared.tree.ValueSyntax.TheVariants.{rolls-Fields}
-use Rattle.notation.specs.declared.tree.ValueSyntax.TheOpen as opened
-use Rattle.notation.specs.declared.tree.ValueSyntax.TheShapes.{former-ValueSyntax-Fields-0-at-2}
-use Rattle.notation.specs.declared.tree.ValueSyntax.TheFolds.{fold-roll-ValueSyntax}
-use Rattle.notation.specs.declared.tree.Named.{Named}
+use Rattle.trees.specs.declared.value.ValueSyntax.{ValueSyntax}
+use Rattle.trees.specs.declared.value.ValueSyntax.TheViews.{Fields}
+use Rattle.trees.specs.declared.value.ValueSyntax.TheVariants.{rolls-Fields}
+use Rattle.trees.specs.declared.value.ValueSyntax.TheOpen as opened
+use Rattle.trees.specs.declared.value.ValueSyntax.TheShapes.{former-ValueSyntax-Fields-0-at-2}
+use Rattle.trees.specs.declared.value.ValueSyntax.TheFolds.{fold-roll-ValueSyntax}
+use Rattle.trees.specs.declared.value.Named.{Named}
 use Rattle.notation.specs.Given.{Fails}
-use Rattle.notation.specs.Tree.{Name, Tree, fields, members, layer, tree_of, member_of}
+use Rattle.trees.specs.Values.{Name, Tree, fields, members, layer, tree_of, member_of}
 use Rattle.notation.specs.Value.{value}
 use Rattle.notation.specs.Reading.{alternative_at, step_at, value_at, next_number, numbers_at}
 use Rattle.notation.proofs.Sounds.{value_sound}
@@ -44,16 +44,6 @@ value_shrinks fits n = record { shorter = λ ts x e. sound_short (value fits n) 
 
 pub member_shrinks : (fits : ℕ → Bool) (n : ℕ) → Shrinks (named_at (value_at fits n))
 member_shrinks fits n = record { shorter = λ ts x e. sound_short (token Ident ∙ value fits n) ts (named_at (value_at fits n) ts) x e (named_sound nowhere (value fits n) (value_at fits n) (value_sound fits n) ts) }
-
-pub listed_gives_up : {A : Type 0} (read : Reader A) (ts : List Lexeme) (e : ReadError) → Fails e (read ts) → Fails e (listed_at read ts)
-listed_gives_up read ts errors.Memory r = tt
-listed_gives_up read ts (errors.Unexpected n) r = listed_fail read ts _ r
-listed_gives_up read ts (errors.Limit l n) r = listed_fail read ts _ r
-
-pub commas_give_up : {A : Type 0} (read : Reader A) (ts rest : List Lexeme) (e : ReadError) (front : List A) (total : Read (List A)) → next_comma ts ≡ Some rest → Fails e (read rest) → with_front front (behind_commas_at read (length ts) ts) ≡ total → Fails e total
-commas_give_up read ts rest errors.Memory front total c r h = tt
-commas_give_up read ts rest (errors.Unexpected n) front total c r h = commas_fail read ts rest _ front total c r h
-commas_give_up read ts rest (errors.Limit l n) front total c r h = commas_fail read ts rest _ front total c r h
 
 -- the tree of components
 pub fields_tree : (ms : Vec (Named ValueSyntax)) → tree_of (Fields ms) ≡ fields (members (map member_of ms.items))

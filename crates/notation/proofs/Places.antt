@@ -8,7 +8,7 @@ use Rattle.grammar.specs.Reading.{Read}
 use Rattle.grammar.specs.Laws.{deeper, wider, Sound, Follows, Stands, behind_is}
 use Rattle.grammar.specs.Places.{any, small, free, unbounded}
 use Rattle.grammar.specs.Answers.{Closed, Reads, unbound}
-use Rattle.notation.specs.Tree.{Tree, chosen, numbers, items, fields, trees, members}
+use Rattle.trees.specs.Values.{Tree, chosen, numbers, items, fields, trees, members}
 use Rattle.notation.specs.Value.{simple, nested, value}
 use Rattle.notation.specs.Reading.{step_at, value_at}
 use Rattle.notation.proofs.Sounds.{chosen_of, empty_braces, three_numbers, numbers_of, items_of, fields_of, value_sound, value_deeper, value_wider}

@@ -9,7 +9,7 @@ use Rattle.grammar.specs.Laws.{nowhere, deeper, wider, Sound, seq_sound, is_behi
 use Rattle.grammar.specs.Lists.{left_sound, right_sound, stop_sound, closed_sound, listed_sound, brace_sound, named_sound}
 use Rattle.grammar.specs.Numbers.{Past, fitting_sound}
 use Rattle.grammar.specs.Places.{any}
-use Rattle.notation.specs.Tree.{Tree, yes, no, null, number, binary, hex, chars, reference, chosen, nothing, numbers, items, fields, trees, members}
+use Rattle.trees.specs.Values.{Tree, yes, no, null, number, binary, hex, chars, reference, chosen, nothing, numbers, items, fields, trees, members}
 use Rattle.notation.specs.Value.{simple, nested, value}
 use Rattle.notation.specs.Reading.{negative_at, value_name_at, qualified_at, numbers_at, items_at, fields_at, follows_name, by_name_at, two_numbers_at, by_number_at, braced_at, alternative_at, step_at, value_at}
 

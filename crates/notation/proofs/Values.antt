@@ -8,7 +8,7 @@ use Rattle.grammar.specs.Reading.{Read, Reader, ◌>>=◌, opened}
 use Rattle.grammar.specs.Laws.{Follows, Passes, Stands, Finds, passes_on, passes_made, behind_is, behind_front}
 use Rattle.grammar.specs.Lists.{IsSolid, Next, braces_is, braces_front}
 use Rattle.grammar.specs.Numbers.{fitting_passes, fitting_shrinks, fitting_stands}
-use Rattle.notation.specs.Tree.{Tree, yes, no, null, number, binary, hex, chars, reference, chosen, nothing, numbers, items, fields, trees, members}
+use Rattle.trees.specs.Values.{Tree, yes, no, null, number, binary, hex, chars, reference, chosen, nothing, numbers, items, fields, trees, members}
 use Rattle.notation.specs.Value.{simple, nested}
 use Rattle.notation.specs.Reading.{negative_at, value_name_at, qualified_at, braced_at, alternative_at, step_at}
 use Rattle.notation.proofs.Sounds.{three_numbers}

@@ -7,7 +7,7 @@ use Rattle.grammar.specs.Grammar.{Grammar, token, mark, number_of, ◌∙◌, be
 use Rattle.grammar.specs.Reading.{Nesting, Read, Reader, ◌>>=◌, stop, opened}
 use Rattle.grammar.specs.Laws.{Follows, Passes, Stands, Finds, behind_front, passes_on, passes_made}
 use Rattle.grammar.specs.Lists.{IsSolid, Next, head_is, second_is}
-use Rattle.notation.specs.Tree.{Tree, chosen}
+use Rattle.trees.specs.Values.{Tree, chosen}
 use Rattle.notation.specs.Value.{simple, nested, value}
 use Rattle.notation.specs.Reading.{braced_at, alternative_at, step_at, value_at}
 use Rattle.notation.proofs.Sounds.{three_numbers}

@@ -5,8 +5,8 @@ use Rattle.text.specs.declared.reserved.Word.TheVariants.{From, Size, Union, Min
 use Rattle.grammar.specs.Lexeme.{TypeRef, Ident, Number, CString, Word, Mark}
 use Rattle.grammar.specs.Grammar.{Grammar, token, mark, word, number_of, ◌∙◌, ◌∣◌, ◌⇒◌, many, optional, behind}
 use Rattle.grammar.specs.Places.{Limited}
-use Rattle.notation.specs.Tree.{Name}
-use Rattle.notation.specs.Constraint.{EndTree, number_end, name_end, RangeTree, only, between, ConstraintTree, values_in, sizes_in, chars_in}
+use Rattle.trees.specs.Values.{Name}
+use Rattle.trees.specs.Constraints.{EndTree, number_end, name_end, RangeTree, only, between, ConstraintTree, values_in, sizes_in, chars_in}
 
 -- a part in parentheses
 abbrev pub parens : {A : Type 0} → Grammar A → Grammar A

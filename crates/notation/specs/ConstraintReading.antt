@@ -4,7 +4,7 @@ use Rattle.text.specs.declared.token.Mark.TheVariants.{Range, Dot, OpenParenthes
 use Rattle.text.specs.declared.reserved.Word.TheVariants.{From, Size, Union, Min, Max}
 use Rattle.grammar.specs.Lexeme.{Lexeme, TypeRef, Ident, Number, CString, Word, Mark}
 use Rattle.grammar.specs.Reading.{Reader, ◌>>=◌, stop, fitting, many_at}
-use Rattle.notation.specs.Constraint.{EndTree, number_end, name_end, RangeTree, only, between, ConstraintTree, values_in, sizes_in, chars_in}
+use Rattle.trees.specs.Constraints.{EndTree, number_end, name_end, RangeTree, only, between, ConstraintTree, values_in, sizes_in, chars_in}
 
 unfoldable pub open_at : Reader (Unit {0})
 open_at (Mark OpenParenthesis ∷ rest) = Ok (tt, rest)

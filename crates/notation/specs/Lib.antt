@@ -1,5 +1,5 @@
-pub mod Tree
-pub mod Constraint
+pub use Rattle.trees.specs.Values
+pub use Rattle.trees.specs.Constraints
 pub mod Value
 pub mod ConstraintGrammar
 pub mod Reading
@@ -9,3 +9,4 @@ pub mod Parens
 pub mod Given
 pub mod Answer
 pub mod Laws
+pub mod Failing

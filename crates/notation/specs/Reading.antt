@@ -4,7 +4,7 @@ use Rattle.text.specs.declared.token.Mark.TheVariants.{Comma, Colon, Dot, Minus,
 use Rattle.text.specs.declared.reserved.Word.TheVariants.{True, False, Null}
 use Rattle.grammar.specs.Lexeme.{Lexeme, TypeRef, Ident, Number, BString, HString, CString, Word, Mark}
 use Rattle.grammar.specs.Reading.{Reader, ◌>>=◌, stop, closed_at, listed_at, named_at, fitting, opened}
-use Rattle.notation.specs.Tree.{Tree, yes, no, null, number, binary, hex, chars, reference, chosen, nothing, numbers, items, fields, trees, members}
+use Rattle.trees.specs.Values.{Tree, yes, no, null, number, binary, hex, chars, reference, chosen, nothing, numbers, items, fields, trees, members}
 
 unfoldable pub negative_at : Reader Tree
 negative_at (Number n ∷ rest) = Ok (number true n, rest)

@@ -4,7 +4,7 @@ use Rattle.text.specs.declared.token.Mark.TheVariants.{Colon, Dot, Minus, OpenBr
 use Rattle.text.specs.declared.reserved.Word.TheVariants.{True, False, Null}
 use Rattle.grammar.specs.Lexeme.{TypeRef, Ident, Number, BString, HString, CString, Mark}
 use Rattle.grammar.specs.Grammar.{Grammar, token, mark, word, number_of, ◌∙◌, ◌∣◌, ◌⇒◌, many, behind, listed, braces}
-use Rattle.notation.specs.Tree.{Tree, yes, no, null, number, binary, hex, chars, reference, chosen, nothing, numbers, items, fields, trees, members}
+use Rattle.trees.specs.Values.{Tree, yes, no, null, number, binary, hex, chars, reference, chosen, nothing, numbers, items, fields, trees, members}
 
 -- A limit on numbers is a test that numbers with no minus meet.
 module _ (fits : ℕ → Bool) where

@@ -3,7 +3,7 @@
 ghost use Rattle.std.specs.Prelude.{◌≡◌, ◌-◌, ◌≤◌, ℕ, length, IfOk, IfErr, MatchResult};
 ghost use Rattle.grammar.specs.Lexeme.{lexemes};
 ghost use Rattle.grammar.specs.Places.{small, free, IsRead};
-ghost use Rattle.notation.specs.Tree.{Tree, tree_of};
+ghost use Rattle.trees.specs.Values.{Tree, tree_of};
 ghost use Rattle.notation.specs.Value.{value};
 ghost use Rattle.notation.specs.Given.{IsLexed};
 ghost use Rattle.notation.specs.Answer.{Stands};
@@ -11,7 +11,7 @@ ghost use Rattle.notation.specs.Answer.{Stands};
 use crate::fault::{ReadError, SyntaxFault};
 use crate::reading::value;
 use crate::refused::unexpected;
-use crate::tree::ValueSyntax;
+use trees::ValueSyntax;
 use std::alloc::Global;
 use text::Token;
 

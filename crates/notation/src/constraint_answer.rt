@@ -3,12 +3,12 @@
 ghost use Rattle.std.specs.Prelude.{◌≡◌, ◌≤◌, ℕ, List, length, IfOk, IfErr, MatchResult};
 ghost use Rattle.grammar.specs.Lexeme.{lexemes};
 ghost use Rattle.grammar.specs.Places.{small, free, IsRead};
-ghost use Rattle.notation.specs.Constraint.{ConstraintTree, RangeTree, constraint_of, size_of};
+ghost use Rattle.trees.specs.Constraints.{ConstraintTree, RangeTree, constraint_of, size_of};
 ghost use Rattle.notation.specs.ConstraintGrammar.{constraint, size, flat};
 ghost use Rattle.notation.specs.Given.{IsLexed};
 ghost use Rattle.notation.specs.Answer.{Stands};
 
-use crate::constraint::{ConstraintSyntax, SizeSyntax};
+use trees::{ConstraintSyntax, SizeSyntax};
 use crate::constraint_reading::{constraint, size};
 use crate::fault::{ReadError, SyntaxFault};
 use crate::refused::unexpected;

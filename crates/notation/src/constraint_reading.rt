@@ -4,11 +4,11 @@ ghost use Rattle.std.specs.Prelude.{◌≡◌, ◌<◌, Some, None, MatchOption,
 ghost use Rattle.text.specs.declared.token.TokenKind.TheVariants as kinds;
 ghost use Rattle.grammar.specs.Lexeme.{lexemes, chars_between};
 ghost use Rattle.grammar.specs.Places.{small};
-ghost use Rattle.notation.specs.Constraint.{end_of, range_of, ranges_of, size_of, chars_of, constraint_of};
+ghost use Rattle.trees.specs.Constraints.{end_of, range_of, ranges_of, size_of, chars_of, constraint_of};
 ghost use Rattle.notation.specs.Given.{Gives, IsTokenOf, AreTokens};
 ghost use Rattle.notation.specs.ConstraintReading.{open_at, close_at, next_or, by_or_at, last_chars_at, more_chars_at, chars_at, from_at, minus_at, end_dot_at, end_at, some_end_at, upper_at, behind_min_at, behind_end_at, single_at, range_at, ranges_at, size_at, size_in_at, from_in_at, values_in_at, inside_at, constraint_at};
 
-use crate::constraint::{
+use trees::{
     CharsSyntax, ConstraintSyntax, EndSyntax, RangeSyntax, RangesSyntax, SizeSyntax,
 };
 use crate::decode::{chars_of, name_of, number_of, small_number};

@@ -2,7 +2,6 @@
 #![tactic(auto)]
 
 pub mod answer;
-pub mod constraint;
 pub mod constraint_answer;
 pub mod constraint_reading;
 pub mod decode;
@@ -10,12 +9,11 @@ pub mod fault;
 pub mod law;
 pub mod reading;
 pub mod refused;
-pub mod tree;
 
 pub use answer::{MAX_NESTING, value_at};
-pub use constraint::{
-    CharsSyntax, ConstraintSyntax, EndSyntax, RangeSyntax, RangesSyntax, SizeSyntax,
-};
 pub use constraint_answer::{constraint_at, size_at};
 pub use fault::{Limit, ReadError, SyntaxFault};
-pub use tree::{Named, ValueSyntax};
+pub use trees::{
+    CharsSyntax, ConstraintSyntax, EndSyntax, Named, RangeSyntax, RangesSyntax, SizeSyntax,
+    ValueSyntax,
+};

@@ -6,13 +6,13 @@ ghost use Rattle.text.specs.Items.{number_value};
 ghost use Rattle.grammar.specs.Lexeme.{lexemes, Number};
 ghost use Rattle.grammar.specs.Reading.{with_front, closed_at, next_comma, listed_at, named_at};
 ghost use Rattle.grammar.specs.Places.{small};
-ghost use Rattle.notation.specs.Tree.{tree_of, member_of};
+ghost use Rattle.trees.specs.Values.{tree_of, member_of};
 ghost use Rattle.notation.specs.Given.{Gives, IsTokenOf, AreTokens};
 ghost use Rattle.notation.specs.Reading.{negative_at, qualified_at, next_number, numbers_at, two_numbers_at, by_number_at, items_at, fields_at, braced_at, alternative_at, step_at, value_at};
 
 use crate::decode::{chars_of, digits_of, name_of, number_of, small_number};
 use crate::fault::{Limit, ReadError};
-use crate::tree::{Named, ValueSyntax};
+use trees::{Named, ValueSyntax};
 use std::alloc::Global;
 use text::reserved::Word;
 use text::{Mark, Token, TokenKind};

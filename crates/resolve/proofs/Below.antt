@@ -1,7 +1,7 @@
 -- Types and values of a program, gone through from the front.
 use Rattle.std.proofs.Common.{◌≡◌, ℕ, ◌<◌, List, Some, subst, sym, ◌∙◌}
 use Rattle.std.specs.Prelude.{slice_get}
-use Rattle.notation.specs.Tree.{Name}
+use Rattle.trees.specs.Values.{Name}
 use Rattle.resolve.specs.Program.{Program, Value}
 use Rattle.resolve.specs.Sound.{qualified, qualified_in, IsAssignment, IsSoundKind, MeanValues}
 use Rattle.resolve.specs.Table.{Type'}

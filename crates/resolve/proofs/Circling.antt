@@ -2,8 +2,8 @@
 use Rattle.std.proofs.Common.{◌≡◌, ℕ, ◌<◌, List, length, Some, Vec, Global, refl, sym, subst, ap, ◌∙◌}
 use Rattle.std.specs.Prelude.{slice_get}
 use Rattle.std.proofs.lemmas.Option.{slice_get_within, get_or_from_slice_get}
-use Rattle.notation.specs.Tree.{Tree}
-use Rattle.syntax.specs.Tree.{PresenceTree, mandatory, optional, default}
+use Rattle.trees.specs.Values.{Tree}
+use Rattle.trees.specs.Types.{PresenceTree, mandatory, optional, default}
 use Rattle.resolve.specs.declared.table.ListKind.{ListKind}
 use Rattle.resolve.specs.declared.table.Shape.{Shape}
 use Rattle.resolve.specs.declared.table.Shape.TheVariants as shapes

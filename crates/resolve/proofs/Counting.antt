@@ -1,10 +1,10 @@
 -- Assignments counted one by one.
 use Rattle.std.proofs.Common.{◌≡◌, ℕ, zero, suc, ◌+◌, ◌++◌, ◌<◌, List, [], ◌∷◌, length, map, get_or, take, drop, refl, sym, subst, ap, ◌∙◌, arith, string_bytes}
 use Rattle.std.proofs.lemmas.List.{map-append, take-append-drop}
-use Rattle.notation.specs.Tree.{Name}
-use Rattle.syntax.specs.declared.tree.Assignment.{Assignment}
-use Rattle.syntax.specs.declared.tree.Module.{Module}
-use Rattle.syntax.specs.Tree.{AssignmentTree, ModuleTree, assignment_of as given_of, module_tree_of}
+use Rattle.trees.specs.Values.{Name}
+use Rattle.trees.specs.declared.module.Assignment.{Assignment}
+use Rattle.trees.specs.declared.module.Module.{Module}
+use Rattle.trees.specs.Modules.{AssignmentTree, ModuleTree, assignment_of as given_of, module_tree_of}
 use Rattle.resolve.specs.declared.fault.NameFault.{NameFault}
 use Rattle.resolve.specs.declared.fault.NameFault.TheVariants as faults
 use Rattle.resolve.specs.declared.fault.Limit.TheVariants as limits

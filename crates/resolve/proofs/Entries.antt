@@ -6,7 +6,7 @@ use Rattle.std.specs.String.{string_eq}
 use Rattle.std.proofs.lemmas.List.{map-append}
 use Rattle.indexmap.specs.IndexMap.{IndexMap, get, insert_entry}
 use Rattle.indexmap.proofs.CallerLemmas.{insert_entry-new}
-use Rattle.notation.specs.Tree.{Name}
+use Rattle.trees.specs.Values.{Name}
 use Rattle.resolve.specs.Names.{under}
 use Rattle.resolve.specs.Scopes.{seen}
 use Rattle.resolve.proofs.Meanings.{under_seen}

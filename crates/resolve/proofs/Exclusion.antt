@@ -1,8 +1,8 @@
 -- Faults of types and names in a program, and that they exclude a sound one.
 use Rattle.std.proofs.Common.{◌≡◌, ℕ, zero, suc, ◌<◌, List, [], ◌∷◌, length, map, Some, refl, sym, subst, ap, ◌∙◌, inl, inr, get_or, string_bytes, arith}
 use Rattle.std.specs.Prelude.{◌⊎◌, slice_get}
-use Rattle.notation.specs.Tree.{Name}
-use Rattle.syntax.specs.declared.tree.TagDefault.{TagDefault}
+use Rattle.trees.specs.Values.{Name}
+use Rattle.trees.specs.declared.module.TagDefault.{TagDefault}
 use Rattle.resolve.specs.declared.fault.NameFault.{NameFault}
 use Rattle.resolve.specs.declared.fault.NameFault.TheVariants as faults
 use Rattle.resolve.specs.declared.fault.Limit.TheVariants as limits

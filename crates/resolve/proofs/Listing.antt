@@ -4,7 +4,7 @@ use Rattle.std.specs.Prelude.{slice_get, String, bytes_eq}
 use Rattle.std.specs.Global.{Global}
 use Rattle.std.specs.List.{list_any}
 use Rattle.std.proofs.lemmas.Bool.{or_cases}
-use Rattle.notation.specs.Tree.{Name}
+use Rattle.trees.specs.Values.{Name}
 use Rattle.resolve.specs.Modules.{StandsIn}
 use Rattle.resolve.proofs.Distinct.{same_bytes, equal_bytes}
 

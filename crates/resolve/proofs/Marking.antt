@@ -5,8 +5,8 @@ use Rattle.std.proofs.lemmas.Bool.{eqb-true, cases_Bool}
 use Rattle.std.proofs.lemmas.List.{length-set, get_or-replicate, length-replicate}
 use Rattle.std.proofs.lemmas.Option.{slice_get_within, slice_get-map, slice_get_read, slice_get-get_or, get_or_from_slice_get}
 use Rattle.asn_base.specs.declared.tag.Tag.{Tag}
-use Rattle.notation.specs.Constraint.{RangeTree}
-use Rattle.syntax.specs.declared.tree.Keyword.{Keyword}
+use Rattle.trees.specs.Constraints.{RangeTree}
+use Rattle.trees.specs.declared.types.Keyword.{Keyword}
 use Rattle.resolve.specs.declared.table.Component.{Component}
 use Rattle.resolve.specs.declared.table.ElementsKind.{ElementsKind}
 use Rattle.resolve.specs.declared.table.ListKind.{ListKind}

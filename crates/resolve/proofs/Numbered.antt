@@ -2,15 +2,15 @@
 use Rattle.std.proofs.Common.{◌≡◌, ◌⊎◌, inl, inr, ℕ, zero, suc, ◌<◌, ◌≤◌, ◌+◌, ◌++◌, List, [], ◌∷◌, length, Some, None, refl, sym, subst, ap, ◌∙◌, length-append, arith}
 use Rattle.std.specs.Prelude.{slice_get, Option, slice_index_or}
 use Rattle.std.proofs.lemmas.Option.{slice_get_within, slice_get-get_or}
-use Rattle.notation.specs.Tree.{Name}
-use Rattle.syntax.specs.declared.tree.TagDefault.{TagDefault}
-use Rattle.syntax.specs.Tree.{TypeTree}
+use Rattle.trees.specs.Values.{Name}
+use Rattle.trees.specs.declared.module.TagDefault.{TagDefault}
+use Rattle.trees.specs.Types.{TypeTree}
 use Rattle.resolve.specs.Names.{Module, Refers}
 use Rattle.resolve.specs.Table.{Type', Kind, Part, simple, reference, tagged, members, elements, behind, behind_of, Is, IsClosed, HasMembers, HasElements, IsMember, AllUnfold, IsLinked}
 use Rattle.resolve.specs.declared.names.Assigned.TheVariants as assigned
 use Rattle.resolve.specs.declared.table.ListKind.{ListKind}
 use Rattle.resolve.specs.declared.table.ElementsKind.{ElementsKind}
-use Rattle.notation.specs.Constraint.{RangeTree}
+use Rattle.trees.specs.Constraints.{RangeTree}
 use Rattle.std.specs.List.{AllByRecursion}
 use Rattle.resolve.proofs.PartKinds.{Parts, plain, referring, tagging, listing, having, kind_parts, member_at, listed_at}
 use Rattle.resolve.specs.Numbering.{Source, member_sources, numbered, parts_of, all_parts, IsTop, AreTops, AreNumbered}

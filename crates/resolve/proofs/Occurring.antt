@@ -2,9 +2,9 @@
 use Rattle.std.proofs.Common.{◌≡◌, ℕ, zero, suc, ◌+◌, ◌≤◌, List, [], length, Some, refl, sym, subst, ap, ◌∙◌, arith, string_bytes}
 use Rattle.std.specs.Prelude.{slice_get}
 use Rattle.std.proofs.lemmas.Option.{slice_get_within}
-use Rattle.notation.specs.Tree.{Name}
-use Rattle.syntax.specs.declared.tree.TagDefault.{TagDefault}
-use Rattle.syntax.specs.Tree.{TypeTree, TypeMembers, no_member, member_and, a_boolean, an_integer, an_octet_string, type_reference, a_sequence, a_null, an_object_identifier, a_utf8_string, a_numeric_string, a_printable_string, an_ia5_string, a_visible_string, a_named_integer, a_bit_string, an_enumerated, a_set, a_choice, a_sequence_of, a_set_of, a_tagged, a_constrained}
+use Rattle.trees.specs.Values.{Name}
+use Rattle.trees.specs.declared.module.TagDefault.{TagDefault}
+use Rattle.trees.specs.Types.{TypeTree, TypeMembers, no_member, member_and, a_boolean, an_integer, an_octet_string, type_reference, a_sequence, a_null, an_object_identifier, a_utf8_string, a_numeric_string, a_printable_string, an_ia5_string, a_visible_string, a_named_integer, a_bit_string, an_enumerated, a_set, a_choice, a_sequence_of, a_set_of, a_tagged, a_constrained}
 use Rattle.resolve.specs.declared.fault.NameFault.{NameFault}
 use Rattle.resolve.specs.declared.fault.NameFault.TheVariants as faults
 use Rattle.resolve.specs.declared.fault.Limit.TheVariants as limits

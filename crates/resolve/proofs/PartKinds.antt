@@ -2,10 +2,10 @@
 use Rattle.std.proofs.Common.{◌≡◌, ℕ, zero, suc, ◌+◌, List, [], ◌∷◌, Some, None, refl, sym, subst, ap, ◌∙◌, arith}
 use Rattle.std.specs.Prelude.{slice_get, Option}
 use Rattle.asn_base.specs.declared.tag.Tag.{Tag}
-use Rattle.notation.specs.Tree.{Name}
-use Rattle.notation.specs.Constraint.{RangeTree}
-use Rattle.syntax.specs.declared.tree.Keyword.{Keyword}
-use Rattle.syntax.specs.Tree.{TypeTree, TypeMembers, no_member, member_and, a_boolean, an_integer, an_octet_string, type_reference, a_sequence, a_null, an_object_identifier, a_utf8_string, a_numeric_string, a_printable_string, an_ia5_string, a_visible_string, a_named_integer, a_bit_string, an_enumerated, a_set, a_choice, a_sequence_of, a_set_of, a_tagged, a_constrained}
+use Rattle.trees.specs.Values.{Name}
+use Rattle.trees.specs.Constraints.{RangeTree}
+use Rattle.trees.specs.declared.types.Keyword.{Keyword}
+use Rattle.trees.specs.Types.{TypeTree, TypeMembers, no_member, member_and, a_boolean, an_integer, an_octet_string, type_reference, a_sequence, a_null, an_object_identifier, a_utf8_string, a_numeric_string, a_printable_string, an_ia5_string, a_visible_string, a_named_integer, a_bit_string, an_enumerated, a_set, a_choice, a_sequence_of, a_set_of, a_tagged, a_constrained}
 use Rattle.resolve.specs.declared.table.ListKind.{ListKind}
 use Rattle.resolve.specs.declared.table.ElementsKind.{ElementsKind}
 use Rattle.resolve.specs.declared.names.Assigned.TheVariants as assigned

@@ -1,6 +1,6 @@
 -- Modules have one program at most, and a fault excludes it.
 use Rattle.std.proofs.Common.{◌≡◌, ◌⊎◌, inl, inr, List, refl, sym, subst, ap, ◌∙◌}
-use Rattle.syntax.specs.Tree.{ModuleTree}
+use Rattle.trees.specs.Modules.{ModuleTree}
 use Rattle.resolve.specs.declared.fault.NameFault.{NameFault}
 use Rattle.resolve.specs.declared.fault.NameFault.TheVariants as faults
 use Rattle.resolve.specs.Faults.{IsTableFault}

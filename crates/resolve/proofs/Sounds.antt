@@ -2,17 +2,17 @@
 use Rattle.std.proofs.Common.{◌≡◌, ℕ, zero, suc, List, [], ◌∷◌, ◌++◌, map, Option, Some, None, refl, sym, subst, ap, ◌∙◌, append_assoc, option_map, string_bytes}
 use Rattle.std.specs.Prelude.{slice_get, Vec, Box, String, Result, MatchResult}
 use Rattle.std.specs.Global.{Global}
-use Rattle.notation.specs.Constraint.{name_end, RangeTree, only, between, ConstraintTree, values_in, sizes_in, chars_in}
-use Rattle.notation.specs.Tree.{Name, Tree, reference, chosen, trees, members, member_of, tree_of, layer}
-use Rattle.notation.specs.Tree as notations
-use Rattle.notation.specs.declared.tree.Named.{Named}
-use Rattle.notation.specs.declared.tree.ValueSyntax.{ValueSyntax}
-use Rattle.notation.specs.declared.tree.ValueSyntax.TheVariants as values
-use Rattle.notation.specs.declared.tree.ValueSyntax.TheOpen as layers
-use Rattle.notation.specs.declared.tree.ValueSyntax.TheShapes.{former-ValueSyntax-Fields-0-at-2}
-use Rattle.notation.specs.declared.tree.ValueSyntax.TheFolds.{fold-roll-ValueSyntax}
-use Rattle.notation.specs.Constraint.{size_of}
-use Rattle.notation.specs.declared.constraint.SizeSyntax.{SizeSyntax}
+use Rattle.trees.specs.Constraints.{name_end, RangeTree, only, between, ConstraintTree, values_in, sizes_in, chars_in}
+use Rattle.trees.specs.Values.{Name, Tree, reference, chosen, trees, members, member_of, tree_of, layer}
+use Rattle.trees.specs.Values as notations
+use Rattle.trees.specs.declared.value.Named.{Named}
+use Rattle.trees.specs.declared.value.ValueSyntax.{ValueSyntax}
+use Rattle.trees.specs.declared.value.ValueSyntax.TheVariants as values
+use Rattle.trees.specs.declared.value.ValueSyntax.TheOpen as layers
+use Rattle.trees.specs.declared.value.ValueSyntax.TheShapes.{former-ValueSyntax-Fields-0-at-2}
+use Rattle.trees.specs.declared.value.ValueSyntax.TheFolds.{fold-roll-ValueSyntax}
+use Rattle.trees.specs.Constraints.{size_of}
+use Rattle.trees.specs.declared.constraint.SizeSyntax.{SizeSyntax}
 use Rattle.resolve.specs.declared.table.ElementsKind.{ElementsKind}
 use Rattle.resolve.specs.declared.table.Shape.{Shape}
 use Rattle.resolve.specs.declared.table.Shape.TheVariants as shapes

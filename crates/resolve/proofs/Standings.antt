@@ -3,8 +3,8 @@ use Rattle.std.proofs.Common.{◌≡◌, ◌⊎◌, inl, inr, ℕ, zero, suc, �
 use Rattle.std.specs.Prelude.{slice_get, Option, String}
 use Rattle.std.specs.Global.{Global}
 use Rattle.std.proofs.lemmas.Option.{slice_get_within}
-use Rattle.notation.specs.Tree.{Name}
-use Rattle.syntax.specs.Tree.{ModuleTree}
+use Rattle.trees.specs.Values.{Name}
+use Rattle.trees.specs.Modules.{ModuleTree}
 use Rattle.resolve.specs.declared.fault.NameFault.{NameFault}
 use Rattle.resolve.specs.declared.fault.NameFault.TheVariants as faults
 use Rattle.resolve.specs.declared.gather.Gathered.{Gathered}

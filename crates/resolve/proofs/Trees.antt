@@ -4,18 +4,18 @@ use Rattle.std.specs.Prelude.{Vec, Box, Option, Some, None, String}
 use Rattle.std.specs.declared.alloc.Global.{Global}
 use Rattle.std.proofs.lemmas.List.{length-map}
 use Rattle.asn_base.specs.declared.tag.Tag.{Tag}
-use Rattle.notation.specs.Tree.{Name}
-use Rattle.notation.specs.declared.constraint.ConstraintSyntax.{ConstraintSyntax}
-use Rattle.notation.specs.declared.constraint.SizeSyntax.{SizeSyntax}
-use Rattle.notation.specs.Constraint.{size_of, constraint_of}
-use Rattle.syntax.specs.declared.tree.Keyword.{Keyword}
-use Rattle.syntax.specs.declared.tree.Member.{Member}
-use Rattle.syntax.specs.declared.tree.TypeSyntax.{TypeSyntax}
-use Rattle.syntax.specs.declared.tree.TypeSyntax.TheVariants.{Sequence, Set, Choice, SequenceOf, SetOf, Tagged, Constrained, Reference, rolls-Reference, rolls-Sequence, rolls-Set, rolls-Choice, rolls-SequenceOf, rolls-SetOf, rolls-Tagged, rolls-Constrained}
-use Rattle.syntax.specs.declared.tree.TypeSyntax.TheOpen as layer
-use Rattle.syntax.specs.declared.tree.TypeSyntax.TheShapes.{former-TypeSyntax-Sequence-0-at-3}
-use Rattle.syntax.specs.declared.tree.TypeSyntax.TheFolds.{fold-roll-TypeSyntax}
-use Rattle.syntax.specs.Tree.{TypeTree, PresenceTree, a_sequence, a_set, a_choice, a_sequence_of, a_set_of, a_tagged, a_constrained, type_reference, type_members, type_member_of, type_layer, type_tree_of, presence_of}
+use Rattle.trees.specs.Values.{Name}
+use Rattle.trees.specs.declared.constraint.ConstraintSyntax.{ConstraintSyntax}
+use Rattle.trees.specs.declared.constraint.SizeSyntax.{SizeSyntax}
+use Rattle.trees.specs.Constraints.{size_of, constraint_of}
+use Rattle.trees.specs.declared.types.Keyword.{Keyword}
+use Rattle.trees.specs.declared.types.Member.{Member}
+use Rattle.trees.specs.declared.types.TypeSyntax.{TypeSyntax}
+use Rattle.trees.specs.declared.types.TypeSyntax.TheVariants.{Sequence, Set, Choice, SequenceOf, SetOf, Tagged, Constrained, Reference, rolls-Reference, rolls-Sequence, rolls-Set, rolls-Choice, rolls-SequenceOf, rolls-SetOf, rolls-Tagged, rolls-Constrained}
+use Rattle.trees.specs.declared.types.TypeSyntax.TheOpen as layer
+use Rattle.trees.specs.declared.types.TypeSyntax.TheShapes.{former-TypeSyntax-Sequence-0-at-3}
+use Rattle.trees.specs.declared.types.TypeSyntax.TheFolds.{fold-roll-TypeSyntax}
+use Rattle.trees.specs.Types.{TypeTree, PresenceTree, a_sequence, a_set, a_choice, a_sequence_of, a_set_of, a_tagged, a_constrained, type_reference, type_members, type_member_of, type_layer, type_tree_of, presence_of}
 use Rattle.resolve.specs.declared.fault.NameFault.{NameFault}
 use Rattle.resolve.specs.declared.fault.NameFault.TheVariants as faults
 use Rattle.resolve.specs.Names.{Module}

@@ -2,7 +2,7 @@
 use Rattle.std.specs.Prelude.{◌≡◌, ◌⊎◌, ℕ, zero, suc, Bool, List, [], ◌∷◌, ◌++◌, Option}
 use Rattle.std.proofs.Common.{refl, ap, ◌∙◌, inl, inr, append_assoc}
 use Rattle.std.specs.Coded.{Coded, code_by, coded_ℕ, coded_bool, coded_list, coded_option, coded×, coded⊎}
-use Rattle.notation.specs.Tree.{Tree, yes, no, null, number, binary, hex, chars, reference, chosen, nothing, numbers, items, fields, Trees, no_tree, tree_and, Members, no_member, member_and}
+use Rattle.trees.specs.Values.{Tree, yes, no, null, number, binary, hex, chars, reference, chosen, nothing, numbers, items, fields, Trees, no_tree, tree_and, Members, no_member, member_and}
 
 -- what joins the newest parts, and leaves
 abbrev Part : Type 0

@@ -1,14 +1,14 @@
 -- What faults say.
 use Rattle.std.specs.Prelude.{◌≡◌, ◌<◌, ◌+◌, ℕ, List, Option, Some, length, string_bytes, slice_get}
-use Rattle.notation.specs.Tree.{Name}
-use Rattle.syntax.specs.Tree.{TypeTree}
+use Rattle.trees.specs.Values.{Name}
+use Rattle.trees.specs.Types.{TypeTree}
 use Rattle.resolve.specs.declared.fault.NameFault.{NameFault}
 use Rattle.resolve.specs.declared.fault.NameFault.TheVariants as faults
 use Rattle.resolve.specs.declared.fault.Limit.TheVariants as limits
 use Rattle.resolve.specs.declared.names.Assigned.TheVariants as assigned
 use Rattle.resolve.specs.Modules.{StandsIn, StandsTwice}
 use Rattle.resolve.specs.Names.{Module, Refers, under}
-use Rattle.syntax.specs.declared.tree.TagDefault.{TagDefault}
+use Rattle.trees.specs.declared.module.TagDefault.{TagDefault}
 use Rattle.resolve.specs.Numbering.{Source, Occurs, AreMore, AreNumbered, RefersToNothing, parts_of}
 use Rattle.resolve.specs.Table.{Type', IsCircular}
 

@@ -1,6 +1,6 @@
 -- Meanings as the look-up finds them.
 use Rattle.std.specs.Prelude.{List, Option, Some, None}
-use Rattle.notation.specs.Tree.{Name}
+use Rattle.trees.specs.Values.{Name}
 use Rattle.resolve.specs.declared.names.Assigned.{Assigned}
 use Rattle.resolve.specs.Names.{Module, under}
 

@@ -1,6 +1,6 @@
 -- What a search for a name answers.
 use Rattle.std.specs.Prelude.{◌≡◌, ℕ, Option, Some, None, slice_get}
-use Rattle.notation.specs.Tree.{Name, tree_of}
+use Rattle.trees.specs.Values.{Name, tree_of}
 use Rattle.resolve.specs.declared.linked.Found.{Found}
 use Rattle.resolve.specs.declared.linked.Found.TheVariants.{TypeNamed, ValueNamed}
 use Rattle.resolve.specs.declared.names.Assigned.{Assigned}

@@ -1,7 +1,7 @@
 -- What modules give: their names, and the types and values of their assignments, numbered in order.
 use Rattle.std.specs.Prelude.{ℕ, suc, List, [], ◌∷◌, ◌++◌, None, map}
-use Rattle.notation.specs.Tree.{Name}
-use Rattle.syntax.specs.Tree.{AssignmentTree, assigns_type, assigns_value, ImportTree}
+use Rattle.trees.specs.Values.{Name}
+use Rattle.trees.specs.Modules.{AssignmentTree, assigns_type, assigns_value, ImportTree}
 use Rattle.resolve.specs.declared.names.Assigned.{Assigned}
 use Rattle.resolve.specs.declared.names.Assigned.TheVariants as assigned
 use Rattle.resolve.specs.Numbering.{Source}

@@ -1,7 +1,7 @@
 -- Modules that are linked, and why modules can't be.
 use Rattle.std.specs.Prelude.{◌≡◌, ◌≤◌, ◌+◌, ◌⊎◌, ◌++◌, ℕ, List, [], ◌∷◌, Some, map, length, slice_get, string_bytes}
-use Rattle.notation.specs.Tree.{Name}
-use Rattle.syntax.specs.Tree.{AssignmentTree, ModuleTree}
+use Rattle.trees.specs.Values.{Name}
+use Rattle.trees.specs.Modules.{AssignmentTree, ModuleTree}
 use Rattle.resolve.specs.declared.fault.NameFault.{NameFault}
 use Rattle.resolve.specs.declared.fault.NameFault.TheVariants as faults
 use Rattle.resolve.specs.declared.fault.Limit.TheVariants as limits

@@ -5,7 +5,7 @@ use Rattle.std.specs.List.{list_any}
 use Rattle.std.specs.Str.{bytes_eq}
 use Rattle.std.specs.Prelude.{string_bytes}
 use Rattle.indexmap.specs.IndexSet.{IndexSet, contains_text}
-use Rattle.notation.specs.Tree.{Name}
+use Rattle.trees.specs.Values.{Name}
 
 -- the table has just these names
 abbrev pub IsTableOf : {S : Type 0} → List (String Global) → IndexSet (String Global) S → Type 0

@@ -1,8 +1,8 @@
 -- Modules as they are written: the names that they give, export and import (X.680, clauses 13.1 to 13.16).
 use Rattle.std.specs.Prelude.{◌≡◌, ◌<◌, ◌≤◌, ℕ, suc, ◌+◌, List, [], ◌∷◌, ◌++◌, Option, Some, None, map, length, slice_get}
-use Rattle.syntax.specs.declared.tree.TagDefault.{TagDefault}
-use Rattle.notation.specs.Tree.{Name}
-use Rattle.syntax.specs.Tree.{AssignmentTree, assigns_type, assigns_value, ModuleTree}
+use Rattle.trees.specs.declared.module.TagDefault.{TagDefault}
+use Rattle.trees.specs.Values.{Name}
+use Rattle.trees.specs.Modules.{AssignmentTree, assigns_type, assigns_value, ModuleTree}
 use Rattle.resolve.specs.Gathering.{name_of, imports_of, named_from, roots_from, values_from, owned_by}
 use Rattle.resolve.specs.Numbering.{Source}
 use Rattle.resolve.specs.Names.{Module}

@@ -1,7 +1,7 @@
 -- What names stand for (X.680, clause 13).
 use Rattle.std.specs.Prelude.{◌≡◌, List, Option, Some, None, bytes_eq}
 use Rattle.std.specs.Map.{lookup}
-use Rattle.notation.specs.Tree.{Name}
+use Rattle.trees.specs.Values.{Name}
 use Rattle.resolve.specs.declared.names.Assigned.{Assigned}
 
 -- a module: its assignments, each a type or a value by its number, its imports, each with the module that it comes from,

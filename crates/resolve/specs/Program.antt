@@ -1,7 +1,7 @@
 -- What linked modules are seen as: their names, and their types and values by number.
 use Rattle.std.specs.Prelude.{◌≡◌, ◌<◌, ℕ, Some, List, slice_get, length}
-use Rattle.notation.specs.Tree.{Name, Tree}
-use Rattle.syntax.specs.declared.tree.TagDefault.{TagDefault}
+use Rattle.trees.specs.Values.{Name, Tree}
+use Rattle.trees.specs.declared.module.TagDefault.{TagDefault}
 use Rattle.resolve.specs.declared.names.Assigned.{Assigned}
 use Rattle.resolve.specs.declared.names.Assigned.TheVariants as assigned
 use Rattle.resolve.specs.Names.{Module, Meaning}

@@ -1,6 +1,6 @@
 -- Which types the components with a DEFAULT lead to, and the marks that a search leaves.
 use Rattle.std.specs.Prelude.{◌≡◌, ◌<◌, ◌≤◌, ◌⊎◌, ◌+◌, ◌==◌, ℕ, cond, List, [], Some, ◌∷◌, length, slice_get}
-use Rattle.syntax.specs.Tree.{PresenceTree, mandatory, optional, default}
+use Rattle.trees.specs.Types.{PresenceTree, mandatory, optional, default}
 use Rattle.resolve.specs.Modules.{StandsIn}
 use Rattle.resolve.specs.Table.{Part, Type'}
 use Rattle.resolve.specs.Sound.{IsPart, Reaches}

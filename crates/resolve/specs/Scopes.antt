@@ -1,7 +1,7 @@
 -- Tables of names without where they lie in memory.
 use Rattle.std.specs.Prelude.{List, map, string_bytes, String}
 use Rattle.std.specs.Global.{Global}
-use Rattle.notation.specs.Tree.{Name}
+use Rattle.trees.specs.Values.{Name}
 use Rattle.resolve.specs.declared.names.Scope.{Scope}
 use Rattle.resolve.specs.Names.{Module}
 

@@ -1,8 +1,8 @@
 -- The types of a table without where they lie in memory.
 use Rattle.std.specs.Prelude.{ℕ, List, Option, Some, None, map, option_map, string_bytes}
-use Rattle.notation.specs.Tree.{Name, tree_of}
-use Rattle.notation.specs.Constraint.{size_of, constraint_of}
-use Rattle.syntax.specs.Tree.{presence_of, number_of, bit_of, item_of}
+use Rattle.trees.specs.Values.{Name, tree_of}
+use Rattle.trees.specs.Constraints.{size_of, constraint_of}
+use Rattle.trees.specs.Types.{presence_of, number_of, bit_of, item_of}
 use Rattle.resolve.specs.declared.table.Place.{Place}
 use Rattle.resolve.specs.declared.table.Component.{Component}
 use Rattle.resolve.specs.declared.table.Simple.{Simple}
@@ -12,13 +12,13 @@ use Rattle.resolve.specs.declared.table.Shape.TheVariants as shapes
 use Rattle.resolve.specs.declared.table.Written.{Written}
 use Rattle.resolve.specs.declared.table.Assignment.{Assignment}
 use Rattle.resolve.specs.declared.table.Header.{Header}
-use Rattle.syntax.specs.declared.tree.TagDefault.{TagDefault}
+use Rattle.trees.specs.declared.module.TagDefault.{TagDefault}
 use Rattle.resolve.specs.declared.table.ValueAt.{ValueAt}
 use Rattle.resolve.specs.Table.{Plain, a_boolean, an_integer, a_bit_string, an_octet_string, a_null, an_object_identifier, an_enumerated, a_utf8_string, a_numeric_string, a_printable_string, an_ia5_string, a_visible_string, Part, Kind, simple, reference, tagged, members, elements, Type'}
 use Rattle.resolve.specs.Program.{Value}
 use Rattle.resolve.specs.declared.number.Source.{Source as SourceAt}
 use Rattle.resolve.specs.Numbering.{Source}
-use Rattle.syntax.specs.Tree.{type_tree_of}
+use Rattle.trees.specs.Types.{type_tree_of}
 
 abbrev pub plain_of : Simple → Plain
 plain_of simples.Boolean = a_boolean

@@ -2,12 +2,12 @@
 use Rattle.std.specs.Prelude.{◌≡◌, ◌≤◌, ℕ, zero, suc, Bool, true, false, ℤ, pos, negsuc, List, [], ◌∷◌, ◌++◌, Option, Some, None, map, length, slice_get}
 use Rattle.asn_base.specs.declared.tag.Tag.{Tag}
 use Rattle.asn_base.specs.Typed.{IsWithinLimit}
-use Rattle.notation.specs.Tree as trees
-use Rattle.notation.specs.Tree.{Name, Tree, Trees, no_tree, tree_and, Members, no_member, member_and}
-use Rattle.notation.specs.Constraint.{EndTree, name_end, RangeTree, only, between, ConstraintTree, values_in, sizes_in, chars_in}
-use Rattle.syntax.specs.declared.tree.Keyword.{Keyword}
-use Rattle.syntax.specs.declared.tree.TagDefault.{TagDefault}
-use Rattle.syntax.specs.Tree.{PresenceTree, default}
+use Rattle.trees.specs.Values as trees
+use Rattle.trees.specs.Values.{Name, Tree, Trees, no_tree, tree_and, Members, no_member, member_and}
+use Rattle.trees.specs.Constraints.{EndTree, name_end, RangeTree, only, between, ConstraintTree, values_in, sizes_in, chars_in}
+use Rattle.trees.specs.declared.types.Keyword.{Keyword}
+use Rattle.trees.specs.declared.module.TagDefault.{TagDefault}
+use Rattle.trees.specs.Types.{PresenceTree, default}
 use Rattle.resolve.specs.declared.names.Assigned.TheVariants as assigned
 use Rattle.resolve.specs.declared.table.ListKind.{ListKind}
 use Rattle.resolve.specs.declared.table.ElementsKind.{ElementsKind}

@@ -1,7 +1,7 @@
 -- What faults say of the lists in written types, and of the names in notations.
 use Rattle.std.specs.Prelude.{◌≡◌, ◌<◌, ◌⊎◌, ℕ, ℤ, Bool, List, Some, map, length, slice_get, string_bytes}
 use Rattle.asn_base.specs.Typed.{IsWithinLimit}
-use Rattle.notation.specs.Tree.{Name}
+use Rattle.trees.specs.Values.{Name}
 use Rattle.resolve.specs.declared.fault.NameFault.{NameFault}
 use Rattle.resolve.specs.declared.fault.NameFault.TheVariants as faults
 use Rattle.resolve.specs.declared.fault.Limit.TheVariants as limits

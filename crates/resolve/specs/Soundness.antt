@@ -2,9 +2,9 @@
 use Rattle.std.specs.Prelude.{◌≡◌, ◌<◌, ◌++◌, ℕ, ℤ, Bool, List, [], ◌∷◌, Option, Some, None, map, slice_get, string_bytes, String}
 use Rattle.std.specs.Global.{Global}
 use Rattle.asn_base.specs.Typed.{IsWithinLimit}
-use Rattle.notation.specs.Tree.{Name}
-use Rattle.notation.specs.Constraint.{RangeTree, only, between, ConstraintTree, values_in, sizes_in, chars_in}
-use Rattle.syntax.specs.declared.tree.TagDefault.{TagDefault}
+use Rattle.trees.specs.Values.{Name}
+use Rattle.trees.specs.Constraints.{RangeTree, only, between, ConstraintTree, values_in, sizes_in, chars_in}
+use Rattle.trees.specs.declared.module.TagDefault.{TagDefault}
 use Rattle.resolve.specs.declared.fault.NameFault.{NameFault}
 use Rattle.resolve.specs.declared.fault.NameFault.TheVariants as faults
 use Rattle.resolve.specs.declared.fault.Limit.TheVariants as limits

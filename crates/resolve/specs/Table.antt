@@ -1,11 +1,11 @@
 -- Written types, which refer to one another by number, and their unfolding.
 use Rattle.std.specs.Prelude.{◌≡◌, ℕ, zero, suc, ◌<◌, Bool, List, Option, Some, None, length, slice_get, All}
 use Rattle.asn_base.specs.declared.tag.Tag.{Tag}
-use Rattle.syntax.specs.declared.tree.Keyword.{Keyword}
-use Rattle.syntax.specs.declared.tree.TagDefault.{TagDefault}
-use Rattle.notation.specs.Tree.{Name}
-use Rattle.notation.specs.Constraint.{RangeTree, ConstraintTree}
-use Rattle.syntax.specs.Tree.{PresenceTree}
+use Rattle.trees.specs.declared.types.Keyword.{Keyword}
+use Rattle.trees.specs.declared.module.TagDefault.{TagDefault}
+use Rattle.trees.specs.Values.{Name}
+use Rattle.trees.specs.Constraints.{RangeTree, ConstraintTree}
+use Rattle.trees.specs.Types.{PresenceTree}
 use Rattle.resolve.specs.declared.table.ListKind.{ListKind}
 use Rattle.resolve.specs.declared.table.ElementsKind.{ElementsKind}
 

@@ -19,7 +19,7 @@ pub struct Exports {
 
 impl Model for Exports {
     ghost use Rattle.std.specs.Prelude.{List, map, string_bytes};
-    ghost use Rattle.notation.specs.Tree.{Name};
+    ghost use Rattle.trees.specs.Values.{Name};
 
     ghost Value = { List Name };
 

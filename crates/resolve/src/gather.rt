@@ -1,8 +1,9 @@
 //! What modules give: their names, and the types and values of their assignments, numbered in order.
 
 ghost use Rattle.std.specs.Prelude.{◌≡◌, ◌++◌, ◌∷◌, [], IfOk, IfErr, OnOk, length, map, option_map, None, List, string_bytes};
-ghost use Rattle.notation.specs.Tree.{tree_of};
-ghost use Rattle.syntax.specs.Tree.{AssignmentTree, ModuleTree, assigns_type, assigns_value, assignment_of as given_of, import_of, module_tree_of, type_tree_of};
+ghost use Rattle.trees.specs.Values.{tree_of};
+ghost use Rattle.trees.specs.Types.{type_tree_of};
+ghost use Rattle.trees.specs.Modules.{AssignmentTree, ModuleTree, assigns_type, assigns_value, assignment_of as given_of, import_of, module_tree_of};
 ghost use Rattle.resolve.specs.declared.fault.NameFault.TheVariants as faults;
 ghost use Rattle.resolve.specs.Scopes.{seen, module_of};
 ghost use Rattle.resolve.specs.Names.{under};
@@ -20,7 +21,7 @@ use crate::table::{Assignment, Header, ValueAt};
 use indexmap::IndexMap;
 use std::alloc::Global;
 use std::collections::VecDeque;
-use syntax::{Assignment as Given, Import, Module, TypeAssignment, TypeSyntax, ValueAssignment};
+use trees::{Assignment as Given, Import, Module, TypeAssignment, TypeSyntax, ValueAssignment};
 
 /// The assignments of modules, with their types and values.
 #[derive(Drop)]

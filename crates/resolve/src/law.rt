@@ -3,9 +3,9 @@
 ghost use Rattle.std.specs.Prelude.{◌≡◌, ◌≤◌, ℕ, List, length};
 ghost use Rattle.resolve.specs.declared.fault.NameFault.TheVariants as faults;
 ghost use Rattle.resolve.specs.Faults.{IsTableFault};
-ghost use Rattle.notation.specs.Tree.{Name};
-ghost use Rattle.syntax.specs.Tree.{ModuleTree};
-ghost use Rattle.syntax.specs.declared.tree.TagDefault.{TagDefault as Default};
+ghost use Rattle.trees.specs.Values.{Name};
+ghost use Rattle.trees.specs.Modules.{ModuleTree};
+ghost use Rattle.trees.specs.declared.module.TagDefault.{TagDefault as Default};
 ghost use Rattle.resolve.specs.declared.fault.NameFault.{NameFault};
 ghost use Rattle.resolve.specs.Links.{IsNamesFault, IsProgramOf, Links, IsLinkFault};
 ghost use Rattle.resolve.specs.Modules.{AreFew, AreNamed};

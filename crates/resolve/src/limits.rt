@@ -1,13 +1,13 @@
 //! How many modules, types and values there may be.
 
 ghost use Rattle.std.specs.Prelude.{◌≡◌, ◌≤◌, ◌+◌, IfErr, OnOk, map};
-ghost use Rattle.syntax.specs.Tree.{assignment_of as given_of, module_tree_of};
+ghost use Rattle.trees.specs.Modules.{assignment_of as given_of, module_tree_of};
 ghost use Rattle.resolve.specs.Modules.{AreFew, type_count, value_count, all_assignments};
 ghost use Rattle.resolve.specs.Gathered.{IsPastCount, IsNamingFault};
 
 use crate::fault::{Limit, NameFault};
 use std::alloc::Global;
-use syntax::{Assignment, Module};
+use trees::{Assignment, Module};
 
 /// How many types and values are assigned.
 #[derive(Drop)]

@@ -2,7 +2,7 @@
 
 ghost use Rattle.std.specs.Prelude.{ℕ, ◌≡◌, ◌↔◌, Some, map};
 ghost use Rattle.resolve.specs.Found.{Finds};
-ghost use Rattle.notation.specs.Tree.{Name};
+ghost use Rattle.trees.specs.Values.{Name};
 ghost use Rattle.resolve.specs.Seen.{types_of, value_of, assignment_of, header_of, sources_of};
 ghost use Rattle.std.specs.Prelude.{◌<◌, ◌≤◌, IfOk, IfErr, OnOk, slice_get, length, string_bytes, option_map};
 ghost use Rattle.resolve.specs.declared.names.Assigned.{Assigned};
@@ -24,7 +24,7 @@ use crate::sound::{sound_lists, sound_names};
 use crate::table::{Assignment, Header, ValueAt, Written};
 use crate::unfolding::unfold_all;
 use asn_base::schema::TypeId;
-use notation::ValueSyntax;
+use trees::ValueSyntax;
 use std::alloc::Global;
 use std::collections::VecDeque;
 use std::marker::Model;

@@ -1,7 +1,7 @@
 //! Linking modules.
 
 ghost use Rattle.std.specs.Prelude.{map, IfOk, IfErr};
-ghost use Rattle.syntax.specs.Tree.{module_tree_of};
+ghost use Rattle.trees.specs.Modules.{module_tree_of};
 ghost use Rattle.resolve.specs.Gathered.{IsReady, IsAssembled, IsAssemblyFault};
 ghost use Rattle.resolve.specs.Links.{Links, IsLinkFault};
 
@@ -13,7 +13,7 @@ use crate::names::Names;
 use crate::number::too_many;
 use crate::standing::all_stand;
 use std::alloc::Global;
-use syntax::Module;
+use trees::Module;
 
 /// The program of what is gathered.
 fn assemble(alloc: Global, gathered: Gathered) -> Result<Linked, NameFault>

@@ -2,7 +2,7 @@
 
 ghost use Rattle.std.specs.Prelude.{ℕ, ℤ, ◌≡◌, ◌<◌, ◌≤◌, ◌++◌, ◌∷◌, [], IfOk, IfErr, OnOk, MatchOption, MatchResult, length, map};
 ghost use Rattle.asn_base.specs.Typed.{IsWithinLimit};
-ghost use Rattle.syntax.specs.Tree.{number_of, bit_of, item_of};
+ghost use Rattle.trees.specs.Types.{number_of, bit_of, item_of};
 ghost use Rattle.resolve.specs.Faults.{IsTaken};
 ghost use Rattle.resolve.specs.Modules.{StandsIn};
 ghost use Rattle.resolve.specs.Seen.{part_of, plain_of, kind_of};
@@ -14,7 +14,7 @@ use crate::fault::{Limit, NameFault};
 use crate::table::{Component, ListKind, Shape, Simple};
 use indexmap::IndexSet;
 use std::alloc::Global;
-use syntax::{EnumeratedItem, NamedBit, NamedNumber};
+use trees::{EnumeratedItem, NamedBit, NamedNumber};
 
 /// A number with its sign, where it is within the limit.
 fn with_sign(minus: bool, number: u128) -> Option<i128>

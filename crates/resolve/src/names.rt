@@ -33,7 +33,7 @@ pub struct Names {
 
 impl Model for Names {
     ghost use Rattle.std.specs.Prelude.{List};
-    ghost use Rattle.notation.specs.Tree.{Name};
+    ghost use Rattle.trees.specs.Values.{Name};
     ghost use Rattle.resolve.specs.Names.{Module};
 
     ghost Value = { List (Name × Module) };

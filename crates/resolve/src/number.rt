@@ -1,14 +1,14 @@
 //! Types by number: one level of a type at a time.
 
 ghost use Rattle.std.specs.Prelude.{ℕ, slice_get, ◌≡◌, ◌≤◌, ◌+◌, ◌++◌, ◌⊎◌, ◌<◌, IfOk, IfErr, OnOk, length, map, option_map, string_bytes, Some, None};
-ghost use Rattle.notation.specs.Constraint.{constraint_of};
+ghost use Rattle.trees.specs.Constraints.{constraint_of};
 ghost use Rattle.resolve.specs.Faults.{IsNothing, IsUnknown, IsTypesLimit, IsSourceFault, IsNumberingFault};
 ghost use Rattle.resolve.specs.declared.table.Assignment.{Assignment};
 ghost use Rattle.resolve.specs.Seen.{types_of, header_of, assignment_of};
 ghost use Rattle.resolve.specs.Names.{Refers};
 ghost use Rattle.resolve.specs.declared.names.Assigned.TheVariants as assigned;
 ghost use Rattle.resolve.specs.Seen.{types_of, header_of, assignment_of};
-ghost use Rattle.syntax.specs.Tree.{type_tree_of, type_members, type_member_of};
+ghost use Rattle.trees.specs.Types.{type_tree_of, type_members, type_member_of};
 ghost use Rattle.resolve.specs.declared.fault.NameFault.TheVariants as faults;
 ghost use Rattle.resolve.specs.Seen.{kind_of, part_of, type_of, place_of, source_of, sources_of};
 ghost use Rattle.resolve.specs.Numbering.{member_sources, numbered, parts_of, IsKind, RefersToNothing, constraints_of, IsTop, AreTops, AreNumbered, AllAssigned};
@@ -18,10 +18,9 @@ use crate::names::{Assigned, Names};
 use crate::table::{
     Assignment, Component, ElementsKind, Header, ListKind, Place, Shape, Simple, Written,
 };
-use notation::ConstraintSyntax;
+use trees::{ConstraintSyntax, Member, TypeSyntax};
 use std::alloc::{AllocError, Global};
 use std::collections::VecDeque;
-use syntax::{Member, TypeSyntax};
 
 /// A type that has a number and is still to be taken apart: the number of the assignment that it stands in, and where it is a member.
 #[derive(Drop)]

@@ -1,9 +1,9 @@
 //! Names behind modules' names in values, sizes and constraints: each stands for a value.
 
 ghost use Rattle.std.specs.Prelude.{ℕ, ◌≡◌, true, false, MatchResult, map, option_map, string_bytes};
-ghost use Rattle.notation.specs.Constraint.{end_of, range_of, ranges_of, size_of, constraint_of};
-ghost use Rattle.notation.specs.Tree.{tree_of, member_of, trees, members as named_trees};
-ghost use Rattle.syntax.specs.Tree.{presence_of};
+ghost use Rattle.trees.specs.Constraints.{end_of, range_of, ranges_of, size_of, constraint_of};
+ghost use Rattle.trees.specs.Values.{tree_of, member_of, trees, members as named_trees};
+ghost use Rattle.trees.specs.Types.{presence_of};
 ghost use Rattle.resolve.specs.declared.names.Assigned.TheVariants as assigned;
 ghost use Rattle.resolve.specs.Names.{Refers};
 ghost use Rattle.resolve.specs.Seen.{part_of, kind_of, type_of};
@@ -13,9 +13,8 @@ ghost use Rattle.resolve.specs.Soundness.{behind_module, qualified_range, qualif
 use crate::fault::NameFault;
 use crate::names::{Assigned, Names};
 use crate::table::{Component, Shape, Written};
-use notation::{ConstraintSyntax, EndSyntax, Named, RangeSyntax, SizeSyntax, ValueSyntax};
+use trees::{ConstraintSyntax, EndSyntax, Named, PresenceSyntax, RangeSyntax, SizeSyntax, ValueSyntax};
 use std::alloc::Global;
-use syntax::PresenceSyntax;
 
 /// Whether a name, behind the name of a module, stands for a value.
 fn is_value(names: &Names, within: &str, owner: &Option<String>, name: &str) -> bool

@@ -9,7 +9,7 @@ ghost use Rattle.resolve.specs.Reach.{HasParts, HasDefault, IsDefaulted, LeadsTo
 
 use crate::table::{Component, ListKind, Shape, Written};
 use std::alloc::{AllocError, Global};
-use syntax::PresenceSyntax;
+use trees::PresenceSyntax;
 
 /// Marks a type, which then waits, unless this search has marked it before.
 fn mark(

@@ -6,7 +6,7 @@ ghost use Rattle.resolve.specs.declared.fault.NameFault.TheVariants as faults;
 ghost use Rattle.resolve.specs.declared.table.Assignment.{Assignment};
 ghost use Rattle.resolve.specs.declared.table.ValueAt.{ValueAt};
 ghost use Rattle.resolve.specs.declared.table.Written.{Written};
-ghost use Rattle.notation.specs.Tree.{Name};
+ghost use Rattle.trees.specs.Values.{Name};
 ghost use Rattle.resolve.specs.Names.{Module};
 ghost use Rattle.resolve.specs.Program.{Program, Value};
 ghost use Rattle.resolve.specs.Seen.{types_of, header_of, assignment_of, value_of};

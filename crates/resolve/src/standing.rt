@@ -3,7 +3,7 @@
 ghost use Rattle.std.specs.Prelude.{◌≡◌, ◌<◌, ◌↔◌, ◌⊎◌, true, Some, length, slice_get, IfErr, OnOk, map, string_bytes};
 ghost use Rattle.resolve.specs.Scopes.{seen, module_of};
 ghost use Rattle.resolve.specs.Modules.{StandsIn, IsExported};
-ghost use Rattle.notation.specs.Tree.{Name};
+ghost use Rattle.trees.specs.Values.{Name};
 ghost use Rattle.resolve.specs.Gathered.{names_of, IsOffered, ExportAssigned, ImportOffered, IsUnassigned, IsExportFault, IsImportFault, IsImportsFault, AreStanding, IsStandingFault};
 
 use crate::fault::NameFault;

@@ -1,8 +1,7 @@
 //! The written types, each by its number, and the values that have names.
 
 use asn_base::tag::Tag;
-use notation::{ConstraintSyntax, SizeSyntax, ValueSyntax};
-use syntax::{EnumeratedItem, Keyword, NamedBit, NamedNumber, PresenceSyntax, TagDefault};
+use trees::{ConstraintSyntax, EnumeratedItem, Keyword, NamedBit, NamedNumber, PresenceSyntax, SizeSyntax, TagDefault, ValueSyntax};
 
 /// The kinds of lists of members.
 #[derive(Clone, Copy, Debug, PartialEq, Eq)]

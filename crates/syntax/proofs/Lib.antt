@@ -1,17 +1,4 @@
-pub mod Items
-pub mod Typing
 pub mod Assigning
-pub mod Openings
-pub mod TypeWords
-pub mod TypeLexemes
-pub mod TypeParts
-pub mod TypeSteps
-pub mod TypeGrows
-pub mod Tagging
 pub mod Assigned
-pub mod Loop
 pub mod Parsed
-pub mod Headings
-pub mod Imported
-pub mod Heads
 pub mod ModuleText

@@ -13,15 +13,17 @@ use Rattle.grammar.specs.Places.{any, small, free, unbounded}
 use Rattle.grammar.specs.Answers.{Reads, unbound}
 use Rattle.grammar.specs.Parts.{SoundReader, token_sound, token_finds, token_solid, seq_finds, open_finds, open_solid}
 use Rattle.notation.specs.Rules.{Rules, either, no_left, no_right, bor_left, bor_right}
-use Rattle.syntax.specs.Tree.{AssignmentTree, ModuleTree}
-use Rattle.syntax.specs.Heading.{HeadTree, head}
+use Rattle.trees.specs.Modules.{AssignmentTree, ModuleTree}
+use Rattle.module_head.specs.Heading.{HeadTree, head}
 use Rattle.syntax.specs.Syntax.{assignment, module_of, module_text}
-use Rattle.syntax.specs.Reading.{end_at, begins_assignment, assignment_at, assignments_at}
-use Rattle.syntax.specs.ModuleReading.{head_at, module_at}
-use Rattle.syntax.proofs.Items.{is_end, end_is, is_typeref}
-use Rattle.syntax.proofs.Heads.{head_ends, rule_head, head_grows}
+use Rattle.grammar.specs.Single.{end_at}
+use Rattle.syntax.specs.Reading.{begins_assignment, assignment_at, assignments_at}
+use Rattle.module_head.specs.HeadReading.{head_at}
+use Rattle.syntax.specs.ModuleReading.{module_at}
+use Rattle.grammar.specs.Single.{is_end, end_is, is_typeref}
+use Rattle.module_head.specs.HeadLaws.{head_ends, HeadLaws}
 use Rattle.syntax.proofs.Assigning.{assignment_ends}
-use Rattle.syntax.proofs.Assigned.{begins_apart, end_apart, AssignmentLaws}
+use Rattle.syntax.proofs.Assigned.{begins_apart, end_apart, ModuleLaws}
 
 -- ---- the productions, of a given assignment
 
@@ -61,10 +63,10 @@ body_solid : (a : Grammar AssignmentTree) → IsSolid (body a)
 body_solid a = open_solid (many a) (word End) (λ p. p.0) (token_solid (λ (x : Unit {0}). Word End))
 
 -- fits is the reader's test on numbers, fits' the grammar's
-module _ (over : Limit → ℕ) (within : Bool) (fits fits' : ℕ → Bool) (grows : (n : ℕ) → fits n ≡ true → fits' n ≡ true) (past : Past (over Integer) ((n : ℕ) → fits' n ≡ true)) (room : (n : ℕ) → fits' n ≡ true → within ≡ true → fits n ≡ true)
+module _ (heads : HeadLaws) (over : Limit → ℕ) (within : Bool) (fits fits' : ℕ → Bool) (grows : (n : ℕ) → fits n ≡ true → fits' n ≡ true) (past : Past (over Integer) ((n : ℕ) → fits' n ≡ true)) (room : (n : ℕ) → fits' n ≡ true → within ≡ true → fits n ≡ true)
     (n : ℕ) (a : Grammar AssignmentTree) where
   headed : Rules over within (head fits') is_typeref head_ends (head_at fits)
-  headed = rule_head over within fits fits' grows past room
+  headed = heads.read over within fits fits' grows past room
 
   body_sound : SoundReader over a (assignment_at fits n) → SoundReader over (body a) (assignments_at fits n)
   unfolding assignments_at
@@ -85,30 +87,30 @@ module _ (over : Limit → ℕ) (within : Bool) (fits fits' : ℕ → Bool) (gro
   unfolding module_at
   module_finds f s = seq_finds within (head fits') (body a) made_of is_typeref head_ends body_starts no_lexeme (head_at fits) (assignments_at fits n) (headed.finds tt) (body_finds f s) headed.solid (body_solid a) body_no_head
 
-module_grows : (fits fits' : ℕ → Bool) → ((n : ℕ) → fits n ≡ true → fits' n ≡ true) → (a a' : Grammar AssignmentTree) → Grows a a' → Grows (module_with fits a) (module_with fits' a')
-module_grows fits fits' grows a a' g =
+module_grows : HeadLaws → (fits fits' : ℕ → Bool) → ((n : ℕ) → fits n ≡ true → fits' n ≡ true) → (a a' : Grammar AssignmentTree) → Grows a a' → Grows (module_with fits a) (module_with fits' a')
+module_grows heads fits fits' grows a a' g =
     made_grows (head fits ∙ body a) (head fits' ∙ body a') made_of
-    (seq_grows (head fits) (head fits') (body a) (body a') (head_grows fits fits' grows)
+    (seq_grows (head fits) (head fits') (body a) (body a') (heads.grows fits fits' grows)
     (made_grows (many a ∙ word End) (many a' ∙ word End) (λ p. p.0) (seq_grows (many a) (many a') (word End) (word End) (many_grows a a' g) (same_grows (word End)))))
 
 -- ---- under each limit
 
-module _ (laws : AssignmentLaws) where
+module _ (laws : ModuleLaws) where
   within_finds : (n m : ℕ) → m ≤ n → Finds true (module_text small m) is_typeref no_lexeme (module_at small n)
-  within_finds n m le = module_finds nowhere true small small (λ k e. e) tt (λ k e w. e) n (assignment small m) (laws.finds n m le) (laws.solid small m)
+  within_finds n m le = module_finds laws.heads nowhere true small small (λ k e. e) tt (λ k e w. e) n (assignment small m) (laws.finds n m le) (laws.solid small m)
 
   free_finds : (n m : ℕ) → Finds false (module_text any m) is_typeref no_lexeme (module_at small n)
-  free_finds n m = module_finds nowhere false small any (λ k e. refl) tt (λ k e w. absurd cc) n (assignment any m) (laws.finds_free n m) (laws.solid any m)
+  free_finds n m = module_finds laws.heads nowhere false small any (λ k e. refl) tt (λ k e w. absurd cc) n (assignment any m) (laws.finds_free n m) (laws.solid any m)
 
   any_finds : (n m : ℕ) → m ≤ n → Finds true (module_text any m) is_typeref no_lexeme (module_at any n)
-  any_finds n m le = module_finds nowhere true any any (λ k e. e) tt (λ k e w. e) n (assignment any m) (laws.finds_any n m le) (laws.solid any m)
+  any_finds n m le = module_finds laws.heads nowhere true any any (λ k e. e) tt (λ k e w. e) n (assignment any m) (laws.finds_any n m le) (laws.solid any m)
 
   no_end : (us : List Lexeme) → Follows no_lexeme us
   no_end [] = tt
   no_end (t ∷ us) = refl
 
   weaker : (n : ℕ) (u : List Lexeme) → (module_text small n).CanGoOn u → (free module_text).CanGoOn u
-  weaker n u h = (n, (module_grows small any (λ k e. refl) (assignment small n) (assignment any n) (laws.grows n)).on u h)
+  weaker n u h = (n, (module_grows laws.heads small any (λ k e. refl) (assignment small n) (assignment any n) (laws.grows n)).on u h)
 
   pub module_part_goes : (n : ℕ) (x : ModuleTree) (u : List Lexeme) → (module_text small n).Is x u → (free module_text).CanGoOn u
   module_part_goes n x u h = weaker n u ((within_finds n n (omega arith)).part x u h)
@@ -116,7 +118,7 @@ module _ (laws : AssignmentLaws) where
   pub module_reads : (n : ℕ) → Reads (module_text small n) (free module_text) (module_at small n)
   module_reads n = record {
     weaker = weaker n;
-    sound = module_sound nowhere true small small (λ k e. e) tt (λ k e w. e) n (assignment small n) (laws.sound n);
+    sound = module_sound laws.heads nowhere true small small (λ k e. e) tt (λ k e w. e) n (assignment small n) (laws.sound n);
     front = λ u us h. (free_finds n h.0).front u us h.1;
     front_within = λ u us h. (within_finds n n (omega arith)).front u us h;
     whole = λ x u h. (free_finds n h.0).whole x u [] h.1 tt;
@@ -124,10 +126,10 @@ module _ (laws : AssignmentLaws) where
   }
 
   pub deeper_modules : (n : ℕ) (ts : List Lexeme) → Sound deeper (unbounded (module_text small)) ts (module_at small n ts)
-  deeper_modules n ts = unbound (module_text small) (suc n) deeper ts (module_at small n ts) (module_sound deeper true small small (λ k e. e) tt (λ k e w. e) n (assignment small (suc n)) (laws.sound_deeper n) ts)
+  deeper_modules n ts = unbound (module_text small) (suc n) deeper ts (module_at small n ts) (module_sound laws.heads deeper true small small (λ k e. e) tt (λ k e w. e) n (assignment small (suc n)) (laws.sound_deeper n) ts)
 
   pub wider_modules : (n : ℕ) (ts : List Lexeme) → Sound wider (free module_text) ts (module_at small n ts)
-  wider_modules n ts = unbound (module_text any) n wider ts (module_at small n ts) (module_sound wider false small any (λ k e. refl) (λ k. refl) (λ k e w. absurd cc) n (assignment any n) (laws.sound_any n) ts)
+  wider_modules n ts = unbound (module_text any) n wider ts (module_at small n ts) (module_sound laws.heads wider false small any (λ k e. refl) (λ k. refl) (λ k e w. absurd cc) n (assignment any n) (laws.sound_any n) ts)
 
   -- A list of lexemes is one module at most.
   pub one_tree : (u : List Lexeme) (v w : ModuleTree) → (free module_text).Is v u → (free module_text).Is w u → v ≡ w

@@ -13,13 +13,13 @@ use Rattle.notation.specs.declared.fault.Limit.TheVariants as limits
 use Rattle.notation.specs.declared.fault.SyntaxFault.TheVariants as faults
 use Rattle.notation.specs.Given.{limit_of}
 use Rattle.notation.specs.Answer.{Stands}
-use Rattle.syntax.specs.Tree.{ModuleTree}
+use Rattle.trees.specs.Modules.{ModuleTree}
 use Rattle.syntax.specs.Syntax.{module_text}
 use Rattle.syntax.specs.ModuleReading.{module_at}
-use Rattle.syntax.proofs.Assigned.{AssignmentLaws}
+use Rattle.syntax.proofs.Assigned.{ModuleLaws}
 use Rattle.syntax.proofs.ModuleText.{module_reads, module_part_goes, deeper_modules, wider_modules}
 
-module _ (laws : AssignmentLaws) (n : ℕ) (x : List ℕ) (ts : List Token) where
+module _ (laws : ModuleLaws) (n : ℕ) (x : List ℕ) (ts : List Token) where
   none : 0 ≤ length ts
   none = omega arith
 

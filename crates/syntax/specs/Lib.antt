@@ -1,10 +1,7 @@
-pub mod Tree
-pub mod Types
-pub mod TypeReading
-pub mod PartLaws
+pub use Rattle.trees.specs.Types
+pub use Rattle.trees.specs.Modules
+pub use Rattle.module_head.specs.Heading
+pub use Rattle.type_syntax.specs.TypeGrammar
 pub mod Syntax
 pub mod Reading
-pub mod Heading
-pub mod HeadingReading
-pub mod ImportReading
 pub mod ModuleReading

@@ -1,43 +1,13 @@
 -- Reading assignments from left to right.
 use Rattle.std.specs.Prelude.{ℕ, Bool, true, false, List, ◌∷◌, length, Ok}
-use Rattle.text.specs.declared.token.Mark.TheVariants.{Assign}
-use Rattle.text.specs.declared.reserved.Word.TheVariants.{Definitions, Tags, Begin, End}
-use Rattle.grammar.specs.Lexeme.{Lexeme, TypeRef, Ident, Word, Mark}
+use Rattle.grammar.specs.Lexeme.{Lexeme, TypeRef, Ident}
 use Rattle.grammar.specs.Reading.{Reader, ◌>>=◌, stop, many_at}
-use Rattle.notation.specs.Tree.{Tree}
+use Rattle.grammar.specs.Single.{assign_at, end_at, then_at}
+use Rattle.trees.specs.Values.{Tree}
 use Rattle.notation.specs.Reading.{value_at}
-use Rattle.syntax.specs.TypeReading.{type_at}
-use Rattle.syntax.specs.Tree.{TypeTree, AssignmentTree, assigns_type, assigns_value}
-
--- ---- lexemes alone
-
-unfoldable pub definitions_at : Reader (Unit {0})
-definitions_at (Word Definitions ∷ rest) = Ok (tt, rest)
-definitions_at ts = stop ts
-
-unfoldable pub tags_at : Reader (Unit {0})
-tags_at (Word Tags ∷ rest) = Ok (tt, rest)
-tags_at ts = stop ts
-
-unfoldable pub assign_at : Reader (Unit {0})
-assign_at (Mark Assign ∷ rest) = Ok (tt, rest)
-assign_at ts = stop ts
-
-unfoldable pub begin_at : Reader (Unit {0})
-begin_at (Word Begin ∷ rest) = Ok (tt, rest)
-begin_at ts = stop ts
-
-unfoldable pub end_at : Reader (Unit {0})
-end_at (Word End ∷ rest) = Ok (tt, rest)
-end_at ts = stop ts
-
-unfoldable pub module_name_at : Reader (List ℕ)
-module_name_at (TypeRef x ∷ rest) = Ok (x, rest)
-module_name_at ts = stop ts
-
--- what is read behind a lexeme
-abbrev pub then_at : {A : Type 0} → Reader (Unit {0}) → Reader A → Reader A
-then_at mark read ts = mark ts >>= λ m. read m.1 >>= λ x. Ok (x.0, x.1)
+use Rattle.type_syntax.specs.TypeReading.{type_at}
+use Rattle.trees.specs.Types.{TypeTree}
+use Rattle.trees.specs.Modules.{AssignmentTree, assigns_type, assigns_value}
 
 -- ---- assignments
 

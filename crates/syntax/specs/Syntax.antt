@@ -5,9 +5,9 @@ use Rattle.text.specs.declared.reserved.Word.TheVariants.{End}
 use Rattle.grammar.specs.Lexeme.{TypeRef, Ident, Mark}
 use Rattle.grammar.specs.Grammar.{Grammar, token, word, ◌∙◌, ◌∣◌, ◌⇒◌, many, behind}
 use Rattle.notation.specs.Value.{value}
-use Rattle.syntax.specs.Types.{type}
-use Rattle.syntax.specs.Tree.{AssignmentTree, assigns_type, assigns_value, ModuleTree}
-use Rattle.syntax.specs.Heading.{HeadTree, head}
+use Rattle.type_syntax.specs.TypeGrammar.{type}
+use Rattle.trees.specs.Modules.{AssignmentTree, assigns_type, assigns_value, ModuleTree}
+use Rattle.module_head.specs.Heading.{HeadTree, head}
 
 -- a module, of its head and its assignments
 abbrev pub module_of : HeadTree → List AssignmentTree → ModuleTree

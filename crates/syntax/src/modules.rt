@@ -7,80 +7,25 @@ ghost use Rattle.grammar.specs.Reading.{many_at};
 ghost use Rattle.grammar.specs.Manies.{is_begun_by};
 ghost use Rattle.grammar.specs.Places.{small};
 ghost use Rattle.notation.specs.Given.{Gives, IsTokenOf, AreTokens};
-ghost use Rattle.syntax.specs.Tree.{assignment_of, module_tree_of};
-ghost use Rattle.syntax.specs.Reading.{definitions_at, assign_at, begin_at, end_at, type_assigned_at, value_assigned_at, begins_assignment, assignment_at, assignments_at};
-ghost use Rattle.syntax.specs.ModuleReading.{begun_at, heading_at, module_at};
+ghost use Rattle.trees.specs.Modules.{assignment_of, module_tree_of};
+ghost use Rattle.grammar.specs.Single.{end_at};
+ghost use Rattle.syntax.specs.Reading.{type_assigned_at, value_assigned_at, begins_assignment, assignment_at, assignments_at};
+ghost use Rattle.syntax.specs.ModuleReading.{module_at};
 
-use crate::heading::{export_list, tag_default};
-use crate::importing::{import_list, module_ref};
-use crate::tree::{Assignment, Module, TagDefault, TypeAssignment, ValueAssignment};
-use crate::types::type_syntax;
+use module_head::head::{assign, heading};
+use module_head::heading::export_list;
+use module_head::importing::import_list;
 use notation::ReadError;
 use notation::decode::name_of;
 use notation::reading::value;
 use std::alloc::Global;
 use text::reserved::Word;
-use text::{Mark, Token, TokenKind};
-
-/// The tokens behind `DEFINITIONS`.
-#[tactic(auto, unfolding(crate::specs::Reading::definitions_at))]
-fn definitions<'a>(text: &[u8], tokens: &'a [Token]) -> Result<&'a [Token], ReadError>
-    requires tokens { AreTokens text.now tokens.now }
-    ensures read { Gives (λ x. (tt, lexemes text.now x.now)) result (definitions_at (lexemes text.now tokens.now)) }
-    ensures rest { IfOk result (λ x. AreTokens text.now x.now) }
-{
-    match tokens {
-        [
-            Token {
-                kind: TokenKind::Reserved(Word::Definitions),
-                ..
-            },
-            rest @ ..,
-        ] => Ok(rest),
-        _ => Err(ReadError::Unexpected(tokens.len())),
-    }
-}
-
-/// The tokens behind `::=`.
-#[tactic(auto, unfolding(crate::specs::Reading::assign_at))]
-fn assign<'a>(text: &[u8], tokens: &'a [Token]) -> Result<&'a [Token], ReadError>
-    requires tokens { AreTokens text.now tokens.now }
-    ensures read { Gives (λ x. (tt, lexemes text.now x.now)) result (assign_at (lexemes text.now tokens.now)) }
-    ensures rest { IfOk result (λ x. AreTokens text.now x.now) }
-{
-    match tokens {
-        [
-            Token {
-                kind: TokenKind::Mark(Mark::Assign),
-                ..
-            },
-            rest @ ..,
-        ] => Ok(rest),
-        _ => Err(ReadError::Unexpected(tokens.len())),
-    }
-}
-
-/// The tokens behind `BEGIN`.
-#[tactic(auto, unfolding(crate::specs::Reading::begin_at))]
-fn begin<'a>(text: &[u8], tokens: &'a [Token]) -> Result<&'a [Token], ReadError>
-    requires tokens { AreTokens text.now tokens.now }
-    ensures read { Gives (λ x. (tt, lexemes text.now x.now)) result (begin_at (lexemes text.now tokens.now)) }
-    ensures rest { IfOk result (λ x. AreTokens text.now x.now) }
-{
-    match tokens {
-        [
-            Token {
-                kind: TokenKind::Reserved(Word::Begin),
-                ..
-            },
-            rest @ ..,
-        ] => Ok(rest),
-        _ => Err(ReadError::Unexpected(tokens.len())),
-    }
-}
+use text::{Token, TokenKind};
+use trees::{Assignment, Module, TypeAssignment, ValueAssignment};
+use type_syntax::types::type_syntax;
 
 /// The tokens behind `END`.
-#[tactic(auto, unfolding(crate::specs::Reading::end_at))]
+#[tactic(auto, unfolding(grammar::specs::Single::end_at))]
 fn end<'a>(text: &[u8], tokens: &'a [Token]) -> Result<&'a [Token], ReadError>
     requires tokens { AreTokens text.now tokens.now }
     ensures read { Gives (λ x. (tt, lexemes text.now x.now)) result (end_at (lexemes text.now tokens.now)) }
@@ -204,7 +149,7 @@ fn many<'a>(
     ensures read { Gives (λ x. (map assignment_of x.0.items, lexemes text.now x.1.now)) result (many_at begins_assignment (assignment_at small depth) (length (lexemes text.now tokens.now)) (lexemes text.now tokens.now)) }
     ensures rest { IfOk result (λ x. AreTokens text.now x.1.now) }
 {
-    crate::law::parts_are_read();
+    type_syntax::law::types_are_read();
     let mut assignments = Vec::new(alloc);
     let mut rest = tokens;
     while begins(text, rest) {
@@ -231,37 +176,8 @@ fn assignments<'a>(
     Ok((assignments, end(text, rest)?))
 }
 
-/// Reads what stands behind `DEFINITIONS`, as far as `BEGIN`.
-#[tactic(auto, unfolding(crate::specs::ModuleReading::begun_at))]
-fn begun<'a>(text: &[u8], tokens: &'a [Token]) -> Result<(TagDefault, &'a [Token]), ReadError>
-    requires tokens { AreTokens text.now tokens.now }
-    ensures read { Gives (λ x. (x.0, lexemes text.now x.1.now)) result (begun_at (lexemes text.now tokens.now)) }
-    ensures rest { IfOk result (λ x. AreTokens text.now x.1.now) }
-{
-    let (tag_default, rest) = tag_default(text, tokens)?;
-    let rest = assign(text, rest)?;
-    Ok((tag_default, begin(text, rest)?))
-}
-
-/// Reads a module's name and its default for tags, as far as `BEGIN`.
-#[tactic(auto, unfolding(crate::specs::ModuleReading::heading_at))]
-fn heading<'a>(
-    alloc: Global,
-    text: &[u8],
-    tokens: &'a [Token],
-) -> Result<((String, TagDefault), &'a [Token]), ReadError>
-    requires tokens { AreTokens text.now tokens.now }
-    ensures read { Gives (λ x. ((string_bytes x.0.0, x.0.1), lexemes text.now x.1.now)) result (heading_at small (lexemes text.now tokens.now)) }
-    ensures rest { IfOk result (λ x. AreTokens text.now x.1.now) }
-{
-    let (name, rest) = module_ref(alloc, text, tokens)?;
-    let rest = definitions(text, rest)?;
-    let (tag_default, rest) = begun(text, rest)?;
-    Ok(((name, tag_default), rest))
-}
-
 /// Reads a module, where so many things may be open at one place.
-#[tactic(auto, unfolding(crate::specs::ModuleReading::module_at, crate::specs::ModuleReading::head_at, crate::specs::ModuleReading::exporting_at))]
+#[tactic(auto, unfolding(crate::specs::ModuleReading::module_at, module_head::specs::HeadReading::head_at, module_head::specs::HeadReading::exporting_at))]
 pub fn module<'a>(
     alloc: Global,
     text: &[u8],

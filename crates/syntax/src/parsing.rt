@@ -5,11 +5,11 @@ ghost use Rattle.grammar.specs.Lexeme.{Lexeme, lexemes};
 ghost use Rattle.grammar.specs.Places.{small, free};
 ghost use Rattle.notation.specs.Given.{IsLexed};
 ghost use Rattle.notation.specs.Answer.{Stands};
-ghost use Rattle.syntax.specs.Tree.{ModuleTree, module_tree_of};
+ghost use Rattle.trees.specs.Modules.{ModuleTree, module_tree_of};
 ghost use Rattle.syntax.specs.Syntax.{module_text};
 
 use crate::modules::module;
-use crate::tree::Module;
+use trees::Module;
 use notation::refused::unexpected;
 use notation::{MAX_NESTING, ReadError, SyntaxFault};
 use std::alloc::Global;
@@ -39,7 +39,8 @@ pub fn parse(alloc: Global, text: &[u8], tokens: &[Token]) -> Result<Module, Syn
     ensures fault { IfErr result (Stands module_text (lexemes text.now tokens.now) 0 128) }
 {
     notation::law::lexed_tokens();
-    crate::law::parts_are_read();
+    module_head::law::heads_are_read();
+    type_syntax::law::types_are_read();
     match module(alloc, text, tokens, MAX_NESTING) {
         Ok((module, rest)) => {
             if rest.is_empty() {
@@ -58,5 +59,6 @@ pub fn parse(alloc: Global, text: &[u8], tokens: &[Token]) -> Result<Module, Syn
 pub fn one_module()
     ensures { (ts : List Lexeme) (m n : ModuleTree) → (free module_text).Is m ts → (free module_text).Is n ts → m ≡ n }
 {
-    crate::law::parts_are_read();
+    module_head::law::heads_are_read();
+    type_syntax::law::types_are_read();
 }

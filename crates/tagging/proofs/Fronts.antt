@@ -5,7 +5,7 @@ use Rattle.std.specs.Global.{Global}
 use Rattle.std.proofs.lemmas.Bool.{cases_lt}
 use Rattle.asn_base.specs.declared.tag.Class.TheVariants.{Context}
 use Rattle.asn_base.specs.declared.tag.Tag.{Tag}
-use Rattle.syntax.specs.declared.tree.TagDefault.{TagDefault}
+use Rattle.trees.specs.declared.module.TagDefault.{TagDefault}
 use Rattle.resolve.specs.Table.{Part}
 use Rattle.resolve.specs.declared.table.ListKind.{ListKind}
 use Rattle.resolve.specs.declared.table.ListKind.TheVariants.{Sequence, Set, Choice}
@@ -16,8 +16,8 @@ use Rattle.tagging.specs.declared.path.FormedTag.{FormedTag}
 use Rattle.tagging.specs.Tags.{Label, label, Path, path_of, context_tag, outermost, automatic, form_of, Written, core, behind, inside, own, Tags, as_written, numbered}
 use Rattle.tagging.specs.Step.{Outermost, form_before, Adds}
 use Rattle.std.specs.Prelude.{is_none, is_some, not}
-use Rattle.syntax.specs.declared.tree.Keyword.TheVariants.{Absent}
-use Rattle.syntax.specs.declared.tree.TagDefault.TheVariants.{Automatic}
+use Rattle.trees.specs.declared.types.Keyword.TheVariants.{Absent}
+use Rattle.trees.specs.declared.module.TagDefault.TheVariants.{Automatic}
 use Rattle.tagging.specs.First.{First, outermost as outermost_tag, alternative}
 use Rattle.tagging.specs.Heads.{Head, Fronts, none, front, AreFirst, IsFrontFault, IsFirstFault, members_of}
 use Rattle.tagging.specs.declared.first.FrontFault.{FrontFault}

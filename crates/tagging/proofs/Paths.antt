@@ -3,8 +3,8 @@ use Rattle.std.proofs.Common.{◌≡◌, ◌⊎◌, inl, inr, ℕ, zero, suc, �
 use Rattle.std.proofs.lemmas.List.{length-append, length-map, map-append}
 use Rattle.std.specs.Prelude.{slice_get}
 use Rattle.asn_base.specs.declared.tag.Tag.{Tag}
-use Rattle.syntax.specs.declared.tree.Keyword.{Keyword}
-use Rattle.syntax.specs.declared.tree.TagDefault.{TagDefault}
+use Rattle.trees.specs.declared.types.Keyword.{Keyword}
+use Rattle.trees.specs.declared.module.TagDefault.{TagDefault}
 use Rattle.resolve.specs.declared.table.ListKind.TheVariants.{Sequence, Set, Choice}
 use Rattle.resolve.specs.declared.table.ElementsKind.{ElementsKind}
 use Rattle.resolve.specs.declared.table.ElementsKind.TheVariants.{SequenceOf, SetOf}
@@ -18,8 +18,8 @@ use Rattle.tagging.proofs.Walks.{stops}
 use Rattle.tagging.specs.Step.{step_of, form_before, Outermost, Adds, ending}
 use Rattle.std.specs.Prelude.{is_none}
 use Rattle.tagging.specs.declared.path.Form.TheVariants.{Implicit, Explicit}
-use Rattle.syntax.specs.declared.tree.Keyword.TheVariants.{Absent, Implicit as ImplicitWord, Explicit as ExplicitWord}
-use Rattle.syntax.specs.declared.tree.TagDefault.TheVariants.{Explicit as ExplicitTags, Implicit as ImplicitTags, Automatic}
+use Rattle.trees.specs.declared.types.Keyword.TheVariants.{Absent, Implicit as ImplicitWord, Explicit as ExplicitWord}
+use Rattle.trees.specs.declared.module.TagDefault.TheVariants.{Explicit as ExplicitTags, Implicit as ImplicitTags, Automatic}
 
 abbrev ended : Step → Option ℕ
 ended (Ends o) = o

@@ -3,11 +3,11 @@ use Rattle.std.proofs.Common.{◌≡◌, ℕ, zero, suc, ◌<◌, ◌≤◌, Lis
 use Rattle.std.specs.Prelude.{slice_get, map}
 use Rattle.asn_base.specs.declared.tag.Class.TheVariants.{Universal, Context, Application}
 use Rattle.asn_base.specs.declared.tag.Tag.{Tag}
-use Rattle.syntax.specs.declared.tree.Keyword.{Keyword}
-use Rattle.syntax.specs.declared.tree.Keyword.TheVariants as word
-use Rattle.syntax.specs.declared.tree.TagDefault.{TagDefault}
-use Rattle.syntax.specs.declared.tree.TagDefault.TheVariants as tags
-use Rattle.syntax.specs.Tree.{PresenceTree, mandatory, optional}
+use Rattle.trees.specs.declared.types.Keyword.{Keyword}
+use Rattle.trees.specs.declared.types.Keyword.TheVariants as word
+use Rattle.trees.specs.declared.module.TagDefault.{TagDefault}
+use Rattle.trees.specs.declared.module.TagDefault.TheVariants as tags
+use Rattle.trees.specs.Types.{PresenceTree, mandatory, optional}
 use Rattle.resolve.specs.declared.table.ListKind.{ListKind}
 use Rattle.resolve.specs.declared.table.ListKind.TheVariants.{Sequence, Set, Choice}
 use Rattle.resolve.specs.declared.table.ElementsKind.TheVariants.{SequenceOf, SetOf}

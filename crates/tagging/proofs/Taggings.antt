@@ -2,9 +2,9 @@
 use Rattle.std.proofs.Common.{◌≡◌, ◌⊎◌, inl, inr, ℕ, zero, suc, ◌+◌, ◌<◌, ◌≤◌, List, [], ◌∷◌, ◌++◌, length, Option, Some, None, refl, sym, ap, ◌∙◌, arith, subst}
 use Rattle.std.specs.Prelude.{slice_get, All, MatchResult, Result, Ok, Err}
 use Rattle.asn_base.specs.declared.tag.Tag.{Tag}
-use Rattle.syntax.specs.declared.tree.Keyword.{Keyword}
-use Rattle.syntax.specs.declared.tree.Keyword.TheVariants.{Absent, Implicit, Explicit}
-use Rattle.syntax.specs.declared.tree.TagDefault.{TagDefault}
+use Rattle.trees.specs.declared.types.Keyword.{Keyword}
+use Rattle.trees.specs.declared.types.Keyword.TheVariants.{Absent, Implicit, Explicit}
+use Rattle.trees.specs.declared.module.TagDefault.{TagDefault}
 use Rattle.resolve.specs.declared.table.ListKind.{ListKind}
 use Rattle.resolve.specs.declared.table.ListKind.TheVariants.{Sequence, Set, Choice}
 use Rattle.resolve.specs.Table.{Part, Type', Kind, simple, reference, tagged, members, elements, behind_of, Is, IsLinked}

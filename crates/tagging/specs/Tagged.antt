@@ -1,8 +1,8 @@
 -- Tables whose types have their tags as X.680 asks, and how a type breaks what it asks.
 use Rattle.std.specs.Prelude.{◌≡◌, ◌⊎◌, ℕ, ◌<◌, ◌≤◌, List, [], Option, Some, slice_get}
 use Rattle.asn_base.specs.declared.tag.Tag.{Tag}
-use Rattle.syntax.specs.declared.tree.Keyword.TheVariants.{Absent, Implicit, Explicit}
-use Rattle.syntax.specs.declared.tree.TagDefault.{TagDefault}
+use Rattle.trees.specs.declared.types.Keyword.TheVariants.{Absent, Implicit, Explicit}
+use Rattle.trees.specs.declared.module.TagDefault.{TagDefault}
 use Rattle.resolve.specs.declared.table.ListKind.{ListKind}
 use Rattle.resolve.specs.declared.table.ListKind.TheVariants.{Sequence, Set, Choice}
 use Rattle.resolve.specs.Table.{Part, Type', Kind, tagged, members, Is}

@@ -4,10 +4,10 @@ use Rattle.std.specs.List.{list_any}
 use Rattle.asn_base.specs.declared.tag.Class.{Class}
 use Rattle.asn_base.specs.declared.tag.Class.TheVariants.{Universal, Context}
 use Rattle.asn_base.specs.declared.tag.Tag.{Tag}
-use Rattle.syntax.specs.declared.tree.Keyword.{Keyword}
-use Rattle.syntax.specs.declared.tree.Keyword.TheVariants.{Absent, Implicit as ImplicitWord, Explicit as ExplicitWord}
-use Rattle.syntax.specs.declared.tree.TagDefault.{TagDefault}
-use Rattle.syntax.specs.declared.tree.TagDefault.TheVariants.{Explicit as ExplicitTags, Implicit as ImplicitTags, Automatic}
+use Rattle.trees.specs.declared.types.Keyword.{Keyword}
+use Rattle.trees.specs.declared.types.Keyword.TheVariants.{Absent, Implicit as ImplicitWord, Explicit as ExplicitWord}
+use Rattle.trees.specs.declared.module.TagDefault.{TagDefault}
+use Rattle.trees.specs.declared.module.TagDefault.TheVariants.{Explicit as ExplicitTags, Implicit as ImplicitTags, Automatic}
 use Rattle.resolve.specs.declared.table.ElementsKind.{ElementsKind}
 use Rattle.resolve.specs.declared.table.ElementsKind.TheVariants.{SequenceOf, SetOf}
 use Rattle.resolve.specs.declared.table.ListKind.{ListKind}

@@ -13,7 +13,7 @@ use asn_base::tag::{Class, Tag};
 use resolve::{Component, Shape, Written};
 use smallvec::SmallVec;
 use std::alloc::{AllocError, Global};
-use syntax::{Keyword, TagDefault};
+use trees::{Keyword, TagDefault};
 
 fn has_tag(written: &Written) -> bool
     ensures { result ≡ is_tagged (kind_of written.now.shape) }

@@ -1,7 +1,7 @@
 //! The check of all types of a table.
 
 ghost use Rattle.std.specs.Prelude.{ℕ, ◌≡◌, ◌<◌, ◌≤◌, length, map, List, MatchResult, All, Option, Some, []};
-ghost use Rattle.syntax.specs.declared.tree.TagDefault.{TagDefault};
+ghost use Rattle.trees.specs.declared.module.TagDefault.{TagDefault};
 ghost use Rattle.resolve.specs.Seen.{types_of, kind_of, part_of, place_of};
 ghost use Rattle.resolve.specs.Table.{Type', IsLinked, Is, tagged, members};
 ghost use Rattle.asn_base.specs.declared.tag.Tag.{Tag};
@@ -18,7 +18,7 @@ use crate::lists::clash;
 use crate::path::{Label, count_of, written_outermost};
 use resolve::{Component, ListKind, Shape, Written};
 use std::alloc::Global;
-use syntax::Keyword;
+use trees::Keyword;
 
 /// The most tags that may be written on one type, through references.
 const TAGS: usize = 4;

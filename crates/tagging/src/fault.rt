@@ -1,7 +1,7 @@
 //! Why modules could not be tagged.
 
 ghost use Rattle.std.specs.Prelude.{ℕ, List, string_bytes};
-ghost use Rattle.syntax.specs.declared.tree.TagDefault.{TagDefault};
+ghost use Rattle.trees.specs.declared.module.TagDefault.{TagDefault};
 ghost use Rattle.resolve.specs.Table.{Type'};
 ghost use Rattle.tagging.specs.Tagged.{Breaks};
 ghost use Rattle.tagging.specs.Faults.{Stands, StandsIn};

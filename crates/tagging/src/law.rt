@@ -1,7 +1,7 @@
 //! What follows of tables whose types have their tags. A caller calls a law to know it; it takes no memory and no time.
 
 ghost use Rattle.std.specs.Prelude.{ℕ, ◌≡◌, ◌<◌, length, List};
-ghost use Rattle.syntax.specs.declared.tree.TagDefault.{TagDefault};
+ghost use Rattle.trees.specs.declared.module.TagDefault.{TagDefault};
 ghost use Rattle.resolve.specs.Table.{Type', IsLinked};
 ghost use Rattle.tagging.specs.Tags.{Path, Tags};
 ghost use Rattle.tagging.specs.Tagged.{IsTagged, HaveOneFirst};

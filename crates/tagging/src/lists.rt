@@ -10,7 +10,7 @@ ghost use Rattle.tagging.specs.Tagged.{Clash};
 use crate::first::common;
 use crate::path::Label;
 use resolve::{Component, ListKind};
-use syntax::PresenceSyntax;
+use trees::PresenceSyntax;
 
 /// Whether OPTIONAL or DEFAULT stands behind a component (X.680, clause 25).
 fn may_be_absent(component: &Component) -> bool

@@ -11,7 +11,7 @@ use resolve::unfolding::next;
 use resolve::{ElementsKind, ListKind, Shape, Simple, Written};
 use smallvec::SmallVec;
 use std::alloc::AllocError;
-use syntax::{Keyword, TagDefault};
+use trees::{Keyword, TagDefault};
 
 /// Whether a tag stands in place of the tag after it, or before it (X.680, clause 31.2).
 #[derive(Clone, Copy, Debug, PartialEq, Eq)]

@@ -1,7 +1,7 @@
 //! Linked modules whose types have their tags.
 
 ghost use Rattle.std.specs.Prelude.{ℕ, IsTrue, ◌↔◌, ◌≡◌, ◌<◌, ◌≤◌, length, map, slice_get, List, Contains, Some, IfOk, IsOk, MatchResult};
-ghost use Rattle.syntax.specs.declared.tree.TagDefault.{TagDefault};
+ghost use Rattle.trees.specs.declared.module.TagDefault.{TagDefault};
 ghost use Rattle.resolve.specs.Seen.{type_of, types_of, header_of, assignment_of};
 ghost use Rattle.resolve.specs.Table.{Type'};
 ghost use Rattle.tagging.specs.Tags.{Path, path_of, Tags};

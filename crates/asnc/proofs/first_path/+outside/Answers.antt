@@ -1,8 +1,8 @@
 use Rattle.std.proofs.Common.{map, sym, ap, ◌∙◌, subst}
 use Rattle.std.specs.Prelude.{MatchOption}
-use Rattle.notation.specs.Tree.{tree_of}
+use Rattle.trees.specs.Values.{tree_of}
 use Rattle.asnc.specs.FirstPath.{IsFirstNotation}
-use Rattle.notation.specs.Tree.{member_of}
+use Rattle.trees.specs.Values.{member_of}
 use Rattle.asnc.proofs.Lists.{seen_here}
 use Rattle.asnc.proofs.Notated.{fields_layer, fields_more, no_field_at}
 use Rattle.asnc.proofs.Outside.{fields_out, null_out, quoted_out, alternative_out, numbers_out, values_out}

@@ -1,5 +1,5 @@
 use Rattle.std.proofs.Common.{map, take}
-use Rattle.notation.specs.Tree.{members, member_of}
+use Rattle.trees.specs.Values.{members, member_of}
 use Rattle.asnc.specs.FirstPath.{AreFirstFields}
 use Rattle.asnc.proofs.first_path.+outside.Given as goal
 

@@ -1,7 +1,7 @@
 use Rattle.std.proofs.Common.{◌≡◌, Some, sym, subst}
 use Rattle.resolve.specs.Seen.{header_of}
 use Rattle.resolve.specs.declared.table.Header.{Header}
-use Rattle.syntax.specs.declared.tree.TagDefault.TheVariants.{Explicit}
+use Rattle.trees.specs.declared.module.TagDefault.TheVariants.{Explicit}
 use Rattle.asnc.specs.LeftOut.{tags_construct}
 use Rattle.asnc.proofs.Lists.{seen_here}
 use Rattle.asnc.proofs.first_path.check_headers.Goals as goal

@@ -1,5 +1,5 @@
 use Rattle.std.proofs.Common.{sym, subst}
-use Rattle.notation.specs.Tree.{tree_of}
+use Rattle.trees.specs.Values.{tree_of}
 use Rattle.resolve.specs.Seen.{value_of}
 use Rattle.resolve.specs.declared.table.ValueAt.{ValueAt}
 use Rattle.asnc.specs.FirstPath.{IsFirstNotation}

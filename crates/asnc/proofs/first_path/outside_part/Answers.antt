@@ -1,7 +1,7 @@
 use Rattle.std.proofs.Common.{ap}
-use Rattle.syntax.specs.Tree.{presence_of}
+use Rattle.trees.specs.Types.{presence_of}
 use Rattle.resolve.specs.Seen.{part_of, type_of, types_of}
-use Rattle.notation.specs.Tree.{tree_of}
+use Rattle.trees.specs.Values.{tree_of}
 use Rattle.asnc.specs.LeftOut.{may_be_absent, has_default}
 use Rattle.asnc.proofs.Outside.{part_out}
 use Rattle.asnc.proofs.Unfoldings.{member_match}

@@ -1,6 +1,6 @@
 use Rattle.std.proofs.Common.{◌≡◌, rules, length, sym, ap, ◌∙◌}
 use Rattle.std.proofs.lemmas.List.{length-map}
-use Rattle.notation.specs.Constraint.{constraint_of}
+use Rattle.trees.specs.Constraints.{constraint_of}
 use Rattle.resolve.specs.Seen.{type_of, types_of}
 use Rattle.asnc.specs.LeftOut.{constraint}
 use Rattle.asnc.proofs.Outside.{kind_out}

@@ -1,4 +1,4 @@
-use Rattle.syntax.specs.Tree.{module_tree_of}
+use Rattle.trees.specs.Modules.{module_tree_of}
 use Rattle.std.proofs.Common.{map}
 use Rattle.asnc.proofs.Onlies.{kit_answers, names_memory}
 use Rattle.asnc.proofs.kit.kit_of.Goals as goal

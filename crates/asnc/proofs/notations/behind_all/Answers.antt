@@ -1,5 +1,5 @@
 use Rattle.std.proofs.Common.{◌≡◌, ◌↔◌, ℕ, Some, None, refl, subst}
-use Rattle.notation.specs.Tree.{tree_of}
+use Rattle.trees.specs.Values.{tree_of}
 use Rattle.asnc.specs.Notations.{IsValueAt, MeansValue}
 use Rattle.asnc.proofs.Lasts.{answers_same, same_behind, circle_none, means_nothing}
 use Rattle.asnc.specs.Wrong.{referred}

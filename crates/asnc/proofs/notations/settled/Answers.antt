@@ -1,4 +1,4 @@
-use Rattle.notation.specs.Tree.{tree_of}
+use Rattle.trees.specs.Values.{tree_of}
 use Rattle.asnc.proofs.Lasts.{settled_last, settled_none}
 use Rattle.asnc.proofs.notations.settled.Goals as goal
 

@@ -1,5 +1,5 @@
 use Rattle.std.proofs.Common.{map, subst, sym, arith}
-use Rattle.syntax.specs.Tree.{module_tree_of}
+use Rattle.trees.specs.Modules.{module_tree_of}
 use Rattle.asnc.specs.Opening.{IsModule, SaysMemory, octets_of}
 use Rattle.asnc.proofs.Lists.{zip_more}
 use Rattle.asnc.proofs.Onlies.{same_more, same_all, refused_memory}

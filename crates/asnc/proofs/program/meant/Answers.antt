@@ -1,5 +1,5 @@
 use Rattle.std.proofs.Common.{Some, sym, ap, ◌∙◌, option_map, string_bytes}
-use Rattle.notation.specs.Tree.{tree_of}
+use Rattle.trees.specs.Values.{tree_of}
 use Rattle.asnc.proofs.Leading.{means_value, means_none, value_there}
 use Rattle.asnc.proofs.Notated.{reference_tree}
 use Rattle.asnc.proofs.program.meant.Goals as goal

@@ -1,6 +1,6 @@
 use Rattle.std.proofs.Common.{map, refl, sym, ap, ◌∙◌, arith, Some}
 use Rattle.asn_base.specs.Seen.{component_of}
-use Rattle.notation.specs.Tree.{member_of}
+use Rattle.trees.specs.Values.{member_of}
 use Rattle.asnc.specs.Wrong.{component_names, field_names}
 use Rattle.asnc.proofs.Names.{other_long, same_none, same_more, same_all, component_named, field_named, unequal}
 use Rattle.asnc.proofs.Typings.{equal_names}

@@ -1,7 +1,7 @@
 use Rattle.std.proofs.Common.{sym, ap, ◌∙◌, rules, subst}
 use Rattle.asn_base.specs.Types.{an_integer}
 use Rattle.asn_base.specs.Abstract.{integer}
-use Rattle.notation.specs.Tree.{tree_of}
+use Rattle.trees.specs.Values.{tree_of}
 use Rattle.asnc.specs.Notations.{IsLeaf, whole_number}
 use mir.Val.{SFits}
 use Rattle.std.specs.Int.{w128}

@@ -1,5 +1,5 @@
 use Rattle.std.proofs.Common.{map, sym, ◌∙◌, arith, subst}
-use Rattle.notation.specs.Tree.{member_of}
+use Rattle.trees.specs.Values.{member_of}
 use Rattle.resolve.specs.Modules.{StandsIn}
 use Rattle.asnc.specs.Wrong.{field_names}
 use Rattle.asnc.proofs.Names.{in_none, in_more, in_all, component_named, no_field, is_field, some_name, component_count}

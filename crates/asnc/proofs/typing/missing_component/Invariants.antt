@@ -1,6 +1,6 @@
 use Rattle.std.proofs.Common.{map}
 use Rattle.asn_base.specs.Seen.{component_of}
-use Rattle.notation.specs.Tree.{member_of}
+use Rattle.trees.specs.Values.{member_of}
 use Rattle.asnc.specs.Wrong.{component_names, field_names}
 use Rattle.asnc.proofs.Names.{AreInFirst}
 use Rattle.asnc.proofs.typing.missing_component.Given as goal

@@ -1,6 +1,6 @@
 use Rattle.std.proofs.Common.{sym, ap, ◌∙◌, subst, option_map}
 use Rattle.asn_base.specs.Types.{an_octet_string}
-use Rattle.notation.specs.Tree.{tree_of}
+use Rattle.trees.specs.Values.{tree_of}
 use Rattle.asnc.specs.Notations.{IsLeaf, bit_text, hex_text}
 use Rattle.asnc.proofs.typing.octet_string.Goals as goal
 

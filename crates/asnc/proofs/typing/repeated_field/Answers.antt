@@ -1,5 +1,5 @@
 use Rattle.std.proofs.Common.{map, sym, ◌∙◌, arith, subst}
-use Rattle.notation.specs.Tree.{member_of}
+use Rattle.trees.specs.Values.{member_of}
 use Rattle.resolve.specs.Modules.{StandsTwice}
 use Rattle.asnc.specs.Wrong.{field_names}
 use Rattle.asnc.proofs.Names.{once_none, once_more, once_all, field_named, twice, new_at, some_name, field_count}

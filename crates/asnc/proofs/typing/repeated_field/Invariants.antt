@@ -1,5 +1,5 @@
 use Rattle.std.proofs.Common.{map}
-use Rattle.notation.specs.Tree.{member_of}
+use Rattle.trees.specs.Values.{member_of}
 use Rattle.asnc.specs.Wrong.{field_names}
 use Rattle.asnc.proofs.Names.{AreOnceFirst}
 use Rattle.asnc.proofs.typing.repeated_field.Given as goal

@@ -1,6 +1,6 @@
 use Rattle.std.proofs.Common.{sym, ◌∙◌, subst}
 use Rattle.asn_base.specs.Types.{a_boolean}
-use Rattle.notation.specs.Tree.{tree_of}
+use Rattle.trees.specs.Values.{tree_of}
 use Rattle.asnc.specs.Notations.{IsLeaf, truth}
 use Rattle.asnc.proofs.typing.truth.Goals as goal
 

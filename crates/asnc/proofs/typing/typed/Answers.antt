@@ -1,6 +1,6 @@
 use Rattle.std.proofs.Common.{false, sym, ap, ◌∙◌, subst, map, option_map}
 use Rattle.asn_base.specs.Seen.{kind_of, component_of}
-use Rattle.notation.specs.Tree.{tree_of, member_of}
+use Rattle.trees.specs.Values.{tree_of, member_of}
 use Rattle.asnc.specs.Notations.{Notation, sequence}
 use Rattle.asnc.proofs.Typings.{IsNoSequence, ok_leaf, err_leaf, lacks_last, lacks_fields_in, lacks_fields, is_sequence}
 use Rattle.asnc.specs.Wrong.{lost, of_kind, of_fields}

@@ -2,7 +2,7 @@ use Rattle.std.proofs.Common.{subst}
 use Rattle.std.specs.Prelude.{IsSomeAnd}
 use Rattle.asn_base.specs.Accepted.{IsSimple}
 use Rattle.asn_base.specs.Seen.{kind_of}
-use Rattle.notation.specs.Tree.{tree_of}
+use Rattle.trees.specs.Values.{tree_of}
 use Rattle.asnc.proofs.Typings.{ok_leaf, err_leaf, lacks_last, simple_no_sequence}
 use Rattle.asnc.specs.Wrong.{lost}
 use Rattle.asnc.proofs.Wrongs.{err_wrong}

@@ -1,7 +1,7 @@
 use Rattle.std.proofs.Common.{◌≡◌, ◌≤◌, length, arith, map, option_map}
 use Rattle.asn_base.specs.Abstract.{abstract}
 use Rattle.asn_base.specs.Seen.{component_of}
-use Rattle.notation.specs.Tree.{member_of}
+use Rattle.trees.specs.Values.{member_of}
 use Rattle.asnc.specs.Wrong.{short, names, field}
 use Rattle.std.proofs.lemmas.Result.{err_from_is_err_and}
 use Rattle.asnc.proofs.Names.{named_alike}

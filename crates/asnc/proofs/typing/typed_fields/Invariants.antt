@@ -1,7 +1,7 @@
 use Rattle.std.proofs.Common.{map, take, option_map}
 use Rattle.asn_base.specs.Abstract.{abstract}
 use Rattle.asn_base.specs.Seen.{component_of}
-use Rattle.notation.specs.Tree.{member_of}
+use Rattle.trees.specs.Values.{member_of}
 use Rattle.asnc.proofs.Typings.{Stand}
 use Rattle.asnc.proofs.typing.typed_fields.Given as goal
 

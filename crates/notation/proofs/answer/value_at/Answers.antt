@@ -4,7 +4,7 @@ use Rattle.grammar.specs.Reading.{Unexpected, Beyond, Nesting, Integer, TagNumbe
 use Rattle.grammar.specs.Laws.{deeper, wider}
 use Rattle.grammar.specs.Places.{small, free, unbounded}
 use Rattle.grammar.specs.Texts.{found, rest_fits, left_fits, first, passes, same_found, never_found}
-use Rattle.notation.specs.Tree.{tree_of}
+use Rattle.trees.specs.Values.{tree_of}
 use Rattle.notation.specs.Value.{value}
 use Rattle.text.specs.declared.token.Token.{Token}
 use Rattle.notation.specs.declared.fault.Limit.{Limit}

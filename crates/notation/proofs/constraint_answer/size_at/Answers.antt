@@ -12,7 +12,7 @@ use Rattle.notation.specs.declared.fault.SyntaxFault.TheVariants as faults
 use Rattle.notation.specs.Answer.{Stands}
 use Rattle.notation.specs.Laws.{first_stands}
 use Rattle.notation.specs.Given.{limit_of}
-use Rattle.notation.specs.Constraint.{size_of}
+use Rattle.trees.specs.Constraints.{size_of}
 use Rattle.notation.specs.ConstraintGrammar.{size, flat}
 use Rattle.notation.specs.ConstraintReading.{is_size, size_at}
 use Rattle.notation.proofs.ConstraintPlaces.{flat_reads, flat_deeper, flat_wider, size_ruled, size_more}

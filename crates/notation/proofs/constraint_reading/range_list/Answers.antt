@@ -3,7 +3,7 @@ use Rattle.std.proofs.lemmas.Result.{err_from_is_err_and}
 use Rattle.std.proofs.lemmas.List.{map_push, length-map}
 use Rattle.grammar.specs.Lexeme.{lexeme_of, lexemes}
 use Rattle.grammar.specs.Places.{small}
-use Rattle.notation.specs.Constraint.{range_of}
+use Rattle.trees.specs.Constraints.{range_of}
 use Rattle.notation.specs.ConstraintReading.{range_at}
 use Rattle.notation.proofs.Ors.{ors_more, ors_end, ors_first, ors_give_up, first_gives_up}
 use Rattle.notation.proofs.ConstraintParts.{range_shrinks}

@@ -5,9 +5,10 @@ use Rattle.grammar.specs.Lexeme.{lexeme_of, lexemes}
 use Rattle.grammar.specs.Reading.{named_at}
 use Rattle.grammar.specs.Places.{small}
 use Rattle.grammar.specs.Loops.{listed_first, commas_more, commas_end}
-use Rattle.notation.specs.Tree.{tree_of, member_of}
+use Rattle.trees.specs.Values.{tree_of, member_of}
 use Rattle.notation.specs.Reading.{value_at, fields_at}
-use Rattle.notation.proofs.Loop.{fields_tree, value_shrinks, member_shrinks, listed_gives_up, commas_give_up}
+use Rattle.notation.specs.Failing.{listed_gives_up, commas_give_up}
+use Rattle.notation.proofs.Loop.{fields_tree, value_shrinks, member_shrinks}
 use Rattle.notation.proofs.reading.+value.Goals as goal
 
 pub fields-returns-clause-read : goal.fields-returns-clause-read

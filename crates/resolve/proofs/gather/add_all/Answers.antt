@@ -1,6 +1,6 @@
 use Rattle.std.proofs.lemmas.Grind.{common_steps}
 use Rattle.std.proofs.Common.{arith, rules, ◌≡◌, map, ap, ◌∷◌, [], subst, sym}
-use Rattle.syntax.specs.Tree.{assignment_of as given_of}
+use Rattle.trees.specs.Modules.{assignment_of as given_of}
 use Rattle.resolve.specs.Scopes.{seen}
 use Rattle.resolve.proofs.Gatherings.{ArePlaced, placed_start, placed_step, placed_end, placed_fault}
 use Rattle.resolve.proofs.gather.add_all.Goals as goal

@@ -1,5 +1,5 @@
 use Rattle.std.proofs.Common.{map}
-use Rattle.syntax.specs.Tree.{assignment_of as given_of}
+use Rattle.trees.specs.Modules.{assignment_of as given_of}
 use Rattle.resolve.specs.Scopes.{seen}
 use Rattle.resolve.proofs.Gatherings.{ArePlaced}
 use Rattle.resolve.proofs.gather.add_all.Given as goal

@@ -1,6 +1,6 @@
 use Rattle.std.proofs.Common.{rules, arith, ◌≡◌, ◌++◌, ◌∷◌, [], inl, length, map, option_map, Some, None, refl, sym, subst, ap, ◌∙◌, string_bytes}
 use Rattle.std.proofs.lemmas.List.{map-append}
-use Rattle.syntax.specs.Tree.{module_tree_of}
+use Rattle.trees.specs.Modules.{module_tree_of}
 use Rattle.resolve.specs.Gathered.{Adds}
 use Rattle.resolve.specs.Names.{under}
 use Rattle.resolve.specs.Scopes.{seen, module_of}

@@ -1,6 +1,6 @@
 use Rattle.std.proofs.Common.{rules, arith, ◌≡◌, ◌∷◌, [], map, subst, ap}
 use Rattle.std.proofs.lemmas.Grind.{common_steps}
-use Rattle.syntax.specs.Tree.{module_tree_of}
+use Rattle.trees.specs.Modules.{module_tree_of}
 use Rattle.resolve.proofs.Gatherings.{ArePartly, partly_step, partly_end, partly_fault}
 use Rattle.resolve.proofs.gather.add_modules.Goals as goal
 

@@ -1,5 +1,5 @@
 use Rattle.std.proofs.Common.{map}
-use Rattle.syntax.specs.Tree.{module_tree_of}
+use Rattle.trees.specs.Modules.{module_tree_of}
 use Rattle.resolve.proofs.Gatherings.{ArePartly}
 use Rattle.resolve.proofs.gather.add_modules.Given as goal
 

@@ -1,6 +1,6 @@
 use Rattle.std.proofs.lemmas.Grind.{common_steps}
 use Rattle.std.proofs.Common.{arith, rules, ◌≡◌, ◌++◌, ◌∷◌, [], map, refl, sym, subst, ap, ◌∙◌, string_bytes}
-use Rattle.syntax.specs.Tree.{import_of}
+use Rattle.trees.specs.Modules.{import_of}
 use Rattle.resolve.specs.Gathered.{names_of}
 use Rattle.resolve.specs.Gathering.{imports_of}
 use Rattle.resolve.specs.Modules.{AreDistinct}

@@ -1,5 +1,5 @@
 use Rattle.std.proofs.Common.{◌≡◌, ◌++◌, map, string_bytes}
-use Rattle.syntax.specs.Tree.{import_of}
+use Rattle.trees.specs.Modules.{import_of}
 use Rattle.resolve.specs.Gathered.{names_of}
 use Rattle.resolve.specs.Gathering.{imports_of}
 use Rattle.resolve.specs.Modules.{AreDistinct}

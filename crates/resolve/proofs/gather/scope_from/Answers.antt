@@ -1,5 +1,5 @@
 use Rattle.std.proofs.Common.{◌≡◌, ◌++◌, length, map, refl, sym, subst, ap, ◌∙◌}
-use Rattle.syntax.specs.Tree.{assignment_of as given_of, import_of}
+use Rattle.trees.specs.Modules.{assignment_of as given_of, import_of}
 use Rattle.resolve.specs.Faults.{IsRepeated}
 use Rattle.resolve.specs.Gathered.{names_of}
 use Rattle.resolve.specs.Gathering.{name_of, imports_of}

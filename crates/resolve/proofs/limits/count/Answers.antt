@@ -1,5 +1,5 @@
 use Rattle.std.proofs.Common.{rules, arith, ◌≡◌, ◌∷◌, [], sym, ap, ◌∙◌, string_bytes}
-use Rattle.syntax.specs.Tree.{assignment_of as given_of}
+use Rattle.trees.specs.Modules.{assignment_of as given_of}
 use Rattle.resolve.specs.Gathering.{name_of}
 use Rattle.resolve.specs.Modules.{type_count, value_count}
 use Rattle.resolve.proofs.Behind.{types_count, values_count}

@@ -1,5 +1,5 @@
 use Rattle.std.proofs.Common.{◌≡◌, ◌+◌, ◌≤◌, drop, map}
-use Rattle.syntax.specs.Tree.{assignment_of as given_of}
+use Rattle.trees.specs.Modules.{assignment_of as given_of}
 use Rattle.resolve.specs.Modules.{type_count, value_count}
 use Rattle.resolve.proofs.limits.count.Given as goal
 

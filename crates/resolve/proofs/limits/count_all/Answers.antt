@@ -1,5 +1,5 @@
 use Rattle.std.proofs.Common.{arith, ap, map}
-use Rattle.syntax.specs.Tree.{assignment_of as given_of}
+use Rattle.trees.specs.Modules.{assignment_of as given_of}
 use Rattle.resolve.specs.Modules.{type_count, value_count}
 use Rattle.resolve.proofs.Counting.{types_drop_module, values_drop_module, past_naming}
 use Rattle.resolve.proofs.limits.count_all.Goals as goal

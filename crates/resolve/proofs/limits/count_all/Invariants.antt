@@ -1,5 +1,5 @@
 use Rattle.std.proofs.Common.{◌≡◌, ◌+◌, ◌≤◌, drop, map}
-use Rattle.syntax.specs.Tree.{module_tree_of}
+use Rattle.trees.specs.Modules.{module_tree_of}
 use Rattle.resolve.specs.Modules.{type_count, value_count, all_assignments}
 use Rattle.resolve.proofs.limits.count_all.Given as goal
 

@@ -1,6 +1,6 @@
 use Rattle.std.proofs.Common.{rules, arith, ◌≡◌, ◌<◌, length, refl, string_bytes}
 use Rattle.std.proofs.lemmas.Option.{slice_get_read}
-use Rattle.syntax.specs.Tree.{module_tree_of}
+use Rattle.trees.specs.Modules.{module_tree_of}
 use Rattle.resolve.proofs.Distinct.{stands_map}
 use Rattle.resolve.proofs.limits.within_limits.Goals as goal
 

@@ -1,7 +1,7 @@
 use Rattle.std.proofs.Common.{map, subst}
 use Rattle.resolve.specs.Gathered.{IsNamingFault}
 use Rattle.resolve.specs.Modules.{AreFew}
-use Rattle.syntax.specs.Tree.{module_tree_of}
+use Rattle.trees.specs.Modules.{module_tree_of}
 use Rattle.resolve.proofs.Ready.{ready, are_linked, naming_link, assembly_link}
 use Rattle.resolve.proofs.Standings.{are_named, standing_fault}
 use Rattle.resolve.proofs.linking.link.Goals as goal

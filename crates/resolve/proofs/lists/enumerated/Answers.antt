@@ -1,10 +1,10 @@
 use Rattle.std.proofs.Common.{◌≡◌, ℕ, ◌+◌, ◌<◌, ◌≤◌, [], length, map, drop, subst, ap, inl, arith, string_bytes}
 use Rattle.std.specs.Prelude.{Bool, Option}
-use Rattle.notation.specs.Tree.{Name}
+use Rattle.trees.specs.Values.{Name}
 use Rattle.std.proofs.lemmas.List.{length-map}
 use Rattle.std.proofs.lemmas.Result.{err_from_is_err_and}
 use Rattle.asn_base.specs.Typed.{IsWithinLimit}
-use Rattle.syntax.specs.Tree.{item_of}
+use Rattle.trees.specs.Types.{item_of}
 use Rattle.resolve.specs.Sound.{given_numbers}
 use Rattle.resolve.specs.Soundness.{texts}
 use Rattle.resolve.specs.Table.{simple, an_enumerated}

@@ -1,7 +1,7 @@
 use Rattle.std.proofs.Common.{◌≡◌, ℕ, ◌<◌, ◌≤◌, [], length, map, drop, refl, ap, inl, arith}
-use Rattle.notation.specs.Tree.{Name}
+use Rattle.trees.specs.Values.{Name}
 use Rattle.std.proofs.lemmas.Result.{err_from_is_err_and}
-use Rattle.syntax.specs.Tree.{bit_of}
+use Rattle.trees.specs.Types.{bit_of}
 use Rattle.resolve.specs.Soundness.{texts}
 use Rattle.resolve.specs.Table.{simple, a_bit_string}
 use Rattle.resolve.proofs.Halfway.{halfway_start, halfway_step, halfway_distinct, halfway_each, turn, item_at, none_left, map_get}

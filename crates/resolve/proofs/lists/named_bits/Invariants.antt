@@ -1,5 +1,5 @@
 use Rattle.std.proofs.Common.{map, drop}
-use Rattle.syntax.specs.Tree.{bit_of}
+use Rattle.trees.specs.Types.{bit_of}
 use Rattle.std.proofs.Common.{◌≤◌}
 use Rattle.resolve.specs.Soundness.{texts}
 use Rattle.resolve.proofs.Halfway.{Halfway}

@@ -1,9 +1,9 @@
 use Rattle.std.proofs.Common.{◌≡◌, ℕ, ◌<◌, ◌≤◌, [], length, map, drop, refl, ap, inl, arith}
 use Rattle.std.specs.Prelude.{Bool}
-use Rattle.notation.specs.Tree.{Name}
+use Rattle.trees.specs.Values.{Name}
 use Rattle.std.proofs.lemmas.Result.{err_from_is_err_and}
 use Rattle.asn_base.specs.Typed.{IsWithinLimit}
-use Rattle.syntax.specs.Tree.{number_of}
+use Rattle.trees.specs.Types.{number_of}
 use Rattle.resolve.specs.Sound.{signed}
 use Rattle.resolve.specs.Soundness.{texts}
 use Rattle.resolve.specs.Table.{simple, an_integer}

@@ -1,5 +1,5 @@
 use Rattle.std.proofs.Common.{map, drop}
-use Rattle.syntax.specs.Tree.{number_of}
+use Rattle.trees.specs.Types.{number_of}
 use Rattle.asn_base.specs.Typed.{IsWithinLimit}
 use Rattle.resolve.specs.Sound.{signed}
 use Rattle.resolve.specs.Soundness.{texts}

@@ -1,7 +1,7 @@
 use Rattle.std.proofs.Common.{map, sym, subst, ap, ◌∙◌}
 use Rattle.resolve.specs.Seen.{plain_of}
 use Rattle.resolve.specs.Table.{simple, an_integer, a_bit_string, an_enumerated}
-use Rattle.syntax.specs.Tree.{number_of, bit_of, item_of}
+use Rattle.trees.specs.Types.{number_of, bit_of, item_of}
 use Rattle.resolve.proofs.ListFaults.{Tells}
 use Rattle.resolve.proofs.lists.simple_list.Goals as goal
 

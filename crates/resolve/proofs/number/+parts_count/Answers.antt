@@ -1,6 +1,6 @@
 use Rattle.std.proofs.Common.{◌≡◌, length, arith, ap, ◌∙◌}
 use Rattle.resolve.specs.Numbering.{parts_of}
-use Rattle.syntax.specs.Tree.{type_tree_of}
+use Rattle.trees.specs.Types.{type_tree_of}
 use Rattle.resolve.proofs.Trees.{sequence_is, set_is, choice_is, parts_are}
 use Rattle.resolve.proofs.number.+parts_count.Goals as goal
 

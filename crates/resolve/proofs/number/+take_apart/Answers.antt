@@ -3,10 +3,10 @@ use Rattle.resolve.specs.Seen.{part_of, source_of, sources_of}
 use Rattle.resolve.specs.Numbering.{parts_of, IsKind, constraints_of}
 use Rattle.resolve.specs.Table.{members}
 use Rattle.resolve.specs.declared.table.ListKind.TheVariants as lists
-use Rattle.syntax.specs.Tree.{type_tree_of}
+use Rattle.trees.specs.Types.{type_tree_of}
 use Rattle.resolve.proofs.Trees.{sequence_is, set_is, choice_is, sequence_of_is, set_of_is, tagged_is, constrained_is, reference_is, nothing_unknown, few_from}
 use Rattle.std.proofs.lemmas.List.{map-append}
-use Rattle.notation.specs.Constraint.{constraint_of}
+use Rattle.trees.specs.Constraints.{constraint_of}
 use Rattle.resolve.specs.Faults.{IsUnknown}
 use Rattle.resolve.proofs.number.+take_apart.Goals as goal
 

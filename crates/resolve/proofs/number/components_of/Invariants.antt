@@ -1,5 +1,5 @@
 use Rattle.std.proofs.Common.{◌≡◌, ◌+◌, ◌++◌, length, map}
-use Rattle.syntax.specs.Tree.{type_members, type_member_of}
+use Rattle.trees.specs.Types.{type_members, type_member_of}
 use Rattle.resolve.specs.Seen.{part_of, source_of}
 use Rattle.resolve.specs.Numbering.{member_sources, numbered}
 use Rattle.resolve.proofs.number.components_of.Given as goal

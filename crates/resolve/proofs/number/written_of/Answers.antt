@@ -3,7 +3,7 @@ use Rattle.std.proofs.lemmas.Option.{slice_get_read}
 use Rattle.resolve.specs.Seen.{kind_of, header_of, assignment_of, source_of}
 use Rattle.resolve.specs.Numbering.{IsKind}
 use Rattle.resolve.specs.Faults.{IsUnknown}
-use Rattle.syntax.specs.Tree.{type_tree_of}
+use Rattle.trees.specs.Types.{type_tree_of}
 use Rattle.resolve.proofs.Sources.{assignment_at, header_at, unknown_source, limit_source}
 use Rattle.resolve.proofs.number.written_of.Goals as goal
 

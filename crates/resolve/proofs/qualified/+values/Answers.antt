@@ -1,6 +1,6 @@
 use Rattle.std.proofs.Common.{◌≡◌, ◌+◌, ◌++◌, ◌<◌, ◌≤◌, length, map, drop, sym, subst, ap, ◌∙◌, arith, option_map, string_bytes}
 use Rattle.std.proofs.lemmas.Result.{err_from_is_err_and}
-use Rattle.notation.specs.Tree.{tree_of, member_of, trees, members}
+use Rattle.trees.specs.Values.{tree_of, member_of, trees, members}
 use Rattle.resolve.specs.Sound.{qualified, qualified_each, qualified_fields}
 use Rattle.resolve.specs.Soundness.{behind_module}
 use Rattle.resolve.proofs.Halfway.{drop_at, none_left}

@@ -1,5 +1,5 @@
 use Rattle.std.proofs.Common.{map, drop}
-use Rattle.notation.specs.Tree.{tree_of, member_of, trees, members}
+use Rattle.trees.specs.Values.{tree_of, member_of, trees, members}
 use Rattle.resolve.specs.Sound.{qualified_each, qualified_fields}
 use Rattle.resolve.proofs.Sounds.{Left}
 use Rattle.resolve.proofs.qualified.+values.Given as goal

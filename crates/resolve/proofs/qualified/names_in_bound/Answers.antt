@@ -1,5 +1,5 @@
 use Rattle.std.proofs.Common.{sym, subst, ap, option_map}
-use Rattle.notation.specs.Constraint.{end_of}
+use Rattle.trees.specs.Constraints.{end_of}
 use Rattle.resolve.specs.Sound.{qualified_bound}
 use Rattle.resolve.proofs.Sounds.{Answers}
 use Rattle.resolve.proofs.qualified.names_in_bound.Goals as goal

@@ -1,5 +1,5 @@
 use Rattle.std.proofs.Common.{map, sym, subst, ap, ◌∙◌}
-use Rattle.notation.specs.Constraint.{range_of, constraint_of}
+use Rattle.trees.specs.Constraints.{range_of, constraint_of}
 use Rattle.resolve.specs.Sound.{qualified_ranges}
 use Rattle.resolve.specs.Soundness.{qualified_constraint}
 use Rattle.resolve.proofs.Sounds.{Answers}

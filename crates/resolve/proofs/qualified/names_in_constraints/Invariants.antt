@@ -1,5 +1,5 @@
 use Rattle.std.proofs.Common.{map, drop}
-use Rattle.notation.specs.Constraint.{constraint_of}
+use Rattle.trees.specs.Constraints.{constraint_of}
 use Rattle.resolve.specs.Sound.{qualified_constraints}
 use Rattle.resolve.proofs.Sounds.{Left}
 use Rattle.resolve.proofs.qualified.names_in_constraints.Given as goal

@@ -1,5 +1,5 @@
 use Rattle.std.proofs.Common.{sym, subst, ap, ◌∙◌, option_map, string_bytes}
-use Rattle.notation.specs.Constraint.{end_of}
+use Rattle.trees.specs.Constraints.{end_of}
 use Rattle.resolve.specs.Sound.{qualified_end}
 use Rattle.resolve.specs.Soundness.{behind_module}
 use Rattle.resolve.proofs.Sounds.{Answers, end_names}

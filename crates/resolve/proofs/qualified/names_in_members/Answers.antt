@@ -1,6 +1,6 @@
 use Rattle.std.proofs.Common.{◌≡◌, ◌+◌, ◌++◌, ◌<◌, ◌≤◌, length, map, drop, ap, arith}
 use Rattle.std.proofs.lemmas.Result.{err_from_is_err_and}
-use Rattle.syntax.specs.Tree.{presence_of}
+use Rattle.trees.specs.Types.{presence_of}
 use Rattle.resolve.specs.Seen.{part_of}
 use Rattle.resolve.specs.Sound.{qualified_default, qualified_members}
 use Rattle.resolve.proofs.Halfway.{drop_at, none_left}

@@ -1,6 +1,6 @@
 use Rattle.std.proofs.Common.{sym, subst, ap, option_map}
 use Rattle.std.proofs.lemmas.Result.{err_from_is_err_and}
-use Rattle.notation.specs.Constraint.{end_of, range_of}
+use Rattle.trees.specs.Constraints.{end_of, range_of}
 use Rattle.resolve.specs.Sound.{qualified_bound}
 use Rattle.resolve.specs.Soundness.{qualified_range, IsUnknownIn}
 use Rattle.resolve.specs.Sound.{MeanValues}

@@ -1,6 +1,6 @@
 use Rattle.std.proofs.Common.{◌≡◌, ◌+◌, ◌++◌, ◌<◌, ◌≤◌, length, map, drop, ap, ◌∙◌, arith}
 use Rattle.std.proofs.lemmas.Result.{err_from_is_err_and}
-use Rattle.notation.specs.Constraint.{range_of}
+use Rattle.trees.specs.Constraints.{range_of}
 use Rattle.resolve.specs.Sound.{qualified_ranges}
 use Rattle.resolve.specs.Soundness.{qualified_range}
 use Rattle.resolve.proofs.Halfway.{drop_at, none_left}

@@ -1,5 +1,5 @@
 use Rattle.std.proofs.Common.{map, drop}
-use Rattle.notation.specs.Constraint.{range_of}
+use Rattle.trees.specs.Constraints.{range_of}
 use Rattle.resolve.specs.Sound.{qualified_ranges}
 use Rattle.resolve.proofs.Sounds.{Left}
 use Rattle.resolve.proofs.qualified.names_in_ranges.Given as goal

@@ -1,5 +1,5 @@
 use Rattle.std.proofs.Common.{map, sym, subst, ap, ◌∙◌, option_map}
-use Rattle.notation.specs.Constraint.{range_of, size_of}
+use Rattle.trees.specs.Constraints.{range_of, size_of}
 use Rattle.resolve.specs.Sound.{qualified_ranges}
 use Rattle.resolve.specs.Soundness.{qualified_size}
 use Rattle.resolve.proofs.Sounds.{Answers}

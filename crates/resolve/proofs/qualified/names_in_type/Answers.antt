@@ -1,6 +1,6 @@
 use Rattle.std.proofs.Common.{map, subst}
 use Rattle.std.proofs.lemmas.Result.{err_from_is_err_and}
-use Rattle.notation.specs.Constraint.{constraint_of}
+use Rattle.trees.specs.Constraints.{constraint_of}
 use Rattle.resolve.specs.Seen.{type_of}
 use Rattle.resolve.specs.Sound.{qualified_constraints, qualified_kind}
 use Rattle.resolve.specs.Soundness.{IsUnknownIn}

@@ -1,5 +1,5 @@
 use Rattle.std.proofs.Common.{◌≡◌, List, ℕ, map, option_map, subst, sym, ap, ◌∙◌}
-use Rattle.notation.specs.Constraint.{size_of}
+use Rattle.trees.specs.Constraints.{size_of}
 use Rattle.resolve.specs.Seen.{part_of, plain_of, kind_of}
 use Rattle.resolve.specs.Sound.{IsPart, referred, behind_tag, element}
 use Rattle.resolve.specs.Table.{Kind, simple, reference, tagged, members, elements}

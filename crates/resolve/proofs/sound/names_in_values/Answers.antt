@@ -2,7 +2,7 @@ use Rattle.std.proofs.Common.{◌<◌, length, map, refl, subst, arith, below_mo
 use Rattle.std.proofs.lemmas.List.{length-map}
 use Rattle.std.proofs.lemmas.Option.{slice_get_within, slice_get_read}
 use Rattle.std.proofs.lemmas.Result.{err_from_is_err_and}
-use Rattle.notation.specs.Tree.{tree_of}
+use Rattle.trees.specs.Values.{tree_of}
 use Rattle.resolve.specs.Seen.{value_of, header_of, assignment_of}
 use Rattle.resolve.specs.Sound.{qualified, MeanValues}
 use Rattle.resolve.specs.Soundness.{program, IsUnknownIn}

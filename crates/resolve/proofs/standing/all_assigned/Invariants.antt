@@ -1,6 +1,6 @@
 use Rattle.std.proofs.Common.{◌≡◌, ℕ, ◌<◌, Some, map, string_bytes}
 use Rattle.std.specs.Prelude.{slice_get}
-use Rattle.notation.specs.Tree.{Name}
+use Rattle.trees.specs.Values.{Name}
 use Rattle.resolve.specs.Gathered.{names_of}
 use Rattle.resolve.specs.Modules.{StandsIn}
 use Rattle.resolve.specs.Scopes.{module_of}

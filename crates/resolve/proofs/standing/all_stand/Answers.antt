@@ -1,5 +1,5 @@
 use Rattle.std.proofs.Common.{arith, ◌≡◌, ◌⊎◌, length, subst, string_bytes}
-use Rattle.notation.specs.Tree.{Name}
+use Rattle.trees.specs.Values.{Name}
 use Rattle.resolve.specs.Gathered.{ExportAssigned, ImportOffered, IsExportFault, IsImportsFault}
 use Rattle.resolve.specs.Names.{Module}
 use Rattle.resolve.specs.Scopes.{seen, module_of}

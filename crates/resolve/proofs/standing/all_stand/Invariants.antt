@@ -1,6 +1,6 @@
 use Rattle.std.proofs.Common.{◌≡◌, ℕ, ◌<◌, Some}
 use Rattle.std.specs.Prelude.{slice_get}
-use Rattle.notation.specs.Tree.{Name}
+use Rattle.trees.specs.Values.{Name}
 use Rattle.resolve.specs.Gathered.{ExportAssigned, ImportOffered}
 use Rattle.resolve.specs.Names.{Module}
 use Rattle.resolve.specs.Scopes.{seen, module_of}

@@ -1,5 +1,5 @@
 use Rattle.std.proofs.Common.{arith, ◌≡◌, length, subst, string_bytes}
-use Rattle.notation.specs.Tree.{Name}
+use Rattle.trees.specs.Values.{Name}
 use Rattle.resolve.specs.Gathered.{IsOffered, IsImportFault}
 use Rattle.resolve.specs.Scopes.{seen, module_of}
 use Rattle.resolve.proofs.Standings.{more_of, all_stood, imports_stop, seen_long}

@@ -1,6 +1,6 @@
 use Rattle.std.proofs.Common.{◌≡◌, ℕ, ◌<◌, Some, string_bytes}
 use Rattle.std.specs.Prelude.{slice_get}
-use Rattle.notation.specs.Tree.{Name}
+use Rattle.trees.specs.Values.{Name}
 use Rattle.resolve.specs.Gathered.{IsOffered}
 use Rattle.resolve.specs.Scopes.{seen, module_of}
 use Rattle.resolve.proofs.standing.imports_stand.Given as goal

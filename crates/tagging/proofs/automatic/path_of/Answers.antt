@@ -1,8 +1,8 @@
 use Rattle.std.proofs.Common.{ℕ, ◌+◌, ◌∷◌, [], ◌++◌, length, sym, ap, ◌∙◌, arith}
 use Rattle.std.proofs.lemmas.Result.{IfOk-weaker}
 use Rattle.resolve.specs.Seen.{types_of}
-use Rattle.syntax.specs.declared.tree.Keyword.TheVariants.{Absent}
-use Rattle.syntax.specs.declared.tree.TagDefault.TheVariants.{Automatic}
+use Rattle.trees.specs.declared.types.Keyword.TheVariants.{Absent}
+use Rattle.trees.specs.declared.module.TagDefault.TheVariants.{Automatic}
 use Rattle.tagging.specs.Step.{form_before}
 use Rattle.tagging.specs.Tags.{path_of}
 use Rattle.tagging.proofs.Fronts.{written_answer, numbered_answer, none_is, pushed_first}

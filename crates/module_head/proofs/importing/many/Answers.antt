@@ -1,0 +1,34 @@
+use Rattle.std.proofs.Common.{arith, map, sym, ◌∙◌}
+use Rattle.std.proofs.lemmas.Result.{err_from_is_err_and}
+use Rattle.std.proofs.lemmas.List.{map_push, length-map}
+use Rattle.grammar.specs.Lexeme.{lexeme_of, lexemes}
+use Rattle.grammar.specs.Manies.{many_more, many_end}
+use Rattle.grammar.specs.Places.{small}
+use Rattle.trees.specs.Modules.{import_of}
+use Rattle.module_head.specs.ImportReading.{begins_symbol, import_from_at}
+use Rattle.module_head.proofs.Imported.{import_consumes}
+use Rattle.notation.specs.Failing.{many_gives_up}
+use Rattle.module_head.proofs.importing.many.Goals as goal
+
+pub returns-in_err-next-clause-read : goal.returns-in_err-next-clause-read
+returns-in_err-next-clause-read c =
+    let x = c.args.text.now in
+    let p = err_from_is_err_and c.from_residual.result c.from_residual.ensures.1 in
+    rw (p.1, p.2) (many_gives_up begins_symbol (import_from_at small) (lexemes x c.loop-alloc.rest.now) c.in_err-next.field-0.0 (map import_of c.loop-alloc.imports.items) _ (sym c.is_symbol.ensures ∙ c.loop-alloc-test.true) c.in_err-next.ensures.read c.loop-alloc.invariant.read)
+
+pub loop-alloc-smaller : goal.loop-alloc-smaller
+loop-alloc-smaller c =
+    let x = c.args.text.now in
+    let shorter = import_consumes.shorter (lexemes x c.loop-alloc.rest.now) (import_of c.in_ok-next.next, lexemes x c.in_ok-next.after.now) c.in_ok-next.ensures.read in
+    omega (arith, shorter, length-map c.in_ok-next.after.now (lexeme_of x), length-map c.loop-alloc.rest.now (lexeme_of x))
+
+pub loop-alloc-preserved : goal.loop-alloc-preserved
+loop-alloc-preserved c =
+    let x = c.args.text.now in
+    record {
+      read = rw (c.in_ok-push.ensures.items, map_push import_of c.loop-alloc.imports.items c.in_ok-next.next) (many_more begins_symbol (import_from_at small) import_consumes (lexemes x c.loop-alloc.rest.now) (import_of c.in_ok-next.next, lexemes x c.in_ok-next.after.now) (map import_of c.loop-alloc.imports.items) _ (sym c.is_symbol.ensures ∙ c.loop-alloc-test.true) c.in_ok-next.ensures.read c.loop-alloc.invariant.read);
+      tokens = c.in_ok-next.ensures.rest;
+    }
+
+pub returns-clause-read : goal.returns-clause-read
+returns-clause-read c = many_end begins_symbol (import_from_at small) (lexemes c.args.text.now c.loop-alloc.rest.now) (map import_of c.loop-alloc.imports.items) _ (sym c.is_symbol.ensures ∙ c.loop-alloc-test.false) c.loop-alloc.invariant.read

@@ -1,0 +1,28 @@
+-- What the reader of a module's head keeps, for the modules that have it.
+use Rattle.std.specs.Prelude.{◌≡◌, ℕ, Bool, true, false}
+use Rattle.text.specs.declared.reserved.Word.TheVariants.{Exports, Imports}
+use Rattle.grammar.specs.Lexeme.{Lexeme, Word}
+use Rattle.grammar.specs.Grows.{Grows}
+use Rattle.grammar.specs.Numbers.{Past}
+use Rattle.grammar.specs.Reading.{Limit, Integer}
+use Rattle.grammar.specs.Single.{is_typeref}
+use Rattle.notation.specs.Rules.{Rules}
+use Rattle.module_head.specs.Heading.{head}
+use Rattle.module_head.specs.HeadReading.{head_at}
+
+-- what may stand behind a head, that goes on with it
+abbrev pub head_ends : Lexeme → Bool
+head_ends (Word Exports) = true
+head_ends (Word Imports) = true
+head_ends t = false
+
+-- fits is the reader's test on numbers, fits' the grammar's
+pub record HeadLaws : Type 0 where
+  pub read : (over : Limit → ℕ) (within : Bool) (fits fits' : ℕ → Bool)
+      → ((n : ℕ) → fits n ≡ true → fits' n ≡ true)
+      → Past (over Integer) ((n : ℕ) → fits' n ≡ true)
+      → ((n : ℕ) → fits' n ≡ true → within ≡ true → fits n ≡ true)
+      → Rules over within (head fits') is_typeref head_ends (head_at fits)
+  pub grows : (fits fits' : ℕ → Bool)
+      → ((n : ℕ) → fits n ≡ true → fits' n ≡ true)
+      → Grows (head fits) (head fits')

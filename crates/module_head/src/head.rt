@@ -1,0 +1,102 @@
+//! Reading a module's head: its name and what tags in it are by default.
+
+ghost use Rattle.std.specs.Prelude.{IfOk, string_bytes};
+ghost use Rattle.grammar.specs.Lexeme.{lexemes};
+ghost use Rattle.grammar.specs.Places.{small};
+ghost use Rattle.grammar.specs.Single.{definitions_at, assign_at, begin_at};
+ghost use Rattle.notation.specs.Given.{Gives, AreTokens};
+ghost use Rattle.module_head.specs.HeadReading.{begun_at, heading_at};
+
+use crate::heading::tag_default;
+use crate::importing::module_ref;
+use notation::ReadError;
+use std::alloc::Global;
+use text::reserved::Word;
+use text::{Mark, Token, TokenKind};
+use trees::TagDefault;
+
+/// The tokens behind `DEFINITIONS`.
+#[tactic(auto, unfolding(grammar::specs::Single::definitions_at))]
+fn definitions<'a>(text: &[u8], tokens: &'a [Token]) -> Result<&'a [Token], ReadError>
+    requires tokens { AreTokens text.now tokens.now }
+    ensures read { Gives (λ x. (tt, lexemes text.now x.now)) result (definitions_at (lexemes text.now tokens.now)) }
+    ensures rest { IfOk result (λ x. AreTokens text.now x.now) }
+{
+    match tokens {
+        [
+            Token {
+                kind: TokenKind::Reserved(Word::Definitions),
+                ..
+            },
+            rest @ ..,
+        ] => Ok(rest),
+        _ => Err(ReadError::Unexpected(tokens.len())),
+    }
+}
+
+/// The tokens behind `::=`.
+#[tactic(auto, unfolding(grammar::specs::Single::assign_at))]
+pub fn assign<'a>(text: &[u8], tokens: &'a [Token]) -> Result<&'a [Token], ReadError>
+    requires tokens { AreTokens text.now tokens.now }
+    ensures read { Gives (λ x. (tt, lexemes text.now x.now)) result (assign_at (lexemes text.now tokens.now)) }
+    ensures rest { IfOk result (λ x. AreTokens text.now x.now) }
+{
+    match tokens {
+        [
+            Token {
+                kind: TokenKind::Mark(Mark::Assign),
+                ..
+            },
+            rest @ ..,
+        ] => Ok(rest),
+        _ => Err(ReadError::Unexpected(tokens.len())),
+    }
+}
+
+/// The tokens behind `BEGIN`.
+#[tactic(auto, unfolding(grammar::specs::Single::begin_at))]
+fn begin<'a>(text: &[u8], tokens: &'a [Token]) -> Result<&'a [Token], ReadError>
+    requires tokens { AreTokens text.now tokens.now }
+    ensures read { Gives (λ x. (tt, lexemes text.now x.now)) result (begin_at (lexemes text.now tokens.now)) }
+    ensures rest { IfOk result (λ x. AreTokens text.now x.now) }
+{
+    match tokens {
+        [
+            Token {
+                kind: TokenKind::Reserved(Word::Begin),
+                ..
+            },
+            rest @ ..,
+        ] => Ok(rest),
+        _ => Err(ReadError::Unexpected(tokens.len())),
+    }
+}
+
+/// Reads what stands behind `DEFINITIONS`, as far as `BEGIN`.
+#[tactic(auto, unfolding(crate::specs::HeadReading::begun_at))]
+fn begun<'a>(text: &[u8], tokens: &'a [Token]) -> Result<(TagDefault, &'a [Token]), ReadError>
+    requires tokens { AreTokens text.now tokens.now }
+    ensures read { Gives (λ x. (x.0, lexemes text.now x.1.now)) result (begun_at (lexemes text.now tokens.now)) }
+    ensures rest { IfOk result (λ x. AreTokens text.now x.1.now) }
+{
+    let (tag_default, rest) = tag_default(text, tokens)?;
+    let rest = assign(text, rest)?;
+    Ok((tag_default, begin(text, rest)?))
+}
+
+/// Reads a module's name and its default for tags, as far as `BEGIN`.
+#[tactic(auto, unfolding(crate::specs::HeadReading::heading_at))]
+pub fn heading<'a>(
+    alloc: Global,
+    text: &[u8],
+    tokens: &'a [Token],
+) -> Result<((String, TagDefault), &'a [Token]), ReadError>
+    requires tokens { AreTokens text.now tokens.now }
+    ensures read { Gives (λ x. ((string_bytes x.0.0, x.0.1), lexemes text.now x.1.now)) result (heading_at small (lexemes text.now tokens.now)) }
+    ensures rest { IfOk result (λ x. AreTokens text.now x.1.now) }
+{
+    let (name, rest) = module_ref(alloc, text, tokens)?;
+    let rest = definitions(text, rest)?;
+    let (tag_default, rest) = begun(text, rest)?;
+    Ok(((name, tag_default), rest))
+}

@@ -1,0 +1,259 @@
+//! Reading the head of a module: its default for tags and its exports.
+
+ghost use Rattle.std.specs.Prelude.{map, option_map, IfOk, string_bytes};
+ghost use Rattle.grammar.specs.Lexeme.{lexemes};
+ghost use Rattle.grammar.specs.Reading.{listed_at};
+ghost use Rattle.notation.specs.Given.{Gives, AreTokens};
+ghost use Rattle.grammar.specs.Single.{tags_at};
+ghost use Rattle.module_head.specs.HeadingReading.{tag_word_at, default_words_at, semicolon_at, symbol_at, some_exports_at, all_exports_at, no_exports_at, exported_at, exports_at};
+ghost use Rattle.module_head.specs.HeadReading.{tag_default_at, export_list_at};
+
+use trees::TagDefault;
+use notation::ReadError;
+use notation::decode::name_of;
+use notation::reading::comma;
+use std::alloc::Global;
+use text::reserved::Word;
+use text::{Mark, Token, TokenKind};
+
+/// The tokens behind `TAGS`.
+#[tactic(auto, unfolding(grammar::specs::Single::tags_at))]
+fn tags<'a>(text: &[u8], tokens: &'a [Token]) -> Result<&'a [Token], ReadError>
+    requires tokens { AreTokens text.now tokens.now }
+    ensures read { Gives (λ x. (tt, lexemes text.now x.now)) result (tags_at (lexemes text.now tokens.now)) }
+    ensures rest { IfOk result (λ x. AreTokens text.now x.now) }
+{
+    match tokens {
+        [
+            Token {
+                kind: TokenKind::Reserved(Word::Tags),
+                ..
+            },
+            rest @ ..,
+        ] => Ok(rest),
+        _ => Err(ReadError::Unexpected(tokens.len())),
+    }
+}
+
+/// Reads the word before `TAGS`.
+#[tactic(auto, unfolding(crate::specs::HeadingReading::tag_word_at))]
+fn tag_word<'a>(text: &[u8], tokens: &'a [Token]) -> Result<(TagDefault, &'a [Token]), ReadError>
+    requires tokens { AreTokens text.now tokens.now }
+    ensures read { Gives (λ x. (x.0, lexemes text.now x.1.now)) result (tag_word_at (lexemes text.now tokens.now)) }
+    ensures rest { IfOk result (λ x. AreTokens text.now x.1.now) }
+{
+    match tokens {
+        [
+            Token {
+                kind: TokenKind::Reserved(Word::Explicit),
+                ..
+            },
+            rest @ ..,
+        ] => Ok((TagDefault::Explicit, rest)),
+        [
+            Token {
+                kind: TokenKind::Reserved(Word::Implicit),
+                ..
+            },
+            rest @ ..,
+        ] => Ok((TagDefault::Implicit, rest)),
+        [
+            Token {
+                kind: TokenKind::Reserved(Word::Automatic),
+                ..
+            },
+            rest @ ..,
+        ] => Ok((TagDefault::Automatic, rest)),
+        _ => Err(ReadError::Unexpected(tokens.len())),
+    }
+}
+
+/// Reads a default for tags (X.680, clause 13.2).
+#[tactic(auto, unfolding(crate::specs::HeadingReading::default_words_at))]
+fn default_words<'a>(
+    text: &[u8],
+    tokens: &'a [Token],
+) -> Result<(TagDefault, &'a [Token]), ReadError>
+    requires tokens { AreTokens text.now tokens.now }
+    ensures read { Gives (λ x. (x.0, lexemes text.now x.1.now)) result (default_words_at (lexemes text.now tokens.now)) }
+    ensures rest { IfOk result (λ x. AreTokens text.now x.1.now) }
+{
+    let (tag_default, rest) = tag_word(text, tokens)?;
+    Ok((tag_default, tags(text, rest)?))
+}
+
+/// Reads what tags in a module are if nothing else is written: explicit, where no default stands there.
+#[tactic(auto, unfolding(crate::specs::HeadReading::tag_default_at))]
+pub fn tag_default<'a>(
+    text: &[u8],
+    tokens: &'a [Token],
+) -> Result<(TagDefault, &'a [Token]), ReadError>
+    requires tokens { AreTokens text.now tokens.now }
+    ensures read { Gives (λ x. (x.0, lexemes text.now x.1.now)) result (tag_default_at (lexemes text.now tokens.now)) }
+    ensures rest { IfOk result (λ x. AreTokens text.now x.1.now) }
+{
+    match tokens {
+        [
+            Token {
+                kind: TokenKind::Reserved(Word::Explicit | Word::Implicit | Word::Automatic),
+                ..
+            },
+            ..
+        ] => default_words(text, tokens),
+        _ => Ok((TagDefault::Explicit, tokens)),
+    }
+}
+
+/// The tokens behind a semicolon.
+#[tactic(auto, unfolding(crate::specs::HeadingReading::semicolon_at))]
+pub fn semicolon<'a>(text: &[u8], tokens: &'a [Token]) -> Result<&'a [Token], ReadError>
+    requires tokens { AreTokens text.now tokens.now }
+    ensures read { Gives (λ x. (tt, lexemes text.now x.now)) result (semicolon_at (lexemes text.now tokens.now)) }
+    ensures rest { IfOk result (λ x. AreTokens text.now x.now) }
+{
+    match tokens {
+        [
+            Token {
+                kind: TokenKind::Mark(Mark::Semicolon),
+                ..
+            },
+            rest @ ..,
+        ] => Ok(rest),
+        _ => Err(ReadError::Unexpected(tokens.len())),
+    }
+}
+
+/// Reads a name.
+#[tactic(auto, unfolding(crate::specs::HeadingReading::symbol_at))]
+fn symbol<'a>(
+    alloc: Global,
+    text: &[u8],
+    tokens: &'a [Token],
+) -> Result<(String, &'a [Token]), ReadError>
+    requires tokens { AreTokens text.now tokens.now }
+    ensures read { Gives (λ x. (string_bytes x.0, lexemes text.now x.1.now)) result (symbol_at (lexemes text.now tokens.now)) }
+    ensures rest { IfOk result (λ x. AreTokens text.now x.1.now) }
+{
+    match tokens {
+        [
+            name @ Token {
+                kind: TokenKind::TypeReference | TokenKind::Identifier,
+                ..
+            },
+            rest @ ..,
+        ] => Ok((name_of(alloc, text, *name)?, rest)),
+        _ => Err(ReadError::Unexpected(tokens.len())),
+    }
+}
+
+/// Reads names with commas between them.
+pub fn symbols<'a>(
+    alloc: Global,
+    text: &[u8],
+    tokens: &'a [Token],
+) -> Result<(Vec<String>, &'a [Token]), ReadError>
+    requires tokens { AreTokens text.now tokens.now }
+    ensures read { Gives (λ x. (map string_bytes x.0.items, lexemes text.now x.1.now)) result (listed_at symbol_at (lexemes text.now tokens.now)) }
+    ensures rest { IfOk result (λ x. AreTokens text.now x.1.now) }
+{
+    let mut names = Vec::new(alloc);
+    let (first, mut rest) = symbol(alloc, text, tokens)?;
+    names.push(first)?;
+    while let Some(after) = comma(text, rest) {
+        let (next, after) = symbol(alloc, text, after)?;
+        names.push(next)?;
+        rest = after;
+    }
+    Ok((names, rest))
+}
+
+/// Reads the names that are exported, and the semicolon.
+#[tactic(auto, unfolding(crate::specs::HeadingReading::some_exports_at))]
+fn some_exports<'a>(
+    alloc: Global,
+    text: &[u8],
+    tokens: &'a [Token],
+) -> Result<(Option<Vec<String>>, &'a [Token]), ReadError>
+    requires tokens { AreTokens text.now tokens.now }
+    ensures read { Gives (λ x. (option_map (λ xs. map string_bytes xs.items) x.0, lexemes text.now x.1.now)) result (some_exports_at (lexemes text.now tokens.now)) }
+    ensures rest { IfOk result (λ x. AreTokens text.now x.1.now) }
+{
+    let (names, rest) = symbols(alloc, text, tokens)?;
+    Ok((Some(names), semicolon(text, rest)?))
+}
+
+/// Reads what stands behind `EXPORTS`.
+#[tactic(auto, unfolding(crate::specs::HeadingReading::exported_at, crate::specs::HeadingReading::all_exports_at, crate::specs::HeadingReading::no_exports_at))]
+fn exported<'a>(
+    alloc: Global,
+    text: &[u8],
+    tokens: &'a [Token],
+) -> Result<(Option<Vec<String>>, &'a [Token]), ReadError>
+    requires tokens { AreTokens text.now tokens.now }
+    ensures read { Gives (λ x. (option_map (λ xs. map string_bytes xs.items) x.0, lexemes text.now x.1.now)) result (exported_at (lexemes text.now tokens.now)) }
+    ensures rest { IfOk result (λ x. AreTokens text.now x.1.now) }
+{
+    match tokens {
+        [
+            Token {
+                kind: TokenKind::Reserved(Word::All),
+                ..
+            },
+            rest @ ..,
+        ] => Ok((None, semicolon(text, rest)?)),
+        [
+            Token {
+                kind: TokenKind::TypeReference | TokenKind::Identifier,
+                ..
+            },
+            ..
+        ] => some_exports(alloc, text, tokens),
+        _ => Ok((Some(Vec::new(alloc)), semicolon(text, tokens)?)),
+    }
+}
+
+/// Reads `EXPORTS` and the names behind it (X.680, clause 13.7); None where `ALL` stands there.
+#[tactic(auto, unfolding(crate::specs::HeadingReading::exports_at))]
+fn exports<'a>(
+    alloc: Global,
+    text: &[u8],
+    tokens: &'a [Token],
+) -> Result<(Option<Vec<String>>, &'a [Token]), ReadError>
+    requires tokens { AreTokens text.now tokens.now }
+    ensures read { Gives (λ x. (option_map (λ xs. map string_bytes xs.items) x.0, lexemes text.now x.1.now)) result (exports_at (lexemes text.now tokens.now)) }
+    ensures rest { IfOk result (λ x. AreTokens text.now x.1.now) }
+{
+    match tokens {
+        [
+            Token {
+                kind: TokenKind::Reserved(Word::Exports),
+                ..
+            },
+            rest @ ..,
+        ] => exported(alloc, text, rest),
+        _ => Err(ReadError::Unexpected(tokens.len())),
+    }
+}
+
+/// Reads the names that are exported; None where none are listed or `ALL` stands there.
+#[tactic(auto, unfolding(crate::specs::HeadReading::export_list_at))]
+pub fn export_list<'a>(
+    alloc: Global,
+    text: &[u8],
+    tokens: &'a [Token],
+) -> Result<(Option<Vec<String>>, &'a [Token]), ReadError>
+    requires tokens { AreTokens text.now tokens.now }
+    ensures read { Gives (λ x. (option_map (λ xs. map string_bytes xs.items) x.0, lexemes text.now x.1.now)) result (export_list_at (lexemes text.now tokens.now)) }
+    ensures rest { IfOk result (λ x. AreTokens text.now x.1.now) }
+{
+    match tokens {
+        [
+            Token {
+                kind: TokenKind::Reserved(Word::Exports),
+                ..
+            },
+            ..
+        ] => exports(alloc, text, tokens),
+        _ => Ok((None, tokens)),
+    }
+}

@@ -1,0 +1,357 @@
+//! Reading the imports of a module.
+
+ghost use Rattle.std.specs.Prelude.{◌≡◌, map, length, IfOk, string_bytes, slice_range};
+ghost use Rattle.text.specs.declared.token.TokenKind.TheVariants as kinds;
+ghost use Rattle.grammar.specs.Lexeme.{lexemes};
+ghost use Rattle.grammar.specs.Reading.{many_at};
+ghost use Rattle.grammar.specs.Manies.{is_begun_by};
+ghost use Rattle.grammar.specs.Places.{small};
+ghost use Rattle.notation.specs.Given.{Gives, IsTokenOf, AreTokens};
+ghost use Rattle.notation.specs.Rules.{number_at};
+ghost use Rattle.trees.specs.Modules.{import_of};
+ghost use Rattle.module_head.specs.ImportReading.{begins_arc, begins_symbol, arc_number_at, behind_arc_at, arc_at, more_arcs_at, arcs_at, oid_at, behind_module_at, module_ref_at, from_module_at, import_from_at, imported_at, imports_at};
+ghost use Rattle.module_head.specs.HeadReading.{import_list_at};
+
+use crate::heading::{semicolon, symbols};
+use trees::Import;
+use notation::ReadError;
+use notation::constraint_reading::{close, open};
+use notation::decode::{name_of, small_number};
+use notation::reading::closed;
+use std::alloc::Global;
+use text::reserved::Word;
+use text::{Mark, Token, TokenKind};
+
+/// Reads a number.
+#[tactic(auto, unfolding(notation::specs::Rules::number_at))]
+fn number<'a>(text: &[u8], tokens: &'a [Token]) -> Result<(u128, &'a [Token]), ReadError>
+    requires tokens { AreTokens text.now tokens.now }
+    ensures read { Gives (λ x. (x.0, lexemes text.now x.1.now)) result (number_at small (lexemes text.now tokens.now)) }
+    ensures rest { IfOk result (λ x. AreTokens text.now x.1.now) }
+{
+    match tokens {
+        [
+            number @ Token {
+                kind: TokenKind::Number,
+                ..
+            },
+            rest @ ..,
+        ] => {
+            let value = small_number(text, *number, tokens.len())?;
+            Ok((value, rest))
+        }
+        _ => Err(ReadError::Unexpected(tokens.len())),
+    }
+}
+
+/// Reads the number behind a name, in parentheses.
+#[tactic(auto, unfolding(crate::specs::ImportReading::arc_number_at, notation::specs::ConstraintReading::parens_at))]
+fn arc_number<'a>(text: &[u8], tokens: &'a [Token]) -> Result<&'a [Token], ReadError>
+    requires tokens { AreTokens text.now tokens.now }
+    ensures read { Gives (λ x. (tt, lexemes text.now x.now)) result (arc_number_at small (lexemes text.now tokens.now)) }
+    ensures rest { IfOk result (λ x. AreTokens text.now x.now) }
+{
+    let rest = open(text, tokens)?;
+    let (_, rest) = number(text, rest)?;
+    let rest = close(text, rest)?;
+    Ok(rest)
+}
+
+/// Reads what stands behind a name.
+#[tactic(auto, unfolding(crate::specs::ImportReading::behind_arc_at))]
+fn behind_arc<'a>(text: &[u8], tokens: &'a [Token]) -> Result<&'a [Token], ReadError>
+    requires tokens { AreTokens text.now tokens.now }
+    ensures read { Gives (λ x. (tt, lexemes text.now x.now)) result (behind_arc_at small (lexemes text.now tokens.now)) }
+    ensures rest { IfOk result (λ x. AreTokens text.now x.now) }
+{
+    match tokens {
+        [
+            Token {
+                kind: TokenKind::Mark(Mark::OpenParenthesis),
+                ..
+            },
+            ..
+        ] => arc_number(text, tokens),
+        _ => Ok(tokens),
+    }
+}
+
+/// Reads one arc of an object identifier.
+#[tactic(auto, unfolding(crate::specs::ImportReading::arc_at))]
+fn arc<'a>(text: &[u8], tokens: &'a [Token]) -> Result<&'a [Token], ReadError>
+    requires tokens { AreTokens text.now tokens.now }
+    ensures read { Gives (λ x. (tt, lexemes text.now x.now)) result (arc_at small (lexemes text.now tokens.now)) }
+    ensures rest { IfOk result (λ x. AreTokens text.now x.now) }
+{
+    match tokens {
+        [
+            number @ Token {
+                kind: TokenKind::Number,
+                ..
+            },
+            rest @ ..,
+        ] => {
+            small_number(text, *number, tokens.len())?;
+            Ok(rest)
+        }
+        [
+            Token {
+                kind: TokenKind::Identifier,
+                ..
+            },
+            rest @ ..,
+        ] => behind_arc(text, rest),
+        _ => Err(ReadError::Unexpected(tokens.len())),
+    }
+}
+
+/// Whether the next token begins an arc.
+fn is_arc(text: &[u8], tokens: &[Token]) -> bool
+    ensures { result ≡ is_begun_by begins_arc (lexemes text.now tokens.now) }
+{
+    matches!(
+        tokens,
+        [
+            Token {
+                kind: TokenKind::Number | TokenKind::Identifier,
+                ..
+            },
+            ..
+        ]
+    )
+}
+
+/// Whether the next token begins a name.
+fn is_symbol(text: &[u8], tokens: &[Token]) -> bool
+    ensures { result ≡ is_begun_by begins_symbol (lexemes text.now tokens.now) }
+{
+    matches!(
+        tokens,
+        [
+            Token {
+                kind: TokenKind::TypeReference | TokenKind::Identifier,
+                ..
+            },
+            ..
+        ]
+    )
+}
+
+/// Reads arcs, as many as there are.
+#[tactic(auto, unfolding(crate::specs::ImportReading::more_arcs_at))]
+fn more_arcs<'a>(text: &[u8], tokens: &'a [Token]) -> Result<&'a [Token], ReadError>
+    requires tokens { AreTokens text.now tokens.now }
+    ensures read { Gives (λ x. (tt, lexemes text.now x.now)) result (more_arcs_at small (lexemes text.now tokens.now)) }
+    ensures rest { IfOk result (λ x. AreTokens text.now x.now) }
+{
+    let mut rest = tokens;
+    while is_arc(text, rest) {
+        rest = arc(text, rest)?;
+    }
+    Ok(rest)
+}
+
+/// Reads arcs, one at least.
+#[tactic(auto, unfolding(crate::specs::ImportReading::arcs_at))]
+fn arcs<'a>(text: &[u8], tokens: &'a [Token]) -> Result<&'a [Token], ReadError>
+    requires tokens { AreTokens text.now tokens.now }
+    ensures read { Gives (λ x. (tt, lexemes text.now x.now)) result (arcs_at small (lexemes text.now tokens.now)) }
+    ensures rest { IfOk result (λ x. AreTokens text.now x.now) }
+{
+    let rest = arc(text, tokens)?;
+    more_arcs(text, rest)
+}
+
+/// Reads an object identifier, which says nothing here.
+#[tactic(auto, unfolding(crate::specs::ImportReading::oid_at))]
+fn oid<'a>(text: &[u8], tokens: &'a [Token]) -> Result<&'a [Token], ReadError>
+    requires tokens { AreTokens text.now tokens.now }
+    ensures read { Gives (λ x. (tt, lexemes text.now x.now)) result (oid_at small (lexemes text.now tokens.now)) }
+    ensures rest { IfOk result (λ x. AreTokens text.now x.now) }
+{
+    match tokens {
+        [
+            Token {
+                kind: TokenKind::Mark(Mark::OpenBrace),
+                ..
+            },
+            rest @ ..,
+        ] => {
+            let rest = arcs(text, rest)?;
+            closed(text, rest)
+        }
+        _ => Err(ReadError::Unexpected(tokens.len())),
+    }
+}
+
+/// Reads what stands behind a module's name.
+#[tactic(auto, unfolding(crate::specs::ImportReading::behind_module_at))]
+fn behind_module<'a>(
+    alloc: Global,
+    text: &[u8],
+    name: Token,
+    tokens: &'a [Token],
+) -> Result<(String, &'a [Token]), ReadError>
+    requires tokens { AreTokens text.now tokens.now }
+    requires before { IsTokenOf text.now name }
+    requires name { name.kind ≡ kinds.TypeReference }
+    ensures read { Gives (λ x. (string_bytes x.0, lexemes text.now x.1.now)) result (behind_module_at small (slice_range text.now name.span.start name.span.end) (lexemes text.now tokens.now)) }
+    ensures rest { IfOk result (λ x. AreTokens text.now x.1.now) }
+{
+    match tokens {
+        [
+            Token {
+                kind: TokenKind::Mark(Mark::OpenBrace),
+                ..
+            },
+            ..
+        ] => {
+            let rest = oid(text, tokens)?;
+            Ok((name_of(alloc, text, name)?, rest))
+        }
+        _ => Ok((name_of(alloc, text, name)?, tokens)),
+    }
+}
+
+/// Reads a module's name, and an object identifier if one stands behind it (X.680, clause 13.1).
+#[tactic(auto, unfolding(crate::specs::ImportReading::module_ref_at))]
+pub fn module_ref<'a>(
+    alloc: Global,
+    text: &[u8],
+    tokens: &'a [Token],
+) -> Result<(String, &'a [Token]), ReadError>
+    requires tokens { AreTokens text.now tokens.now }
+    ensures read { Gives (λ x. (string_bytes x.0, lexemes text.now x.1.now)) result (module_ref_at small (lexemes text.now tokens.now)) }
+    ensures rest { IfOk result (λ x. AreTokens text.now x.1.now) }
+{
+    match tokens {
+        [
+            name @ Token {
+                kind: TokenKind::TypeReference,
+                ..
+            },
+            rest @ ..,
+        ] => behind_module(alloc, text, *name, rest),
+        _ => Err(ReadError::Unexpected(tokens.len())),
+    }
+}
+
+/// Reads `FROM` and a module's name.
+#[tactic(auto, unfolding(crate::specs::ImportReading::from_module_at))]
+fn from_module<'a>(
+    alloc: Global,
+    text: &[u8],
+    tokens: &'a [Token],
+) -> Result<(String, &'a [Token]), ReadError>
+    requires tokens { AreTokens text.now tokens.now }
+    ensures read { Gives (λ x. (string_bytes x.0, lexemes text.now x.1.now)) result (from_module_at small (lexemes text.now tokens.now)) }
+    ensures rest { IfOk result (λ x. AreTokens text.now x.1.now) }
+{
+    match tokens {
+        [
+            Token {
+                kind: TokenKind::Reserved(Word::From),
+                ..
+            },
+            rest @ ..,
+        ] => module_ref(alloc, text, rest),
+        _ => Err(ReadError::Unexpected(tokens.len())),
+    }
+}
+
+/// Reads names and the module that they are from.
+#[tactic(auto, unfolding(crate::specs::ImportReading::import_from_at))]
+fn import_from<'a>(
+    alloc: Global,
+    text: &[u8],
+    tokens: &'a [Token],
+) -> Result<(Import, &'a [Token]), ReadError>
+    requires tokens { AreTokens text.now tokens.now }
+    ensures read { Gives (λ x. (import_of x.0, lexemes text.now x.1.now)) result (import_from_at small (lexemes text.now tokens.now)) }
+    ensures rest { IfOk result (λ x. AreTokens text.now x.1.now) }
+{
+    let (names, rest) = symbols(alloc, text, tokens)?;
+    let (module, rest) = from_module(alloc, text, rest)?;
+    Ok((Import { names, module }, rest))
+}
+
+/// Reads imports from modules, as many as there are.
+fn many<'a>(
+    alloc: Global,
+    text: &[u8],
+    tokens: &'a [Token],
+) -> Result<(Vec<Import>, &'a [Token]), ReadError>
+    requires tokens { AreTokens text.now tokens.now }
+    ensures read { Gives (λ x. (map import_of x.0.items, lexemes text.now x.1.now)) result (many_at begins_symbol (import_from_at small) (length (lexemes text.now tokens.now)) (lexemes text.now tokens.now)) }
+    ensures rest { IfOk result (λ x. AreTokens text.now x.1.now) }
+{
+    let mut imports = Vec::new(alloc);
+    let mut rest = tokens;
+    while is_symbol(text, rest) {
+        let (next, after) = import_from(alloc, text, rest)?;
+        imports.push(next)?;
+        rest = after;
+    }
+    Ok((imports, rest))
+}
+
+/// Reads what stands behind `IMPORTS`.
+#[tactic(auto, unfolding(crate::specs::ImportReading::imported_at))]
+fn imported<'a>(
+    alloc: Global,
+    text: &[u8],
+    tokens: &'a [Token],
+) -> Result<(Vec<Import>, &'a [Token]), ReadError>
+    requires tokens { AreTokens text.now tokens.now }
+    ensures read { Gives (λ x. (map import_of x.0.items, lexemes text.now x.1.now)) result (imported_at small (lexemes text.now tokens.now)) }
+    ensures rest { IfOk result (λ x. AreTokens text.now x.1.now) }
+{
+    let (imports, rest) = many(alloc, text, tokens)?;
+    Ok((imports, semicolon(text, rest)?))
+}
+
+/// Reads `IMPORTS` and what is imported (X.680, clause 13.12).
+#[tactic(auto, unfolding(crate::specs::ImportReading::imports_at))]
+fn imports<'a>(
+    alloc: Global,
+    text: &[u8],
+    tokens: &'a [Token],
+) -> Result<(Vec<Import>, &'a [Token]), ReadError>
+    requires tokens { AreTokens text.now tokens.now }
+    ensures read { Gives (λ x. (map import_of x.0.items, lexemes text.now x.1.now)) result (imports_at small (lexemes text.now tokens.now)) }
+    ensures rest { IfOk result (λ x. AreTokens text.now x.1.now) }
+{
+    match tokens {
+        [
+            Token {
+                kind: TokenKind::Reserved(Word::Imports),
+                ..
+            },
+            rest @ ..,
+        ] => imported(alloc, text, rest),
+        _ => Err(ReadError::Unexpected(tokens.len())),
+    }
+}
+
+/// Reads what is imported, which is nothing where no imports stand there.
+#[tactic(auto, unfolding(crate::specs::HeadReading::import_list_at))]
+pub fn import_list<'a>(
+    alloc: Global,
+    text: &[u8],
+    tokens: &'a [Token],
+) -> Result<(Vec<Import>, &'a [Token]), ReadError>
+    requires tokens { AreTokens text.now tokens.now }
+    ensures read { Gives (λ x. (map import_of x.0.items, lexemes text.now x.1.now)) result (import_list_at small (lexemes text.now tokens.now)) }
+    ensures rest { IfOk result (λ x. AreTokens text.now x.1.now) }
+{
+    match tokens {
+        [
+            Token {
+                kind: TokenKind::Reserved(Word::Imports),
+                ..
+            },
+            ..
+        ] => imports(alloc, text, tokens),
+        _ => Ok((Vec::new(alloc), tokens)),
+    }
+}

@@ -1,0 +1,4 @@
+pub mod Values
+pub mod Constraints
+pub mod Types
+pub mod Modules

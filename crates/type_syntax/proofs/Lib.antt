@@ -1,0 +1,9 @@
+pub mod Typing
+pub mod Openings
+pub mod TypeWords
+pub mod TypeLexemes
+pub mod TypeParts
+pub mod TypeSteps
+pub mod TypeGrows
+pub mod Tagging
+pub mod Loop

@@ -1,0 +1,17 @@
+use Rattle.std.proofs.Common.{◌≡◌, length, map}
+use Rattle.grammar.specs.Lexeme.{lexemes}
+use Rattle.grammar.specs.Reading.{with_front, many_at}
+use Rattle.grammar.specs.Places.{small}
+use Rattle.notation.specs.Given.{AreTokens}
+use Rattle.trees.specs.Constraints.{constraint_of}
+use Rattle.notation.specs.ConstraintReading.{is_open, constraint_at}
+use Rattle.type_syntax.proofs.constrained.constraints.Given as goal
+
+abbrev pub invariant-loop-alloc : goal.invariant-loop-alloc
+invariant-loop-alloc l = record {
+  read : with_front (map constraint_of l.constraints.items) (many_at is_open (constraint_at small) (length (lexemes l.text l.rest)) (lexemes l.text l.rest)) ≡ many_at is_open (constraint_at small) (length (lexemes l.text l.fn.tokens)) (lexemes l.text l.fn.tokens);
+  tokens : AreTokens l.text l.rest;
+}
+
+abbrev pub decreases-loop-alloc : goal.decreases-loop-alloc
+decreases-loop-alloc l = length l.rest

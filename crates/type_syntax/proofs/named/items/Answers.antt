@@ -1,0 +1,49 @@
+use Rattle.std.proofs.Common.{arith, map}
+use Rattle.std.proofs.lemmas.Result.{err_from_is_err_and}
+use Rattle.std.proofs.lemmas.List.{map_push, length-map}
+use Rattle.grammar.specs.Lexeme.{lexeme_of, lexemes}
+use Rattle.grammar.specs.Loops.{listed_first, commas_more, commas_end}
+use Rattle.grammar.specs.Places.{small}
+use Rattle.grammar.specs.Reading.{named_at}
+use Rattle.trees.specs.Types.{item_of}
+use Rattle.type_syntax.specs.TypeReading.{item_number_at}
+use Rattle.notation.specs.Failing.{listed_gives_up, commas_give_up}
+use Rattle.type_syntax.proofs.Loop.{item_shrinks}
+use Rattle.type_syntax.proofs.named.items.Goals as goal
+
+pub returns-in_err-first-clause-read : goal.returns-in_err-first-clause-read
+returns-in_err-first-clause-read c =
+    let p = err_from_is_err_and c.from_residual.result c.from_residual.ensures.1 in
+    rw (p.1, p.2) (listed_gives_up (named_at (item_number_at small)) (lexemes c.args.text.now c.args.tokens.now) c.in_err-first.field-0.0 c.in_err-first.ensures.read)
+
+pub loop-after-init : goal.loop-after-init
+loop-after-init c =
+    let x = c.args.text.now in
+    record {
+      read = rw (c.in_ok-push.ensures.items, c.new-items.ensures.items) (listed_first (named_at (item_number_at small)) (lexemes x c.args.tokens.now) (item_of c.in_ok-first.first, lexemes x c.in_ok-first.rest.now) c.in_ok-first.ensures.read);
+      tokens = c.in_ok-first.ensures.rest;
+    }
+
+pub returns-in_err-next-clause-read : goal.returns-in_err-next-clause-read
+returns-in_err-next-clause-read c =
+    let x = c.args.text.now in
+    let p = err_from_is_err_and c.from_residual-in_err-next.result c.from_residual-in_err-next.ensures.1 in
+    rw (p.1, p.2) (commas_give_up (named_at (item_number_at small)) (lexemes x c.loop-after.rest.now) (lexemes x c.in-Some.after.now) c.in_err-next.field-0.0 (map item_of c.loop-after.items.items) _ c.in-Some.ensures.0 c.in_err-next.ensures.read c.loop-after.invariant.read)
+
+pub loop-after-smaller : goal.loop-after-smaller
+loop-after-smaller c =
+    let x = c.args.text.now in
+    let shorter = item_shrinks.shorter (lexemes x c.in-Some.after.now) (item_of c.in_ok-next.next, lexemes x c.in_ok-next.after.now) c.in_ok-next.ensures.read in
+    omega (arith, c.in-Some.ensures.2, shorter, length-map c.in-Some.after.now (lexeme_of x), length-map c.in_ok-next.after.now (lexeme_of x))
+
+pub loop-after-preserved : goal.loop-after-preserved
+loop-after-preserved c =
+    let x = c.args.text.now in
+    let e = c.in_ok-push-2.ensures.items in
+    record {
+      read = rw (e, map_push item_of c.loop-after.items.items c.in_ok-next.next) (commas_more (named_at (item_number_at small)) item_shrinks (lexemes x c.loop-after.rest.now) (lexemes x c.in-Some.after.now) (item_of c.in_ok-next.next, lexemes x c.in_ok-next.after.now) (map item_of c.loop-after.items.items) _ c.in-Some.ensures.0 c.in_ok-next.ensures.read c.loop-after.invariant.read);
+      tokens = c.in_ok-next.ensures.rest;
+    }
+
+pub returns-clause-read : goal.returns-clause-read
+returns-clause-read c = commas_end (named_at (item_number_at small)) (lexemes c.args.text.now c.loop-after.rest.now) (map item_of c.loop-after.items.items) _ c.in_default.ensures c.loop-after.invariant.read

@@ -1,0 +1,18 @@
+use Rattle.std.proofs.Common.{◌≡◌, length, map}
+use Rattle.grammar.specs.Lexeme.{lexemes}
+use Rattle.grammar.specs.Places.{small}
+use Rattle.grammar.specs.Reading.{with_front, behind_commas_at, listed_at, named_at}
+use Rattle.notation.specs.Given.{AreTokens}
+use Rattle.notation.specs.ConstraintReading.{parens_at}
+use Rattle.notation.specs.Rules.{number_at}
+use Rattle.trees.specs.Types.{bit_of}
+use Rattle.type_syntax.proofs.named.named_bits.Given as goal
+
+abbrev pub invariant-loop-after : goal.invariant-loop-after
+invariant-loop-after l = record {
+  read : with_front (map bit_of l.bits.items) (behind_commas_at (named_at (parens_at (number_at small))) (length (lexemes l.text l.rest)) (lexemes l.text l.rest)) ≡ listed_at (named_at (parens_at (number_at small))) (lexemes l.text l.fn.tokens);
+  tokens : AreTokens l.text l.rest;
+}
+
+abbrev pub decreases-loop-after : goal.decreases-loop-after
+decreases-loop-after l = length l.rest

@@ -1,0 +1,175 @@
+//! Reading a tag and the word behind it.
+
+ghost use Rattle.std.specs.Prelude.{◌<◌, IfOk};
+ghost use Rattle.grammar.specs.Lexeme.{lexemes};
+ghost use Rattle.grammar.specs.Places.{small};
+ghost use Rattle.notation.specs.Given.{Gives, AreTokens};
+ghost use Rattle.type_syntax.specs.TypeReading.{keyword_at, bracket_at, low_number_at, low_end_at, application_at, private_at, context_at, tag_at};
+
+use trees::Keyword;
+use asn_base::tag::{Class, Tag};
+use notation::decode::number_of;
+use notation::{Limit, ReadError};
+use text::reserved::Word;
+use text::{Mark, Token, TokenKind};
+
+/// The numbers of tags are less than this.
+const LIMIT: u128 = 1 << 31;
+
+/// The tokens behind a closing bracket.
+#[tactic(auto, unfolding(crate::specs::TypeReading::bracket_at))]
+fn bracket<'a>(text: &[u8], tokens: &'a [Token]) -> Result<&'a [Token], ReadError>
+    requires tokens { AreTokens text.now tokens.now }
+    ensures read { Gives (λ x. (tt, lexemes text.now x.now)) result (bracket_at (lexemes text.now tokens.now)) }
+    ensures rest { IfOk result (λ x. AreTokens text.now x.now) }
+{
+    match tokens {
+        [
+            Token {
+                kind: TokenKind::Mark(Mark::CloseBracket),
+                ..
+            },
+            rest @ ..,
+        ] => Ok(rest),
+        _ => Err(ReadError::Unexpected(tokens.len())),
+    }
+}
+
+/// Reads the number of a tag.
+#[tactic(auto, unfolding(crate::specs::TypeReading::low_number_at))]
+fn number<'a>(text: &[u8], tokens: &'a [Token]) -> Result<(u32, &'a [Token]), ReadError>
+    requires tokens { AreTokens text.now tokens.now }
+    ensures read { Gives (λ x. (x.0, lexemes text.now x.1.now)) result (low_number_at (lexemes text.now tokens.now)) }
+    ensures small { IfOk result (λ x. x.0 < 2147483648) }
+    ensures rest { IfOk result (λ x. AreTokens text.now x.1.now) }
+{
+    match tokens {
+        [
+            number @ Token {
+                kind: TokenKind::Number,
+                ..
+            },
+            rest @ ..,
+        ] => {
+            let value = number_of(text, *number);
+            if value < LIMIT {
+                Ok((value as u32, rest))
+            } else {
+                Err(ReadError::Limit(Limit::TagNumber, tokens.len()))
+            }
+        },
+        _ => Err(ReadError::Unexpected(tokens.len())),
+    }
+}
+
+/// Reads the number of a tag and the closing bracket.
+#[tactic(auto, unfolding(crate::specs::TypeReading::low_end_at))]
+fn end<'a>(text: &[u8], tokens: &'a [Token]) -> Result<(u32, &'a [Token]), ReadError>
+    requires tokens { AreTokens text.now tokens.now }
+    ensures read { Gives (λ x. (x.0, lexemes text.now x.1.now)) result (low_end_at (lexemes text.now tokens.now)) }
+    ensures small { IfOk result (λ x. x.0 < 2147483648) }
+    ensures rest { IfOk result (λ x. AreTokens text.now x.1.now) }
+{
+    let (number, rest) = number(text, tokens)?;
+    Ok((number, bracket(text, rest)?))
+}
+
+/// Reads a tag of the application class, behind its word.
+fn application<'a>(text: &[u8], tokens: &'a [Token]) -> Result<(Tag, &'a [Token]), ReadError>
+    requires tokens { AreTokens text.now tokens.now }
+    ensures read { Gives (λ x. (x.0, lexemes text.now x.1.now)) result (application_at small (lexemes text.now tokens.now)) }
+    ensures rest { IfOk result (λ x. AreTokens text.now x.1.now) }
+{
+    let (number, rest) = end(text, tokens)?;
+    Ok((
+        Tag {
+            class: Class::Application,
+            number,
+        },
+        rest,
+    ))
+}
+
+/// Reads a tag of the private class, behind its word.
+fn private<'a>(text: &[u8], tokens: &'a [Token]) -> Result<(Tag, &'a [Token]), ReadError>
+    requires tokens { AreTokens text.now tokens.now }
+    ensures read { Gives (λ x. (x.0, lexemes text.now x.1.now)) result (private_at small (lexemes text.now tokens.now)) }
+    ensures rest { IfOk result (λ x. AreTokens text.now x.1.now) }
+{
+    let (number, rest) = end(text, tokens)?;
+    Ok((
+        Tag {
+            class: Class::Private,
+            number,
+        },
+        rest,
+    ))
+}
+
+/// Reads a tag of the context class.
+fn context<'a>(text: &[u8], tokens: &'a [Token]) -> Result<(Tag, &'a [Token]), ReadError>
+    requires tokens { AreTokens text.now tokens.now }
+    ensures read { Gives (λ x. (x.0, lexemes text.now x.1.now)) result (context_at small (lexemes text.now tokens.now)) }
+    ensures rest { IfOk result (λ x. AreTokens text.now x.1.now) }
+{
+    let (number, rest) = end(text, tokens)?;
+    Ok((
+        Tag {
+            class: Class::Context,
+            number,
+        },
+        rest,
+    ))
+}
+
+/// Reads a tag behind its open bracket (X.680, clause 31.2.1).
+#[tactic(auto, unfolding(crate::specs::TypeReading::tag_at))]
+pub fn tag<'a>(text: &[u8], tokens: &'a [Token]) -> Result<(Tag, &'a [Token]), ReadError>
+    requires tokens { AreTokens text.now tokens.now }
+    ensures read { Gives (λ x. (x.0, lexemes text.now x.1.now)) result (tag_at small (lexemes text.now tokens.now)) }
+    ensures rest { IfOk result (λ x. AreTokens text.now x.1.now) }
+{
+    match tokens {
+        [
+            Token {
+                kind: TokenKind::Reserved(Word::Application),
+                ..
+            },
+            rest @ ..,
+        ] => application(text, rest),
+        [
+            Token {
+                kind: TokenKind::Reserved(Word::Private),
+                ..
+            },
+            rest @ ..,
+        ] => private(text, rest),
+        _ => context(text, tokens),
+    }
+}
+
+/// Reads the word behind a tag, if there is one.
+#[tactic(auto, unfolding(crate::specs::TypeReading::keyword_at))]
+pub fn keyword<'a>(text: &[u8], tokens: &'a [Token]) -> Result<(Keyword, &'a [Token]), ReadError>
+    requires tokens { AreTokens text.now tokens.now }
+    ensures read { Gives (λ x. (x.0, lexemes text.now x.1.now)) result (keyword_at (lexemes text.now tokens.now)) }
+    ensures rest { IfOk result (λ x. AreTokens text.now x.1.now) }
+{
+    match tokens {
+        [
+            Token {
+                kind: TokenKind::Reserved(Word::Implicit),
+                ..
+            },
+            rest @ ..,
+        ] => Ok((Keyword::Implicit, rest)),
+        [
+            Token {
+                kind: TokenKind::Reserved(Word::Explicit),
+                ..
+            },
+            rest @ ..,
+        ] => Ok((Keyword::Explicit, rest)),
+        _ => Ok((Keyword::Absent, tokens)),
+    }
+}
