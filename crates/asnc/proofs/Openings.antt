@@ -1,19 +1,13 @@
 -- Texts of modules, one by one, and what is refused.
-use Rattle.std.proofs.Common.{◌≡◌, inl, inr, ℕ, zero, suc, ◌<◌, List, [], ◌∷◌, length, map, take, Some, sym, arith, subst, get_or}
+use Rattle.std.proofs.Common.{◌≡◌, ℕ, zero, suc, ◌<◌, List, [], ◌∷◌, length, map, take, Some, sym, arith, subst, get_or}
 use Rattle.std.specs.Prelude.{slice_get, Vec}
 use Rattle.std.specs.Global.{Global}
 use Rattle.std.specs.List.{AllZip}
-use Rattle.notation.specs.Tree.{Name}
 use Rattle.syntax.specs.Tree.{ModuleTree}
-use Rattle.resolve.specs.Program.{Program}
-use Rattle.asnc.specs.declared.fault.Fault.{Fault}
-use Rattle.asnc.specs.declared.fault.Fault.TheVariants as faults
-use Rattle.asnc.specs.FirstPath.{IsFirstPath, IsFirstType, IsFirstNotation}
-use Rattle.asnc.specs.LeftOut.{IsOutside}
-use Rattle.asnc.specs.declared.fault.Construct.{Construct}
+use Rattle.messages.specs.declared.fault.Fault.{Fault}
+use Rattle.messages.specs.declared.fault.Fault.TheVariants as faults
 use Rattle.asnc.specs.Opening.{IsModule, IsRefusedAt, IsTextFault, IsNoKit, StandsIn, octets_of}
-use Rattle.syntax.specs.declared.tree.TagDefault.TheVariants.{Explicit}
-use Rattle.asnc.proofs.Lists.{seen_here, all_at}
+use Rattle.asnc.proofs.Lists.{seen_here}
 
 zip_front : {A X Y : Type 0} (R : X → Y → Type 0) (f : A → X) (xs : List A) (k : ℕ) (ms : List Y) (i : ℕ) (y : X) → AllZip R (map f (take k xs)) ms → i < k → slice_get (map f xs) i ≡ Some y → (m : Y) × R y m
 zip_front R f [] k ms i y z l e = absurd cc
@@ -77,8 +71,3 @@ kit_stands xs ms (faults.NoType n) z h = absurd h
 kit_stands xs ms (faults.NoValue n) z h = absurd h
 kit_stands xs ms faults.TooLong z h = absurd h
 kit_stands xs ms faults.Device z h = absurd h
-
-pub excludes : (p : Program) (c : Construct) (M x : Name) → IsOutside p c M x → IsFirstPath p → ⊥
-excludes p c M x (inl t) f = t.other (all_at (λ h. h.1 ≡ Explicit) p.headers t.number (M, t.default) f.headers t.there)
-excludes p c M x (inr (inl t)) f = t.such.0 (all_at (IsFirstType p.types) p.types t.number t.written f.types t.there)
-excludes p c M x (inr (inr t)) f = t.such.0 (all_at (λ v. IsFirstNotation v.notation) p.values t.number t.value f.values t.there)
