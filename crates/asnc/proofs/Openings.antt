@@ -32,6 +32,8 @@ first_refused xs k x t ms (faults.Tree i f) l e q z h = record {
 }
 first_refused xs k x t ms faults.Memory l e q z h = absurd h
 first_refused xs k x t ms (faults.File n) l e q z h = absurd h
+first_refused xs k x t ms (faults.NoFile n) l e q z h = absurd h
+first_refused xs k x t ms (faults.Folder n) l e q z h = absurd h
 first_refused xs k x t ms (faults.BadWords n) l e q z h = absurd h
 first_refused xs k x t ms (faults.Help n) l e q z h = absurd h
 first_refused xs k x t ms (faults.Name n) l e q z h = absurd h
@@ -47,6 +49,8 @@ text_stands xs faults.Memory h = tt
 text_stands xs (faults.Text i f) h = h
 text_stands xs (faults.Tree i f) h = h
 text_stands xs (faults.File n) h = absurd h
+text_stands xs (faults.NoFile n) h = absurd h
+text_stands xs (faults.Folder n) h = absurd h
 text_stands xs (faults.BadWords n) h = absurd h
 text_stands xs (faults.Help n) h = absurd h
 text_stands xs (faults.Name n) h = absurd h
@@ -64,6 +68,8 @@ kit_stands xs ms (faults.OutOfProfile c n y) z h = record { modules = ms; are = 
 kit_stands xs ms (faults.Text i f) z h = absurd h
 kit_stands xs ms (faults.Tree i f) z h = absurd h
 kit_stands xs ms (faults.File n) z h = absurd h
+kit_stands xs ms (faults.NoFile n) z h = absurd h
+kit_stands xs ms (faults.Folder n) z h = absurd h
 kit_stands xs ms (faults.BadWords n) z h = absurd h
 kit_stands xs ms (faults.Help n) z h = absurd h
 kit_stands xs ms (faults.Value n) z h = absurd h

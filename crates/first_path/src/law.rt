@@ -9,5 +9,4 @@ ghost use Rattle.first_path.specs.LeftOut.{IsOutside};
 /// A program in which a construct stands that is left out is none of those that are taken.
 pub fn outside_excludes()
     ensures { (p : Program) (c : Construct') (M x : Name) → IsOutside p c M x → IsFirstPath p → ⊥ }
-{
-}
+{}

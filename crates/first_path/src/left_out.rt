@@ -234,7 +234,12 @@ fn check_headers(headers: &[Header]) -> Result<(), (usize, Construct)>
 }
 
 /// The fault that a construct is left out in an assignment.
-fn out_of_profile(alloc: Global, linked: &Linked, number: usize, construct: Construct) -> ProgramFault
+fn out_of_profile(
+    alloc: Global,
+    linked: &Linked,
+    number: usize,
+    construct: Construct,
+) -> ProgramFault
     requires inside { number < length linked.now.assignments }
     ensures { TellsAssignment linked.now number construct result }
 {

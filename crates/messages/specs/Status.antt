@@ -49,6 +49,8 @@ value_number_of (values.Repeated x) = 64
 abbrev pub number_of : Fault → ℕ
 number_of faults.Memory = 1
 number_of (faults.File name) = 3
+number_of (faults.NoFile name) = 3
+number_of (faults.Folder name) = 3
 number_of (faults.BadWords text) = 4
 number_of (faults.Help text) = 5
 number_of (faults.Text k f) = text_number_of f

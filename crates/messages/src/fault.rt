@@ -17,9 +17,15 @@ pub enum Fault {
     /// There was not enough memory.
     #[error("error 1 Memory: out of memory")]
     Memory,
-    /// A file, or the output, could not be read or written; its name.
+    /// A file could not be read; its name.
     #[error("error 3 File: {0}: the file can not be read")]
     File(String),
+    /// No file has this name.
+    #[error("error 3 File: {0}: there is no such file")]
+    NoFile(String),
+    /// This is a folder, and no file.
+    #[error("error 3 File: {0}: this is a folder")]
+    Folder(String),
     /// The command line asks for nothing that the program does; what is wrong with it.
     #[error("error 4 BadWords: {0}")]
     BadWords(String),
@@ -77,7 +83,7 @@ pub fn number(fault: &Fault) -> u8
 {
     match fault {
         Fault::Memory => 1,
-        Fault::File(_) => 3,
+        Fault::File(_) | Fault::NoFile(_) | Fault::Folder(_) => 3,
         Fault::BadWords(_) => 4,
         Fault::Help(_) => 5,
         Fault::Text(_, fault) => text_number(fault),

@@ -33,6 +33,7 @@ const HEAD_TOKENS: usize = 4;
 const MOST: usize = 65536;
 
 /// A text, and how many tokens it has.
+#[derive(Clone, Copy)]
 pub struct Front<'a> {
     head: &'a str,
     rest: &'a [u8],
@@ -163,7 +164,7 @@ fn front_before<'a>(text: &'a [u8], tokens: &[Token], place: usize) -> Front<'a>
 }
 
 /// Whether a text can go on with a word.
-fn can_follow(alloc: Global, front: &Front<'_>, word: &str) -> Result<bool, AllocError> {
+fn can_follow(alloc: Global, front: Front<'_>, word: &str) -> Result<bool, AllocError> {
     let mut text = Vec::new(alloc);
     text.extend_from_slice(front.head.as_bytes())?;
     text.extend_from_slice(front.rest)?;
@@ -195,7 +196,7 @@ pub fn expected(
         return Ok(words);
     }
     for trial in &TRIALS {
-        if can_follow(alloc, &front, trial.0)? {
+        if can_follow(alloc, front, trial.0)? {
             words.push_str(if words.is_empty() {
                 ", expected "
             } else {

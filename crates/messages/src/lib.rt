@@ -1,6 +1,7 @@
 //! What a user asks for and is told: the words of a command line, the faults with their numbers, the lines of messages.
 #![tactic(auto)]
 
+mod characters;
 mod fault;
 mod front;
 mod line;

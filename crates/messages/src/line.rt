@@ -22,3 +22,18 @@ pub fn shown(alloc: Global, text: &str) -> Result<String, AllocError> {
     let front = text.get(..end).unwrap_or("");
     format!(in alloc; "{front}..")
 }
+
+/// The name of a file as a message shows it: each control character by its code point.
+pub fn escaped(alloc: Global, name: &str) -> Result<String, AllocError> {
+    let mut line = String::new(alloc);
+    for c in name.chars() {
+        if c.is_control() {
+            let code = c as u32;
+            let told = format!(in alloc; "\\u{{{code:X}}}")?;
+            line.push_str(told.as_str())?;
+        } else {
+            line.push(c)?;
+        }
+    }
+    Ok(line)
+}

@@ -377,8 +377,8 @@ pub fn text_number(
             let (module, _) = parts(name.as_str());
             module_text(alloc, texts, 0, module)
         }
-        Fault::Memory | Fault::File(_) | Fault::BadWords(_) | Fault::Help(_) => Ok(None),
-        Fault::Device => Ok(None),
+        Fault::Memory | Fault::Device | Fault::BadWords(_) | Fault::Help(_) => Ok(None),
+        Fault::File(_) | Fault::NoFile(_) | Fault::Folder(_) => Ok(None),
     }
 }
 

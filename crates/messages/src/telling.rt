@@ -1,8 +1,9 @@
 //! What a user is told of a fault, on one line.
 
+use crate::characters::{character, open_string};
 use crate::fault::Fault;
 use crate::front::expected;
-use crate::line::{on_one_line, shown};
+use crate::line::{escaped, on_one_line, shown};
 use crate::place::{line_and_column, octet_of, parts, spelling, text_number, tokens_in};
 use crate::request::Job;
 use first_path::{Construct, ValueFault};
@@ -25,11 +26,6 @@ fn found(alloc: Global, text: &[u8], tokens: &[Token], place: usize) -> Result<S
     format!(in alloc; "found '{spelled}'")
 }
 
-fn word_at(text: &[u8], place: usize) -> &str {
-    let end = place.saturating_add(1);
-    std::str::from_utf8(text.get(place..end).unwrap_or(&[])).unwrap_or("a character past ASCII")
-}
-
 fn of_text(alloc: Global, text: &[u8], fault: &LexFault) -> Result<(String, String), AllocError> {
     let (name, words) = match fault {
         LexFault::Memory => ("1 Memory", "out of memory"),
@@ -44,17 +40,14 @@ fn of_text(alloc: Global, text: &[u8], fault: &LexFault) -> Result<(String, Stri
         LexFault::NotUtf8(_) => ("10 NotUtf8", "the text is not UTF-8 here"),
         LexFault::BadCharacter(place) => {
             let name = String::from_str(alloc, "11 BadCharacter")?;
-            let character = word_at(text, *place);
+            let character = character(alloc, text, *place)?;
             let words = format!(in alloc;
                 "found {character}, which stands in comments and quotes alone"
             )?;
             return Ok((name, words));
         }
         LexFault::OpenComment(_) => ("12 OpenComment", "this comment is not closed"),
-        LexFault::OpenString(_) => (
-            "13 OpenString",
-            "these quotes are not closed, or hold what they may not hold",
-        ),
+        LexFault::OpenString(place) => ("13 OpenString", open_string(text, *place)),
         LexFault::BadNumber(_) => (
             "14 BadNumber",
             "this number begins with 0, or a letter follows it",
@@ -281,6 +274,12 @@ fn of_value(alloc: Global, fault: &ValueFault, job: &Job) -> Result<(String, Str
     Ok((String::from_str(alloc, class)?, words))
 }
 
+fn of_file(alloc: Global, name: &str, what: &str) -> Result<(String, String), AllocError> {
+    let name = escaped(alloc, name)?;
+    let words = format!(in alloc; "{name} {what}")?;
+    Ok((String::from_str(alloc, "3 File")?, words))
+}
+
 /// The name and the sentence of a fault.
 fn sentence(
     alloc: Global,
@@ -316,10 +315,9 @@ fn sentence(
             String::from_str(alloc, "72 Device")?,
             String::from_str(alloc, "the output could not be written")?,
         )),
-        Fault::File(name) => Ok((
-            String::from_str(alloc, "3 File")?,
-            format!(in alloc; "{name} could not be read")?,
-        )),
+        Fault::File(name) => of_file(alloc, name.as_str(), "could not be read"),
+        Fault::NoFile(name) => of_file(alloc, name.as_str(), "is missing"),
+        Fault::Folder(name) => of_file(alloc, name.as_str(), "is a folder"),
         Fault::BadWords(words) => Ok((String::from_str(alloc, "4 BadWords")?, words.clone()?)),
         Fault::Help(words) => Ok((String::from_str(alloc, "5 Help")?, words.clone()?)),
     }
@@ -333,18 +331,19 @@ pub fn report(
     texts: &[Vec<u8>],
     fault: &Fault,
 ) -> Result<String, AllocError> {
-    let number = match text_number(alloc, texts, job, fault)? {
-        Some(number) => number,
-        None => texts.len(),
+    let Some(number) = text_number(alloc, texts, job, fault)? else {
+        let (name, words) = sentence(alloc, job, &[], fault)?;
+        let line = format!(in alloc; "error {name}: {words}")?;
+        return on_one_line(alloc, line.as_str());
     };
     let text = match texts.get(number) {
         Some(text) => text.as_slice(),
         None => &[],
     };
     let (name, words) = sentence(alloc, job, text, fault)?;
-    let Some(file) = job.files.get(number) else {
-        let line = format!(in alloc; "error {name}: {words}")?;
-        return on_one_line(alloc, line.as_str());
+    let file = match job.files.get(number) {
+        Some(file) => escaped(alloc, file.as_str())?,
+        None => String::from_str(alloc, "a text")?,
     };
     let (_, value) = parts(job.value.as_str());
     let line = match octet_of(alloc, text, fault, value)? {
