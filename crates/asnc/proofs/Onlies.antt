@@ -15,14 +15,15 @@ use Rattle.resolve.specs.declared.fault.NameFault.{NameFault}
 use Rattle.resolve.specs.declared.fault.NameFault.TheVariants as names
 use Rattle.resolve.specs.Links.{Links, IsLinkFault}
 use Rattle.resolve.specs.Program.{Program}
-use Rattle.asnc.specs.declared.fault.Fault.{Fault}
-use Rattle.asnc.specs.declared.fault.Fault.TheVariants as faults
-use Rattle.asnc.specs.FirstPath.{IsFirstPath}
-use Rattle.asnc.specs.LeftOut.{IsOutsideFault}
-use Rattle.asnc.specs.Opening.{IsModule, IsKitOf, SaysMemory, octets_of}
-use Rattle.asnc.specs.Status.{name_number_of}
+use Rattle.messages.specs.declared.fault.Fault.{Fault}
+use Rattle.messages.specs.declared.fault.Fault.TheVariants as faults
+use Rattle.first_path.specs.FirstPath.{IsFirstPath}
+use Rattle.asnc.specs.Opening.{IsModule, IsKitOf, IsOutsideFault, SaysMemory, octets_of}
+use Rattle.messages.specs.Status.{name_number_of}
 use Rattle.asnc.proofs.Lists.{seen_here}
-use Rattle.asnc.proofs.Openings.{excludes}
+use Rattle.first_path.specs.LeftOut.{IsOutside}
+use Rattle.first_path.specs.declared.fault.Construct.{Construct}
+use Rattle.trees.specs.Values.{Name}
 
 -- the first k texts are these modules, and whatever modules all texts are, these are the first of them
 pub record AreRead (texts : List (Vec ℕ Global)) (k : ℕ) (read : List Module) : Type 0 where
@@ -71,29 +72,35 @@ same_all R f g xs k old l h ys z =
 pub refused_memory : {A X Y : Type 0} (R : X → Y → Type 0) (f : A → X) (P : Type 0) (xs : List A) (k : ℕ) (x : A) → k < length xs → x ≡ get_or xs k x → ((z : Y) → R (f x) z → P) → (ys : List Y) → AllZip R (map f xs) ys → P
 refused_memory R f P xs k x l e r ys z = let t = zip_at R (map f xs) ys k (f x) z (seen_here f xs k x l e) in r t.0 t.2
 
-outside_memory : (p : Program) (e : Fault) → IsFirstPath p → IsOutsideFault p e → SaysMemory e
-outside_memory p faults.Memory f h = refl
-outside_memory p (faults.OutOfProfile c m x) f h = absurd (excludes p c (string_bytes m) (string_bytes x) h f)
-outside_memory p (faults.Text i n) f h = absurd h
-outside_memory p (faults.Tree i n) f h = absurd h
-outside_memory p (faults.File n) f h = absurd h
-outside_memory p (faults.BadWords n) f h = absurd h
-outside_memory p (faults.Help n) f h = absurd h
-outside_memory p (faults.Name n) f h = absurd h
-outside_memory p (faults.Value n) f h = absurd h
-outside_memory p (faults.NoType n) f h = absurd h
-outside_memory p (faults.NoValue n) f h = absurd h
-outside_memory p faults.TooLong f h = absurd h
-outside_memory p faults.Device f h = absurd h
+-- a construct that is left out stands in no program that is taken
+Excludes : Type 0
+Excludes = (p : Program) (c : Construct) (M x : Name) → IsOutside p c M x → IsFirstPath p → ⊥
+
+outside_memory : Excludes → (p : Program) (e : Fault) → IsFirstPath p → IsOutsideFault p e → SaysMemory e
+outside_memory law p faults.Memory f h = refl
+outside_memory law p (faults.OutOfProfile c m x) f h = absurd (law p c (string_bytes m) (string_bytes x) h f)
+outside_memory law p (faults.Text i n) f h = absurd h
+outside_memory law p (faults.Tree i n) f h = absurd h
+outside_memory law p (faults.File n) f h = absurd h
+outside_memory law p (faults.NoFile n) f h = absurd h
+outside_memory law p (faults.Folder n) f h = absurd h
+outside_memory law p (faults.BadWords n) f h = absurd h
+outside_memory law p (faults.Help n) f h = absurd h
+outside_memory law p (faults.Name n) f h = absurd h
+outside_memory law p (faults.Value n) f h = absurd h
+outside_memory law p (faults.NoType n) f h = absurd h
+outside_memory law p (faults.NoValue n) f h = absurd h
+outside_memory law p faults.TooLong f h = absurd h
+outside_memory law p faults.Device f h = absurd h
 
 -- modules that have a kit are not refused for what stands in them
-kit_memory : (ms : List ModuleTree) (l p : Program) (s : List Resolved) (e : Fault) → l ≡ p → IsKitOf ms p s → IsOutsideFault l e → SaysMemory e
-kit_memory ms l p s e q k h = outside_memory p e k.first (subst (λ q. IsOutsideFault q e) q h)
+kit_memory : Excludes → (ms : List ModuleTree) (l p : Program) (s : List Resolved) (e : Fault) → l ≡ p → IsKitOf ms p s → IsOutsideFault l e → SaysMemory e
+kit_memory law ms l p s e q k h = outside_memory law p e k.first (subst (λ q. IsOutsideFault q e) q h)
 
 -- a kit of the program that modules have is that of any program that they have
-pub kit_answers : {K : Type 0} (scope : K → Program) (ms : List ModuleTree) (l p : Program) (s : List Resolved) (r : Result K Fault) → l ≡ p → IsKitOf ms p s → IfOk r (λ k. scope k ≡ l) → IfErr r (IsOutsideFault l) → MatchResult r (λ k. scope k ≡ p) SaysMemory
-kit_answers scope ms l p s (Ok k) q i h f = h ∙ q
-kit_answers scope ms l p s (Err e) q i h f = kit_memory ms l p s e q i f
+pub kit_answers : {K : Type 0} → Excludes → (scope : K → Program) (ms : List ModuleTree) (l p : Program) (s : List Resolved) (r : Result K Fault) → l ≡ p → IsKitOf ms p s → IfOk r (λ k. scope k ≡ l) → IfErr r (IsOutsideFault l) → MatchResult r (λ k. scope k ≡ p) SaysMemory
+kit_answers law scope ms l p s (Ok k) q i h f = h ∙ q
+kit_answers law scope ms l p s (Err e) q i h f = kit_memory law ms l p s e q i f
 
 -- nor for their names
 pub names_memory : (ms : List ModuleTree) (p : Program) (e : NameFault) → ((ms : List ModuleTree) (p : Program) (e : NameFault) → (e ≡ names.Memory → ⊥) → IsLinkFault ms e → Links ms p → ⊥) → IsLinkFault ms e → Links ms p → name_number_of e ≡ 1

@@ -1,19 +1,13 @@
 -- Texts of modules, one by one, and what is refused.
-use Rattle.std.proofs.Common.{◌≡◌, inl, inr, ℕ, zero, suc, ◌<◌, List, [], ◌∷◌, length, map, take, Some, sym, arith, subst, get_or}
+use Rattle.std.proofs.Common.{◌≡◌, ℕ, zero, suc, ◌<◌, List, [], ◌∷◌, length, map, take, Some, sym, arith, subst, get_or}
 use Rattle.std.specs.Prelude.{slice_get, Vec}
 use Rattle.std.specs.Global.{Global}
 use Rattle.std.specs.List.{AllZip}
-use Rattle.trees.specs.Values.{Name}
 use Rattle.trees.specs.Modules.{ModuleTree}
-use Rattle.resolve.specs.Program.{Program}
-use Rattle.asnc.specs.declared.fault.Fault.{Fault}
-use Rattle.asnc.specs.declared.fault.Fault.TheVariants as faults
-use Rattle.asnc.specs.FirstPath.{IsFirstPath, IsFirstType, IsFirstNotation}
-use Rattle.asnc.specs.LeftOut.{IsOutside}
-use Rattle.asnc.specs.declared.fault.Construct.{Construct}
+use Rattle.messages.specs.declared.fault.Fault.{Fault}
+use Rattle.messages.specs.declared.fault.Fault.TheVariants as faults
 use Rattle.asnc.specs.Opening.{IsModule, IsRefusedAt, IsTextFault, IsNoKit, StandsIn, octets_of}
-use Rattle.trees.specs.declared.module.TagDefault.TheVariants.{Explicit}
-use Rattle.asnc.proofs.Lists.{seen_here, all_at}
+use Rattle.asnc.proofs.Lists.{seen_here}
 
 zip_front : {A X Y : Type 0} (R : X → Y → Type 0) (f : A → X) (xs : List A) (k : ℕ) (ms : List Y) (i : ℕ) (y : X) → AllZip R (map f (take k xs)) ms → i < k → slice_get (map f xs) i ≡ Some y → (m : Y) × R y m
 zip_front R f [] k ms i y z l e = absurd cc
@@ -38,6 +32,8 @@ first_refused xs k x t ms (faults.Tree i f) l e q z h = record {
 }
 first_refused xs k x t ms faults.Memory l e q z h = absurd h
 first_refused xs k x t ms (faults.File n) l e q z h = absurd h
+first_refused xs k x t ms (faults.NoFile n) l e q z h = absurd h
+first_refused xs k x t ms (faults.Folder n) l e q z h = absurd h
 first_refused xs k x t ms (faults.BadWords n) l e q z h = absurd h
 first_refused xs k x t ms (faults.Help n) l e q z h = absurd h
 first_refused xs k x t ms (faults.Name n) l e q z h = absurd h
@@ -53,6 +49,8 @@ text_stands xs faults.Memory h = tt
 text_stands xs (faults.Text i f) h = h
 text_stands xs (faults.Tree i f) h = h
 text_stands xs (faults.File n) h = absurd h
+text_stands xs (faults.NoFile n) h = absurd h
+text_stands xs (faults.Folder n) h = absurd h
 text_stands xs (faults.BadWords n) h = absurd h
 text_stands xs (faults.Help n) h = absurd h
 text_stands xs (faults.Name n) h = absurd h
@@ -70,6 +68,8 @@ kit_stands xs ms (faults.OutOfProfile c n y) z h = record { modules = ms; are = 
 kit_stands xs ms (faults.Text i f) z h = absurd h
 kit_stands xs ms (faults.Tree i f) z h = absurd h
 kit_stands xs ms (faults.File n) z h = absurd h
+kit_stands xs ms (faults.NoFile n) z h = absurd h
+kit_stands xs ms (faults.Folder n) z h = absurd h
 kit_stands xs ms (faults.BadWords n) z h = absurd h
 kit_stands xs ms (faults.Help n) z h = absurd h
 kit_stands xs ms (faults.Value n) z h = absurd h
@@ -77,8 +77,3 @@ kit_stands xs ms (faults.NoType n) z h = absurd h
 kit_stands xs ms (faults.NoValue n) z h = absurd h
 kit_stands xs ms faults.TooLong z h = absurd h
 kit_stands xs ms faults.Device z h = absurd h
-
-pub excludes : (p : Program) (c : Construct) (M x : Name) → IsOutside p c M x → IsFirstPath p → ⊥
-excludes p c M x (inl t) f = t.other (all_at (λ h. h.1 ≡ Explicit) p.headers t.number (M, t.default) f.headers t.there)
-excludes p c M x (inr (inl t)) f = t.such.0 (all_at (IsFirstType p.types) p.types t.number t.written f.types t.there)
-excludes p c M x (inr (inr t)) f = t.such.0 (all_at (λ v. IsFirstNotation v.notation) p.values t.number t.value f.values t.there)

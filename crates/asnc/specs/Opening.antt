@@ -1,5 +1,5 @@
 -- What texts of modules are together, and their faults.
-use Rattle.std.specs.Prelude.{◌≡◌, ⊤, ℕ, ◌<◌, List, Some, slice_get, Vec}
+use Rattle.std.specs.Prelude.{◌≡◌, ⊤, ℕ, ◌<◌, List, Some, slice_get, string_bytes, Vec}
 use Rattle.std.specs.Global.{Global}
 use Rattle.std.specs.List.{AllZip}
 use Rattle.text.specs.declared.token.Token.{Token}
@@ -14,12 +14,12 @@ use Rattle.trees.specs.Modules.{ModuleTree}
 use Rattle.notation.specs.declared.fault.SyntaxFault.{SyntaxFault}
 use Rattle.resolve.specs.Program.{Program}
 use Rattle.resolve.specs.Links.{Links, IsLinkFault}
-use Rattle.asnc.specs.declared.fault.Fault.{Fault}
-use Rattle.asnc.specs.declared.fault.Fault.TheVariants as faults
-use Rattle.asnc.specs.FirstPath.{IsFirstPath}
-use Rattle.asnc.specs.LeftOut.{IsOutsideFault}
-use Rattle.asnc.specs.Status.{number_of}
-use Rattle.asnc.specs.Resolving.{AreTypes}
+use Rattle.messages.specs.declared.fault.Fault.{Fault}
+use Rattle.messages.specs.declared.fault.Fault.TheVariants as faults
+use Rattle.first_path.specs.FirstPath.{IsFirstPath}
+use Rattle.first_path.specs.LeftOut.{IsOutside}
+use Rattle.messages.specs.Status.{number_of}
+use Rattle.first_path.specs.Resolving.{AreTypes}
 
 abbrev pub octets_of : Vec ℕ Global → List ℕ
 octets_of v = v.items
@@ -73,6 +73,12 @@ IsTextFault xs faults.Memory = ⊤
 IsTextFault xs (faults.Text k f) = IsFirstRefused xs k (faults.Text k f)
 IsTextFault xs (faults.Tree k f) = IsFirstRefused xs k (faults.Tree k f)
 IsTextFault xs fault = ⊥
+
+-- the fault tells of a construct that stands in a program and is left out; memory speaks of none
+abbrev pub IsOutsideFault : Program → Fault → Type 0
+IsOutsideFault p faults.Memory = ⊤
+IsOutsideFault p (faults.OutOfProfile c m x) = IsOutside p c (string_bytes m) (string_bytes x)
+IsOutsideFault p fault = ⊥
 
 -- the modules are linked, and something in their program is none of what this compiler takes
 pub record IsOutsideOf (ms : List ModuleTree) (fault : Fault) : Type 0 where

@@ -1,19 +1,19 @@
 -- Octets that encode a value of a program.
-use Rattle.std.specs.Prelude.{◌≡◌, ◌⊎◌, ⊤, ℕ, List}
+use Rattle.std.specs.Prelude.{◌≡◌, ◌⊎◌, ⊤, ℕ, List, string_bytes}
 use Rattle.asn_base.specs.Abstract.{AbstractValue}
 use Rattle.asn_base.specs.Types.{Resolved}
 use Rattle.encodings.specs.Encoding.{Der, Shortest}
 use Rattle.trees.specs.Values.{Name, Tree}
 use Rattle.resolve.specs.Program.{Program}
 use Rattle.asnc.specs.Named.{TypeNamed, ValueNamed}
-use Rattle.asnc.specs.Notations.{IsValueAt, Notation}
+use Rattle.first_path.specs.Notations.{IsValueAt, Notation}
 use Rattle.asn_base.specs.Typed.{IsValue}
 use Rattle.der_writer.specs.Long.{IsTooLong}
-use Rattle.asnc.specs.declared.fault.Fault.{Fault}
-use Rattle.asnc.specs.declared.fault.Fault.TheVariants as faults
-use Rattle.asnc.specs.declared.fault.ValueFault.{ValueFault}
-use Rattle.asnc.specs.declared.fault.ValueFault.TheVariants as values
-use Rattle.asnc.specs.Wrong.{IsWrong}
+use Rattle.messages.specs.declared.fault.Fault.{Fault}
+use Rattle.messages.specs.declared.fault.Fault.TheVariants as faults
+use Rattle.first_path.specs.declared.fault.ValueFault.{ValueFault}
+use Rattle.first_path.specs.declared.fault.ValueFault.TheVariants as values
+use Rattle.first_path.specs.Wrong.{IsWrong}
 
 -- The first text names a type, the second a value: its notation stands for a value under that type, the octets are its one encoding by the distinguished rules, and none is shorter.
 pub record IsEncoded (p : Program) (s : List Resolved) (ty named o : List ℕ) : Type 0 where
@@ -58,10 +58,13 @@ pub record StandsForLong (p : Program) (s : List Resolved) (ty named : List ℕ)
   pub stands : Notation p s within type notation value
   pub long : IsTooLong s type value
 
--- The refusal stands: the first text names no type; it names one, and the second no value; the value's notation stands for no value of the type, as the fault of values tells; the encoding is too long. Memory speaks of none of them.
+-- The refusal stands: the first text names no type; it names one, and the second no value; the value's notation stands
+-- for no value of the type, as the fault of values tells; the encoding is too long. The text that names nothing is told.
+-- Memory speaks of none of them.
 abbrev pub IsNotEncoded : Program → List Resolved → List ℕ → List ℕ → Fault → Type 0
-IsNotEncoded p s ty named (faults.NoType x) = (t : ℕ) → TypeNamed p ty t → ⊥
-IsNotEncoded p s ty named (faults.NoValue x) = ((t : ℕ) × TypeNamed p ty t) × ((i : ℕ) → ValueNamed p named i → ⊥)
+IsNotEncoded p s ty named (faults.NoType x) = (string_bytes x ≡ ty) × ((t : ℕ) → TypeNamed p ty t → ⊥)
+IsNotEncoded p s ty named (faults.NoValue x) =
+    (string_bytes x ≡ named) × ((t : ℕ) × TypeNamed p ty t) × ((i : ℕ) → ValueNamed p named i → ⊥)
 IsNotEncoded p s ty named (faults.Value f) = (f ≡ values.Memory) ⊎ StandsForNone p s ty named f
 IsNotEncoded p s ty named faults.TooLong = StandsForLong p s ty named
 IsNotEncoded p s ty named faults.Memory = ⊤

@@ -10,24 +10,20 @@ ghost use Rattle.trees.specs.Values.{Name};
 ghost use Rattle.resolve.specs.declared.names.Assigned.{Assigned as Assigned'};
 ghost use Rattle.resolve.specs.Program.{IsThere, Program};
 ghost use Rattle.resolve.specs.Sound.{AreSound};
-ghost use Rattle.asnc.specs.declared.fault.Fault.{Fault as Fault'};
-ghost use Rattle.asnc.specs.FirstPath.{IsFirstPath};
-ghost use Rattle.asnc.specs.LeftOut.{IsOutside, IsOutsideFault};
-ghost use Rattle.asnc.specs.declared.fault.Construct.{Construct as Construct'};
+ghost use Rattle.messages.specs.declared.fault.Fault.{Fault as Fault'};
+ghost use Rattle.first_path.specs.FirstPath.{IsFirstPath};
+ghost use Rattle.first_path.specs.LeftOut.{IsOutside};
+ghost use Rattle.first_path.specs.declared.fault.Construct.{Construct as Construct'};
 ghost use Rattle.asnc.specs.Named.{IsNamed, IsQualified, TypeNamed, ValueNamed};
-ghost use Rattle.asnc.specs.Opening.{IsKitOf, IsModule, IsNoKit, IsOpened, SaysMemory, StandsIn, octets_of};
-ghost use Rattle.asnc.specs.Resolving.{AreTypes};
+ghost use Rattle.asnc.specs.Opening.{IsKitOf, IsModule, IsNoKit, IsOpened, IsOutsideFault, SaysMemory, StandsIn, octets_of};
+ghost use Rattle.first_path.specs.Resolving.{AreTypes};
 ghost use Rattle.asnc.specs.Writing.{IsEncoded, IsNotEncoded};
 
-use crate::fault::{Fault, ValueFault};
-use crate::first_path::first_path;
 use crate::opening::modules_of;
-use crate::program::notation_at;
-use crate::resolving::table_types;
-use crate::scope::Scope;
-use crate::typing::typed;
 use asn_base::schema::{Schema, TypeId};
 use der_writer::{WriteFault, write_der};
+use first_path::{ProgramFault, Scope, ValueFault, check_program, notation_at, table_types, typed};
+use messages::Fault;
 use resolve::{Assigned, Linked, link};
 use std::alloc::Global;
 use syntax::Module;
@@ -69,9 +65,12 @@ fn kit_of_program(alloc: Global, linked: Linked) -> Result<Kit, Fault>
     ensures types { IfOk result (λ k. AreTypes linked.types k.schema) }
     ensures fault { IfErr result (IsOutsideFault linked) }
 {
-    match first_path(alloc, &linked) {
+    match check_program(alloc, &linked) {
         Ok(()) => {}
-        Err(fault) => return Err(fault),
+        Err(ProgramFault::Memory) => return Err(Fault::Memory),
+        Err(ProgramFault::OutOfProfile(construct, module, name)) => {
+            return Err(Fault::OutOfProfile(construct, module, name));
+        }
     }
     let types = table_types(alloc, linked.types())?;
     let schema = Schema::of(types);
@@ -87,6 +86,7 @@ fn kit_of(alloc: Global, modules: Vec<Module>) -> Result<Kit, Fault>
 {
     resolve::law::link_faults_exclude();
     resolve::law::one_program();
+    first_path::law::outside_excludes();
     match link(alloc, modules) {
         Ok(linked) => kit_of_program(alloc, linked),
         Err(fault) => Err(Fault::Name(fault)),
@@ -100,6 +100,7 @@ pub fn faults_exclude()
     ensures programs { (p : Program) (c : Construct') (M x : Name) → IsOutside p c M x → IsFirstPath p → ⊥ }
 {
     text::law::tokens_or_fault();
+    first_path::law::outside_excludes();
 }
 
 impl Kit {

@@ -5,7 +5,7 @@ ghost use Rattle.std.specs.List.{AllZip};
 ghost use Rattle.trees.specs.Modules.{ModuleTree, module_tree_of};
 ghost use Rattle.asnc.specs.Opening.{IsModule, IsTextFault, IsRefusedAt, SaysMemory, octets_of};
 
-use crate::fault::Fault;
+use messages::Fault;
 use std::alloc::Global;
 use syntax::{Module, parse};
 

@@ -40,7 +40,7 @@ fn end(rt: &HostRuntime, fault: &Fault) -> ExitCode {
     }
 }
 
-/// Tells of a fault that stands in the texts of modules.
+/// Tells of a fault that a job met, in its files or in their texts.
 fn end_in(rt: &HostRuntime, job: &Job, texts: &[Vec<u8>], fault: &Fault) -> ExitCode {
     match report(rt.alloc(), job, texts, fault) {
         Ok(line) => match eprintln!(rt; "{line}") {
@@ -68,13 +68,23 @@ fn write(rt: &HostRuntime, job: &Job, octets: &[u8]) -> Result<(), Fault> {
     out.write_all(line.as_bytes()).map_err(|_| Fault::Device)
 }
 
+/// Why a file could not be read.
+fn file_fault(name: String, error: io::Error) -> Fault {
+    match error.kind() {
+        io::ErrorKind::NotFound => Fault::NoFile(name),
+        io::ErrorKind::IsADirectory => Fault::Folder(name),
+        io::ErrorKind::OutOfMemory => Fault::Memory,
+        _ => Fault::File(name),
+    }
+}
+
 /// The texts of files, in order.
 fn texts_of(rt: &HostRuntime, files: &[String]) -> Result<Vec<Vec<u8>>, Fault> {
     let mut texts = Vec::new(rt.alloc());
     for file in files {
         match fs::read(rt, file.as_str()) {
             Ok(text) => texts.push(text)?,
-            Err(_) => return Err(Fault::File(file.clone()?)),
+            Err(error) => return Err(file_fault(file.clone()?, error)),
         }
     }
     Ok(texts)
@@ -84,7 +94,7 @@ fn texts_of(rt: &HostRuntime, files: &[String]) -> Result<Vec<Vec<u8>>, Fault> {
 fn run(rt: &HostRuntime, job: &Job) -> ExitCode {
     let texts = match texts_of(rt, job.files.as_slice()) {
         Ok(texts) => texts,
-        Err(fault) => return end(rt, &fault),
+        Err(fault) => return end_in(rt, job, &[], &fault),
     };
     match work(rt, job, texts.as_slice()) {
         Ok(octets) => match write(rt, job, octets.as_slice()) {

@@ -1,5 +1,5 @@
 use Rattle.std.proofs.Common.{rules, ap, ◌∙◌}
-use Rattle.asnc.specs.Status.{tree_number_of}
+use Rattle.messages.specs.Status.{tree_number_of}
 use Rattle.asnc.proofs.Onlies.{same_tokens}
 use Rattle.asnc.proofs.opening.module_of.Goals as goal
 

@@ -1,8 +1,0 @@
-use Rattle.std.proofs.Common.{map, take}
-use Rattle.std.specs.List.{AllByRecursion}
-use Rattle.resolve.specs.Seen.{type_of, types_of}
-use Rattle.asnc.specs.FirstPath.{IsFirstType}
-use Rattle.asnc.proofs.first_path.check_types.Given as goal
-
-abbrev pub invariant-loop-number : goal.invariant-loop-number
-invariant-loop-number l = AllByRecursion (IsFirstType (types_of l.types)) (map type_of (take l.number l.types))

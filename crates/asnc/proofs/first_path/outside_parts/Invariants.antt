@@ -1,8 +1,0 @@
-use Rattle.std.proofs.Common.{map, take}
-use Rattle.std.specs.List.{AllByRecursion}
-use Rattle.resolve.specs.Seen.{part_of, types_of}
-use Rattle.asnc.specs.FirstPath.{IsFirstMember}
-use Rattle.asnc.proofs.first_path.outside_parts.Given as goal
-
-abbrev pub invariant-loop-part : goal.invariant-loop-part
-invariant-loop-part l = AllByRecursion (IsFirstMember (types_of l.types)) (map part_of (take l.part-index l.parts))

@@ -1,0 +1,60 @@
+-- Types behind their references, and what this compiler takes of them.
+use Rattle.std.proofs.Common.{◌≡◌, ℕ, zero, suc, ◌<◌, List, [], ◌∷◌, length, Option, Some, None, refl, sym, ap, ◌∙◌, subst}
+use Rattle.std.specs.Prelude.{slice_get, slice_index_or, MatchOption}
+use Rattle.std.proofs.lemmas.Option.{slice_get_within}
+use Rattle.trees.specs.Types.{mandatory}
+use Rattle.resolve.specs.Table as table
+use Rattle.resolve.specs.Table.{Part, Kind, simple, reference, tagged, members, elements, Type', next, IsCore, IsCircular, IsLinked}
+use Rattle.first_path.specs.Walks.{onward, walk, EndsAt}
+use Rattle.first_path.specs.FirstPath.{IsBasic, Unfolds, IsFirstMember, IsFirstKind, IsFirstType, PartsInside}
+use Rattle.first_path.proofs.Walks.{below, ends_unique}
+
+some_same : {X : Type 0} (x y : X) → Some x ≡ Some y → x ≡ y
+some_same x y e = cc
+
+onward_same : (ts : List Type') (k : ℕ) (o : Option ℕ) → ((j : ℕ) → table.walk ts k j ≡ walk (next ts) k j) → table.onward o (λ j. table.walk ts k j) ≡ onward o (λ j. walk (next ts) k j)
+onward_same ts k None h = refl
+onward_same ts k (Some j) h = h j
+
+same_walk : (ts : List Type') (k i : ℕ) → table.walk ts k i ≡ walk (next ts) k i
+same_walk ts zero i = refl
+same_walk ts (suc k) i = onward_same ts k (next ts i) (λ j. same_walk ts k j)
+
+core_ends : (ts : List Type') (i c : ℕ) → IsCore ts i c → EndsAt (next ts) i c
+core_ends ts i c h = record { steps = h.steps; leads = sym (same_walk ts h.steps i) ∙ h.leads; ends = h.ends }
+
+pub core_inside : (ts : List Type') (i c : ℕ) → IsLinked ts → i < length ts → IsCore ts i c → c < length ts
+core_inside ts i c w l h = let e = core_ends ts i c h in below (next ts) (length ts) e.steps i c w.closed l e.leads
+
+pub unfolds_once : (ts : List Type') (i : ℕ) (t u : Type') → Unfolds ts i t → Unfolds ts i u → t ≡ u
+unfolds_once ts i t u a b =
+    let e = ends_unique (next ts) i a.number b.number (core_ends ts i a.number a.core) (core_ends ts i b.number b.core) in
+    some_same t u (sym a.there ∙ ap (slice_get ts) e ∙ b.there)
+
+pub member_match : {X : Type 0} (ts : List Type') (c : Part) (t : Type') (r : Option X) → c.presence ≡ mandatory → Unfolds ts c.ty t → MatchOption r (IsBasic t.kind) (λ _. IsBasic t.kind → ⊥) → MatchOption r (IsFirstMember ts c) (λ _. IsFirstMember ts c → ⊥)
+member_match ts c t None e u h = record { stands = e; behind = t; unfolds = u; basic = h }
+member_match ts c t (Some x) e u h = λ m. h (subst (λ v. IsBasic v.kind) (unfolds_once ts c.ty m.behind t m.unfolds u) m.basic)
+
+read_back : (cs : List Part) (k : ℕ) (c : Part) → slice_get cs k ≡ Some c → slice_index_or cs k c ≡ c
+read_back [] k c e = absurd cc
+read_back (x ∷ cs) zero c e = some_same x c e
+read_back (x ∷ cs) (suc k) c e = read_back cs k c e
+
+-- the members of a list are types of a linked table
+pub parts_inside : (ts : List Type') (i : ℕ) (t : Type') → IsLinked ts → slice_get ts i ≡ Some t → PartsInside ts t.kind
+parts_inside ts i t w e = go t.kind refl
+  where
+    go : (k : Kind) → t.kind ≡ k → PartsInside ts k
+    go (members l cs) f = λ n c g. (let a = w.parts i l cs t.default t.place (record { constraints = t.constraints; assignment = t.assignment; found = e ∙ ap (λ k. Some (record { kind = k; constraints = t.constraints; default = t.default; place = t.place; assignment = t.assignment })) f }) in
+        subst (λ p. p.ty < length ts) (read_back cs n c g) (a n c (slice_get_within cs n c g)))
+    go (simple s) f = tt
+    go (reference j) f = tt
+    go (tagged g u j) f = tt
+    go (elements x s j) f = tt
+
+pub type_match : {X : Type 0} (ts : List Type') (t : Type') (r : Option X) → t.constraints ≡ [] → MatchOption r (IsFirstKind ts t.kind) (λ _. IsFirstKind ts t.kind → ⊥) → MatchOption r (IsFirstType ts t) (λ _. IsFirstType ts t → ⊥)
+type_match ts t None e h = record { kind = h; bare = e }
+type_match ts t (Some x) e h = λ f. h f.kind
+
+pub no_circle : (ts : List Type') (i : ℕ) → ((s : List Type') (j c : ℕ) → IsCore s j c → IsCircular s j → ⊥) → IsLinked ts → i < length ts → IsCircular ts i → ⊥
+no_circle ts i n w l b = let u = w.unfolds i l in n ts i u.0 u.1 b

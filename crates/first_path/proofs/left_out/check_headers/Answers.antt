@@ -1,0 +1,15 @@
+use Rattle.std.proofs.Common.{◌≡◌, Some, sym, subst}
+use Rattle.resolve.specs.Seen.{header_of}
+use Rattle.resolve.specs.declared.table.Header.{Header}
+use Rattle.trees.specs.declared.module.TagDefault.TheVariants.{Explicit}
+use Rattle.first_path.specs.LeftOut.{tags_construct}
+use Rattle.first_path.proofs.Lists.{seen_here}
+use Rattle.first_path.proofs.left_out.check_headers.Goals as goal
+
+pub returns-in-Some : goal.returns-in-Some
+returns-in-Some c = (
+  header_of c.index-headers-number.result,
+  seen_here header_of c.args.headers.now c.loop-number.number c.index-headers-number.result c.loop-number-test.true c.index-headers-number.is,
+  subst (λ (x : Header). x.default ≡ Explicit → ⊥) (sym c.index-headers-number.is) c.in-Some.ensures.first,
+  subst (λ (x : Header). tags_construct x.default ≡ Some c.in-Some.construct) (sym c.index-headers-number.is) (sym c.in-Some.ensures.construct),
+)

@@ -1,0 +1,20 @@
+use Rattle.std.proofs.Common.{ap}
+use Rattle.trees.specs.Types.{presence_of}
+use Rattle.resolve.specs.Seen.{part_of, type_of, types_of}
+use Rattle.trees.specs.Values.{tree_of}
+use Rattle.first_path.specs.LeftOut.{may_be_absent, has_default}
+use Rattle.first_path.proofs.Outside.{part_out}
+use Rattle.first_path.proofs.Unfoldings.{member_match}
+use Rattle.first_path.proofs.left_out.outside_part.Goals as goal
+
+pub returns-in-Mandatory-clause-first : goal.returns-in-Mandatory-clause-first
+returns-in-Mandatory-clause-first c = member_match (types_of c.args.types.now) (part_of c.args.part.now) (type_of c.unfolded-core.result.now) c.outside_core.result (ap presence_of c.in-Mandatory.is) c.unfolded-core.ensures c.outside_core.ensures.first
+
+pub returns-in-Mandatory-clause-construct : goal.returns-in-Mandatory-clause-construct
+returns-in-Mandatory-clause-construct c = part_out (types_of c.args.types.now) (part_of c.args.part.now) (type_of c.unfolded-core.result.now) c.outside_core.result (ap presence_of c.in-Mandatory.is) c.unfolded-core.ensures c.outside_core.ensures.construct
+
+pub returns-in-Optional-clause-construct : goal.returns-in-Optional-clause-construct
+returns-in-Optional-clause-construct c = may_be_absent (ap presence_of c.in-Optional.is)
+
+pub returns-in-Default-clause-construct : goal.returns-in-Default-clause-construct
+returns-in-Default-clause-construct c = has_default (tree_of c.in-Default.field-0) (ap presence_of c.in-Default.is)

@@ -1,0 +1,122 @@
+-- The constructs of a program that this compiler leaves out today, each by its name.
+use Rattle.std.specs.Prelude.{◌≡◌, ◌⊎◌, ⊤, ℕ, List, [], ◌∷◌, Option, Some, None, slice_get, string_bytes}
+use Rattle.trees.specs.Values as trees
+use Rattle.trees.specs.Values.{Name, Tree, Members}
+use Rattle.trees.specs.declared.module.TagDefault.{TagDefault}
+use Rattle.trees.specs.declared.module.TagDefault.TheVariants as defaults
+use Rattle.trees.specs.Types.{mandatory, optional, default}
+use Rattle.resolve.specs.declared.table.ListKind.{ListKind}
+use Rattle.resolve.specs.declared.table.ListKind.TheVariants as lists
+use Rattle.resolve.specs.declared.table.ElementsKind.{ElementsKind}
+use Rattle.resolve.specs.declared.table.ElementsKind.TheVariants as several
+use Rattle.resolve.specs.declared.table.Header.{Header}
+use Rattle.resolve.specs.Modules.{StandsIn}
+use Rattle.resolve.specs.Program.{Program}
+use Rattle.resolve.specs.Sound.{IsAssignment}
+use Rattle.resolve.specs.SoundFaults.{IsTypeIn, IsValueIn}
+use Rattle.resolve.specs.Table.{Plain, a_boolean, an_integer, a_bit_string, an_octet_string, a_null, an_object_identifier, an_enumerated, a_utf8_string, a_numeric_string, a_printable_string, an_ia5_string, a_visible_string, Part, Kind, simple, reference, tagged, members, elements, Type'}
+use Rattle.first_path.specs.declared.fault.Construct.{Construct}
+use Rattle.first_path.specs.declared.fault.Construct.TheVariants as constructs
+use Rattle.first_path.specs.declared.fault.ProgramFault.{ProgramFault}
+use Rattle.first_path.specs.declared.fault.ProgramFault.TheVariants as faults
+use Rattle.first_path.specs.FirstPath.{Unfolds, IsFirstType, IsFirstNotation}
+use Rattle.first_path.specs.Notations.{named}
+
+-- a type that holds no other
+abbrev pub plain_construct : Plain → Option Construct
+plain_construct a_boolean = None
+plain_construct (an_integer []) = None
+plain_construct (an_integer (n ∷ ns)) = Some constructs.NamedNumbers
+plain_construct (a_bit_string bs) = Some constructs.BitString
+plain_construct an_octet_string = None
+plain_construct a_null = Some constructs.Null
+plain_construct an_object_identifier = Some constructs.ObjectIdentifier
+plain_construct (an_enumerated is) = Some constructs.Enumerated
+plain_construct a_utf8_string = Some constructs.Utf8String
+plain_construct a_numeric_string = Some constructs.NumericString
+plain_construct a_printable_string = Some constructs.PrintableString
+plain_construct an_ia5_string = Some constructs.Ia5String
+plain_construct a_visible_string = Some constructs.VisibleString
+
+abbrev pub list_construct : ListKind → Construct
+list_construct lists.Sequence = constructs.Sequence
+list_construct lists.Set = constructs.Set
+list_construct lists.Choice = constructs.Choice
+
+abbrev pub elements_construct : ElementsKind → Construct
+elements_construct several.SequenceOf = constructs.SequenceOf
+elements_construct several.SetOf = constructs.SetOf
+
+-- what a member's type is behind its references, where it is left out there; behind them stands neither a reference nor a tag
+abbrev pub core_construct : Kind → Option Construct
+core_construct (simple s) = plain_construct s
+core_construct (reference j) = Some constructs.Tag
+core_construct (tagged t k j) = Some constructs.Tag
+core_construct (members l cs) = Some (list_construct l)
+core_construct (elements e s j) = Some (elements_construct e)
+
+-- a construct that is left out in a member: its mark, or its type
+pub data IsPartOut (ts : List Type') : Part → Construct → Type 0 where
+  may_be_absent : {q : Part} → q.presence ≡ optional → IsPartOut ts q constructs.Optional
+  has_default : {q : Part} (v : Tree) → q.presence ≡ default v → IsPartOut ts q constructs.Default
+  of_type : {q : Part} {t : Type'} {c : Construct} → q.presence ≡ mandatory → Unfolds ts q.ty t → core_construct t.kind ≡ Some c → IsPartOut ts q c
+
+-- a construct that is left out at a type: the type itself, or something in a member of a SEQUENCE
+pub data IsKindOut (ts : List Type') : Kind → Construct → Type 0 where
+  plain : {s : Plain} {c : Construct} → plain_construct s ≡ Some c → IsKindOut ts (simple s) c
+  tag : {t : _} {k : _} {j : ℕ} → IsKindOut ts (tagged t k j) constructs.Tag
+  set : {cs : List Part} → IsKindOut ts (members lists.Set cs) constructs.Set
+  choice : {cs : List Part} → IsKindOut ts (members lists.Choice cs) constructs.Choice
+  elements_of : {e : ElementsKind} {s : _} {j : ℕ} → IsKindOut ts (elements e s j) (elements_construct e)
+  member : {cs : List Part} {c : Construct} (q : Part) → StandsIn cs q → IsPartOut ts q c → IsKindOut ts (members lists.Sequence cs) c
+
+-- the same at a written type, with the constraints behind it
+pub data IsTypeOut (ts : List Type') (t : Type') : Construct → Type 0 where
+  constraint : (t.constraints ≡ [] → ⊥) → IsTypeOut ts t constructs.Constraint
+  kind : {c : Construct} → IsKindOut ts t.kind c → IsTypeOut ts t c
+
+-- a construct that is left out in the notation of a value
+pub data IsNotationOut : Tree → Construct → Type 0 where
+  null_value : IsNotationOut trees.null constructs.NullValue
+  quoted : {o : List ℕ} → IsNotationOut (trees.chars o) constructs.CharacterString
+  alternative : {x : Name} {n : Tree} → IsNotationOut (trees.chosen x n) constructs.Alternative
+  numbers : {ns : _} → IsNotationOut (trees.numbers ns) constructs.Numbers
+  values : {ns : _} → IsNotationOut (trees.items ns) constructs.Items
+  inside : {fs : Members} {c : Construct} (f : Name × Tree) → StandsIn (named fs) f → IsNotationOut f.1 c → IsNotationOut (trees.fields fs) c
+
+-- a tag default
+abbrev pub tags_construct : TagDefault → Option Construct
+tags_construct defaults.Explicit = None
+tags_construct defaults.Implicit = Some constructs.ImplicitTags
+tags_construct defaults.Automatic = Some constructs.AutomaticTags
+
+-- tags in module M are not EXPLICIT; no assignment is told, the name x is empty
+pub record TagsOtherwise (p : Program) (M x : Name) (c : Construct) : Type 0 where
+  pub alone : x ≡ []
+  pub number : ℕ
+  pub default : TagDefault
+  pub there : slice_get p.headers number ≡ Some (M, default)
+  pub other : default ≡ defaults.Explicit → ⊥
+  pub construct : tags_construct default ≡ Some c
+
+-- in module M this construct stands, which is left out: a tag default, or something in a type or a value in the assignment of name x
+abbrev pub IsOutside : Program → Construct → Name → Name → Type 0
+IsOutside p c M x =
+    TagsOtherwise p M x c
+    ⊎ (IsTypeIn p M x (λ t. (IsFirstType p.types t → ⊥) × IsTypeOut p.types t c)
+    ⊎ IsValueIn p M x (λ v. (IsFirstNotation v.notation → ⊥) × IsNotationOut v.notation c))
+
+-- the fault tells of such a place; memory speaks of none
+abbrev pub IsOutsideFault : Program → ProgramFault → Type 0
+IsOutsideFault p faults.Memory = ⊤
+IsOutsideFault p (faults.OutOfProfile c m x) = IsOutside p c (string_bytes m) (string_bytes x)
+
+-- it tells of this construct in this assignment
+abbrev pub TellsAssignment : Program → ℕ → Construct → ProgramFault → Type 0
+TellsAssignment p a c faults.Memory = ⊤
+TellsAssignment p a c (faults.OutOfProfile d m x) = (d ≡ c) × IsAssignment p a (string_bytes m) (string_bytes x)
+
+-- it tells of this construct and this module, and of no assignment
+abbrev pub TellsModule : Header → Construct → ProgramFault → Type 0
+TellsModule h c faults.Memory = ⊤
+TellsModule h c (faults.OutOfProfile d m x) = (d ≡ c) × (string_bytes m ≡ string_bytes h.name) × (string_bytes x ≡ [])

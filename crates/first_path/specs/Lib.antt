@@ -1,0 +1,6 @@
+pub mod FirstPath
+pub mod LeftOut
+pub mod Notations
+pub mod Resolving
+pub mod Walks
+pub mod Wrong

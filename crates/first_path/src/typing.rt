@@ -1,0 +1,295 @@
+//! The value that a notation stands for under a type.
+
+ghost use Rattle.std.specs.Prelude.{◌≡◌, ◌<◌, ℕ, length, slice_get, Some, IsSomeAnd};
+ghost use Rattle.std.specs.Prelude.{map, IfOk, IfErr, MatchOption, option_map, IfSome, true, false, bytes_eq, string_bytes};
+ghost use Rattle.asn_base.specs.Abstract.{abstract, row_of_options};
+ghost use Rattle.asn_base.specs.Types.{a_boolean, an_integer, an_octet_string, Constraint as Constraint'};
+ghost use Rattle.asn_base.specs.Typed.{IsWithinLimit};
+ghost use Rattle.trees.specs.Values.{tree_of, member_of};
+ghost use Rattle.first_path.specs.Notations.{IsLeaf, Notation, Fields, Lacks, signed};
+ghost use Rattle.first_path.specs.Wrong.{component_names, field_names, AreIn, IsDisorder, IsKindFault, IsWrong, AreWrong};
+ghost use Rattle.resolve.specs.Modules.{StandsIn, StandsTwice, AreDistinct};
+ghost use Rattle.trees.specs.Values.{Name};
+ghost use Rattle.std.specs.List.{AllByRecursion, list_any};
+ghost use Rattle.asn_base.specs.Accepted.{IsSimpleMember, IsSimple};
+ghost use Rattle.asn_base.specs.Seen.{component_of, kind_of};
+
+use crate::digits::{are_below, bit_octets, hex_octets};
+use crate::fault::ValueFault;
+use crate::notations::{behind_all, binary_in, fields_in, hex_in, number_in, truth_in};
+use crate::scope::Scope;
+use asn_base::law::abstract_values;
+use asn_base::schema::{Component, Core, Schema, TypeId};
+use asn_base::value::Value;
+use std::alloc::{AllocError, Global};
+use trees::{Named, ValueSyntax};
+
+/// A number with its sign, where it is within the limit.
+fn with_sign(minus: bool, number: u128) -> Option<i128>
+    ensures { MatchOption result (IsWithinLimit (signed minus number) → ⊥) (λ z. (z ≡ signed minus number) × IsWithinLimit (signed minus number)) }
+{
+    if minus {
+        if number == 0 {
+            return Some(0);
+        }
+        if number > 170141183460469231731687303715884105728 {
+            return None;
+        }
+        Some(-1 - ((number - 1) as i128))
+    } else if number >= 170141183460469231731687303715884105728 {
+        None
+    } else {
+        Some(number as i128)
+    }
+}
+
+/// The truth value that a notation is.
+fn truth(notation: &ValueSyntax) -> Result<Value, ValueFault>
+    ensures value { IfOk result (λ v. IsLeaf a_boolean (tree_of notation.now) (abstract v)) }
+    ensures none { IfErr result (Lacks (IsLeaf a_boolean (tree_of notation.now))) }
+    ensures fault { IfErr result (IsKindFault a_boolean (tree_of notation.now)) }
+{
+    abstract_values();
+    match truth_in(notation) {
+        None => Err(ValueFault::NotOfType),
+        Some(value) => Ok(Value::Bool(value)),
+    }
+}
+
+/// The number that a notation is.
+fn integer(notation: &ValueSyntax) -> Result<Value, ValueFault>
+    ensures value { (c : Constraint') → IfOk result (λ v. IsLeaf (an_integer c) (tree_of notation.now) (abstract v)) }
+    ensures none { (c : Constraint') → IfErr result (Lacks (IsLeaf (an_integer c) (tree_of notation.now))) }
+    ensures fault { (c : Constraint') → IfErr result (IsKindFault (an_integer c) (tree_of notation.now)) }
+{
+    abstract_values();
+    match number_in(notation) {
+        None => Err(ValueFault::NotOfType),
+        Some(told) => match with_sign(told.0, told.1) {
+            None => Err(ValueFault::Integer),
+            Some(value) => Ok(Value::Int(value)),
+        },
+    }
+}
+
+/// The octets that a notation is.
+fn octet_string(alloc: Global, notation: &ValueSyntax) -> Result<Value, ValueFault>
+    ensures value { (c : Constraint') → IfOk result (λ v. IsLeaf (an_octet_string c) (tree_of notation.now) (abstract v)) }
+    ensures none { (c : Constraint') → IfErr result (Lacks (IsLeaf (an_octet_string c) (tree_of notation.now))) }
+    ensures fault { (c : Constraint') → IfErr result (IsKindFault (an_octet_string c) (tree_of notation.now)) }
+{
+    abstract_values();
+    if let Some(digits) = binary_in(notation) {
+        if !are_below(digits, 2) {
+            return Err(ValueFault::NotOfType);
+        }
+        return Ok(Value::Octets(bit_octets(alloc, digits)?));
+    }
+    match hex_in(notation) {
+        None => Err(ValueFault::NotOfType),
+        Some(digits) => {
+            if !are_below(digits, 16) {
+                return Err(ValueFault::NotOfType);
+            }
+            Ok(Value::Octets(hex_octets(alloc, digits)?))
+        }
+    }
+}
+
+/// Whether a component has this name.
+fn is_component(components: &[Component], name: &str) -> bool
+    ensures { result ≡ list_any (λ c. bytes_eq (string_bytes c.name) name.now) components.now }
+{
+    components.iter().any(|c| c.name.as_str() == name)
+}
+
+/// Whether a field has this name.
+fn is_field(fields: &[Named<ValueSyntax>], name: &str) -> bool
+    ensures { result ≡ list_any (λ f. bytes_eq (string_bytes f.name) name.now) fields.now }
+{
+    fields.iter().any(|f| f.name.as_str() == name)
+}
+
+/// The first field whose name no component has.
+fn unknown_field(components: &[Component], fields: &[Named<ValueSyntax>]) -> Option<usize>
+    ensures within { IfSome result (λ k. k < length fields.now) }
+    ensures found { MatchOption result (AreIn (field_names (map member_of fields.now)) (component_names (map component_of components.now))) (λ k. (x : Name) → slice_get (field_names (map member_of fields.now)) k ≡ Some x → StandsIn (component_names (map component_of components.now)) x → ⊥) }
+{
+    for k in 0..fields.len() {
+        if !is_component(components, fields[k].name.as_str()) {
+            return Some(k);
+        }
+    }
+    None
+}
+
+/// The first field whose name stands before it too.
+fn repeated_field(fields: &[Named<ValueSyntax>]) -> Option<usize>
+    ensures within { IfSome result (λ k. k < length fields.now) }
+    ensures found { MatchOption result (AreDistinct (field_names (map member_of fields.now))) (λ k. (x : Name) → slice_get (field_names (map member_of fields.now)) k ≡ Some x → StandsTwice (field_names (map member_of fields.now)) x) }
+{
+    for k in 0..fields.len() {
+        if is_field(&fields[..k], fields[k].name.as_str()) {
+            return Some(k);
+        }
+    }
+    None
+}
+
+/// The first component that has no field.
+fn missing_component(components: &[Component], fields: &[Named<ValueSyntax>]) -> Option<usize>
+    ensures within { IfSome result (λ k. k < length components.now) }
+    ensures found { MatchOption result (AreIn (component_names (map component_of components.now)) (field_names (map member_of fields.now))) (λ k. (x : Name) → slice_get (component_names (map component_of components.now)) k ≡ Some x → StandsIn (field_names (map member_of fields.now)) x → ⊥) }
+{
+    for k in 0..components.len() {
+        if !is_field(fields, components[k].name.as_str()) {
+            return Some(k);
+        }
+    }
+    None
+}
+
+/// Whether the fields have the components' names, in their order.
+fn are_in_order(components: &[Component], fields: &[Named<ValueSyntax>]) -> bool
+    ensures yes { result ≡ true → component_names (map component_of components.now) ≡ field_names (map member_of fields.now) }
+    ensures long { result ≡ true → length components.now ≡ length fields.now }
+    ensures no { result ≡ false → component_names (map component_of components.now) ≡ field_names (map member_of fields.now) → ⊥ }
+{
+    if components.len() != fields.len() {
+        return false;
+    }
+    for k in 0..components.len() {
+        if components[k].name.as_str() != fields[k].name.as_str() {
+            return false;
+        }
+    }
+    true
+}
+
+/// What is wrong with fields that don't have the components' names in their order.
+fn disorder(
+    components: &[Component],
+    fields: &[Named<ValueSyntax>],
+) -> Result<ValueFault, AllocError>
+    requires differs { component_names (map component_of components.now) ≡ field_names (map member_of fields.now) → ⊥ }
+    ensures { IfOk result (IsDisorder (component_names (map component_of components.now)) (field_names (map member_of fields.now))) }
+{
+    if let Some(k) = unknown_field(components, fields) {
+        return Ok(ValueFault::UnknownItem(fields[k].name.clone()?));
+    }
+    if let Some(k) = repeated_field(fields) {
+        return Ok(ValueFault::Repeated(fields[k].name.clone()?));
+    }
+    if let Some(k) = missing_component(components, fields) {
+        return Ok(ValueFault::Missing(components[k].name.clone()?));
+    }
+    Ok(ValueFault::NotOfType)
+}
+
+/// The value of a type that holds no others.
+fn typed_leaf(alloc: Global, core: &Core, notation: &ValueSyntax) -> Result<Value, ValueFault>
+    requires simple { IsSimple (kind_of core.now) }
+    ensures value { IfOk result (λ v. IsLeaf (kind_of core.now) (tree_of notation.now) (abstract v)) }
+    ensures none { IfErr result (Lacks (IsLeaf (kind_of core.now) (tree_of notation.now))) }
+    ensures fault { IfErr result (IsKindFault (kind_of core.now) (tree_of notation.now)) }
+{
+    match core {
+        Core::Boolean => truth(notation),
+        Core::Integer(_) => integer(notation),
+        Core::OctetString(_) => octet_string(alloc, notation),
+        Core::Sequence(_) => unreachable!(),
+    }
+}
+
+/// The value of a component that holds no others, its notation read in a module.
+fn typed_component(
+    alloc: Global,
+    scope: &Scope,
+    schema: &Schema,
+    id: TypeId,
+    within: &str,
+    notation: &ValueSyntax,
+) -> Result<Value, ValueFault>
+    requires simple { IsSomeAnd (slice_get schema.now id.index) (λ r. IsSimple r.kind) }
+    ensures value { IfOk result (λ v. Notation scope.now schema.now within.now id.index (tree_of notation.now) (abstract v)) }
+    ensures none { IfErr result (Lacks (Notation scope.now schema.now within.now id.index (tree_of notation.now))) }
+    ensures fault { IfErr result (IsWrong scope.now schema.now within.now id.index (tree_of notation.now)) }
+{
+    match behind_all(alloc, scope, within, notation) {
+        Ok((_, last)) => {
+            let resolved = schema.get(id);
+            typed_leaf(alloc, &resolved.core, last)
+        }
+        Err(fault) => Err(fault),
+    }
+}
+
+/// The values of components that hold no others, whose names stand in their order, the notations read in a module.
+fn typed_fields(
+    alloc: Global,
+    scope: &Scope,
+    schema: &Schema,
+    within: &str,
+    components: &[Component],
+    fields: &[Named<ValueSyntax>],
+) -> Result<Vec<Option<Value>>, ValueFault>
+    requires simple { AllByRecursion (IsSimpleMember schema.now) (map component_of components.now) }
+    ensures values { IfOk result (λ vs. Fields scope.now schema.now within.now (map component_of components.now) (map member_of fields.now) (row_of_options (map (option_map abstract) vs.items))) }
+    ensures none { IfErr result (Lacks (Fields scope.now schema.now within.now (map component_of components.now) (map member_of fields.now))) }
+    ensures fault { IfErr result (AreWrong scope.now schema.now within.now (map component_of components.now) (map member_of fields.now)) }
+{
+    if !are_in_order(components, fields) {
+        return Err(disorder(components, fields)?);
+    }
+    let mut values = Vec::new(alloc);
+    for i in 0..components.len() {
+        let component = &components[i];
+        let field = &fields[i];
+        match typed_component(alloc, scope, schema, component.ty, within, &field.value) {
+            Ok(value) => values.push(Some(value))?,
+            Err(fault) => return Err(fault),
+        }
+    }
+    Ok(values)
+}
+
+/// The value that a notation, read in a module, stands for under a type.
+pub fn typed(
+    alloc: Global,
+    scope: &Scope,
+    schema: &Schema,
+    id: TypeId,
+    within: &str,
+    notation: &ValueSyntax,
+) -> Result<Value, ValueFault>
+    requires { id.index < length schema.now }
+    ensures value { IfOk result (λ v. Notation scope.now schema.now within.now id.index (tree_of notation.now) (abstract v)) }
+    ensures none { IfErr result (Lacks (Notation scope.now schema.now within.now id.index (tree_of notation.now))) }
+    ensures fault { IfErr result (IsWrong scope.now schema.now within.now id.index (tree_of notation.now)) }
+{
+    abstract_values();
+    let (module, last) = match behind_all(alloc, scope, within, notation) {
+        Ok(last) => last,
+        Err(fault) => return Err(fault),
+    };
+    let resolved = schema.get(id);
+    match &resolved.core {
+        Core::Sequence(components) => match fields_in(last) {
+            None => Err(ValueFault::NotOfType),
+            Some(fields) => match typed_fields(
+                alloc,
+                scope,
+                schema,
+                module,
+                components.as_slice(),
+                fields,
+            ) {
+                Ok(values) => Ok(Value::Fields(values)),
+                Err(fault) => Err(fault),
+            },
+        },
+        Core::Boolean => typed_leaf(alloc, &resolved.core, last),
+        Core::Integer(_) => typed_leaf(alloc, &resolved.core, last),
+        Core::OctetString(_) => typed_leaf(alloc, &resolved.core, last),
+    }
+}

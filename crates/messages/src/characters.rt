@@ -1,0 +1,75 @@
+//! Characters and strings that a text may not hold.
+
+use std::alloc::{AllocError, Global};
+
+/// The character that begins at an octet.
+fn character_at(text: &[u8], place: usize) -> Option<char> {
+    for long in 1..5 {
+        let end = place.saturating_add(long);
+        if let Some(octets) = text.get(place..end) {
+            if let Ok(front) = std::str::from_utf8(octets) {
+                return front.chars().next();
+            }
+        }
+    }
+    None
+}
+
+/// What a character is called that is not told by itself.
+fn called(c: char) -> &'static str {
+    match c {
+        '\u{FEFF}' => ", a byte order mark",
+        '\u{A0}' => ", a no-break space",
+        '\u{2018}' | '\u{2019}' => ", a curly apostrophe",
+        '\u{201C}' | '\u{201D}' => ", a curly quote",
+        '\u{2010}' | '\u{2011}' | '\u{2012}' | '\u{2013}' | '\u{2014}' | '\u{2212}' => ", a dash",
+        _ => {
+            if c.is_control() {
+                ", a control character"
+            } else {
+                ""
+            }
+        }
+    }
+}
+
+/// A character as a message tells it: itself, where it is of ASCII and no control character, else by its code point.
+pub fn character(alloc: Global, text: &[u8], place: usize) -> Result<String, AllocError> {
+    let Some(c) = character_at(text, place) else {
+        return String::from_str(alloc, "no character");
+    };
+    if c.is_ascii() && !c.is_control() {
+        return format!(in alloc; "{c}");
+    }
+    let code = c as u32;
+    let name = called(c);
+    format!(in alloc; "U+{code:04X}{name}")
+}
+
+/// The octets of the line that goes on from a place.
+fn line_from(text: &[u8], from: usize) -> &[u8] {
+    let rest = text.get(from..).unwrap_or(&[]);
+    match rest
+        .iter()
+        .position(|octet| *octet == b'\n' || *octet == b'\r')
+    {
+        Some(end) => rest.get(..end).unwrap_or(rest),
+        None => rest,
+    }
+}
+
+/// Which mistake a string has that begins at a place with no token: a text in quotes, or digits between apostrophes.
+pub fn open_string(text: &[u8], place: usize) -> &'static str {
+    if text.get(place) == Some(&b'"') {
+        return "these quotes are not closed on their line";
+    }
+    let digits = line_from(text, place.saturating_add(1));
+    let Some(close) = digits.iter().position(|octet| *octet == b'\'') else {
+        return "this apostrophe is not closed on its line";
+    };
+    match digits.get(close.saturating_add(1)) {
+        Some(b'B') => "a text with B behind it has the digits 0 and 1 alone",
+        Some(b'H') => "a text with H behind it has the digits 0 to 9 and A to F alone",
+        _ => "neither B nor H stands behind these apostrophes",
+    }
+}

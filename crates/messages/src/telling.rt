@@ -1,0 +1,357 @@
+//! What a user is told of a fault, on one line.
+
+use crate::characters::{character, open_string};
+use crate::fault::Fault;
+use crate::front::expected;
+use crate::line::{escaped, on_one_line, shown};
+use crate::place::{line_and_column, octet_of, parts, spelling, text_number, tokens_in};
+use crate::request::Job;
+use first_path::{Construct, ValueFault};
+use notation::SyntaxFault;
+use resolve::{Limit, NameFault};
+use std::alloc::{AllocError, Global};
+use text::{LexFault, Token};
+
+/// A token as it is written.
+fn spelled_at(text: &[u8], token: Token) -> &str {
+    std::str::from_utf8(spelling(text, token)).unwrap_or("?")
+}
+
+/// The token at a place, in quotes, or that the text ends.
+fn found(alloc: Global, text: &[u8], tokens: &[Token], place: usize) -> Result<String, AllocError> {
+    let Some(token) = tokens.get(place) else {
+        return String::from_str(alloc, "found the end of the text");
+    };
+    let spelled = shown(alloc, spelled_at(text, *token))?;
+    format!(in alloc; "found '{spelled}'")
+}
+
+fn of_text(alloc: Global, text: &[u8], fault: &LexFault) -> Result<(String, String), AllocError> {
+    let (name, words) = match fault {
+        LexFault::Memory => ("1 Memory", "out of memory"),
+        LexFault::Limit(text::Limit::Text, _) => (
+            "2 Limit(Text)",
+            "the text has more than 16777216 octets",
+        ),
+        LexFault::Limit(text::Limit::Integer, _) => (
+            "2 Limit(Integer)",
+            "this number is above 2 to the 127",
+        ),
+        LexFault::NotUtf8(_) => ("10 NotUtf8", "the text is not UTF-8 here"),
+        LexFault::BadCharacter(place) => {
+            let name = String::from_str(alloc, "11 BadCharacter")?;
+            let character = character(alloc, text, *place)?;
+            let words = format!(in alloc;
+                "found {character}, which stands in comments and quotes alone"
+            )?;
+            return Ok((name, words));
+        }
+        LexFault::OpenComment(_) => ("12 OpenComment", "this comment is not closed"),
+        LexFault::OpenString(place) => ("13 OpenString", open_string(text, *place)),
+        LexFault::BadNumber(_) => (
+            "14 BadNumber",
+            "this number begins with 0, or a letter follows it",
+        ),
+        LexFault::BadName(_) => ("15 BadName", "this name ends with a hyphen"),
+    };
+    Ok((
+        String::from_str(alloc, name)?,
+        String::from_str(alloc, words)?,
+    ))
+}
+
+fn of_tree(
+    alloc: Global,
+    text: &[u8],
+    fault: &SyntaxFault,
+) -> Result<(String, String), AllocError> {
+    let tokens = tokens_in(alloc, text)?;
+    match fault {
+        SyntaxFault::Memory => Ok((
+            String::from_str(alloc, "1 Memory")?,
+            String::from_str(alloc, "out of memory")?,
+        )),
+        SyntaxFault::Limit(notation::Limit::Nesting, _) => Ok((
+            String::from_str(alloc, "2 Limit(Nesting)")?,
+            String::from_str(alloc, "more than 128 braces are open here")?,
+        )),
+        SyntaxFault::Limit(notation::Limit::Integer, _) => Ok((
+            String::from_str(alloc, "2 Limit(Integer)")?,
+            String::from_str(alloc, "numbers are at most 2 to the 127 minus 1")?,
+        )),
+        SyntaxFault::Limit(notation::Limit::TagNumber, _) => Ok((
+            String::from_str(alloc, "2 Limit(TagNumber)")?,
+            String::from_str(alloc, "numbers of tags are at most 2 to the 31 minus 1")?,
+        )),
+        SyntaxFault::OutOfProfile(place) => {
+            let told = match tokens.get(*place) {
+                Some(token) => spelled_at(text, *token),
+                None => "?",
+            };
+            let spelled = shown(alloc, told)?;
+            let name = format!(in alloc; "21 OutOfProfile {spelled}")?;
+            let words = format!(in alloc; "this compiler leaves out {spelled}")?;
+            Ok((name, words))
+        }
+        SyntaxFault::Unexpected(place) => {
+            let mut words = found(alloc, text, tokens.as_slice(), *place)?;
+            let wanted = expected(alloc, text, tokens.as_slice(), *place)?;
+            words.push_str(wanted.as_str())?;
+            Ok((String::from_str(alloc, "20 Unexpected")?, words))
+        }
+    }
+}
+
+/// The name and the words of a limit that is passed.
+fn of_limit(limit: Limit) -> (&'static str, &'static str) {
+    match limit {
+        Limit::Modules => ("2 Limit(Modules)", "more than 256 modules are linked"),
+        Limit::Types => (
+            "2 Limit(Types)",
+            "more than 4096 types are assigned, or more than 65536 are written",
+        ),
+        Limit::Values => ("2 Limit(Values)", "more than 65536 values are assigned"),
+        Limit::Members => ("2 Limit(Members)", "a list here has more than 256 members"),
+        Limit::Items => (
+            "2 Limit(Items)",
+            "an enumeration here has more than 1024 items",
+        ),
+        Limit::NamedBit => (
+            "2 Limit(NamedBit)",
+            "a named bit here stands past place 65535",
+        ),
+        Limit::Integer => ("2 Limit(Integer)", "numbers are from -2^127 to 2^127 - 1"),
+    }
+}
+
+/// The module and the name that a fault of names tells.
+fn names_in(fault: &NameFault) -> (&str, &str) {
+    match fault {
+        NameFault::Memory => ("", ""),
+        NameFault::Limit(_, module, name) | NameFault::Twice(module, name) => {
+            (module.as_str(), name.as_str())
+        }
+        NameFault::UnknownName(module, name) | NameFault::NotExported(module, name) => {
+            (module.as_str(), name.as_str())
+        }
+        NameFault::Circular(module, name) | NameFault::UnknownModule(module, name) => {
+            (module.as_str(), name.as_str())
+        }
+    }
+}
+
+fn of_names(alloc: Global, fault: &NameFault) -> Result<(String, String), AllocError> {
+    let (within, told) = names_in(fault);
+    let module = shown(alloc, within)?;
+    let name = shown(alloc, told)?;
+    let (class, words) = match fault {
+        NameFault::Memory => ("1 Memory", String::from_str(alloc, "out of memory")?),
+        NameFault::Limit(limit, _, _) => {
+            let (class, words) = of_limit(*limit);
+            (class, String::from_str(alloc, words)?)
+        }
+        NameFault::Twice(_, _) => (
+            "30 Twice",
+            format!(in alloc; "the name {name}, or its number, is given a second time here")?,
+        ),
+        NameFault::UnknownName(_, _) => (
+            "31 UnknownName",
+            format!(in alloc; "{name} has no meaning in the module {module} that it needs here")?,
+        ),
+        NameFault::NotExported(_, _) => (
+            "32 NotExported",
+            format!(in alloc; "{name} is not exported by the module that it is imported from")?,
+        ),
+        NameFault::Circular(_, _) => (
+            "33 Circular",
+            format!(in alloc; "the type {name} comes back to itself")?,
+        ),
+        NameFault::UnknownModule(_, _) => (
+            "34 UnknownModule",
+            format!(in alloc; "no text is the module {name}, from which names are imported")?,
+        ),
+    };
+    Ok((String::from_str(alloc, class)?, words))
+}
+
+/// What a construct is called.
+pub fn spelled(construct: Construct) -> &'static str {
+    match construct {
+        Construct::ImplicitTags => "IMPLICIT TAGS",
+        Construct::AutomaticTags => "AUTOMATIC TAGS",
+        Construct::NamedNumbers => "named numbers",
+        Construct::BitString => "BIT STRING",
+        Construct::Null => "NULL",
+        Construct::ObjectIdentifier => "OBJECT IDENTIFIER",
+        Construct::Enumerated => "ENUMERATED",
+        Construct::Utf8String => "UTF8String",
+        Construct::NumericString => "NumericString",
+        Construct::PrintableString => "PrintableString",
+        Construct::Ia5String => "IA5String",
+        Construct::VisibleString => "VisibleString",
+        Construct::Sequence => "SEQUENCE",
+        Construct::Set => "SET",
+        Construct::Choice => "CHOICE",
+        Construct::SequenceOf => "SEQUENCE OF",
+        Construct::SetOf => "SET OF",
+        Construct::Tag => "a tag",
+        Construct::Constraint => "a constraint",
+        Construct::Optional => "OPTIONAL",
+        Construct::Default => "DEFAULT",
+        Construct::NullValue => "the value NULL",
+        Construct::CharacterString => "a text in quotes",
+        Construct::Alternative => "the value of an alternative",
+        Construct::Numbers => "numbers in braces",
+        Construct::Items => "values in braces",
+    }
+}
+
+/// The name and the words of a construct that is left out.
+fn of_construct(
+    alloc: Global,
+    construct: Construct,
+    name: &str,
+) -> Result<(String, String), AllocError> {
+    let called = spelled(construct);
+    let name = shown(alloc, name)?;
+    let told = format!(in alloc; "21 OutOfProfile {called}")?;
+    let words = match construct {
+        Construct::Sequence => format!(in alloc;
+            "the type of a member in {name} is a SEQUENCE, which this compiler leaves out"
+        )?,
+        _ => format!(in alloc; "this compiler leaves out {called}")?,
+    };
+    Ok((told, words))
+}
+
+/// The name that a fault of a value tells.
+fn name_in(fault: &ValueFault) -> &str {
+    match fault {
+        ValueFault::Memory | ValueFault::Integer | ValueFault::NotOfType => "",
+        ValueFault::UnknownName(name) | ValueFault::Circular(name) => name.as_str(),
+        ValueFault::UnknownItem(name) | ValueFault::Missing(name) => name.as_str(),
+        ValueFault::Repeated(name) => name.as_str(),
+    }
+}
+
+fn of_value(alloc: Global, fault: &ValueFault, job: &Job) -> Result<(String, String), AllocError> {
+    let ty = shown(alloc, job.ty.as_str())?;
+    let value = shown(alloc, job.value.as_str())?;
+    let name = shown(alloc, name_in(fault))?;
+    let (class, words) = match fault {
+        ValueFault::Memory => ("1 Memory", String::from_str(alloc, "out of memory")?),
+        ValueFault::Integer => (
+            "2 Limit(Integer)",
+            String::from_str(alloc, "numbers are from -2^127 to 2^127 - 1")?,
+        ),
+        ValueFault::UnknownName(_) => (
+            "31 UnknownName",
+            format!(in alloc; "{name} is no value of its module")?,
+        ),
+        ValueFault::Circular(_) => (
+            "33 Circular",
+            format!(in alloc; "the value {name} comes back to itself")?,
+        ),
+        ValueFault::NotOfType => (
+            "60 NotOfType",
+            format!(in alloc;
+                "{value} is no value of the type {ty}: it is of another kind, or its components stand in another order"
+            )?,
+        ),
+        ValueFault::UnknownItem(_) => (
+            "62 UnknownItem",
+            format!(in alloc; "{name} is neither a component of the type {ty} nor a value")?,
+        ),
+        ValueFault::Missing(_) => (
+            "63 Missing",
+            format!(in alloc; "{value} gives no value for the component {name} of the type {ty}")?,
+        ),
+        ValueFault::Repeated(_) => (
+            "64 Repeated",
+            format!(in alloc; "the component {name} is given a value a second time here")?,
+        ),
+    };
+    Ok((String::from_str(alloc, class)?, words))
+}
+
+fn of_file(alloc: Global, name: &str, what: &str) -> Result<(String, String), AllocError> {
+    let name = escaped(alloc, name)?;
+    let words = format!(in alloc; "{name} {what}")?;
+    Ok((String::from_str(alloc, "3 File")?, words))
+}
+
+/// The name and the sentence of a fault.
+fn sentence(
+    alloc: Global,
+    job: &Job,
+    text: &[u8],
+    fault: &Fault,
+) -> Result<(String, String), AllocError> {
+    match fault {
+        Fault::Text(_, inner) => of_text(alloc, text, inner),
+        Fault::Tree(_, inner) => of_tree(alloc, text, inner),
+        Fault::Name(inner) => of_names(alloc, inner),
+        Fault::OutOfProfile(construct, _, name) => of_construct(alloc, *construct, name.as_str()),
+        Fault::Value(inner) => of_value(alloc, inner, job),
+        Fault::NoType(name) => {
+            let name = shown(alloc, name.as_str())?;
+            let words = format!(in alloc; "the module has no type {name}")?;
+            Ok((String::from_str(alloc, "31 UnknownName")?, words))
+        }
+        Fault::NoValue(name) => {
+            let name = shown(alloc, name.as_str())?;
+            let words = format!(in alloc; "the module has no value {name}")?;
+            Ok((String::from_str(alloc, "31 UnknownName")?, words))
+        }
+        Fault::TooLong => Ok((
+            String::from_str(alloc, "71 TooLong")?,
+            String::from_str(alloc, "the encoding has more than 16777216 octets")?,
+        )),
+        Fault::Memory => Ok((
+            String::from_str(alloc, "1 Memory")?,
+            String::from_str(alloc, "out of memory")?,
+        )),
+        Fault::Device => Ok((
+            String::from_str(alloc, "72 Device")?,
+            String::from_str(alloc, "the output could not be written")?,
+        )),
+        Fault::File(name) => of_file(alloc, name.as_str(), "could not be read"),
+        Fault::NoFile(name) => of_file(alloc, name.as_str(), "is missing"),
+        Fault::Folder(name) => of_file(alloc, name.as_str(), "is a folder"),
+        Fault::BadWords(words) => Ok((String::from_str(alloc, "4 BadWords")?, words.clone()?)),
+        Fault::Help(words) => Ok((String::from_str(alloc, "5 Help")?, words.clone()?)),
+    }
+}
+
+/// One line that tells a user of a fault that a job met in the texts of its files, as
+/// `error 20 Unexpected: m.asn:3:14: found '}', expected a type`. Lines and columns count from 1.
+pub fn report(
+    alloc: Global,
+    job: &Job,
+    texts: &[Vec<u8>],
+    fault: &Fault,
+) -> Result<String, AllocError> {
+    let Some(number) = text_number(alloc, texts, job, fault)? else {
+        let (name, words) = sentence(alloc, job, &[], fault)?;
+        let line = format!(in alloc; "error {name}: {words}")?;
+        return on_one_line(alloc, line.as_str());
+    };
+    let text = match texts.get(number) {
+        Some(text) => text.as_slice(),
+        None => &[],
+    };
+    let (name, words) = sentence(alloc, job, text, fault)?;
+    let file = match job.files.get(number) {
+        Some(file) => escaped(alloc, file.as_str())?,
+        None => String::from_str(alloc, "a text")?,
+    };
+    let (_, value) = parts(job.value.as_str());
+    let line = match octet_of(alloc, text, fault, value)? {
+        Some(octet) => {
+            let (line, column) = line_and_column(text, octet);
+            format!(in alloc; "error {name}: {file}:{line}:{column}: {words}")?
+        }
+        None => format!(in alloc; "error {name}: {file}: {words}")?,
+    };
+    on_one_line(alloc, line.as_str())
+}
