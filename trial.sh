@@ -438,6 +438,7 @@ command -v rt >/dev/null || refuse "the command rt of the Rattle kit is needed"
 
 work=$(mktemp -d)
 trap 'rm -rf "$work"' EXIT
+trap 'table; exit 1' INT TERM
 room=$work/room kept=$work/kept log=$work/log names_of=$work/names
 declare -A pending alone functions units
 rows=() unproved=() edits=() above=() round=() wrong=0 settled=0 took=0
