@@ -12,6 +12,7 @@ help() {
   printf '%s\n' "$usage" "" \
     "Tries the edits crates/CRATE/trial/*.edit, of all crates where none is named, and prints a table: the crate, the" \
     "edit, the function that it changes, whether the prover refused it there, and the seconds of the check it was in." \
+    "Edits of definitions are tried alone; a line 'with: CRATE' in one names the crate above whose check refuses it." \
     "The status is 1 where an edit passes, doesn't compile or can't be applied, and 2 for words that are not known." "" \
     "  --all      tries the edits of must-fail too, which rt ci tries" \
     "  --jobs N   lets a check have N jobs (1)"
@@ -438,6 +439,7 @@ command -v rt >/dev/null || refuse "the command rt of the Rattle kit is needed"
 
 work=$(mktemp -d)
 trap 'rm -rf "$work"' EXIT
+trap 'table; exit 1' INT TERM
 room=$work/room kept=$work/kept log=$work/log names_of=$work/names
 declare -A pending alone functions units
 rows=() unproved=() edits=() above=() round=() wrong=0 settled=0 took=0
