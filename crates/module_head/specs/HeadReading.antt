@@ -1,12 +1,13 @@
 -- Reading the head of a module from left to right.
-use Rattle.std.specs.Prelude.{ℕ, Bool, List, [], ◌∷◌, Option, None, Ok}
+use Rattle.std.specs.Prelude.{ℕ, Bool, List, [], ◌∷◌, map, Option, None, option_map, string_bytes, Ok}
 use Rattle.text.specs.declared.reserved.Word.TheVariants.{Explicit, Implicit, Automatic, Exports, Imports}
 use Rattle.grammar.specs.Lexeme.{Word}
 use Rattle.grammar.specs.Reading.{Reader, ◌>>=◌}
 use Rattle.trees.specs.Values.{Name}
 use Rattle.trees.specs.declared.module.TagDefault.{TagDefault}
 use Rattle.trees.specs.declared.module.TagDefault.TheVariants as defaults
-use Rattle.trees.specs.Modules.{ImportTree}
+use Rattle.trees.specs.Modules.{ImportTree, import_of}
+use Rattle.module_head.specs.declared.head.ModuleHead.{ModuleHead}
 use Rattle.module_head.specs.Heading.{HeadTree, head_of}
 use Rattle.grammar.specs.Single.{definitions_at, assign_at, begin_at, then_at}
 use Rattle.module_head.specs.HeadingReading.{default_words_at, exports_at}
@@ -43,3 +44,12 @@ module _ (fits : ℕ → Bool) where
 
   unfoldable pub head_at : Reader HeadTree
   head_at ts = exporting_at ts >>= λ h. import_list_at h.1 >>= λ i. Ok (head_of (h.0, i.0), i.1)
+
+-- the tree that a head in memory holds
+abbrev pub head_tree_of : ModuleHead → HeadTree
+head_tree_of h = record {
+  name = string_bytes h.name;
+  tag_default = h.tag_default;
+  exports = option_map (λ xs. map string_bytes xs.items) h.exports;
+  imports = map import_of h.imports.items;
+}

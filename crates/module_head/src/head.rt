@@ -1,19 +1,29 @@
-//! Reading a module's head: its name and what tags in it are by default.
+//! Reading a module's head.
 
 ghost use Rattle.std.specs.Prelude.{IfOk, string_bytes};
 ghost use Rattle.grammar.specs.Lexeme.{lexemes};
 ghost use Rattle.grammar.specs.Places.{small};
 ghost use Rattle.grammar.specs.Single.{definitions_at, assign_at, begin_at};
 ghost use Rattle.notation.specs.Given.{Gives, AreTokens};
-ghost use Rattle.module_head.specs.HeadReading.{begun_at, heading_at};
+ghost use Rattle.module_head.specs.HeadReading.{begun_at, heading_at, head_at, head_tree_of};
 
-use crate::heading::tag_default;
-use crate::importing::module_ref;
+use crate::heading::{export_list, tag_default};
+use crate::importing::{import_list, module_ref};
 use notation::ReadError;
 use std::alloc::Global;
 use text::reserved::Word;
 use text::{Mark, Token, TokenKind};
-use trees::TagDefault;
+use trees::{Import, TagDefault};
+
+/// What stands before a module's assignments (X.680, clause 13.1).
+#[derive(Drop)]
+pub struct ModuleHead {
+    pub name: String,
+    pub tag_default: TagDefault,
+    /// The names that other modules may import; all that are assigned where none are listed.
+    pub exports: Option<Vec<String>>,
+    pub imports: Vec<Import>,
+}
 
 /// The tokens behind `DEFINITIONS`.
 #[tactic(auto, unfolding(grammar::specs::Single::definitions_at))]
@@ -86,7 +96,7 @@ fn begun<'a>(text: &[u8], tokens: &'a [Token]) -> Result<(TagDefault, &'a [Token
 
 /// Reads a module's name and its default for tags, as far as `BEGIN`.
 #[tactic(auto, unfolding(crate::specs::HeadReading::heading_at))]
-pub fn heading<'a>(
+fn heading<'a>(
     alloc: Global,
     text: &[u8],
     tokens: &'a [Token],
@@ -99,4 +109,29 @@ pub fn heading<'a>(
     let rest = definitions(text, rest)?;
     let (tag_default, rest) = begun(text, rest)?;
     Ok(((name, tag_default), rest))
+}
+
+/// Reads a module's head, as far as its first assignment.
+#[tactic(auto, unfolding(crate::specs::HeadReading::head_at, crate::specs::HeadReading::exporting_at))]
+pub fn head<'a>(
+    alloc: Global,
+    text: &[u8],
+    tokens: &'a [Token],
+) -> Result<(ModuleHead, &'a [Token]), ReadError>
+    requires tokens { AreTokens text.now tokens.now }
+    ensures read { Gives (λ x. (head_tree_of x.0, lexemes text.now x.1.now)) result (head_at small (lexemes text.now tokens.now)) }
+    ensures rest { IfOk result (λ x. AreTokens text.now x.1.now) }
+{
+    let ((name, tag_default), rest) = heading(alloc, text, tokens)?;
+    let (exports, rest) = export_list(alloc, text, rest)?;
+    let (imports, rest) = import_list(alloc, text, rest)?;
+    Ok((
+        ModuleHead {
+            name,
+            tag_default,
+            exports,
+            imports,
+        },
+        rest,
+    ))
 }

@@ -12,9 +12,7 @@ ghost use Rattle.grammar.specs.Single.{end_at};
 ghost use Rattle.syntax.specs.Reading.{type_assigned_at, value_assigned_at, begins_assignment, assignment_at, assignments_at};
 ghost use Rattle.syntax.specs.ModuleReading.{module_at};
 
-use module_head::head::{assign, heading};
-use module_head::heading::export_list;
-use module_head::importing::import_list;
+use module_head::head::{assign, head};
 use notation::ReadError;
 use notation::decode::name_of;
 use notation::reading::value;
@@ -177,7 +175,7 @@ fn assignments<'a>(
 }
 
 /// Reads a module, where so many things may be open at one place.
-#[tactic(auto, unfolding(crate::specs::ModuleReading::module_at, module_head::specs::HeadReading::head_at, module_head::specs::HeadReading::exporting_at))]
+#[tactic(auto, unfolding(crate::specs::ModuleReading::module_at))]
 pub fn module<'a>(
     alloc: Global,
     text: &[u8],
@@ -188,16 +186,14 @@ pub fn module<'a>(
     ensures read { Gives (λ x. (module_tree_of x.0, lexemes text.now x.1.now)) result (module_at small depth (lexemes text.now tokens.now)) }
     ensures rest { IfOk result (λ x. AreTokens text.now x.1.now) }
 {
-    let ((name, tag_default), rest) = heading(alloc, text, tokens)?;
-    let (exports, rest) = export_list(alloc, text, rest)?;
-    let (imports, rest) = import_list(alloc, text, rest)?;
+    let (head, rest) = head(alloc, text, tokens)?;
     let (assignments, rest) = assignments(alloc, text, rest, depth)?;
     Ok((
         Module {
-            name,
-            tag_default,
-            exports,
-            imports,
+            name: head.name,
+            tag_default: head.tag_default,
+            exports: head.exports,
+            imports: head.imports,
             assignments,
         },
         rest,
