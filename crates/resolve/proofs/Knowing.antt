@@ -1,10 +1,11 @@
 -- Cores that are found one after the other.
-use Rattle.std.proofs.Common.{◌≡◌, ◌⊎◌, inl, inr, ℕ, zero, suc, ◌+◌, ◌<◌, ◌≤◌, List, [], ◌∷◌, length, Some, None, refl, sym, subst, ap, ◌∙◌, arith, set}
+use Rattle.std.proofs.Common.{◌≡◌, ◌⊎◌, inl, inr, ℕ, zero, suc, ◌+◌, ◌<◌, ◌≤◌, List, [], ◌∷◌, length, Some, None, refl, sym, subst, ap, ◌∙◌, arith, set, replicate, take, ◌++◌}
 use Rattle.std.specs.Prelude.{slice_get}
+use Rattle.std.proofs.Math.Seq.{take-append_seam}
 use Rattle.std.proofs.lemmas.Option.{slice_get_within, slice_get-get_or}
 use Rattle.resolve.specs.Cores.{IsKnown, AreKnown, AreUnknown, AreCores}
 use Rattle.resolve.specs.Table.{Type', next, onward, walk, IsCore, IsClosed, AllUnfold}
-use Rattle.resolve.proofs.Marking.{set_here, set_only}
+use Rattle.resolve.proofs.Marking.{set_here, set_only, alike}
 use Rattle.resolve.proofs.Walks.{walk_walk, ended_few}
 
 -- ---- walks
@@ -78,3 +79,11 @@ all_unfold ts cores a i l =
     let w : i < length cores = omega (arith, l, a.long) in
     let e = slice_get-get_or cores i 0 w in
     (_, (a.each i _ e).1)
+
+-- nothing is known where the number of types stands everywhere
+pub none_known : (n m : ℕ) → AreUnknown m (replicate n m)
+none_known n m i k = let q = alike n m i k.0 k.1 in absurd (omega (arith, q, k.2))
+
+-- what a list of as many numbers reads as where it is written back
+pub written_back : (n : ℕ) (new rest : List ℕ) → n ≡ length new → take n (new ++ rest) ≡ new
+written_back n new rest e = ap (λ k. take k (new ++ rest)) e ∙ take-append_seam new rest

@@ -9,7 +9,7 @@ pub mod PartKinds
 pub mod Numbered
 pub mod Marking
 pub mod Circling
-pub mod Ranking
+pub mod Rising
 pub mod Entries
 pub mod Assembling
 pub mod Halfway

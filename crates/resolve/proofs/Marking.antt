@@ -371,7 +371,7 @@ up_to ts Q s m m' m'' w w' earlier a b j n e =
       | inr q ↦ omega (arith, q)
     ]
 
-alike : (n z j k : ℕ) → slice_get (replicate n z) j ≡ Some k → k ≡ z
+pub alike : (n z j k : ℕ) → slice_get (replicate n z) j ≡ Some k → k ≡ z
 alike n z j k e =
     let within : j < n = omega (arith, slice_get_within (replicate n z) j k e, length-replicate n z) in
     sym (get_or_from_slice_get (replicate n z) j k z e) ∙ get_or-replicate n j z z within

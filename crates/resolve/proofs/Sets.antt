@@ -1,9 +1,10 @@
 -- Lists whose numbers go into a set one after the other.
 use Rattle.std.proofs.Common.{◌≡◌, ◌⊎◌, inl, inr, ℕ, zero, suc, ◌+◌, ◌<◌, Bool, true, false, cond, List, [], ◌∷◌, ◌++◌, length, map, drop, get_or, Some, refl, sym, subst, ap, ◌∙◌}
-use Rattle.std.specs.Prelude.{slice_get, Ordering, ℤ}
+use Rattle.std.specs.Prelude.{slice_get, ℤ, ◌<ℤ◌}
 use Rattle.std.specs.Cmp.{IsTotalOrder}
 use Rattle.std.specs.List.{list_any}
 use Rattle.std.specs.Ordering.{is_eq, MatchOrdering, nat_cmp, int_cmp}
+use Rattle.std.specs.declared.cmp.Ordering.{Ordering}
 use Rattle.std.specs.declared.cmp.Ordering.TheVariants.{Less, Equal, Greater}
 use Rattle.std.proofs.lemmas.Bool.{cases_Bool}
 use Rattle.std.proofs.lemmas.Cmp.{ranked, int_ranked, tied_itself, nat_cmp_total, int_cmp_total}
@@ -11,20 +12,20 @@ use Rattle.std.proofs.lemmas.Map.Keys.{any_passes_from_place}
 use Rattle.resolve.specs.Modules.{StandsIn, StandsTwice, AreDistinct}
 use Rattle.resolve.specs.Sets.{Puts}
 use Rattle.resolve.proofs.Halfway.{Halfway, halfway_start, halfway_step, halfway_twice, halfway_here, halfway_distinct, halfway_each, turn, any_here}
-use Rattle.resolve.proofs.Once.{stands_left, stands_right, stands_either, stands_one}
+use Rattle.resolve.proofs.Distinct.{stands_left, stands_right, stands_either, stands_one}
 
 -- ---- one number more
 
-equal_by : {P Q R : Type 0} (o : Ordering) → is_eq o ≡ true → MatchOrdering o P Q R → Q
-equal_by Less e m = absurd cc
-equal_by Equal e m = m
-equal_by Greater e m = absurd cc
+equal_by : (P Q R : Type 0) (o : Ordering) → is_eq o ≡ true → MatchOrdering o P Q R → Q
+equal_by P Q R Less e m = absurd cc
+equal_by P Q R Equal e m = m
+equal_by P Q R Greater e m = absurd cc
 
 pub nat_exact : (x y : ℕ) → is_eq (nat_cmp x y) ≡ true → x ≡ y
-nat_exact x y e = equal_by (nat_cmp x y) e (ranked x y (nat_cmp x y) refl)
+nat_exact x y e = equal_by (x < y) (x ≡ y) (y < x) (nat_cmp x y) e (ranked x y (nat_cmp x y) refl)
 
 pub int_exact : (x y : ℤ) → is_eq (int_cmp x y) ≡ true → x ≡ y
-int_exact x y e = equal_by (int_cmp x y) e (int_ranked x y (int_cmp x y) refl)
+int_exact x y e = equal_by (x <ℤ y) (x ≡ y) (y <ℤ x) (int_cmp x y) e (int_ranked x y (int_cmp x y) refl)
 
 pub itself : {A : Type 0} {cmp : A → A → Ordering} → IsTotalOrder cmp → (x y : A) → x ≡ y → is_eq (cmp x y) ≡ true
 itself {cmp = cmp} o x y e = ap (λ z. is_eq (cmp x z)) (sym e) ∙ ap is_eq (tied_itself o x)

@@ -1,21 +1,28 @@
 //! Components with a DEFAULT whose types lead back to the lists that hold them.
 
-ghost use Rattle.std.specs.Prelude.{ℕ, ◌≡◌, ◌<◌, ◌+◌, ◌↔◌, length, slice_get, map, Some, None, IfOk, IfErr, OnOk, IsTrue, MatchOption};
+ghost use Rattle.std.specs.Prelude.{ℕ, ◌≡◌, ◌<◌, ◌+◌, ◌↔◌, length, slice_get, slice_index, map, Some, None, IfOk, IfErr, OnOk, IsTrue, MatchOption};
 ghost use Rattle.resolve.specs.declared.table.Assignment.{Assignment};
 ghost use Rattle.resolve.specs.Program.{Program};
-ghost use Rattle.resolve.specs.Seen.{types_of, header_of, assignment_of};
+ghost use Rattle.resolve.specs.Seen.{types_of, header_of, assignment_of, part_of};
 ghost use Rattle.resolve.specs.Table.{Type', IsClosed, HasMembers, HasElements};
 ghost use Rattle.resolve.specs.Sound.{IsDefaultCircle, NoDefaultCircles};
 ghost use Rattle.resolve.specs.SoundFaults.{IsSoundFault};
-ghost use Rattle.resolve.specs.Ranks.{Rise};
+ghost use Rattle.resolve.specs.Ranks.{Rise, DefaultsAbove};
 ghost use Rattle.resolve.specs.Reach.{HasParts, AreUpTo};
 
 use crate::fault::NameFault;
 use crate::ranking::ranks_of;
 use crate::ranks::{all_rise, defaults_rise, rank_at};
 use crate::reach::lead_to;
-use crate::table::{Assignment, Header, Shape, Written};
+use crate::table::{Assignment, Component, Header, Shape, Written};
 use std::alloc::{AllocError, Global};
+
+/// Whether ranks rise, and the components of a list with a DEFAULT have types of higher ranks than the list.
+fn is_above(ranks: &[usize], rise: bool, list: usize, components: &[Component]) -> bool
+    ensures { IsTrue result → IsTrue rise × DefaultsAbove (slice_index ranks.now list) ranks.now (map part_of components.now) }
+{
+    rise && defaults_rise(components, rank_at(ranks, list), ranks)
+}
 
 /// Whether a type is a list that its own components with a DEFAULT lead back to. Where ranks rise and those components have
 /// higher ones, they don't; what they lead to is searched for the list otherwise.
@@ -37,7 +44,7 @@ fn is_in_circle(
 {
     match &types[list].shape {
         Shape::Members(_, components) => {
-            if rise && defaults_rise(components, rank_at(ranks, list), ranks) {
+            if is_above(ranks, rise, list, components) {
                 return Ok(false);
             }
             let back = lead_to(alloc, types, components, list, list + 1, marks)?;
@@ -74,10 +81,11 @@ fn circle_of(alloc: Global, types: &[Written]) -> Result<Option<usize>, AllocErr
     requires { HasParts (types_of types.now) }
     ensures { IfOk result (λ o. MatchOption o (NoDefaultCircles (types_of types.now)) (λ i. (i < length types.now) × IsDefaultCircle (types_of types.now) i)) }
 {
-    let ranks = ranks_of(alloc, types)?;
-    let rise = all_rise(types, &ranks);
+    let numbers = ranks_of(alloc, types)?;
+    let ranks = numbers.as_slice();
+    let rise = all_rise(types, ranks);
     let mut marks = vec![in alloc; 0; types.len()]?;
-    let circle = first_circle(alloc, types, &ranks, rise, &mut marks)?;
+    let circle = first_circle(alloc, types, ranks, rise, &mut marks)?;
     Ok(circle)
 }
 

@@ -191,7 +191,8 @@ impl Linked {
             Ok(types) => types,
             Err(fault) => return Err(fault),
         };
-        let mut cores = vec![in alloc; types.len(); types.len()]?;
+        let count = types.len();
+        let mut cores = vec![in alloc; count; count]?;
         match unfold_all(&types, &mut cores) {
             Ok(()) => Ok(Linked {
                 names,

@@ -1,7 +1,8 @@
 //! Tests of ranks: they don't fall from a type to its parts, and rise at components with a DEFAULT.
 
-ghost use Rattle.std.specs.Prelude.{ℕ, ◌≡◌, ◌∷◌, [], length, map, slice_get, slice_index, IsTrue};
+ghost use Rattle.std.specs.Prelude.{ℕ, ◌≡◌, ◌<◌, ◌≤◌, ◌∷◌, [], Some, length, map, slice_get, slice_index, IsTrue};
 ghost use Rattle.resolve.specs.Ranks.{parts, AreFrom, Rise, DefaultsAbove};
+ghost use Rattle.resolve.specs.Reach.{HasDefault};
 ghost use Rattle.resolve.specs.Seen.{part_of, type_of, types_of};
 
 use crate::reach::has_default;
@@ -57,18 +58,23 @@ fn part_count(written: &Written) -> usize
     }
 }
 
+/// Whether the part at a place, if there is one, has no lower rank than this one.
+fn rises(written: &Written, number: usize, rank: usize, ranks: &[usize]) -> bool
+    ensures { IsTrue result → (j : ℕ) → slice_get (parts (type_of written.now).kind) number ≡ Some j → rank ≤ slice_index ranks.now j }
+{
+    match part(written, number) {
+        None => true,
+        Some(ty) => rank <= rank_at(ranks, ty),
+    }
+}
+
 /// Whether no part of a type has a lower rank than this one.
 fn parts_rise(written: &Written, rank: usize, ranks: &[usize]) -> bool
     ensures { IsTrue result → AreFrom rank ranks.now (type_of written.now).kind }
 {
     for number in 0..part_count(written) {
-        match part(written, number) {
-            None => {}
-            Some(ty) => {
-                if rank_at(ranks, ty) < rank {
-                    return false;
-                }
-            }
+        if !rises(written, number, rank, ranks) {
+            return false;
         }
     }
     true
@@ -86,12 +92,22 @@ pub(crate) fn all_rise(types: &[Written], ranks: &[usize]) -> bool
     true
 }
 
+/// Whether a component has no DEFAULT, or its type has a higher rank than this one.
+fn default_rises(component: &Component, rank: usize, ranks: &[usize]) -> bool
+    ensures { IsTrue result → HasDefault (part_of component.now) → rank < slice_index ranks.now component.now.ty }
+{
+    if has_default(component) {
+        return rank < rank_at(ranks, component.ty);
+    }
+    true
+}
+
 /// Whether the type of each component with a DEFAULT has a higher rank than this one.
 pub(crate) fn defaults_rise(components: &[Component], rank: usize, ranks: &[usize]) -> bool
     ensures { IsTrue result → DefaultsAbove rank ranks.now (map part_of components.now) }
 {
     for component in components {
-        if has_default(component) && rank_at(ranks, component.ty) <= rank {
+        if !default_rises(component, rank, ranks) {
             return false;
         }
     }
