@@ -27,10 +27,12 @@ pub invariant_of-result : goal.invariant_of-result
 invariant_of-result c =
     let all = subst (λ h. AreNumbered c.args.names (map header_of h) (map assignment_of c.args.assignments.items) (sources_of c.args.roots.items) (types_of c.in-Ok.types.items)) c.deref.ensures.value
     (subst (λ g. AreNumbered c.args.names (map header_of c.deref.result.now) (map assignment_of g) (sources_of c.args.roots.items) (types_of c.in-Ok.types.items)) c.deref-2.ensures.value c.in-Ok.ensures.ok) in
-    let cores = subst (λ l. AreCores (types_of l) c.unfold_all.new.cores) c.deref-3.ensures.value c.in-Ok-unfold_all.ensures in (
+    let cores = subst (λ l. AreCores (types_of l) c.unfold_all.new.cores) c.deref-3.ensures.value c.in-Ok-unfold_all.ensures in
+    let many : c.in_ok-cores.cores.len ≡ length c.unfold_all.new.cores = omega (arith, c.in_ok-cores.cores.ok.0, c.unfold_all.auto.cores, ap length c.deref_mut.ensures.value) in
+    let back = written_back c.in_ok-cores.cores.len c.unfold_all.new.cores (drop (length c.unfold_all.new.cores) c.in_ok-cores.cores.items) many in (
       whole c.args.names c.args.headers.items c.args.assignments.items c.args.roots.items c.args.values.items (types_of c.in-Ok.types.items) all c.requires.named c.requires.unplaced c.requires.placed c.requires.valued
           (all_unfold (types_of c.in-Ok.types.items) c.unfold_all.new.cores cores),
-      cores,
+      subst (λ l. AreCores (types_of c.in-Ok.types.items) l) (sym back) cores,
     )
 
 pub index-assignment-requires : goal.index-assignment-requires
