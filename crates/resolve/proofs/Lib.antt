@@ -1,5 +1,6 @@
 pub mod Walks
 pub mod Tables
+pub mod Knowing
 pub mod Meanings
 pub mod Trees
 pub mod Sources
@@ -8,9 +9,11 @@ pub mod PartKinds
 pub mod Numbered
 pub mod Marking
 pub mod Circling
+pub mod Rising
 pub mod Entries
 pub mod Assembling
 pub mod Halfway
+pub mod Sets
 pub mod ListFaults
 pub mod Sounds
 pub mod Exclusion

@@ -10,9 +10,11 @@ use Rattle.resolve.specs.Modules.{StandsIn, StandsTwice}
 use Rattle.resolve.specs.Sound.{signed, given_numbers, IsSoundKind}
 use Rattle.resolve.specs.SoundFaults.{IsTwiceIn, HasFarBit, HasGreatNumber}
 use Rattle.resolve.specs.Faults.{IsTaken}
-use Rattle.resolve.specs.Soundness.{AddsGiven, IsNumberFault, IsPlaceFault, IsItemFault, IsKindFault}
+use Rattle.resolve.specs.Sets.{PutsGiven}
+use Rattle.resolve.specs.Soundness.{IsNumberFault, IsPlaceFault, IsItemFault, IsKindFault}
 use Rattle.resolve.specs.Table.{Kind, simple, an_integer, a_bit_string, an_enumerated}
-use Rattle.resolve.proofs.Halfway.{Halfway, halfway_step, halfway_twice, halfway_here, map_get}
+use Rattle.resolve.proofs.Halfway.{Halfway, halfway_twice, map_get}
+use Rattle.resolve.proofs.Sets.{HalfwayBy, by_step, by_twice, by_here}
 
 -- what a check of the list of this kind answers
 abbrev pub Tells : Name → Name → Kind → Result (Unit {0}) NameFault → Type 0
@@ -28,31 +30,31 @@ names_fault M a k P xs done rest x (faults.Circular m y) f h u = absurd u
 names_fault M a k P xs done rest x (faults.UnknownModule m y) f h u = absurd u
 
 pub numbers_fault : (M a x : Name) (k : Kind) (zs done rest : List ℤ) (z : ℤ) (e : NameFault) → ((y : Name) → y ≡ x → StandsTwice zs z → IsTwiceIn k y) → (StandsIn zs z → (IsWithinLimit z → ⊥) → HasGreatNumber k) →
-    Halfway IsWithinLimit zs done (z ∷ rest) → IsNumberFault M a x z done e → IsKindFault M a k e
+    HalfwayBy IsWithinLimit zs done (z ∷ rest) → IsNumberFault M a x z done e → IsKindFault M a k e
 numbers_fault M a x k zs done rest z faults.Memory f g h u = tt
-numbers_fault M a x k zs done rest z (faults.Twice m y) f g h u = (u.0, f (string_bytes y) u.1 (halfway_twice IsWithinLimit zs done rest z h u.2))
+numbers_fault M a x k zs done rest z (faults.Twice m y) f g h u = (u.0, f (string_bytes y) u.1 (by_twice IsWithinLimit zs done rest z h u.2))
 numbers_fault M a x k zs done rest z (faults.Limit limits.Modules m y) f g h u = absurd u
 numbers_fault M a x k zs done rest z (faults.Limit limits.Types m y) f g h u = absurd u
 numbers_fault M a x k zs done rest z (faults.Limit limits.Values m y) f g h u = absurd u
 numbers_fault M a x k zs done rest z (faults.Limit limits.Members m y) f g h u = absurd u
 numbers_fault M a x k zs done rest z (faults.Limit limits.Items m y) f g h u = absurd u
 numbers_fault M a x k zs done rest z (faults.Limit limits.NamedBit m y) f g h u = absurd u
-numbers_fault M a x k zs done rest z (faults.Limit limits.Integer m y) f g h u = (u.0, u.1, g (halfway_here IsWithinLimit zs done rest z h) u.2)
+numbers_fault M a x k zs done rest z (faults.Limit limits.Integer m y) f g h u = (u.0, u.1, g (by_here IsWithinLimit zs done rest z h) u.2)
 numbers_fault M a x k zs done rest z (faults.UnknownName m y) f g h u = absurd u
 numbers_fault M a x k zs done rest z (faults.NotExported m y) f g h u = absurd u
 numbers_fault M a x k zs done rest z (faults.Circular m y) f g h u = absurd u
 numbers_fault M a x k zs done rest z (faults.UnknownModule m y) f g h u = absurd u
 
 pub places_fault : (M a x : Name) (k : Kind) (ns done rest : List ℕ) (n : ℕ) (e : NameFault) → ((y : Name) → y ≡ x → StandsTwice ns n → IsTwiceIn k y) → (StandsIn ns n → 65535 < n → HasFarBit k) →
-    Halfway (λ p. p ≤ 65535) ns done (n ∷ rest) → IsPlaceFault M a x n done e → IsKindFault M a k e
+    HalfwayBy (λ p. p ≤ 65535) ns done (n ∷ rest) → IsPlaceFault M a x n done e → IsKindFault M a k e
 places_fault M a x k ns done rest n faults.Memory f g h u = tt
-places_fault M a x k ns done rest n (faults.Twice m y) f g h u = (u.0, f (string_bytes y) u.1 (halfway_twice (λ p. p ≤ 65535) ns done rest n h u.2))
+places_fault M a x k ns done rest n (faults.Twice m y) f g h u = (u.0, f (string_bytes y) u.1 (by_twice (λ p. p ≤ 65535) ns done rest n h u.2))
 places_fault M a x k ns done rest n (faults.Limit limits.Modules m y) f g h u = absurd u
 places_fault M a x k ns done rest n (faults.Limit limits.Types m y) f g h u = absurd u
 places_fault M a x k ns done rest n (faults.Limit limits.Values m y) f g h u = absurd u
 places_fault M a x k ns done rest n (faults.Limit limits.Members m y) f g h u = absurd u
 places_fault M a x k ns done rest n (faults.Limit limits.Items m y) f g h u = absurd u
-places_fault M a x k ns done rest n (faults.Limit limits.NamedBit m y) f g h u = (u.0, u.1, g (halfway_here (λ p. p ≤ 65535) ns done rest n h) u.2)
+places_fault M a x k ns done rest n (faults.Limit limits.NamedBit m y) f g h u = (u.0, u.1, g (by_here (λ p. p ≤ 65535) ns done rest n h) u.2)
 places_fault M a x k ns done rest n (faults.Limit limits.Integer m y) f g h u = absurd u
 places_fault M a x k ns done rest n (faults.UnknownName m y) f g h u = absurd u
 places_fault M a x k ns done rest n (faults.NotExported m y) f g h u = absurd u
@@ -62,7 +64,7 @@ places_fault M a x k ns done rest n (faults.UnknownModule m y) f g h u = absurd 
 -- ---- the lists of INTEGER, BIT STRING and ENUMERATED
 
 pub integer_fault : (M a x : Name) (ns : List (Name × (Bool × ℕ))) (i : ℕ) (n : Name × (Bool × ℕ)) (done rest : List ℤ) (e : NameFault) → slice_get ns i ≡ Some n → x ≡ n.0 →
-    Halfway IsWithinLimit (map (λ n. signed n.1) ns) done (signed n.1 ∷ rest) → IsNumberFault M a x (signed n.1) done e → IsKindFault M a (simple (an_integer ns)) e
+    HalfwayBy IsWithinLimit (map (λ n. signed n.1) ns) done (signed n.1 ∷ rest) → IsNumberFault M a x (signed n.1) done e → IsKindFault M a (simple (an_integer ns)) e
 integer_fault M a x ns i n done rest e there q h u =
     numbers_fault M a x (simple (an_integer ns)) (map (λ n. signed n.1) ns) done rest (signed n.1) e
     (λ y r t. inr (record {
@@ -73,14 +75,14 @@ integer_fault M a x ns i n done rest e there q h u =
     (λ s w. (signed n.1, s, w)) h u
 
 pub bit_fault : (M a x : Name) (bs : List (Name × ℕ)) (i : ℕ) (b : Name × ℕ) (done rest : List ℕ) (e : NameFault) → slice_get bs i ≡ Some b → x ≡ b.0 →
-    Halfway (λ p. p ≤ 65535) (map (λ b. b.1) bs) done (b.1 ∷ rest) → IsPlaceFault M a x b.1 done e → IsKindFault M a (simple (a_bit_string bs)) e
+    HalfwayBy (λ p. p ≤ 65535) (map (λ b. b.1) bs) done (b.1 ∷ rest) → IsPlaceFault M a x b.1 done e → IsKindFault M a (simple (a_bit_string bs)) e
 bit_fault M a x bs i b done rest e there q h u =
     places_fault M a x (simple (a_bit_string bs)) (map (λ b. b.1) bs) done rest b.1 e
     (λ y r t. inr (record { number = b.1; twice = t; has = (i, there ∙ ap (λ z. Some (z, b.1)) (sym (r ∙ q))) }))
     (λ s w. (b.1, s, w)) h u
 
 pub item_fault : (M a x : Name) (is : List (Name × Option (Bool × ℕ))) (i : ℕ) (y : Name) (o : Option (Bool × ℕ)) (done : List ℤ) (more : List (Name × Option (Bool × ℕ))) (e : NameFault) → slice_get is i ≡ Some (y, o) → x ≡ y →
-    Halfway IsWithinLimit (given_numbers is) done (given_numbers ((y, o) ∷ more)) → IsItemFault M a x o done e → IsKindFault M a (simple (an_enumerated is)) e
+    HalfwayBy IsWithinLimit (given_numbers is) done (given_numbers ((y, o) ∷ more)) → IsItemFault M a x o done e → IsKindFault M a (simple (an_enumerated is)) e
 item_fault M a x is i y None done more e there q h u = absurd u
 item_fault M a x is i y (Some n) done more e there q h u =
     numbers_fault M a x (simple (an_enumerated is)) (given_numbers is) done (given_numbers more) (signed n) e
@@ -88,6 +90,6 @@ item_fault M a x is i y (Some n) done more e there q h u =
     (λ s w. (signed n, s, w)) h u
 
 pub item_step : (is : List (Name × Option (Bool × ℕ))) (y : Name) (o : Option (Bool × ℕ)) (done new : List ℤ) (more : List (Name × Option (Bool × ℕ))) →
-    Halfway IsWithinLimit (given_numbers is) done (given_numbers ((y, o) ∷ more)) → AddsGiven done o new → Halfway IsWithinLimit (given_numbers is) new (given_numbers more)
-item_step is y None done new more h a = subst (λ d. Halfway IsWithinLimit (given_numbers is) d (given_numbers more)) (sym a) h
-item_step is y (Some n) done new more h a = halfway_step IsWithinLimit (given_numbers is) done (given_numbers more) new (signed n) h a.0 a.1 a.2
+    HalfwayBy IsWithinLimit (given_numbers is) done (given_numbers ((y, o) ∷ more)) → PutsGiven done o new → HalfwayBy IsWithinLimit (given_numbers is) new (given_numbers more)
+item_step is y None done new more h a = subst (λ d. HalfwayBy IsWithinLimit (given_numbers is) d (given_numbers more)) (sym a) h
+item_step is y (Some n) done new more h a = by_step IsWithinLimit (given_numbers is) done (given_numbers more) new (signed n) h a.0 a.1 a.2

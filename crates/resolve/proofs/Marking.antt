@@ -18,19 +18,19 @@ use Rattle.resolve.specs.Reach.{HasDefault, IsDefaulted, LeadsTo, IsMarked, AreU
 
 -- ---- lists
 
-set_kept : (xs : List ℕ) (i j s : ℕ) → slice_get xs j ≡ Some s → slice_get (set xs i s) j ≡ Some s
+pub set_kept : (xs : List ℕ) (i j s : ℕ) → slice_get xs j ≡ Some s → slice_get (set xs i s) j ≡ Some s
 set_kept [] i j s e = absurd cc
 set_kept (x ∷ xs) zero zero s e = refl
 set_kept (x ∷ xs) zero (suc j) s e = e
 set_kept (x ∷ xs) (suc i) zero s e = e
 set_kept (x ∷ xs) (suc i) (suc j) s e = set_kept xs i j s e
 
-set_here : (xs : List ℕ) (i s : ℕ) → i < length xs → slice_get (set xs i s) i ≡ Some s
+pub set_here : (xs : List ℕ) (i s : ℕ) → i < length xs → slice_get (set xs i s) i ≡ Some s
 set_here [] i s l = absurd (omega arith)
 set_here (x ∷ xs) zero s l = refl
 set_here (x ∷ xs) (suc i) s l = set_here xs i s (omega arith)
 
-set_only : (xs : List ℕ) (i j s n : ℕ) → slice_get (set xs i s) j ≡ Some n → slice_get xs j ≡ Some n ⊎ ((j ≡ i) × (n ≡ s))
+pub set_only : (xs : List ℕ) (i j s n : ℕ) → slice_get (set xs i s) j ≡ Some n → slice_get xs j ≡ Some n ⊎ ((j ≡ i) × (n ≡ s))
 set_only [] i j s n e = inl e
 set_only (x ∷ xs) zero zero s n e = let q : s ≡ n = cc in inr (refl, sym q)
 set_only (x ∷ xs) zero (suc j) s n e = inl e
@@ -371,7 +371,7 @@ up_to ts Q s m m' m'' w w' earlier a b j n e =
       | inr q ↦ omega (arith, q)
     ]
 
-alike : (n z j k : ℕ) → slice_get (replicate n z) j ≡ Some k → k ≡ z
+pub alike : (n z j k : ℕ) → slice_get (replicate n z) j ≡ Some k → k ≡ z
 alike n z j k e =
     let within : j < n = omega (arith, slice_get_within (replicate n z) j k e, length-replicate n z) in
     sym (get_or_from_slice_get (replicate n z) j k z e) ∙ get_or-replicate n j z z within

@@ -122,6 +122,21 @@ comes_back ts i p c l e =
       | inr r ↦ circular ts (length ts) i p e r
     ]
 
+-- what ends doesn't come back
+ends_once : (ts : List Type') (c : ℕ) → next ts c ≡ None → IsCircular ts c → ⊥
+ends_once ts c f v =
+    let e : onward (next ts c) (λ j. walk ts v.steps j) ≡ None = ap (λ o. onward o (λ j. walk ts v.steps j)) f in
+    let g = sym e ∙ v.back in
+    absurd cc
+
+-- a walk that ends has fewer steps than there are types
+pub ended_few : (ts : List Type') (k i c : ℕ) → IsClosed ts → i < length ts → walk ts k i ≡ Some c → next ts c ≡ None → k < length ts
+ended_few ts k i c closed l e f =
+    elim (repeats ts k i) [
+      | inl d ↦ omega (arith, length_visited ts k i c e, length-le_from_distinct_below (visited ts k i) (length ts) d (λ q h. below ts (meets ts k i q h).steps i q closed l (meets ts k i q h).leads))
+      | inr r ↦ absurd (ends_once ts c f (circular ts k i c e r))
+    ]
+
 -- one step more
 pub one_more : (ts : List Type') (k i at j : ℕ) → walk ts k i ≡ Some at → next ts at ≡ Some j → walk ts (k + 1) i ≡ Some j
 one_more ts k i at j e f = walk_walk ts k 1 i at e ∙ ap (λ o. onward o (λ q. Some q)) f

@@ -1,6 +1,7 @@
 pub mod Names
 pub mod Listed
 pub mod Table
+pub mod Cores
 pub mod Program
 pub mod Numbering
 pub mod Faults
@@ -13,7 +14,9 @@ pub mod Codes
 pub mod Modules
 pub mod Sound
 pub mod Reach
+pub mod Ranks
 pub mod SoundFaults
 pub mod Soundness
+pub mod Sets
 pub mod Links
 pub mod Gathered

@@ -13,6 +13,8 @@ mod lists;
 pub mod names;
 pub mod number;
 mod qualified;
+mod ranking;
+mod ranks;
 mod reach;
 mod sound;
 mod standing;
@@ -20,7 +22,7 @@ pub mod table;
 pub mod unfolding;
 
 pub use fault::{Limit, NameFault};
-pub use linked::{Found, Linked};
+pub use linked::{Found, Home, Linked};
 pub use linking::link;
 pub use names::{Assigned, Names, Scope};
 pub use sound::faults_exclude_sound;

@@ -14,7 +14,8 @@ ghost use Rattle.resolve.specs.Faults.{IsTableFault};
 ghost use Rattle.resolve.specs.Program.{IsGiven, IsWhole};
 ghost use Rattle.resolve.specs.Sound.{IsSound};
 ghost use Rattle.resolve.specs.SoundFaults.{IsSoundFault};
-ghost use Rattle.resolve.specs.Table.{IsLinked};
+ghost use Rattle.resolve.specs.Sound.{IsAssignment};
+ghost use Rattle.resolve.specs.Table.{Type', IsCore, IsLinked};
 
 use crate::circles::no_default_circles;
 use crate::fault::NameFault;
@@ -24,10 +25,10 @@ use crate::sound::{sound_lists, sound_names};
 use crate::table::{Assignment, Header, ValueAt, Written};
 use crate::unfolding::unfold_all;
 use asn_base::schema::TypeId;
-use trees::ValueSyntax;
 use std::alloc::Global;
 use std::collections::VecDeque;
 use std::marker::Model;
+use trees::ValueSyntax;
 
 /// What a name stands for.
 #[derive(Debug, Drop)]
@@ -38,6 +39,13 @@ pub enum Found<'a> {
     ValueNamed(&'a ValueSyntax),
 }
 
+/// Where a type is written: its module and the assignment that it stands in, by their names.
+#[derive(Clone, Copy, Debug, Drop)]
+pub struct Home<'a> {
+    pub module: &'a str,
+    pub name: &'a str,
+}
+
 /// Modules whose names have their meanings and whose types unfold.
 #[derive(Drop)]
 pub struct Linked {
@@ -46,6 +54,8 @@ pub struct Linked {
     assignments: Vec<Assignment>,
     types: Vec<Written>,
     values: Vec<ValueAt>,
+    /// The core of each type.
+    cores: Vec<usize>,
 }
 
 impl Model for Linked {
@@ -63,8 +73,9 @@ impl Model for Linked {
     ghost view = { λ l. record { modules = l.names; headers = map header_of l.headers.items; assignments = map assignment_of l.assignments.items; types = types_of l.types.items; values = map value_of l.values.items } };
 
     ghost use Rattle.resolve.specs.Program.{IsWhole};
+    ghost use Rattle.resolve.specs.Cores.{AreCores};
 
-    ghost invariant = { λ l. IsWhole (record { modules = l.names; headers = map header_of l.headers.items; assignments = map assignment_of l.assignments.items; types = types_of l.types.items; values = map value_of l.values.items }) };
+    ghost invariant = { λ l. IsWhole (record { modules = l.names; headers = map header_of l.headers.items; assignments = map assignment_of l.assignments.items; types = types_of l.types.items; values = map value_of l.values.items }) × AreCores (types_of l.types.items) l.cores.items };
 }
 
 impl Linked {
@@ -100,6 +111,31 @@ impl Linked {
         ensures { IsWhole self.now }
     {
         let _types = &self.types;
+    }
+
+    /// The type behind all references and tags that a type is: itself, where it is neither. All cores are found once, in time
+    /// that grows with the number of types.
+    pub fn core(&self, ty: TypeId) -> TypeId
+        requires { ty.index < length self.now.types }
+        ensures core { IsCore self.now.types ty.index result.index }
+        ensures there { result.index < length self.now.types }
+    {
+        TypeId {
+            index: self.cores[ty.index],
+        }
+    }
+
+    /// Where a type is written.
+    pub fn home(&self, ty: TypeId) -> Home<'_>
+        requires { ty.index < length self.now.types }
+        ensures { (t : Type') → slice_get self.now.types ty.index ≡ Some t → IsAssignment self.now t.assignment result.module.now result.name.now }
+    {
+        let assignment = &self.assignments[self.types[ty.index].assignment];
+        let header = &self.headers[assignment.module];
+        Home {
+            module: header.name.as_str(),
+            name: assignment.name.as_str(),
+        }
     }
 
     /// The modules, in order.
@@ -155,13 +191,16 @@ impl Linked {
             Ok(types) => types,
             Err(fault) => return Err(fault),
         };
-        match unfold_all(&types) {
+        let count = types.len();
+        let mut cores = vec![in alloc; count; count]?;
+        match unfold_all(&types, &mut cores) {
             Ok(()) => Ok(Linked {
                 names,
                 headers,
                 assignments,
                 types,
                 values,
+                cores,
             }),
             Err(circular) => {
                 let assignment = &assignments[types[circular].assignment];

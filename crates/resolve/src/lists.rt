@@ -6,14 +6,16 @@ ghost use Rattle.trees.specs.Types.{number_of, bit_of, item_of};
 ghost use Rattle.resolve.specs.Faults.{IsTaken};
 ghost use Rattle.resolve.specs.Modules.{StandsIn};
 ghost use Rattle.resolve.specs.Seen.{part_of, plain_of, kind_of};
+ghost use Rattle.resolve.specs.Sets.{Puts, PutsGiven};
 ghost use Rattle.resolve.specs.Sound.{signed, IsSoundPlain, IsSoundKind};
-ghost use Rattle.resolve.specs.Soundness.{texts, AddsGiven, IsNumberFault, IsPlaceFault, IsItemFault, IsKindFault};
+ghost use Rattle.resolve.specs.Soundness.{texts, IsNumberFault, IsPlaceFault, IsItemFault, IsKindFault};
 ghost use Rattle.resolve.specs.Table.{simple, an_integer, a_bit_string, an_enumerated, members as list_of};
 
 use crate::fault::{Limit, NameFault};
 use crate::table::{Component, ListKind, Shape, Simple};
 use indexmap::IndexSet;
 use std::alloc::Global;
+use std::collections::BTreeSet;
 use trees::{EnumeratedItem, NamedBit, NamedNumber};
 
 /// A number with its sign, where it is within the limit.
@@ -63,9 +65,9 @@ fn number_once(
     assigns: &str,
     name: &str,
     told: (bool, u128),
-    numbers: &mut IndexSet<i128>,
+    numbers: &mut BTreeSet<i128>,
 ) -> Result<(), NameFault>
-    ensures added { OnOk result (numbers.new.keys ≡ numbers.old.keys ++ signed told ∷ []) }
+    ensures added { OnOk result (Puts numbers.old.keys numbers.new.keys (signed told)) }
     ensures fresh { OnOk result (StandsIn numbers.old.keys (signed told) → ⊥) }
     ensures limit { OnOk result (IsWithinLimit (signed told)) }
     ensures fault { IfErr result (IsNumberFault within.now assigns.now name.now (signed told) numbers.old.keys) }
@@ -96,9 +98,9 @@ fn place_once(
     assigns: &str,
     name: &str,
     place: u128,
-    places: &mut IndexSet<u128>,
+    places: &mut BTreeSet<u128>,
 ) -> Result<(), NameFault>
-    ensures added { OnOk result (places.new.keys ≡ places.old.keys ++ place ∷ []) }
+    ensures added { OnOk result (Puts places.old.keys places.new.keys place) }
     ensures fresh { OnOk result (StandsIn places.old.keys place → ⊥) }
     ensures limit { OnOk result (place ≤ 65535) }
     ensures fault { IfErr result (IsPlaceFault within.now assigns.now name.now place places.old.keys) }
@@ -130,7 +132,7 @@ fn named_numbers(
     ensures { MatchResult result (λ _. IsSoundPlain (an_integer (map number_of given.now))) (IsKindFault within.now assigns.now (simple (an_integer (map number_of given.now)))) }
 {
     let mut names = IndexSet::new(alloc);
-    let mut numbers = IndexSet::new(alloc);
+    let mut numbers = BTreeSet::new(alloc);
     for item in given {
         let name = item.name.as_str();
         name_once(alloc, within, name, &mut names)?;
@@ -156,7 +158,7 @@ fn named_bits(
     ensures { MatchResult result (λ _. IsSoundPlain (a_bit_string (map bit_of given.now))) (IsKindFault within.now assigns.now (simple (a_bit_string (map bit_of given.now)))) }
 {
     let mut names = IndexSet::new(alloc);
-    let mut places = IndexSet::new(alloc);
+    let mut places = BTreeSet::new(alloc);
     for item in given {
         let name = item.name.as_str();
         name_once(alloc, within, name, &mut names)?;
@@ -172,9 +174,9 @@ fn item_number(
     assigns: &str,
     name: &str,
     told: Option<(bool, u128)>,
-    numbers: &mut IndexSet<i128>,
+    numbers: &mut BTreeSet<i128>,
 ) -> Result<(), NameFault>
-    ensures added { OnOk result (AddsGiven numbers.old.keys told numbers.new.keys) }
+    ensures added { OnOk result (PutsGiven numbers.old.keys told numbers.new.keys) }
     ensures fault { IfErr result (IsItemFault within.now assigns.now name.now told numbers.old.keys) }
 {
     match told {
@@ -203,7 +205,7 @@ fn enumerated(
         ));
     }
     let mut names = IndexSet::new(alloc);
-    let mut numbers = IndexSet::new(alloc);
+    let mut numbers = BTreeSet::new(alloc);
     for item in given {
         let name = item.name.as_str();
         name_once(alloc, within, name, &mut names)?;

@@ -18,9 +18,9 @@ use crate::names::{Assigned, Names};
 use crate::table::{
     Assignment, Component, ElementsKind, Header, ListKind, Place, Shape, Simple, Written,
 };
-use trees::{ConstraintSyntax, Member, TypeSyntax};
 use std::alloc::{AllocError, Global};
 use std::collections::VecDeque;
+use trees::{ConstraintSyntax, Member, TypeSyntax};
 
 /// A type that has a number and is still to be taken apart: the number of the assignment that it stands in, and where it is a member.
 #[derive(Drop)]

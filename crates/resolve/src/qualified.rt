@@ -13,8 +13,10 @@ ghost use Rattle.resolve.specs.Soundness.{behind_module, qualified_range, qualif
 use crate::fault::NameFault;
 use crate::names::{Assigned, Names};
 use crate::table::{Component, Shape, Written};
-use trees::{ConstraintSyntax, EndSyntax, Named, PresenceSyntax, RangeSyntax, SizeSyntax, ValueSyntax};
 use std::alloc::Global;
+use trees::{
+    ConstraintSyntax, EndSyntax, Named, PresenceSyntax, RangeSyntax, SizeSyntax, ValueSyntax,
+};
 
 /// Whether a name, behind the name of a module, stands for a value.
 fn is_value(names: &Names, within: &str, owner: &Option<String>, name: &str) -> bool

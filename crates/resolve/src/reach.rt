@@ -46,7 +46,7 @@ fn mark_members(
 }
 
 /// Whether a component has a DEFAULT.
-fn has_default(component: &Component) -> bool
+pub(crate) fn has_default(component: &Component) -> bool
     ensures { IsTrue result ↔ HasDefault (part_of component.now) }
 {
     match &component.presence {

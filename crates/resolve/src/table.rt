@@ -1,7 +1,10 @@
 //! The written types, each by its number, and the values that have names.
 
 use asn_base::tag::Tag;
-use trees::{ConstraintSyntax, EnumeratedItem, Keyword, NamedBit, NamedNumber, PresenceSyntax, SizeSyntax, TagDefault, ValueSyntax};
+use trees::{
+    ConstraintSyntax, EnumeratedItem, Keyword, NamedBit, NamedNumber, PresenceSyntax, SizeSyntax,
+    TagDefault, ValueSyntax,
+};
 
 /// The kinds of lists of members.
 #[derive(Clone, Copy, Debug, PartialEq, Eq)]

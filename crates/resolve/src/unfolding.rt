@@ -2,7 +2,8 @@
 
 ghost use Rattle.std.specs.Prelude.{◌≡◌, ℕ, ◌<◌, length, Ok, Err, List, MatchResult};
 ghost use Rattle.resolve.specs.Seen.{type_of, types_of};
-ghost use Rattle.resolve.specs.Table.{behind, IsClosed, IsCircular, IsCore, AllUnfold, Type'};
+ghost use Rattle.resolve.specs.Table.{behind, IsClosed, IsCircular, IsCore, Type'};
+ghost use Rattle.resolve.specs.Cores.{IsKnown, AreKnown, AreUnknown, AreCores};
 
 use crate::table::{Shape, Written};
 
@@ -33,14 +34,65 @@ pub fn core_of(types: &[Written], start: usize) -> Result<usize, usize>
     Err(at)
 }
 
-/// Nothing where each type unfolds to a core, and else a type that comes back to itself.
-pub fn unfold_all(types: &[Written]) -> Result<(), usize>
+/// The core of a type, or a type that comes back to itself. The walk ends where it comes to a type whose core is known.
+fn core_by(types: &[Written], cores: &[usize], start: usize) -> Result<usize, usize>
     requires closed { IsClosed (types_of types.now) }
-    ensures { MatchResult result (λ _. AllUnfold (types_of types.now)) (λ i. (i < length types.now) × IsCircular (types_of types.now) i) }
+    requires long { length cores.now ≡ length types.now }
+    requires known { AreKnown (types_of types.now) cores.now }
+    requires there { start < length types.now }
+    ensures { MatchResult result (λ c. (c < length types.now) × IsCore (types_of types.now) start c) (λ i. (i < length types.now) × IsCircular (types_of types.now) i) }
+{
+    let mut at = start;
+    for step in 0..types.len() {
+        let known = cores[at];
+        if known < types.len() {
+            return Ok(known);
+        }
+        match next(&types[at]) {
+            None => return Ok(at),
+            Some(j) => at = j,
+        }
+    }
+    Err(at)
+}
+
+/// Notes the core of a type for it and for all behind it, up to one whose core is known.
+fn note(types: &[Written], cores: &mut [usize], start: usize, core: usize)
+    requires long { length cores.old ≡ length types.now }
+    requires known { AreKnown (types_of types.now) cores.old }
+    requires there { start < length types.now }
+    requires within { core < length types.now }
+    requires core { IsCore (types_of types.now) start core }
+    requires closed { IsClosed (types_of types.now) }
+    ensures known { AreKnown (types_of types.now) cores.new }
+    ensures kept { (i : ℕ) → IsKnown (length types.now) cores.old i → IsKnown (length types.now) cores.new i }
+    ensures noted { IsKnown (length types.now) cores.new start }
+{
+    cores[start] = core;
+    let mut at = start;
+    for step in 0..types.len() {
+        match next(&types[at]) {
+            None => return,
+            Some(j) => at = j,
+        }
+        if cores[at] < types.len() {
+            return;
+        }
+        cores[at] = core;
+    }
+}
+
+/// Finds the core of each type, or a type that comes back to itself. No type is passed more than three times, so the time
+/// grows with the table alone, however its references are chained.
+pub(crate) fn unfold_all(types: &[Written], cores: &mut [usize]) -> Result<(), usize>
+    requires closed { IsClosed (types_of types.now) }
+    requires long { length cores.old ≡ length types.now }
+    requires unknown { AreUnknown (length types.now) cores.old }
+    ensures { MatchResult result (λ _. AreCores (types_of types.now) cores.new) (λ i. (i < length types.now) × IsCircular (types_of types.now) i) }
 {
     for i in 0..types.len() {
-        match core_of(types, i) {
-            Ok(_) => {}
+        match core_by(types, cores, i) {
+            Ok(core) => note(types, cores, i, core),
             Err(circular) => return Err(circular),
         }
     }

@@ -1,17 +1,25 @@
 -- Members whose first tags have to differ.
-use Rattle.std.proofs.Common.{◌≡◌, ◌⊎◌, inl, inr, ℕ, zero, suc, ◌+◌, ◌<◌, ◌≤◌, Bool, true, false, List, [], ◌∷◌, length, Option, Some, None, refl, sym, ap, ◌∙◌, arith, subst, get_or, option_map}
-use Rattle.std.specs.Prelude.{slice_get, slice_index_or, Contains, All, Vec, MatchOption}
+use Rattle.std.proofs.Common.{◌≡◌, ◌⊎◌, inl, inr, ℕ, zero, suc, ◌+◌, ◌<◌, ◌≤◌, Bool, true, false, cond, List, [], ◌∷◌, length, Option, Some, None, refl, sym, ap, ◌∙◌, arith, subst, get_or, option_map}
+use Rattle.std.specs.Prelude.{slice_get, Contains, Vec}
 use Rattle.std.specs.Global.{Global}
+use Rattle.std.specs.List.{list_any}
+use Rattle.std.specs.Ordering.{is_eq, nat_cmp, ordering_then, MatchOrdering}
+use Rattle.std.specs.declared.cmp.Ordering.{Ordering}
+use Rattle.std.specs.declared.cmp.Ordering.TheVariants.{Less, Equal, Greater}
 use Rattle.std.proofs.lemmas.Bool.{cases_lt}
-use Rattle.std.proofs.lemmas.Option.{slice_get-map, slice_get_read}
+use Rattle.std.proofs.lemmas.Cmp.{ranked, tied_itself, nat_cmp_total}
+use Rattle.std.proofs.lemmas.Option.{slice_get-map, slice_get_read, slice_get_within, slice_get-get_or}
+use Rattle.asn_base.specs.declared.tag.Class.{Class}
+use Rattle.asn_base.specs.declared.tag.Class.TheVariants.{Universal, Application, Context, Private}
 use Rattle.tagging.specs.Tags.{Label}
 use Rattle.resolve.specs.declared.table.ListKind.{ListKind}
 use Rattle.resolve.specs.declared.table.ListKind.TheVariants.{Sequence, Set, Choice}
 use Rattle.resolve.specs.Table.{Part, Type'}
 use Rattle.tagging.specs.First.{may_be_absent, First, Apart, Together, MayBeAbsent, Distinct}
 use Rattle.tagging.specs.Heads.{AreFirst}
-use Rattle.tagging.specs.Lists.{Collected, none, one, tag_lists, Reaches, IsClear, Upto}
+use Rattle.tagging.specs.Lists.{Collected, none, one, tag_lists, Reaches, IsClear, Upto, class_number, key_of, key_cmp, IsIn, HasKey, IsHeld, IsMet}
 use Rattle.tagging.specs.Tagged.{Clash}
+use Rattle.tagging.proofs.Tables.{contains_at, contained_at}
 
 pub together : (k : ListKind) (cs : List Part) (p q : ℕ) → Upto k cs p q → Reaches k cs q → Together k cs p q
 together Sequence cs p q u h = λ r c l m e. elim (cases_lt (r + 1) q) [ inl x ↦ u r c l x e | inr y ↦ h r c (omega arith) e ]
@@ -23,6 +31,16 @@ upto_next Sequence cs p q t = λ r c l m e. t r c l (omega arith) e
 upto_next Set cs p q t = tt
 upto_next Choice cs p q t = tt
 
+upto_of : (k : ListKind) (cs : List Part) (p q : ℕ) → Together k cs p q → Upto k cs p q
+upto_of Sequence cs p q t = λ r c l m e. t r c l (omega arith) e
+upto_of Set cs p q t = tt
+upto_of Choice cs p q t = tt
+
+together_of : (k : ListKind) (cs : List Part) (p q : ℕ) → Upto k cs p (q + 1) → Together k cs p q
+together_of Sequence cs p q u = λ r c l m e. u r c l (omega arith) e
+together_of Set cs p q u = tt
+together_of Choice cs p q u = tt
+
 pub upto_first : (k : ListKind) (cs : List Part) (p : ℕ) → Upto k cs p (p + 1)
 upto_first Sequence cs p = λ r c l m e. absurd (omega arith)
 upto_first Set cs p = tt
@@ -32,11 +50,6 @@ pub not_reached : (k : ListKind) (cs : List Part) (p q n : ℕ) → (Reaches k c
 not_reached Sequence cs p q n f l m t = f (λ r c e g. t r c (omega arith) (omega arith) g)
 not_reached Set cs p q n f l m t = f tt
 not_reached Choice cs p q n f l m t = f tt
-
-pub apart_lists : (ts : List Type') (i j : ℕ) (a b : List Label) → AreFirst ts i a → AreFirst ts j b → All (λ x. Contains b x → ⊥) a → Apart ts i j
-apart_lists ts i j a b f g h t x y =
-    let u = f.all t x in
-    h u.0 t u.1 (subst (Contains b) (sym u.2) (g.all t y))
 
 pub collected_at : (ts : List Type') (cs : List Part) (us : List (List Label)) (k : ℕ) (c : Part) (u : List Label) → Collected ts cs us → slice_get cs k ≡ Some c → slice_get us k ≡ Some u → AreFirst ts c.ty u
 collected_at ts cs us k c u none e f = absurd cc
@@ -48,43 +61,6 @@ collected_at ts cs us (suc k) c u (one {cs = cs'} {vs = vs} a w) e f = collected
 
 pub list_at : (vs : List (Vec Label Global)) (k : ℕ) (v : Vec Label Global) → k < length vs → v ≡ get_or vs k v → slice_get (tag_lists vs) k ≡ Some v.items
 list_at vs k v l e = slice_get-map (λ x. x.items) vs k ∙ ap (option_map (λ x. x.items)) (slice_get_read vs (length vs) k v refl l e)
-
-pub clear_more : (ts : List Type') (k : ListKind) (cs : List Part) (vs : List (Vec Label Global)) (p n : ℕ) (v w : Vec Label Global) → Collected ts cs (tag_lists vs) →
-    p < length vs → v ≡ get_or vs p v → n < length vs → w ≡ get_or vs n w → All (λ x. Contains w.items x → ⊥) v.items → IsClear ts k cs p n → IsClear ts k cs p (n + 1)
-clear_more ts k cs vs p n v w col l e m f h before = λ q c d x y g i t.
-    elim (cases_lt q n) [
-      | inl z ↦ before q c d x z g i t
-      | inr z ↦ (let s : q ≡ n = omega arith in apart_lists ts c.ty d.ty v.items w.items (collected_at ts cs (tag_lists vs) p c v.items col g (list_at vs p v l e)) (collected_at ts cs (tag_lists vs) n d w.items col (subst (λ z. slice_get cs z ≡ Some d) s i) (list_at vs n w m f)) h)
-    ]
-
-pub clear_stop : (ts : List Type') (k : ListKind) (cs : List Part) (p n : ℕ) → (Reaches k cs n → ⊥) → p < n → IsClear ts k cs p n → IsClear ts k cs p (length cs)
-clear_stop ts k cs p n f l before = λ q c d x y g i t.
-    elim (cases_lt q n) [
-      | inl z ↦ before q c d x z g i t
-      | inr z ↦ absurd (not_reached k cs p n q f l z t)
-    ]
-
-there : (cs : List Part) (k : ℕ) → k < length cs → (c : Part) × (slice_get cs k ≡ Some c)
-there [] k l = absurd (omega arith)
-there (c ∷ cs) zero l = (c, refl)
-there (c ∷ cs) (suc k) l = there cs k (omega arith)
-
-pub clash_at : (ts : List Type') (k : ListKind) (cs : List Part) (vs : List (Vec Label Global)) (p n : ℕ) (v w : Vec Label Global) (t : Label) → Collected ts cs (tag_lists vs) →
-    p < length vs → v ≡ get_or vs p v → n < length vs → w ≡ get_or vs n w → length vs ≡ length cs → p < n → Together k cs p n → Contains v.items t → Contains w.items t → Clash ts k cs p n
-clash_at ts k cs vs p n v w t col l e m f s b g x y =
-    let a = there cs p (omega arith) in
-    let d = there cs n (omega arith) in
-    record {
-      first = a.0;
-      second = d.0;
-      before = b;
-      at_first = a.1;
-      at_second = d.1;
-      together = g;
-      tag = t;
-      in_first = (collected_at ts cs (tag_lists vs) p a.0 v.items col a.1 (list_at vs p v l e)).each t x;
-      in_second = (collected_at ts cs (tag_lists vs) n d.0 w.items col d.1 (list_at vs n w m f)).each t y;
-    }
 
 pub absent_before : (k : ListKind) (cs : List Part) (q p : ℕ) (c : Part) → p + 1 ≡ q → slice_get cs p ≡ Some c → may_be_absent c.presence ≡ true → Reaches k cs q
 absent_before Sequence cs q p c e f t = λ r d s g.
@@ -101,3 +77,248 @@ pub absent_there : (k : ListKind) (cs : List Part) (q p : ℕ) (c : Part) → p 
 absent_there Sequence cs q p c e f s r = r p c e f
 absent_there Set cs q p c e f s r = absurd cc
 absent_there Choice cs q p c e f s r = absurd cc
+
+-- ---- tags in an ordered set
+
+equal_by : (P Q R : Type 0) (o : Ordering) → is_eq o ≡ true → MatchOrdering o P Q R → Q
+equal_by P Q R Less e m = absurd cc
+equal_by P Q R Equal e m = m
+equal_by P Q R Greater e m = absurd cc
+
+then_left : (o p : Ordering) → is_eq (ordering_then o p) ≡ true → is_eq o ≡ true
+then_left Less p e = absurd cc
+then_left Equal p e = refl
+then_left Greater p e = absurd cc
+
+then_right : (o p : Ordering) → is_eq (ordering_then o p) ≡ true → is_eq p ≡ true
+then_right Less p e = absurd cc
+then_right Equal p e = e
+then_right Greater p e = absurd cc
+
+key_exact : (x y : ℕ × ℕ) → is_eq (key_cmp x y) ≡ true → x ≡ y
+key_exact x y e =
+    let a : x.0 ≡ y.0 = equal_by (x.0 < y.0) (x.0 ≡ y.0) (y.0 < x.0) (nat_cmp x.0 y.0) (then_left (nat_cmp x.0 y.0) (nat_cmp x.1 y.1) e) (ranked x.0 y.0 (nat_cmp x.0 y.0) refl) in
+    let b : x.1 ≡ y.1 = equal_by (x.1 < y.1) (x.1 ≡ y.1) (y.1 < x.1) (nat_cmp x.1 y.1) (then_right (nat_cmp x.0 y.0) (nat_cmp x.1 y.1) e) (ranked x.1 y.1 (nat_cmp x.1 y.1) refl) in
+    ap (λ z. (z, x.1)) a ∙ ap (λ z. (y.0, z)) b
+
+key_itself : (x y : ℕ × ℕ) → x ≡ y → is_eq (key_cmp x y) ≡ true
+key_itself x y e =
+    ap (λ z. is_eq (key_cmp x z)) (sym e)
+    ∙ ap (λ o. is_eq (ordering_then o (nat_cmp x.1 x.1))) (tied_itself nat_cmp_total x.0)
+    ∙ ap is_eq (tied_itself nat_cmp_total x.1)
+
+class_exact : (c d : Class) → class_number c ≡ class_number d → c ≡ d
+class_exact Universal Universal e = refl
+class_exact Universal Application e = absurd (omega (arith, e))
+class_exact Universal Context e = absurd (omega (arith, e))
+class_exact Universal Private e = absurd (omega (arith, e))
+class_exact Application Universal e = absurd (omega (arith, e))
+class_exact Application Application e = refl
+class_exact Application Context e = absurd (omega (arith, e))
+class_exact Application Private e = absurd (omega (arith, e))
+class_exact Context Universal e = absurd (omega (arith, e))
+class_exact Context Application e = absurd (omega (arith, e))
+class_exact Context Context e = refl
+class_exact Context Private e = absurd (omega (arith, e))
+class_exact Private Universal e = absurd (omega (arith, e))
+class_exact Private Application e = absurd (omega (arith, e))
+class_exact Private Context e = absurd (omega (arith, e))
+class_exact Private Private e = refl
+
+-- tags with one key are one
+tag_exact : (t u : Label) → key_of t ≡ key_of u → t ≡ u
+tag_exact t u e =
+    let a : t.0 ≡ u.0 = class_exact t.0 u.0 (ap (λ z. z.0) e) in
+    let b : t.1 ≡ u.1 = ap (λ z. z.1) e in
+    ap (λ z. (z, t.1)) a ∙ ap (λ z. (u.0, z)) b
+
+none_in : (keys : List (ℕ × ℕ)) (x : ℕ × ℕ) → keys ≡ [] → IsIn keys x → ⊥
+none_in [] x e h = absurd cc
+none_in (k ∷ keys) x e h = absurd cc
+
+put_cases : (k x : ℕ × ℕ) (a b : Bool) → is_eq (key_cmp k x) ≡ b → cond b true a ≡ true → (a ≡ true) ⊎ (k ≡ x)
+put_cases k x a true e f = inr (key_exact k x e)
+put_cases k x a false e f = inl f
+
+put_either : (b : Bool) → cond b true true ≡ true
+put_either true = refl
+put_either false = refl
+
+-- the new set has what the old one has, and key k
+abbrev pub PutsOne : (old new : List (ℕ × ℕ)) → ℕ × ℕ → Type 0
+PutsOne old new k = (x : ℕ × ℕ) → (IsIn new x → IsIn old x ⊎ (k ≡ x)) × (IsIn old x ⊎ (k ≡ x) → IsIn new x)
+
+pub put_one : (old new : List (ℕ × ℕ)) (k : ℕ × ℕ) → ((q : ℕ × ℕ) → list_any (λ y. is_eq (key_cmp q y)) new ≡ cond (is_eq (key_cmp k q)) true (list_any (λ y. is_eq (key_cmp q y)) old)) → PutsOne old new k
+put_one old new k f x = (
+  λ h. put_cases k x (list_any (λ y. is_eq (key_cmp x y)) old) (is_eq (key_cmp k x)) refl (sym (f x) ∙ h),
+  λ h. f x ∙ elim h [
+    | inl a ↦ ap (λ z. cond (is_eq (key_cmp k x)) true z) a ∙ put_either (is_eq (key_cmp k x))
+    | inr e ↦ ap (λ z. cond z true (list_any (λ y. is_eq (key_cmp x y)) old)) (key_itself k x e)
+  ],
+)
+
+-- key x is that of one of the first n of these tags
+pub record HasKeyTo (us : List Label) (n : ℕ) (x : ℕ × ℕ) : Type 0 where
+  pub has : HasKey us x
+  pub few : has.place < n
+
+-- the new set has what the old one has, and the keys of the first n of these tags
+abbrev pub PutsTo : List Label → ℕ → (old new : List (ℕ × ℕ)) → Type 0
+PutsTo us n old new = (x : ℕ × ℕ) → (IsIn new x → IsIn old x ⊎ HasKeyTo us n x) × (IsIn old x ⊎ HasKeyTo us n x → IsIn new x)
+
+pub put_none : (us : List Label) (keys : List (ℕ × ℕ)) → PutsTo us 0 keys keys
+put_none us keys x = (λ h. inl h, λ h. elim h [ inl a ↦ a | inr b ↦ absurd (omega (arith, b.few)) ])
+
+same_tag : (us : List Label) (i : ℕ) (t u : Label) → slice_get us i ≡ Some t → slice_get us i ≡ Some u → t ≡ u
+same_tag us i t u e f = some_one (sym e ∙ f)
+  where
+    some_one : {a b : Label} → Some a ≡ Some b → a ≡ b
+    some_one h = cc
+
+pub put_next : (us : List Label) (n : ℕ) (t : Label) (old mid new : List (ℕ × ℕ)) → slice_get us n ≡ Some t → PutsTo us n old mid → PutsOne mid new (key_of t) → PutsTo us (n + 1) old new
+put_next us n t old mid new e f g x = (
+  λ h. elim ((g x).0 h) [
+    | inl a ↦ elim ((f x).0 a) [ inl b ↦ inl b | inr b ↦ inr (record { has = b.has; few = omega (arith, b.few) }) ]
+    | inr q ↦ inr (record { has = record { place = n; tag = t; there = e; is = q }; few = omega arith })
+  ],
+  λ h. elim h [
+    | inl a ↦ (g x).1 (inl ((f x).1 (inl a)))
+    | inr b ↦ elim (cases_lt b.has.place n) [
+      | inl l ↦ (g x).1 (inl ((f x).1 (inr (record { has = b.has; few = l }))))
+      | inr m ↦ (let q : b.has.place ≡ n = omega (arith, m, b.few) in (g x).1 (inr (ap key_of (same_tag us n t b.has.tag e (ap (slice_get us) (sym q) ∙ b.has.there)) ∙ b.has.is)))
+    ]
+  ],
+)
+
+pub put_end : (us : List Label) (n : ℕ) (old new : List (ℕ × ℕ)) → length us ≤ n → PutsTo us n old new → (x : ℕ × ℕ) → (IsIn new x → IsIn old x ⊎ HasKey us x) × (IsIn old x ⊎ HasKey us x → IsIn new x)
+put_end us n old new l f x = (
+  λ h. elim ((f x).0 h) [ inl a ↦ inl a | inr b ↦ inr b.has ],
+  λ h. elim h [
+    | inl a ↦ (f x).1 (inl a)
+    | inr b ↦ (let w = slice_get_within us b.place b.tag b.there in (f x).1 (inr (record { has = b; few = omega (arith, l, w) })))
+  ],
+)
+
+-- none of the first n of these tags is in the set
+abbrev pub NoneTo : List Label → ℕ → List (ℕ × ℕ) → Type 0
+NoneTo us n keys = (x : ℕ × ℕ) → HasKeyTo us n x → IsIn keys x → ⊥
+
+pub none_first : (us : List Label) (keys : List (ℕ × ℕ)) → NoneTo us 0 keys
+none_first us keys x b h = absurd (omega (arith, b.few))
+
+pub none_next : (us : List Label) (n : ℕ) (t : Label) (keys : List (ℕ × ℕ)) → slice_get us n ≡ Some t → NoneTo us n keys → (IsIn keys (key_of t) → ⊥) → NoneTo us (n + 1) keys
+none_next us n t keys e f g x b h =
+    elim (cases_lt b.has.place n) [
+      | inl l ↦ f x (record { has = b.has; few = l }) h
+      | inr m ↦ (let q : b.has.place ≡ n = omega (arith, m, b.few) in g (subst (IsIn keys) (sym (ap key_of (same_tag us n t b.has.tag e (ap (slice_get us) (sym q) ∙ b.has.there)) ∙ b.has.is)) h))
+    ]
+
+pub none_end : (us : List Label) (n : ℕ) (keys : List (ℕ × ℕ)) → length us ≤ n → NoneTo us n keys → (x : ℕ × ℕ) → HasKey us x → IsIn keys x → ⊥
+none_end us n keys l f x b h = let w = slice_get_within us b.place b.tag b.there in f x (record { has = b; few = omega (arith, l, w) }) h
+
+-- ---- tags that the members before a place have left
+
+-- the set holds the tags that the members before place q have left
+abbrev pub Holds : ListKind → List Part → List (List Label) → ℕ → List (ℕ × ℕ) → Type 0
+Holds k cs vs q keys = (x : ℕ × ℕ) → (IsIn keys x → IsHeld k cs vs q x) × (IsHeld k cs vs q x → IsIn keys x)
+
+-- of those it holds what the member at place q can meet
+abbrev pub Meets : ListKind → List Part → List (List Label) → ℕ → List (ℕ × ℕ) → Type 0
+Meets k cs vs q keys = (x : ℕ × ℕ) → (IsIn keys x → IsMet k cs vs q x) × (IsMet k cs vs q x → IsIn keys x)
+
+pub holds_first : (k : ListKind) (cs : List Part) (vs : List (List Label)) (keys : List (ℕ × ℕ)) → keys ≡ [] → Holds k cs vs 0 keys
+holds_first k cs vs keys e x = (λ h. absurd (none_in keys x e h), λ m. absurd (omega (arith, m.before)))
+
+pub left_first : (k : ListKind) (cs : List Part) (vs : List (List Label)) (q : ℕ) (keys : List (ℕ × ℕ)) → q ≡ 0 → Holds k cs vs q keys → Meets k cs vs q keys
+left_first k cs vs q keys z f x = (
+  λ h. let m = (f x).0 h in absurd (omega (arith, m.before, z)),
+  λ m. absurd (omega (arith, m.before, z)),
+)
+
+pub left_on : (k : ListKind) (cs : List Part) (vs : List (List Label)) (q : ℕ) (keys : List (ℕ × ℕ)) → Reaches k cs q → Holds k cs vs q keys → Meets k cs vs q keys
+left_on k cs vs q keys r f x = (
+  λ h. let m = (f x).0 h in record { place = m.place; before = m.before; together = together k cs m.place q m.upto r; tags = m.tags; there = m.there; has = m.has },
+  λ m. (f x).1 (record { place = m.place; before = m.before; upto = upto_of k cs m.place q m.together; tags = m.tags; there = m.there; has = m.has }),
+)
+
+pub left_none : (k : ListKind) (cs : List Part) (vs : List (List Label)) (q : ℕ) (keys : List (ℕ × ℕ)) → keys ≡ [] → (Reaches k cs q → ⊥) → Meets k cs vs q keys
+left_none k cs vs q keys e f x = (
+  λ h. absurd (none_in keys x e h),
+  λ m. absurd (not_reached k cs m.place q q f m.before (omega arith) m.together),
+)
+
+same_list : (vs : List (List Label)) (i : ℕ) (t u : List Label) → slice_get vs i ≡ Some t → slice_get vs i ≡ Some u → t ≡ u
+same_list vs i t u e f = some_one (sym e ∙ f)
+  where
+    some_one : {a b : List Label} → Some a ≡ Some b → a ≡ b
+    some_one h = cc
+
+pub holds_next : (k : ListKind) (cs : List Part) (vs : List (List Label)) (q : ℕ) (us : List Label) (mid new : List (ℕ × ℕ)) → slice_get vs q ≡ Some us → Meets k cs vs q mid →
+    ((x : ℕ × ℕ) → (IsIn new x → IsIn mid x ⊎ HasKey us x) × (IsIn mid x ⊎ HasKey us x → IsIn new x)) → Holds k cs vs (q + 1) new
+holds_next k cs vs q us mid new e f g x = (
+  λ h. elim ((g x).0 h) [
+    | inl a ↦ (let m = (f x).0 a in record { place = m.place; before = omega (arith, m.before); upto = upto_next k cs m.place q m.together; tags = m.tags; there = m.there; has = m.has })
+    | inr b ↦ record { place = q; before = omega arith; upto = upto_first k cs q; tags = us; there = e; has = b }
+  ],
+  λ m. elim (cases_lt m.place q) [
+    | inl l ↦ (g x).1 (inl ((f x).1 (record { place = m.place; before = l; together = together_of k cs m.place q m.upto; tags = m.tags; there = m.there; has = m.has })))
+    | inr l ↦ (let s : m.place ≡ q = omega (arith, l, m.before) in (g x).1 (inr (subst (λ z. HasKey z x) (same_list vs q m.tags us (ap (slice_get vs) (sym s) ∙ m.there) e) m.has)))
+  ],
+)
+
+tags_at : (ts : List Type') (cs : List Part) (vs : List (List Label)) (k : ℕ) (c : Part) → Collected ts cs vs → slice_get cs k ≡ Some c → (u : List Label) × (slice_get vs k ≡ Some u) × AreFirst ts c.ty u
+tags_at ts cs vs k c none e = absurd cc
+tags_at ts cs vs zero c (one {c = c'} {us = u} a w) e =
+    let s : c' ≡ c = cc in
+    (u, refl, subst (λ (x : Part). AreFirst ts x.ty u) s a)
+tags_at ts cs vs (suc k) c (one {cs = cs'} {vs = vs'} a w) e = tags_at ts cs' vs' k c w e
+
+-- a member that meets no tag is apart from those before it
+pub clear_next : (ts : List Type') (k : ListKind) (cs : List Part) (vs : List (List Label)) (q : ℕ) (us : List Label) (keys : List (ℕ × ℕ)) → Collected ts cs vs → slice_get vs q ≡ Some us → Meets k cs vs q keys →
+    ((x : ℕ × ℕ) → HasKey us x → IsIn keys x → ⊥) → ((p : ℕ) → IsClear ts k cs p q) → (p : ℕ) → IsClear ts k cs p (q + 1)
+clear_next ts k cs vs q us keys col e f free before p r c d l m g h t =
+    elim (cases_lt r q) [
+      | inl z ↦ before p r c d l z g h t
+      | inr z ↦ (
+          let s : r ≡ q = omega (arith, z, m) in
+          let a = tags_at ts cs vs p c col g in
+          let b = collected_at ts cs vs q d us col (ap (slice_get cs) (sym s) ∙ h) e in
+          λ u x y.
+          let v = a.2.all u x in
+          let w = b.all u y in
+          let k1 : HasKey a.0 (key_of u) = record { place = v.0; tag = u; there = contained_at a.0 u v; is = refl } in
+          let k2 : HasKey us (key_of u) = record { place = w.0; tag = u; there = contained_at us u w; is = refl } in
+          free (key_of u) k2 ((f (key_of u)).1 (record { place = p; before = omega (arith, l, s); together = subst (Together k cs p) s t; tags = a.0; there = a.1; has = k1 }))
+          )
+    ]
+
+member_there : (cs : List Part) (k : ℕ) → k < length cs → (c : Part) × (slice_get cs k ≡ Some c)
+member_there [] k l = absurd (omega arith)
+member_there (c ∷ cs) zero l = (c, refl)
+member_there (c ∷ cs) (suc k) l = member_there cs k (omega arith)
+
+-- a member that meets a tag clashes
+pub clash_met : (ts : List Type') (k : ListKind) (cs : List Part) (vs : List (List Label)) (q : ℕ) (us : List Label) (keys : List (ℕ × ℕ)) (x : ℕ × ℕ) → Collected ts cs vs → q < length cs → slice_get vs q ≡ Some us →
+    Meets k cs vs q keys → HasKey us x → IsIn keys x → (p : ℕ) × Clash ts k cs p q
+clash_met ts k cs vs q us keys x col l e f b h =
+    let m = (f x).0 h in
+    let c = member_there cs m.place (omega (arith, m.before, l)) in
+    let d = member_there cs q l in
+    let s : m.has.tag ≡ b.tag = tag_exact m.has.tag b.tag (m.has.is ∙ sym b.is) in (
+      m.place,
+      record {
+        first = c.0;
+        second = d.0;
+        before = m.before;
+        at_first = c.1;
+        at_second = d.1;
+        together = m.together;
+        tag = b.tag;
+        in_first = (collected_at ts cs vs m.place c.0 m.tags col c.1 m.there).each b.tag (subst (Contains m.tags) s (contains_at m.tags m.has.place m.has.tag m.has.there));
+        in_second = (collected_at ts cs vs q d.0 us col d.1 e).each b.tag (contains_at us b.place b.tag b.there);
+      },
+    )
+
+-- where all members are clear the list is distinct
+pub distinct_all : (ts : List Type') (k : ListKind) (cs : List Part) (n : ℕ) → length cs ≤ n → ((p : ℕ) → IsClear ts k cs p n) → Distinct ts k cs
+distinct_all ts k cs n l all p q c d m e f t = let w = slice_get_within cs q d f in all p q c d m (omega (arith, w, l)) e f t

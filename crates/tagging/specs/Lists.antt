@@ -1,6 +1,11 @@
 -- The first tags of a list's members, as the check of a list goes on.
 use Rattle.std.specs.Prelude.{◌≡◌, ℕ, ◌+◌, ◌<◌, ◌≤◌, true, List, [], ◌∷◌, Some, slice_get, map, Vec}
 use Rattle.std.specs.Global.{Global}
+use Rattle.std.specs.declared.cmp.Ordering.{Ordering}
+use Rattle.std.specs.List.{list_any}
+use Rattle.std.specs.Ordering.{is_eq, nat_cmp, ordering_then}
+use Rattle.asn_base.specs.declared.tag.Class.{Class}
+use Rattle.asn_base.specs.declared.tag.Class.TheVariants.{Universal, Application, Context, Private}
 use Rattle.tagging.specs.Tags.{Label}
 use Rattle.resolve.specs.declared.table.ListKind.{ListKind}
 use Rattle.resolve.specs.declared.table.ListKind.TheVariants.{Sequence, Set, Choice}
@@ -31,3 +36,47 @@ abbrev pub Upto : ListKind → List Part → ℕ → ℕ → Type 0
 Upto Sequence cs p q = (r : ℕ) (c : Part) → p ≤ r → r + 1 < q → slice_get cs r ≡ Some c → may_be_absent c.presence ≡ true
 Upto Set cs p q = Unit {0}
 Upto Choice cs p q = Unit {0}
+
+-- ---- tags in an ordered set
+
+abbrev pub class_number : Class → ℕ
+class_number Universal = 0
+class_number Application = 1
+class_number Context = 2
+class_number Private = 3
+
+-- a tag as two numbers, by which tags are put in order
+abbrev pub key_of : Label → ℕ × ℕ
+key_of t = (class_number t.0, t.1)
+
+abbrev pub key_cmp : ℕ × ℕ → ℕ × ℕ → Ordering
+key_cmp x y = ordering_then (nat_cmp x.0 y.0) (nat_cmp x.1 y.1)
+
+-- key x is one of these
+abbrev pub IsIn : List (ℕ × ℕ) → ℕ × ℕ → Type 0
+IsIn keys x = list_any (λ y. is_eq (key_cmp x y)) keys ≡ true
+
+-- key x is that of one of these tags
+pub record HasKey (us : List Label) (x : ℕ × ℕ) : Type 0 where
+  pub place : ℕ
+  pub tag : Label
+  pub there : slice_get us place ≡ Some tag
+  pub is : key_of tag ≡ x
+
+-- key x is that of a first tag of a member before place q, from which on to before the one before q each may be absent
+pub record IsHeld (k : ListKind) (cs : List Part) (vs : List (List Label)) (q : ℕ) (x : ℕ × ℕ) : Type 0 where
+  pub place : ℕ
+  pub before : place < q
+  pub upto : Upto k cs place q
+  pub tags : List Label
+  pub there : slice_get vs place ≡ Some tags
+  pub has : HasKey tags x
+
+-- key x is that of a first tag of a member before place q that can be the next one together with the member at q
+pub record IsMet (k : ListKind) (cs : List Part) (vs : List (List Label)) (q : ℕ) (x : ℕ × ℕ) : Type 0 where
+  pub place : ℕ
+  pub before : place < q
+  pub together : Together k cs place q
+  pub tags : List Label
+  pub there : slice_get vs place ≡ Some tags
+  pub has : HasKey tags x

@@ -116,9 +116,10 @@ fn check_list(
         Err(fault) => Err(fault_of(fault)),
         Ok(()) => match collect(alloc, types, components) {
             Err(fault) => Err(fault_of(fault)),
-            Ok(firsts) => match clash(kind, components, &firsts) {
-                None => Ok(()),
-                Some((_place, _later)) => Err(Fault::At(Rule::TagClash, list)),
+            Ok(firsts) => match clash(alloc, kind, components, &firsts) {
+                Err(_) => Err(Fault::Memory),
+                Ok(None) => Ok(()),
+                Ok(Some(_later)) => Err(Fault::At(Rule::TagClash, list)),
             },
         },
     }

@@ -19,37 +19,6 @@ pub(crate) enum FrontFault {
     Untagged(usize),
 }
 
-fn same(a: Label, b: Label) -> bool
-    ensures { IsTrue result ↔ (a ≡ b) }
-{
-    a.1 == b.1
-        && matches!(
-            (a.0, b.0),
-            (Class::Universal, Class::Universal)
-                | (Class::Application, Class::Application)
-                | (Class::Context, Class::Context)
-                | (Class::Private, Class::Private)
-        )
-}
-
-fn has(tags: &[Label], tag: Label) -> bool
-    ensures { IsTrue result ↔ Contains tags.now tag }
-{
-    tags.iter().any(|t| same(*t, tag))
-}
-
-/// A tag that two lists of tags have in common.
-pub(crate) fn common(a: &[Label], b: &[Label]) -> Option<Label>
-    ensures { MatchOption result (All (λ x. Contains b.now x → ⊥) a.now) (λ t. Contains a.now t × Contains b.now t) }
-{
-    for x in a {
-        if has(b, *x) {
-            return Some(*x);
-        }
-    }
-    None
-}
-
 /// The number of a member's type.
 pub(crate) fn member_type(member: &Component) -> usize
     ensures { result ≡ (part_of member.now).ty }

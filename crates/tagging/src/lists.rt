@@ -1,16 +1,36 @@
 //! Lists whose members' tags differ.
 
-ghost use Rattle.std.specs.Prelude.{ℕ, ◌≡◌, ◌<◌, ◌↔◌, IsTrue, length, map, List, MatchOption, MatchResult};
+ghost use Rattle.std.specs.Prelude.{ℕ, ◌≡◌, ◌⊎◌, ◌<◌, ◌↔◌, IsTrue, IfOk, OnOk, length, map, List, MatchOption};
 ghost use Rattle.resolve.specs.Seen.{part_of};
 ghost use Rattle.resolve.specs.Table.{Type'};
 ghost use Rattle.tagging.specs.First.{Distinct};
-ghost use Rattle.tagging.specs.Lists.{Collected, tag_lists, Reaches, IsClear};
+ghost use Rattle.tagging.specs.Lists.{Collected, tag_lists, Reaches, key_of, IsIn, HasKey, IsHeld, IsMet};
 ghost use Rattle.tagging.specs.Tagged.{Clash};
 
-use crate::first::common;
 use crate::path::Label;
+use asn_base::tag::Class;
 use resolve::{Component, ListKind};
+use std::alloc::{AllocError, Global};
+use std::collections::BTreeSet;
 use trees::PresenceSyntax;
+
+fn class_number(class: Class) -> u8
+    ensures { result ≡ Rattle.tagging.specs.Lists.class_number class }
+{
+    match class {
+        Class::Universal => 0,
+        Class::Application => 1,
+        Class::Context => 2,
+        Class::Private => 3,
+    }
+}
+
+/// A tag as a key in an ordered set.
+fn key(tag: Label) -> (u8, usize)
+    ensures { result ≡ key_of tag }
+{
+    (class_number(tag.0), tag.1)
+}
 
 /// Whether OPTIONAL or DEFAULT stands behind a component (X.680, clause 25).
 fn may_be_absent(component: &Component) -> bool
@@ -34,42 +54,72 @@ fn reaches(kind: ListKind, members: &[Component], place: usize) -> bool
     }
 }
 
-/// A later member that has a first tag in common with the member at `place`, where the two have to differ.
-fn clash_of(
+/// Of the tags which the members before a place have left, those that the member at this place can meet: all, or none where the
+/// member before it has to stand.
+fn left(
+    alloc: Global,
     kind: ListKind,
     members: &[Component],
-    firsts: &[Vec<Label>],
     place: usize,
-) -> Option<usize>
+    seen: BTreeSet<(u8, usize)>,
+) -> BTreeSet<(u8, usize)>
     requires within { place < length members.now }
-    requires as_long { length firsts.now ≡ length members.now }
-    ensures { (ts : List Type') → Collected ts (map part_of members.now) (tag_lists firsts.now) → MatchOption result (IsClear ts kind (map part_of members.now) place (length members.now)) (Clash ts kind (map part_of members.now) place) }
+    ensures { (vs : List (List Rattle.tagging.specs.Tags.Label)) → ((k : ℕ × ℕ) → IsIn seen.keys k ↔ IsHeld kind (map part_of members.now) vs place k) → (k : ℕ × ℕ) → IsIn result.keys k ↔ IsMet kind (map part_of members.now) vs place k }
 {
-    for later in place + 1..members.len() {
-        if !reaches(kind, members, later) {
-            return None;
-        }
-        match common(&firsts[place], &firsts[later]) {
-            None => {}
-            Some(_tag) => return Some(later),
+    if place == 0 {
+        return seen;
+    }
+    if reaches(kind, members, place) {
+        return seen;
+    }
+    BTreeSet::new(alloc)
+}
+
+/// One of these tags that is in a set.
+fn met(seen: &BTreeSet<(u8, usize)>, tags: &[Label]) -> Option<(u8, usize)>
+    ensures { MatchOption result ((k : ℕ × ℕ) → HasKey tags.now k → IsIn seen.now.keys k → ⊥) (λ k. HasKey tags.now k × IsIn seen.now.keys k) }
+{
+    for tag in tags {
+        let at = key(*tag);
+        if seen.contains(&at) {
+            return Some(at);
         }
     }
     None
 }
 
-/// Two members that clash.
+/// Puts tags into a set.
+fn put_all(seen: &mut BTreeSet<(u8, usize)>, tags: &[Label]) -> Result<(), AllocError>
+    ensures { OnOk result ((k : ℕ × ℕ) → IsIn seen.new.keys k ↔ (IsIn seen.old.keys k ⊎ HasKey tags.now k)) }
+{
+    for tag in tags {
+        match seen.insert(key(*tag)) {
+            Ok(_) => {}
+            Err(_) => return Err(AllocError),
+        }
+    }
+    Ok(())
+}
+
+/// The first member that clashes with one before it. The first tags of those before it which can be the next one together with it
+/// are held in order, so each tag is looked up once.
 pub(crate) fn clash(
+    alloc: Global,
     kind: ListKind,
     members: &[Component],
     firsts: &[Vec<Label>],
-) -> Option<(usize, usize)>
+) -> Result<Option<usize>, AllocError>
     requires as_long { length firsts.now ≡ length members.now }
-    ensures { (ts : List Type') → Collected ts (map part_of members.now) (tag_lists firsts.now) → MatchOption result (Distinct ts kind (map part_of members.now)) (λ x. Clash ts kind (map part_of members.now) x.0 x.1) }
+    ensures { (ts : List Type') → Collected ts (map part_of members.now) (tag_lists firsts.now) → IfOk result (λ o. MatchOption o (Distinct ts kind (map part_of members.now)) (λ q. (p : ℕ) × Clash ts kind (map part_of members.now) p q)) }
 {
+    let mut seen = BTreeSet::new(alloc);
     for place in 0..members.len() {
-        if let Some(later) = clash_of(kind, members, firsts, place) {
-            return Some((place, later));
+        seen = left(alloc, kind, members, place, seen);
+        let tags = firsts[place].as_slice();
+        match met(&seen, tags) {
+            Some(_key) => return Ok(Some(place)),
+            None => put_all(&mut seen, tags)?,
         }
     }
-    None
+    Ok(None)
 }

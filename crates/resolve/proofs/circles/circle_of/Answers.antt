@@ -9,6 +9,7 @@ first_circle-requires c =
     let zeros : c.deref_mut.result.now ≡ replicate (length c.args.types.now) 0 = c.deref_mut.ensures.value ∙ c.in_ok-marks.ensures.items_if_clones_equal (λ y h. h) in
     record {
       parts = c.requires;
+      ranked = c.all_rise-rise.ensures;
       long = ap length zeros ∙ length-replicate (length c.args.types.now) 0;
       earlier = subst (λ z. AreUpTo 0 z) (sym zeros) (no_marks (length c.args.types.now));
     }

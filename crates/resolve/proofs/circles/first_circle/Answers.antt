@@ -13,6 +13,7 @@ pub is_in_circle-requires : goal.is_in_circle-requires
 is_in_circle-requires c =
     record {
       parts = c.requires.parts;
+      ranked = c.requires.ranked;
       long = omega (arith, c.loop-list.auto.marks, c.requires.long);
       there = c.loop-list-test.true;
       earlier = c.loop-list.invariant.earlier;

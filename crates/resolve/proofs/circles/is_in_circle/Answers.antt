@@ -5,12 +5,13 @@ use Rattle.resolve.specs.Sound.{IsPart, member}
 use Rattle.resolve.specs.Table.{members}
 use Rattle.resolve.proofs.Tables.{type_at, as_long}
 use Rattle.resolve.proofs.Circling.{circle_of_leads, leads_of_circle, no_list}
+use Rattle.resolve.proofs.Rising.{no_circle}
 use Rattle.resolve.proofs.circles.is_in_circle.Goals as goal
 
 pub lead_to-requires : goal.lead_to-requires
 lead_to-requires c =
     let there = type_at c.args.types.now c.args.list c.index-types-list.result c.requires.there c.index-types-list.is in
-    let kind : kind_of c.index-types-list.result.shape ≡ members c.in-Members.field-0 (map part_of c.deref.result.now) = ap kind_of (ap (λ (z : Written). z.shape) c.index-types-list.is ∙ c.in-Members.is) ∙ ap (λ x. members c.in-Members.field-0 (map part_of x)) (sym c.deref.ensures.value) in
+    let kind : kind_of c.index-types-list.result.shape ≡ members c.in-Members.field-0 (map part_of c.deref-in-Members.result.now) = ap kind_of (ap (λ (z : Written). z.shape) c.index-types-list.is ∙ c.in-Members.is) ∙ ap (λ x. members c.in-Members.field-0 (map part_of x)) (sym c.deref-in-Members.ensures.value) in
     record {
       parts = c.requires.parts;
       long = c.requires.long;
@@ -24,14 +25,23 @@ lead_to-requires c =
 pub returns-in_ok-back-in-Members : goal.returns-in_ok-back-in-Members
 returns-in_ok-back-in-Members c =
     let there = type_at c.args.types.now c.args.list c.index-types-list.result c.requires.there c.index-types-list.is in
-    let kind : kind_of c.index-types-list.result.shape ≡ members c.in-Members.field-0 (map part_of c.deref.result.now) = ap kind_of (ap (λ (z : Written). z.shape) c.index-types-list.is ∙ c.in-Members.is) ∙ ap (λ x. members c.in-Members.field-0 (map part_of x)) (sym c.deref.ensures.value) in
+    let kind : kind_of c.index-types-list.result.shape ≡ members c.in-Members.field-0 (map part_of c.deref-in-Members.result.now) = ap kind_of (ap (λ (z : Written). z.shape) c.index-types-list.is ∙ c.in-Members.is) ∙ ap (λ x. members c.in-Members.field-0 (map part_of x)) (sym c.deref-in-Members.ensures.value) in
     record {
       circle = (
-        λ b. circle_of_leads (types_of c.args.types.now) c.args.list (type_of c.index-types-list.result) c.in-Members.field-0 (map part_of c.deref.result.now) there kind (c.in_ok-back-in-Members.ensures.found.0 b),
-        λ h. c.in_ok-back-in-Members.ensures.found.1 (leads_of_circle (types_of c.args.types.now) c.args.list (type_of c.index-types-list.result) c.in-Members.field-0 (map part_of c.deref.result.now) there kind h),
+        λ b. circle_of_leads (types_of c.args.types.now) c.args.list (type_of c.index-types-list.result) c.in-Members.field-0 (map part_of c.deref-in-Members.result.now) there kind (c.in_ok-back-in-Members.ensures.found.0 b),
+        λ h. c.in_ok-back-in-Members.ensures.found.1 (leads_of_circle (types_of c.args.types.now) c.args.list (type_of c.index-types-list.result) c.in-Members.field-0 (map part_of c.deref-in-Members.result.now) there kind h),
       );
       marks = c.in_ok-back-in-Members.ensures.marks;
     }
+
+pub returns-then-is_above-clause-circle : goal.returns-then-is_above-clause-circle
+returns-then-is_above-clause-circle c =
+    let there = type_at c.args.types.now c.args.list c.index-types-list.result c.requires.there c.index-types-list.is in
+    let kind : kind_of c.index-types-list.result.shape ≡ members c.in-Members.field-0 (map part_of c.deref.result.now) = ap kind_of (ap (λ (z : Written). z.shape) c.index-types-list.is ∙ c.in-Members.is) ∙ ap (λ x. members c.in-Members.field-0 (map part_of x)) (sym c.deref.ensures.value) in
+    let above = c.if-is_above.ensures refl in (
+      λ b. absurd cc,
+      λ h. absurd (no_circle (types_of c.args.types.now) c.args.ranks.now c.args.list (type_of c.index-types-list.result) c.in-Members.field-0 (map part_of c.deref.result.now) (c.requires.ranked above.0) there kind above.1 h),
+    )
 
 pub returns-in_default : goal.returns-in_default
 returns-in_default c =

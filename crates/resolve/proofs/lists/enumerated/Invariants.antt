@@ -4,10 +4,11 @@ use Rattle.asn_base.specs.Typed.{IsWithinLimit}
 use Rattle.resolve.specs.Sound.{given_numbers}
 use Rattle.resolve.specs.Soundness.{texts}
 use Rattle.resolve.proofs.Halfway.{Halfway}
+use Rattle.resolve.proofs.Sets.{HalfwayBy}
 use Rattle.resolve.proofs.lists.enumerated.Given as goal
 
 abbrev pub invariant-loop-item : goal.invariant-loop-item
 invariant-loop-item l = record {
   names : Halfway (λ _. Unit {0}) (map (λ i. i.0) (map item_of l.given)) (texts l.names.keys) (map (λ i. i.0) (map item_of (drop l.item-index l.given)));
-  numbers : Halfway IsWithinLimit (given_numbers (map item_of l.given)) l.numbers.keys (given_numbers (map item_of (drop l.item-index l.given)));
+  numbers : HalfwayBy IsWithinLimit (given_numbers (map item_of l.given)) l.numbers.keys (given_numbers (map item_of (drop l.item-index l.given)));
 }

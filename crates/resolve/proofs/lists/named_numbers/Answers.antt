@@ -7,14 +7,15 @@ use Rattle.trees.specs.Types.{number_of}
 use Rattle.resolve.specs.Sound.{signed}
 use Rattle.resolve.specs.Soundness.{texts}
 use Rattle.resolve.specs.Table.{simple, an_integer}
-use Rattle.resolve.proofs.Halfway.{halfway_start, halfway_step, halfway_distinct, halfway_each, turn, item_at, none_left}
+use Rattle.resolve.proofs.Halfway.{halfway_start, halfway_step, halfway_distinct, turn, item_at, none_left}
+use Rattle.resolve.proofs.Sets.{by_start, by_step, by_distinct, by_each, by_turn}
 use Rattle.resolve.proofs.ListFaults.{names_fault, integer_fault}
 use Rattle.resolve.proofs.lists.named_numbers.Goals as goal
 
 pub loop-item-init : goal.loop-item-init
 loop-item-init c = record {
   names = halfway_start (λ _. Unit {0}) _ (texts c.new-names.result.keys) (ap texts c.new-names.ensures.empty);
-  numbers = halfway_start IsWithinLimit _ c.new-numbers.result.keys c.new-numbers.ensures.empty;
+  numbers = by_start IsWithinLimit _ c.new-numbers.result.keys c.new-numbers.ensures.empty;
 }
 
 pub loop-item-preserved : goal.loop-item-preserved
@@ -23,10 +24,10 @@ loop-item-preserved c =
     let i = c.loop-item.item-index in
     let l : c.loop-item.item-index < length c.args.given.now = omega arith in
     let hn = turn (λ _. Unit {0}) (λ (n : Name × (Bool × ℕ)). n.0) number_of _ (texts c.loop-item.names.keys) gs i c.item-item.result c.as_str-name.result.now l c.item-item.is c.as_str-name.ensures.value c.loop-item.invariant.names in
-    let hz = turn IsWithinLimit (λ (n : Name × (Bool × ℕ)). signed n.1) number_of _ c.loop-item.numbers.keys gs i c.item-item.result (signed (c.item-item.result.minus, c.item-item.result.number)) l c.item-item.is refl c.loop-item.invariant.numbers in
+    let hz = by_turn IsWithinLimit (λ (n : Name × (Bool × ℕ)). signed n.1) number_of _ c.loop-item.numbers.keys gs i c.item-item.result (signed (c.item-item.result.minus, c.item-item.result.number)) l c.item-item.is refl c.loop-item.invariant.numbers in
     record {
       names = halfway_step (λ _. Unit {0}) _ (texts c.loop-item.names.keys) _ (texts c.name_once.new.names.keys) c.as_str-name.result.now hn c.in_ok-name_once.ensures.added c.in_ok-name_once.ensures.fresh tt;
-      numbers = halfway_step IsWithinLimit _ c.loop-item.numbers.keys _ c.number_once.new.numbers.keys (signed (c.item-item.result.minus, c.item-item.result.number)) hz c.in_ok-number_once.ensures.added c.in_ok-number_once.ensures.fresh c.in_ok-number_once.ensures.limit;
+      numbers = by_step IsWithinLimit _ c.loop-item.numbers.keys _ c.number_once.new.numbers.keys (signed (c.item-item.result.minus, c.item-item.result.number)) hz c.in_ok-number_once.ensures.added c.in_ok-number_once.ensures.fresh c.in_ok-number_once.ensures.limit;
     }
 
 pub returns-in_err-name_once : goal.returns-in_err-name_once
@@ -43,7 +44,7 @@ returns-in_err-number_once c =
     let gs = c.args.given.now in
     let i = c.loop-item.item-index in
     let l : c.loop-item.item-index < length c.args.given.now = omega arith in
-    let hz = turn IsWithinLimit (λ (n : Name × (Bool × ℕ)). signed n.1) number_of _ c.loop-item.numbers.keys gs i c.item-item.result (signed (c.item-item.result.minus, c.item-item.result.number)) l c.item-item.is refl c.loop-item.invariant.numbers in
+    let hz = by_turn IsWithinLimit (λ (n : Name × (Bool × ℕ)). signed n.1) number_of _ c.loop-item.numbers.keys gs i c.item-item.result (signed (c.item-item.result.minus, c.item-item.result.number)) l c.item-item.is refl c.loop-item.invariant.numbers in
     let p = err_from_is_err_and c.from_residual-in_err-number_once.result c.from_residual-in_err-number_once.ensures.1 in
     rw (p.1, p.2) (integer_fault c.args.within.now c.args.assigns.now c.as_str-name.result.now (map number_of gs) i (number_of c.item-item.result) c.loop-item.numbers.keys _ c.in_err-number_once.field-0.0 (item_at number_of gs i c.item-item.result l c.item-item.is) c.as_str-name.ensures.value hz c.in_err-number_once.ensures.fault)
 
@@ -55,6 +56,6 @@ returns c =
     let none = none_left gs i l in
     let hn = halfway_distinct (λ _. Unit {0}) _ (texts c.loop-item.names.keys) _ (ap (λ r. map (λ (n : Name × (Bool × ℕ)). n.0) (map number_of r)) none) c.loop-item.invariant.names in
     let e : map (λ (n : Name × (Bool × ℕ)). signed n.1) (map number_of (drop i gs)) ≡ [] = ap (λ r. map (λ (n : Name × (Bool × ℕ)). signed n.1) (map number_of (r))) none in
-    let hz = halfway_distinct IsWithinLimit _ c.loop-item.numbers.keys _ e c.loop-item.invariant.numbers in
-    let each = halfway_each IsWithinLimit _ c.loop-item.numbers.keys _ e c.loop-item.invariant.numbers in
+    let hz = by_distinct IsWithinLimit _ c.loop-item.numbers.keys _ e c.loop-item.invariant.numbers in
+    let each = by_each IsWithinLimit _ c.loop-item.numbers.keys _ e c.loop-item.invariant.numbers in
     (hn, hz, λ k z q. each z (k, q))

@@ -4,10 +4,11 @@ use Rattle.asn_base.specs.Typed.{IsWithinLimit}
 use Rattle.resolve.specs.Sound.{signed}
 use Rattle.resolve.specs.Soundness.{texts}
 use Rattle.resolve.proofs.Halfway.{Halfway}
+use Rattle.resolve.proofs.Sets.{HalfwayBy}
 use Rattle.resolve.proofs.lists.named_numbers.Given as goal
 
 abbrev pub invariant-loop-item : goal.invariant-loop-item
 invariant-loop-item l = record {
   names : Halfway (λ _. Unit {0}) (map (λ n. n.0) (map number_of l.given)) (texts l.names.keys) (map (λ n. n.0) (map number_of (drop l.item-index l.given)));
-  numbers : Halfway IsWithinLimit (map (λ n. signed n.1) (map number_of l.given)) l.numbers.keys (map (λ n. signed n.1) (map number_of (drop l.item-index l.given)));
+  numbers : HalfwayBy IsWithinLimit (map (λ n. signed n.1) (map number_of l.given)) l.numbers.keys (map (λ n. signed n.1) (map number_of (drop l.item-index l.given)));
 }

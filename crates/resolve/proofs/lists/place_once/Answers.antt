@@ -1,14 +1,15 @@
-use Rattle.std.proofs.Common.{sym, nat_eq}
-use Rattle.std.proofs.lemmas.Bool.Decides.{Decides-eqb}
-use Rattle.resolve.proofs.Halfway.{any_here, any_nowhere}
+use Rattle.std.proofs.Common.{sym}
+use Rattle.std.specs.Ordering.{nat_cmp}
+use Rattle.std.proofs.lemmas.Cmp.{nat_cmp_total}
+use Rattle.resolve.proofs.Sets.{nat_exact, has, has_not, puts}
 use Rattle.resolve.proofs.lists.place_once.Goals as goal
 
 pub returns-then-contains-clause-fault : goal.returns-then-contains-clause-fault
 returns-then-contains-clause-fault c =
-    let n = c.args.place in
-    (c.in_ok-from_str-3.ensures.ok, c.in_ok-from_str-4.ensures.ok, any_here n (nat_eq n) c.args.places.now.keys (λ k e. (Decides-eqb n k).0 e) (sym c.if-contains.ensures))
+    (c.in_ok-from_str-3.ensures.ok, c.in_ok-from_str-4.ensures.ok, has nat_cmp nat_cmp_total nat_exact c.args.places.now.keys c.args.place (sym c.if-contains.ensures))
 
 pub returns-clause-fresh : goal.returns-clause-fresh
-returns-clause-fresh c =
-    let n = c.args.place in
-    λ s. any_nowhere n (nat_eq n) c.args.places.now.keys (λ k e. (Decides-eqb n k).1 e) (sym c.if-contains.ensures) s
+returns-clause-fresh c = has_not nat_cmp nat_cmp_total nat_exact c.args.places.now.keys c.args.place (sym c.if-contains.ensures)
+
+pub returns-clause-added : goal.returns-clause-added
+returns-clause-added c = puts nat_cmp nat_cmp_total nat_exact c.args.places.now.keys c.insert.new.self.keys c.args.place c.in_ok-insert.ensures.updates.0

@@ -1,16 +1,23 @@
-use Rattle.std.proofs.Common.{rules, arith, ◌≡◌, ◌<◌, Some, length, map, refl, sym, subst, ap, ◌∙◌, string_bytes}
+use Rattle.std.proofs.Common.{rules, arith, ◌≡◌, ◌<◌, Some, length, drop, map, refl, replicate, sym, subst, ap, ◌∙◌, string_bytes}
+use Rattle.std.proofs.lemmas.List.{length-replicate}
 use Rattle.std.proofs.lemmas.Option.{slice_get_read}
 use Rattle.resolve.specs.Numbering.{AreNumbered}
-use Rattle.resolve.specs.Table.{AllUnfold, IsClosed, IsCircular}
+use Rattle.resolve.specs.Cores.{AreUnknown, AreCores}
+use Rattle.resolve.specs.Table.{IsClosed, IsCircular}
 use Rattle.resolve.specs.Seen.{header_of, assignment_of, sources_of, types_of, type_of}
 use Rattle.resolve.proofs.Assembling.{closed, typed, whole}
+use Rattle.resolve.proofs.Knowing.{none_known, all_unfold, written_back}
 use Rattle.resolve.proofs.Sources.{assignment_at, header_at}
 use Rattle.resolve.proofs.Tables.{type_at}
 use Rattle.resolve.proofs.linked.Linked.of.Goals as goal
 
 pub unfold_all-requires : goal.unfold_all-requires
 unfold_all-requires c =
+    let marks : c.deref_mut.result.now ≡ replicate c.len-count.result c.len-count.result = c.deref_mut.ensures.value ∙ c.in_ok-cores.ensures.items_if_clones_equal (λ y h. h) in
+    let many : c.len-count.result ≡ length c.deref-3.result.now = omega (arith, c.len-count.ensures, c.in-Ok.types.ok.0, ap length c.deref-3.ensures.value) in
     record {
+      long = ap length marks ∙ length-replicate c.len-count.result c.len-count.result ∙ many;
+      unknown = subst (λ n. AreUnknown n c.deref_mut.result.now) many (subst (λ z. AreUnknown c.len-count.result z) (sym marks) (none_known c.len-count.result c.len-count.result));
       closed = subst (λ l. IsClosed (types_of l)) (sym c.deref-3.ensures.value) (closed c.args.names c.args.headers.items c.args.assignments.items c.args.roots.items c.args.values.items (types_of c.in-Ok.types.items)
           (subst (λ h. AreNumbered c.args.names (map header_of h) (map assignment_of c.args.assignments.items) (sources_of c.args.roots.items) (types_of c.in-Ok.types.items)) c.deref.ensures.value
           (subst (λ g. AreNumbered c.args.names (map header_of c.deref.result.now) (map assignment_of g) (sources_of c.args.roots.items) (types_of c.in-Ok.types.items)) c.deref-2.ensures.value c.in-Ok.ensures.ok)) c.requires.named);
@@ -20,8 +27,13 @@ pub invariant_of-result : goal.invariant_of-result
 invariant_of-result c =
     let all = subst (λ h. AreNumbered c.args.names (map header_of h) (map assignment_of c.args.assignments.items) (sources_of c.args.roots.items) (types_of c.in-Ok.types.items)) c.deref.ensures.value
     (subst (λ g. AreNumbered c.args.names (map header_of c.deref.result.now) (map assignment_of g) (sources_of c.args.roots.items) (types_of c.in-Ok.types.items)) c.deref-2.ensures.value c.in-Ok.ensures.ok) in
-    whole c.args.names c.args.headers.items c.args.assignments.items c.args.roots.items c.args.values.items (types_of c.in-Ok.types.items) all c.requires.named c.requires.unplaced c.requires.placed c.requires.valued
-    (subst (λ l. AllUnfold (types_of l)) c.deref-3.ensures.value c.in-Ok-unfold_all.ensures)
+    let cores = subst (λ l. AreCores (types_of l) c.unfold_all.new.cores) c.deref-3.ensures.value c.in-Ok-unfold_all.ensures in
+    let many : c.in_ok-cores.cores.len ≡ length c.unfold_all.new.cores = omega (arith, c.in_ok-cores.cores.ok.0, c.unfold_all.auto.cores, ap length c.deref_mut.ensures.value) in
+    let back = written_back c.in_ok-cores.cores.len c.unfold_all.new.cores (drop (length c.unfold_all.new.cores) c.in_ok-cores.cores.items) many in (
+      whole c.args.names c.args.headers.items c.args.assignments.items c.args.roots.items c.args.values.items (types_of c.in-Ok.types.items) all c.requires.named c.requires.unplaced c.requires.placed c.requires.valued
+          (all_unfold (types_of c.in-Ok.types.items) c.unfold_all.new.cores cores),
+      subst (λ l. AreCores (types_of c.in-Ok.types.items) l) (sym back) cores,
+    )
 
 pub index-assignment-requires : goal.index-assignment-requires
 index-assignment-requires c =
