@@ -1,6 +1,6 @@
 //! Laws of values and schemas, for the crates above.
 
-ghost use Rattle.std.specs.Prelude.{◌≡◌, ◌≤◌, ℕ, ℤ, List, [], ◌∷◌, ◌++◌, map, option_map, string_bytes, Bool as 𝔹, Option, None, Vec, String as String', Box};
+ghost use Rattle.std.specs.Prelude.{◌≡◌, ◌≤◌, ℕ, ℤ, List, [], ◌∷◌, ◌++◌, map, option_map, string_bytes, Bool as 𝔹, Option, Some, None, slice_get, Vec, String as String', Box};
 ghost use Rattle.std.specs.List.{AllByRecursion};
 ghost use Rattle.std.specs.declared.alloc.Global.{Global as Global'};
 ghost use Rattle.asn_base.specs.declared.value.BitString.{BitString};
@@ -35,8 +35,10 @@ pub fn integer_within_limit(number: i128)
     ensures { IsWithinLimit number }
 {}
 
-/// A schema without types is accepted, and one stays accepted with one more type that is.
+/// Each type of a schema that today's writer takes is one that it takes. A schema without types is taken, and one stays
+/// so with one more type that is.
 pub fn schemas_grow()
+    ensures each { (s : List Resolved) (t : ℕ) (r : Resolved) → slice_get s t ≡ Some r → IsAccepted s → IsAcceptedType s r }
     ensures empty { IsAccepted [] }
     ensures grows { (s : List Resolved) (r : Resolved) → IsAccepted s → IsAcceptedType s r → IsAccepted (s ++ (r ∷ [])) }
 {}
