@@ -29,14 +29,3 @@ pub found_still : {A : Type 0} (P : A → Type 0) (xs : List A) (y : A) (i : ℕ
 found_still P [] y i h = absurd h
 found_still P (x ∷ xs) y zero h = h
 found_still P (x ∷ xs) y (suc i) h = found_still P xs y i h
-
-mapped_at : {A B : Type 0} (P : B → Type 0) (f : A → B) (xs : List A) (i : ℕ) (d : A) → i < length (map f xs) → AllByRecursion P (map f xs) → P (f (get_or xs i d))
-mapped_at P f [] i d h a = absurd (omega arith)
-mapped_at P f (x ∷ xs) zero d h a = a.0
-mapped_at P f (x ∷ xs) (suc i) d h a = mapped_at P f xs i d (omega arith) a.1
-
--- what a view promises of each of its members holds of the one at a place
-pub seen_at : {A B : Type 0} (P : List B → B → Type 0) (f : A → B) (xs : List A) (now : List B) (i : ℕ) (d : A) → map f xs ≡ now → d ≡ get_or xs i d → i < length now → AllByRecursion (P (map f xs)) (map f xs) → P now (f d)
-seen_at P f xs now i d e g h a =
-    let lt : i < length (map f xs) = subst (λ q. i < length q) (sym e) h in
-    subst (λ q. P q (f d)) e (subst (λ q. P (map f xs) (f q)) (sym g) (mapped_at (P (map f xs)) f xs i d lt a))

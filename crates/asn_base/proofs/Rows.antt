@@ -8,10 +8,12 @@ use Rattle.std.specs.Int.Digits.{AllBelowBase}
 use Rattle.asn_base.specs.declared.tag.Class.TheVariants.{Universal}
 use Rattle.asn_base.specs.declared.tag.Tag.{Tag}
 use Rattle.asn_base.specs.Abstract.{AbstractValue, integer, octets, null, fields, list, alternative, end, absent, present}
+use Rattle.asn_base.specs.Names.{IsMember, is_first, is_later}
 use Rattle.asn_base.specs.Types.{Bounds, Constraint, Presence, mandatory, optional, default, addition, Component, Kind, an_integer, an_octet_string, a_sequence, a_sequence_of, a_choice, Resolved}
-use Rattle.asn_base.specs.Typed.{IsMember, is_first, is_later, IsWithinLimit, IsAllowed, HasNumber, IsObjectIdentifier, arcs, Fits, fits_integer, fits_octets, ValueIn, value_in, of_leaf, of_sequence, of_sequence_of, of_choice, ValueOf, members, one_element, MayBeAbsent, where_optional, where_default, where_addition, no_component, component_absent, component_present, no_element, nodes}
+use Rattle.asn_base.specs.Typed.{IsWithinLimit, IsAllowed, HasNumber, IsObjectIdentifier, arcs, Fits, fits_integer, fits_octets, ValueIn, value_in, of_leaf, of_sequence, of_sequence_of, of_choice, ValueOf, members, one_element, MayBeAbsent, where_optional, where_default, where_addition, no_component, component_absent, component_present, no_element, nodes}
 use Rattle.asn_base.specs.Same.{Alike, alike, AlikeBy, alike_choice, equal}
 use Rattle.asn_base.proofs.Sameness.{by_at, same_kind}
+use Rattle.asn_base.proofs.Groups.{no_groups}
 
 abbrev tag : Tag
 tag = record { class = Universal; number = 2; in_range = lit< tt; not_reserved = λ e. lit< tt }
@@ -40,7 +42,7 @@ abbrev s : List Resolved
 s = row (an_integer to_7)  -- 0
     ∷ row (an_integer free)  -- 1
     ∷ row (a_sequence false (part 1 mandatory ∷ []))  -- 2
-    ∷ row (a_sequence true (part 1 optional ∷ part 1 addition ∷ []))  -- 3
+    ∷ row (a_sequence true (part 1 optional ∷ part 1 (addition false None) ∷ []))  -- 3
     ∷ row (a_sequence false (part 1 (default (integer (pos 5))) ∷ []))  -- 4
     ∷ row (a_sequence_of free 1)  -- 5
     ∷ row (a_sequence_of some 1)  -- 6
@@ -125,10 +127,10 @@ five : {n : ℕ} → ValueIn s (suc n) 1 (integer (pos 5))
 five = value_in (record { found = refl }) (of_leaf (fits_integer (lit< tt) tt))
 
 with_it : ValueIn s 2 2 (fields (present (integer (pos 5)) end))
-with_it = value_in (record { found = refl }) (of_sequence (component_present five no_component))
+with_it = value_in (record { found = refl }) (of_sequence (component_present five no_component) (no_groups (part 1 mandatory ∷ []) (present (integer (pos 5)) end) (refl, tt)))
 
 all_absent : ValueIn s 1 3 (fields (absent (absent end)))
-all_absent = value_in (record { found = refl }) (of_sequence (component_absent where_optional (component_absent where_addition no_component)))
+all_absent = value_in (record { found = refl }) (of_sequence (component_absent where_optional (component_absent where_addition no_component)) (no_groups (part 1 optional ∷ part 1 (addition false None) ∷ []) (absent (absent end)) (refl, (refl, tt))))
 
 must_stand : {n t : ℕ} {p : Presence} → MayBeAbsent s n t p → p ≡ mandatory → ⊥
 must_stand where_optional e = cc
@@ -137,7 +139,7 @@ must_stand where_addition e = cc
 
 -- an absent component counts with the levels of its DEFAULT, and with no nodes
 default_absent : ValueIn s 2 4 (fields (absent end))
-default_absent = value_in (record { found = refl }) (of_sequence (component_absent (where_default five) no_component))
+default_absent = value_in (record { found = refl }) (of_sequence (component_absent (where_default five) no_component) (no_groups (part 1 (default (integer (pos 5))) ∷ []) (absent end) (refl, tt)))
 
 default_has_levels : {n t : ℕ} {p : Presence} {d : AbstractValue} → MayBeAbsent s n t p → p ≡ default d → n ≡ 0 → ⊥
 default_has_levels where_optional e z = cc

@@ -1,20 +1,28 @@
 -- Worked rows: what tags and bits keep, what Rust types are without memory, and what a schema of today leaves out.
 use Rattle.std.proofs.Common.{arith, lit<, ◌≡◌, ℕ, zero, suc, ◌<◌, ◌≤◌, ◌^◌, inl, inr, true, false, List, [], ◌∷◌, length, refl, sym, ap, subst, ◌∙◌}
-use Rattle.std.specs.Prelude.{◌*◌, ◌-◌, pos, Option, Some, None, take, flat_map, chars}
+use Rattle.std.specs.Prelude.{◌*◌, ◌-◌, pos, Option, Some, None, Bool, Vec, map, string_bytes, take, flat_map, chars}
+use Rattle.std.specs.declared.alloc.Global.{Global}
 use Rattle.asn_base.specs.declared.tag.Class.TheVariants.{Universal}
 use Rattle.asn_base.specs.declared.tag.Tag.{Tag}
 use Rattle.asn_base.specs.declared.value.BitString.{BitString}
 use Rattle.asn_base.specs.declared.constraint.Constraint.{Constraint as Constraint'}
-use Rattle.asn_base.specs.declared.schema.Presence.TheVariants.{Optional, Addition}
-use Rattle.asn_base.specs.declared.schema.Core.TheVariants.{OctetString}
+use Rattle.asn_base.specs.declared.value.Value.{Value}
+use Rattle.asn_base.specs.declared.schema.Presence.TheVariants.{Optional, Default, Addition}
+use Rattle.asn_base.specs.declared.schema.Component.{Component as Component'}
+use Rattle.asn_base.specs.declared.schema.Alternative.{Alternative as Alternative'}
+use Rattle.asn_base.specs.declared.schema.Alternatives.{Alternatives}
+use Rattle.asn_base.specs.declared.schema.Item.{Item as Item'}
+use Rattle.asn_base.specs.declared.schema.NamedBit.{NamedBit as NamedBit'}
+use Rattle.asn_base.specs.declared.schema.TypeId.{TypeId}
+use Rattle.asn_base.specs.declared.schema.Core.TheVariants as cores
 use Rattle.asn_base.specs.declared.schema.Resolved.{Resolved as Resolved'}
-use Rattle.asn_base.specs.Abstract.{AbstractValue, enumerated, text, bits_of_octet, bits_of}
-use Rattle.asn_base.specs.Types.{Constraint, optional, addition, Component, an_enumerated, a_null, a_utf8_string, an_octet_string, a_sequence, a_set_of, Resolved}
+use Rattle.asn_base.specs.Abstract.{AbstractValue, abstract, enumerated, text, bits_of_octet, bits_of}
+use Rattle.asn_base.specs.Types.{Constraint, any_number, optional, default, addition, Component, an_enumerated, a_null, a_utf8_string, an_octet_string, a_sequence, a_set, a_set_of, a_choice, Resolved}
 use Rattle.asn_base.specs.Typed.{IsAllowedSize, IsObjectIdentifier, arcs, Fits, fits_enumerated, fits_utf8, IsValue, nodes}
 use Rattle.asn_base.specs.Tags.{HasFewTags}
 use Rattle.asn_base.specs.Same.{IsLeaf}
-use Rattle.asn_base.specs.Seen.{range_of, bounds_of, constraint_of, presence_of, kind_of, resolved_of}
-use Rattle.asn_base.specs.Accepted.{IsUnconstrained, IsOfFirstStage}
+use Rattle.asn_base.specs.Seen.{range_of, bounds_of, constraint_of, presence_of, component_of, alternative_of, item_of, named_bit_of, kind_of, resolved_of}
+use Rattle.asn_base.specs.Accepted.{IsOfFirstStage}
 
 -- a tag's number is below 2^31, and not 0 in the universal class; a bit string has at most seven unused bits
 number_below : (g : Tag) → g.number < 2147483648
@@ -76,24 +84,48 @@ set_of_is_no_leaf c u h = h
 range_from_1 : range_of (record { least = Some (pos 1); greatest = None }) ≡ record { least = Some (pos 1); greatest = None }
 range_from_1 = refl
 
-extensible_bounds : bounds_of (record { least = None; greatest = None; extensible = true }) ≡ record { least = None; greatest = None; extensible = true }
-extensible_bounds = refl
+bounds_are : bounds_of (record { least = Some (pos 1); greatest = Some (pos 2); extensible = true }) ≡ record { least = Some (pos 1); greatest = Some (pos 2); extensible = true }
+bounds_are = refl
 
 optional_is : presence_of Optional ≡ optional
 optional_is = refl
 
-addition_is : presence_of Addition ≡ addition
+default_is : (v : Value) → presence_of (Default v) ≡ default (abstract v)
+default_is v = refl
+
+addition_is : presence_of (Addition (record { optional = true; group = Some 3 })) ≡ addition true (Some 3)
 addition_is = refl
 
-octet_string_is : (c : Constraint') → kind_of (OctetString c) ≡ an_octet_string (constraint_of c)
+component_is : (c : Component') → (component_of c).name ≡ string_bytes c.name
+component_is c = refl
+
+alternative_is : (a : Alternative') → alternative_of a ≡ record { name = string_bytes a.name; type = a.ty.index }
+alternative_is a = refl
+
+item_is : (i : Item') → item_of i ≡ record { name = string_bytes i.name; number = i.number }
+item_is i = refl
+
+named_bit_is : (b : NamedBit') → named_bit_of b ≡ record { name = string_bytes b.name; place = b.place }
+named_bit_is b = refl
+
+octet_string_is : (c : Constraint') → kind_of (cores.OctetString c) ≡ an_octet_string (constraint_of c)
 octet_string_is c = refl
+
+set_is : (e : Bool) (cs : Vec Component' Global) → kind_of (cores.Set e cs) ≡ a_set e (map component_of cs.items)
+set_is e cs = refl
+
+set_of_is : (c : Constraint') (u : TypeId) → kind_of (cores.SetOf c u) ≡ a_set_of (constraint_of c) u.index
+set_of_is c u = refl
+
+additions_last : (as' : Alternatives) → kind_of (cores.Choice as') ≡ a_choice (map alternative_of as'.root.items) as'.extensible (map alternative_of as'.additions.items)
+additions_last as' = refl
 
 outermost_first : (r : Resolved') (g : Tag) (gs : List Tag) → r.tags.items ≡ g ∷ gs → (resolved_of r).tags ≡ g ∷ gs
 outermost_first r g gs e = e
 
--- a schema of today has no constraints and no markers
-no_constraint : (c : Constraint) → c.allowed ≡ Some [] → IsUnconstrained c → ⊥
-no_constraint c e u = cc
+-- a schema of today's writer has no constraints and no markers
+no_constraint : (c : Constraint) → c.allowed ≡ Some [] → c ≡ any_number → ⊥
+no_constraint c e u = let f : None ≡ Some [] = sym (ap (λ q. q.allowed) u) ∙ e in cc
 
 no_marker : (s : List Resolved) (cs : List Component) → IsOfFirstStage s (a_sequence true cs) → ⊥
 no_marker s cs h = let e : true ≡ false = h.0 in cc

@@ -4,7 +4,7 @@ use Rattle.std.specs.Prelude.{Option, Some, None}
 use Rattle.asn_base.specs.declared.tag.Tag.{Tag}
 use Rattle.asn_base.specs.Abstract.{AbstractValue, null, Row, present}
 use Rattle.asn_base.specs.Types.{Kind, a_null, Alternative, Presence, mandatory, optional, default, addition, Component, Resolved, Is}
-use Rattle.asn_base.specs.Typed.{Fits, fits_boolean, fits_integer, fits_enumerated, fits_bits, fits_named_bits, fits_octets, fits_null, fits_oid, fits_utf8, fits_restricted, ValueIn, value_in, ValueOf, of_leaf, of_sequence, of_set, of_sequence_of, of_set_of, of_choice, AreComponents, no_component, component_absent, component_present, AreElements, no_element, one_element}
+use Rattle.asn_base.specs.Typed.{Fits, fits_boolean, fits_integer, fits_enumerated, fits_bits, fits_named_bits, fits_octets, fits_null, fits_oid, fits_relative_oid, fits_utf8, fits_restricted, ValueIn, value_in, ValueOf, of_leaf, of_sequence, of_set, of_sequence_of, of_set_of, of_choice, AreComponents, no_component, component_absent, component_present, AreElements, no_element, one_element}
 use Rattle.asn_base.specs.Same.{IsLeaf, Inserted, here, there, Alike, alike, AlikeBy, equal, zeros, alike_sequence, alike_set, alike_sequence_of, alike_set_of, alike_choice, AlikeComponents, no_components, both_absent, both_present, first_default, second_default, AlikeElements, no_elements, alike_element, AlikeInAnyOrder, none_left, pair, Same}
 
 fits_leaf : {k : Kind} {v : AbstractValue} → Fits k v → IsLeaf k
@@ -16,6 +16,7 @@ fits_leaf fits_named_bits = tt
 fits_leaf (fits_octets b a) = tt
 fits_leaf fits_null = tt
 fits_leaf (fits_oid a) = tt
+fits_leaf (fits_relative_oid a) = tt
 fits_leaf (fits_utf8 a z) = tt
 fits_leaf (fits_restricted a z) = tt
 
@@ -25,8 +26,8 @@ mutual
 
   by_self : {s : List Resolved} {n : ℕ} {k : Kind} {v : AbstractValue} → ValueOf s n k v → AlikeBy s k v v
   by_self (of_leaf f) = equal (fits_leaf f)
-  by_self (of_sequence a) = alike_sequence (components_self a)
-  by_self (of_set a) = alike_set (components_self a)
+  by_self (of_sequence a g) = alike_sequence (components_self a)
+  by_self (of_set a g) = alike_set (components_self a)
   by_self (of_sequence_of a z) = alike_sequence_of (elements_self a)
   by_self (of_set_of a z) = alike_set_of (any_order_self a)
   by_self (of_choice g a) = alike_choice g (alike_self a)
@@ -128,7 +129,7 @@ same_default a b = ap default_in (sym a ∙ b)
     default_in mandatory = null
     default_in optional = null
     default_in (default d) = d
-    default_in addition = null
+    default_in (addition o g) = null
 
 same_alternative : {o : Option Alternative} {a b : Alternative} → o ≡ Some a → o ≡ Some b → b.type ≡ a.type
 same_alternative e f = ap type_in (sym f ∙ e)

@@ -23,32 +23,68 @@ pub data Inserted : AbstractValue → Row → Row → Type 0 where
 mutual
   -- two values of type t are alike
   pub data Alike (s : List Resolved) : ℕ → AbstractValue → AbstractValue → Type 0 where
-    alike : {t : ℕ} {tags : List Tag} {k : Kind} {v w : AbstractValue} → Is s t tags k → AlikeBy s k v w → Alike s t v w
+    alike : {t : ℕ} {tags : List Tag} {k : Kind} {v w : AbstractValue}
+        → Is s t tags k
+        → AlikeBy s k v w
+        → Alike s t v w
 
   -- the same for values of this kind
   pub data AlikeBy (s : List Resolved) : Kind → AbstractValue → AbstractValue → Type 0 where
     equal : {k : Kind} {v : AbstractValue} → IsLeaf k → AlikeBy s k v v
-    zeros : {ns : List NamedBit} {a b : List Bool} (m n : ℕ) → a ++ replicate m false ≡ b ++ replicate n false → AlikeBy s (a_named_bit_string ns) (bits a) (bits b)
-    alike_sequence : {e : Bool} {cs : List Component} {vs ws : Row} → AlikeComponents s cs vs ws → AlikeBy s (a_sequence e cs) (fields vs) (fields ws)
-    alike_set : {e : Bool} {cs : List Component} {vs ws : Row} → AlikeComponents s cs vs ws → AlikeBy s (a_set e cs) (fields vs) (fields ws)
-    alike_sequence_of : {u : ℕ} {c : Constraint} {vs ws : Row} → AlikeElements s u vs ws → AlikeBy s (a_sequence_of c u) (list vs) (list ws)
-    alike_set_of : {u : ℕ} {c : Constraint} {vs ws : Row} → AlikeInAnyOrder s u vs ws → AlikeBy s (a_set_of c u) (list vs) (list ws)
-    alike_choice : {i : ℕ} {e : Bool} {root more : List Alternative} {a : Alternative} {v w : AbstractValue} → slice_get (root ++ more) i ≡ Some a → Alike s a.type v w → AlikeBy s (a_choice root e more) (alternative i v) (alternative i w)
+    zeros : {ns : List NamedBit} {a b : List Bool} (m n : ℕ)
+        → a ++ replicate m false ≡ b ++ replicate n false
+        → AlikeBy s (a_named_bit_string ns) (bits a) (bits b)
+    alike_sequence : {e : Bool} {cs : List Component} {vs ws : Row}
+        → AlikeComponents s cs vs ws
+        → AlikeBy s (a_sequence e cs) (fields vs) (fields ws)
+    alike_set : {e : Bool} {cs : List Component} {vs ws : Row}
+        → AlikeComponents s cs vs ws
+        → AlikeBy s (a_set e cs) (fields vs) (fields ws)
+    alike_sequence_of : {u : ℕ} {c : Constraint} {vs ws : Row}
+        → AlikeElements s u vs ws
+        → AlikeBy s (a_sequence_of c u) (list vs) (list ws)
+    alike_set_of : {u : ℕ} {c : Constraint} {vs ws : Row}
+        → AlikeInAnyOrder s u vs ws
+        → AlikeBy s (a_set_of c u) (list vs) (list ws)
+    alike_choice : {i : ℕ} {e : Bool} {root more : List Alternative} {a : Alternative} {v w : AbstractValue}
+        → slice_get (root ++ more) i ≡ Some a
+        → Alike s a.type v w
+        → AlikeBy s (a_choice root e more) (alternative i v) (alternative i w)
 
   pub data AlikeComponents (s : List Resolved) : List Component → Row → Row → Type 0 where
     no_components : AlikeComponents s [] end end
-    both_absent : {c : Component} {cs : List Component} {vs ws : Row} → AlikeComponents s cs vs ws → AlikeComponents s (c ∷ cs) (absent vs) (absent ws)
-    both_present : {c : Component} {cs : List Component} {v w : AbstractValue} {vs ws : Row} → Alike s c.type v w → AlikeComponents s cs vs ws → AlikeComponents s (c ∷ cs) (present v vs) (present w ws)
-    first_default : {c : Component} {cs : List Component} {d w : AbstractValue} {vs ws : Row} → c.presence ≡ default d → Alike s c.type d w → AlikeComponents s cs vs ws → AlikeComponents s (c ∷ cs) (absent vs) (present w ws)
-    second_default : {c : Component} {cs : List Component} {d v : AbstractValue} {vs ws : Row} → c.presence ≡ default d → Alike s c.type v d → AlikeComponents s cs vs ws → AlikeComponents s (c ∷ cs) (present v vs) (absent ws)
+    both_absent : {c : Component} {cs : List Component} {vs ws : Row}
+        → AlikeComponents s cs vs ws
+        → AlikeComponents s (c ∷ cs) (absent vs) (absent ws)
+    both_present : {c : Component} {cs : List Component} {v w : AbstractValue} {vs ws : Row}
+        → Alike s c.type v w
+        → AlikeComponents s cs vs ws
+        → AlikeComponents s (c ∷ cs) (present v vs) (present w ws)
+    first_default : {c : Component} {cs : List Component} {d w : AbstractValue} {vs ws : Row}
+        → c.presence ≡ default d
+        → Alike s c.type d w
+        → AlikeComponents s cs vs ws
+        → AlikeComponents s (c ∷ cs) (absent vs) (present w ws)
+    second_default : {c : Component} {cs : List Component} {d v : AbstractValue} {vs ws : Row}
+        → c.presence ≡ default d
+        → Alike s c.type v d
+        → AlikeComponents s cs vs ws
+        → AlikeComponents s (c ∷ cs) (present v vs) (absent ws)
 
   pub data AlikeElements (s : List Resolved) : ℕ → Row → Row → Type 0 where
     no_elements : {u : ℕ} → AlikeElements s u end end
-    alike_element : {u : ℕ} {v w : AbstractValue} {vs ws : Row} → Alike s u v w → AlikeElements s u vs ws → AlikeElements s u (present v vs) (present w ws)
+    alike_element : {u : ℕ} {v w : AbstractValue} {vs ws : Row}
+        → Alike s u v w
+        → AlikeElements s u vs ws
+        → AlikeElements s u (present v vs) (present w ws)
 
   pub data AlikeInAnyOrder (s : List Resolved) : ℕ → Row → Row → Type 0 where
     none_left : {u : ℕ} → AlikeInAnyOrder s u end end
-    pair : {u : ℕ} {v w : AbstractValue} {vs ws xs : Row} → Alike s u v w → AlikeInAnyOrder s u vs ws → Inserted w ws xs → AlikeInAnyOrder s u (present v vs) xs
+    pair : {u : ℕ} {v w : AbstractValue} {vs ws xs : Row}
+        → Alike s u v w
+        → AlikeInAnyOrder s u vs ws
+        → Inserted w ws xs
+        → AlikeInAnyOrder s u (present v vs) xs
 
 -- two values of type t are the same
 pub record Same (s : List Resolved) (t : ℕ) (v w : AbstractValue) : Type 0 where

@@ -6,10 +6,17 @@ use Rattle.asn_base.specs.declared.tag.Class.TheVariants.{Universal, Application
 use Rattle.asn_base.specs.declared.tag.Tag.{Tag}
 use Rattle.asn_base.specs.Types.{Alternative, Kind, a_sequence, a_set, a_choice, mandatory, optional, default, addition, Component, Resolved, Is}
 
--- a tag that can stand first before a value of the type: its outermost one, or those of the alternatives of an untagged CHOICE
+-- a tag that can stand first before a value of the type: its outermost one,
+-- or those of the alternatives of an untagged CHOICE
 pub data First (s : List Resolved) : ℕ → Tag → Type 0 where
-  first_tag : {t : ℕ} {g : Tag} {ts : List Tag} {k : Kind} → Is s t (g ∷ ts) k → First s t g
-  first_of_choice : {t : ℕ} {g : Tag} {e : Bool} {root more : List Alternative} {a : Alternative} (i : ℕ) → Is s t [] (a_choice root e more) → slice_get (root ++ more) i ≡ Some a → First s a.type g → First s t g
+  first_tag : {t : ℕ} {g : Tag} {ts : List Tag} {k : Kind}
+      → Is s t (g ∷ ts) k
+      → First s t g
+  first_of_choice : {t : ℕ} {g : Tag} {e : Bool} {root more : List Alternative} {a : Alternative} (i : ℕ)
+      → Is s t [] (a_choice root e more)
+      → slice_get (root ++ more) i ≡ Some a
+      → First s a.type g
+      → First s t g
 
 -- no tag can stand first before values of both types
 abbrev pub AreApart : List Resolved → ℕ → ℕ → Type 0
@@ -21,7 +28,7 @@ AllApart s [] = Unit {0}
 AllApart s (t ∷ ts) = AllByRecursion (AreApart s t) ts × AllApart s ts
 
 abbrev pub is_mandatory : Component → Bool
-is_mandatory c = elim c.presence [ mandatory ↦ true | optional ↦ false | default d ↦ false | addition ↦ false ]
+is_mandatory c = elim c.presence [ mandatory ↦ true | optional ↦ false | default d ↦ false | addition o g ↦ false ]
 
 -- the components that may be absent at the front, and the one behind them that must stand
 abbrev pub first_run : List Component → List Component
@@ -31,7 +38,9 @@ first_run (c ∷ cs) = if is_mandatory c then c ∷ [] else c ∷ first_run cs
 -- each component that may be absent is apart from the further ones of its run; the last run takes in the additions
 abbrev pub RunsApart : List Resolved → List Component → Type 0
 RunsApart s [] = Unit {0}
-RunsApart s (c ∷ cs) = (is_mandatory c ≡ false → AllByRecursion (λ d. AreApart s c.type d.type) (first_run cs)) × RunsApart s cs
+RunsApart s (c ∷ cs) =
+    (is_mandatory c ≡ false → AllByRecursion (λ d. AreApart s c.type d.type) (first_run cs))
+    × RunsApart s cs
 
 abbrev pub IsTellable : List Resolved → Kind → Type 0
 IsTellable s (a_sequence e cs) = RunsApart s cs
@@ -64,4 +73,6 @@ class_rank Private = 3
 
 -- the canonical order of tags: by class, and within a class by number (8.6)
 abbrev pub TagBefore : Tag → Tag → Type 0
-TagBefore g f = (class_rank g.class < class_rank f.class) ⊎ ((class_rank g.class ≡ class_rank f.class) × (g.number < f.number))
+TagBefore g f =
+    (class_rank g.class < class_rank f.class)
+    ⊎ ((class_rank g.class ≡ class_rank f.class) × (g.number < f.number))

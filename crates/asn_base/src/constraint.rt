@@ -1,8 +1,8 @@
 //! What constraints leave of the numbers or sizes of a type (X.680, 51).
 
-ghost use Rattle.std.specs.Prelude.{◌≡◌, None, false};
-ghost use Rattle.asn_base.specs.Accepted.{IsUnconstrained};
-ghost use Rattle.asn_base.specs.Seen.{bounds_of, constraint_of};
+ghost use Rattle.std.specs.Prelude.{◌≡◌};
+ghost use Rattle.asn_base.specs.Seen.{constraint_of};
+ghost use Rattle.asn_base.specs.Types.{any_number, any_size};
 
 /// A range of numbers or sizes. An end is None where it has no bound.
 #[derive(Clone, Copy, Debug)]
@@ -28,15 +28,28 @@ pub struct Constraint {
 }
 
 impl Constraint {
-    /// No constraint: every number or size is allowed.
-    pub fn none() -> Self
-        ensures allowed { IsUnconstrained (constraint_of result) }
-        ensures visible { bounds_of result.visible ≡ record { least = None; greatest = None; extensible = false } }
+    /// Every number is allowed.
+    pub fn any_number() -> Self
+        ensures { constraint_of result ≡ any_number }
     {
         Constraint {
             allowed: None,
             visible: Bounds {
                 least: None,
+                greatest: None,
+                extensible: false,
+            },
+        }
+    }
+
+    /// Every size is allowed, from 0.
+    pub fn any_size() -> Self
+        ensures { constraint_of result ≡ any_size }
+    {
+        Constraint {
+            allowed: None,
+            visible: Bounds {
+                least: Some(0),
                 greatest: None,
                 extensible: false,
             },

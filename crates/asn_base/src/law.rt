@@ -1,15 +1,17 @@
 //! Laws of values and schemas, for the crates above.
 
-ghost use Rattle.std.specs.Prelude.{◌≡◌, ◌≤◌, ℕ, ℤ, List, [], ◌∷◌, ◌++◌, map, option_map, string_bytes, Bool as 𝔹, Option, Vec, String as String', Box};
+ghost use Rattle.std.specs.Prelude.{◌≡◌, ◌≤◌, ℕ, ℤ, List, [], ◌∷◌, ◌++◌, map, option_map, string_bytes, Bool as 𝔹, Option, Some, None, slice_get, Vec, String as String', Box};
+ghost use Rattle.std.specs.List.{AllByRecursion};
 ghost use Rattle.std.specs.declared.alloc.Global.{Global as Global'};
 ghost use Rattle.asn_base.specs.declared.value.BitString.{BitString};
 ghost use Rattle.asn_base.specs.declared.value.Value.{Value};
-ghost use Rattle.asn_base.specs.declared.value.Value.TheVariants.{Bool, Int, Enum, Bits, Octets, Text, Null, Oid, Fields, List as List', Alt};
-ghost use Rattle.asn_base.specs.Abstract.{AbstractValue, boolean, integer, enumerated, bits, bits_of, octets, text, null, oid, fields, list, alternative, abstract, row_of_options, row_of_list};
-ghost use Rattle.asn_base.specs.Types.{Resolved};
-ghost use Rattle.asn_base.specs.Typed.{ValueIn, IsValueWithoutNodes, IsValue, IsWithinLimit, nodes};
-ghost use Rattle.asn_base.specs.Same.{Alike, Same};
+ghost use Rattle.asn_base.specs.declared.value.Value.TheVariants.{Bool, Int, Enum, Bits, Octets, Text, Null, Oid, RelativeOid, Fields, List as List', Alt};
+ghost use Rattle.asn_base.specs.Abstract.{AbstractValue, Row, boolean, integer, enumerated, bits, bits_of, octets, text, null, oid, relative_oid, fields, list, alternative, abstract, row_of_options, row_of_list};
+ghost use Rattle.asn_base.specs.Types.{Component, Resolved};
+ghost use Rattle.asn_base.specs.Typed.{group_of, GroupsAreWhole, ValueIn, IsValueWithoutNodes, IsValue, IsWithinLimit, nodes};
+ghost use Rattle.asn_base.specs.Same.{Alike, AlikeComponents, Same};
 ghost use Rattle.asn_base.specs.Accepted.{IsAccepted, IsAcceptedType};
+ghost use Rattle.asn_base.specs.Schemas.{IsSchema};
 ghost use Rattle.asn_base.specs.Tags.{AllTagged, AllTellable};
 
 /// What each variant of a value is without memory.
@@ -22,6 +24,7 @@ pub fn abstract_values()
     ensures text_ { (v : String' Global') → abstract (Text v) ≡ text (string_bytes v) }
     ensures null_ { abstract Null ≡ null }
     ensures oid_ { (v : Vec ℕ Global') → abstract (Oid v) ≡ oid v.items }
+    ensures relative_oid_ { (v : Vec ℕ Global') → abstract (RelativeOid v) ≡ relative_oid v.items }
     ensures fields_ { (v : Vec (Option Value) Global') → abstract (Fields v) ≡ fields (row_of_options (map (option_map abstract) v.items)) }
     ensures list_ { (v : Vec Value Global') → abstract (List' v) ≡ list (row_of_list (map abstract v.items)) }
     ensures alt { (i : ℕ) (b : Box Value Global') → abstract (Alt i b) ≡ alternative i (abstract b.value) }
@@ -32,10 +35,17 @@ pub fn integer_within_limit(number: i128)
     ensures { IsWithinLimit number }
 {}
 
-/// A schema without types is accepted, and one stays accepted with one more type that is.
+/// Each type of a schema that today's writer takes is one that it takes. A schema without types is taken, and one stays
+/// so with one more type that is.
 pub fn schemas_grow()
+    ensures each { (s : List Resolved) (t : ℕ) (r : Resolved) → slice_get s t ≡ Some r → IsAccepted s → IsAcceptedType s r }
     ensures empty { IsAccepted [] }
     ensures grows { (s : List Resolved) (r : Resolved) → IsAccepted s → IsAcceptedType s r → IsAccepted (s ++ (r ∷ [])) }
+{}
+
+/// What the types of today's writer keep is what a schema keeps.
+pub fn accepted_are_schemas()
+    ensures { (s : List Resolved) → IsAccepted s → IsSchema s }
 {}
 
 /// Each type of an accepted schema but a CHOICE has a tag, and first tags are distinct where they must be.
@@ -48,6 +58,17 @@ pub fn accepted_are_told_apart()
 pub fn few_nodes()
     ensures nodes { (s : List Resolved) (n t : ℕ) (v : AbstractValue) → IsAccepted s → ValueIn s n t v → nodes v ≤ 257 }
     ensures value { (s : List Resolved) (t : ℕ) (v : AbstractValue) → IsAccepted s → IsValueWithoutNodes s t v → IsValue s t v }
+{}
+
+/// Where no component stands in version brackets, all groups are whole.
+pub fn without_groups()
+    ensures { (cs : List Component) (vs : Row) → AllByRecursion (λ c. group_of c.presence ≡ None) cs → GroupsAreWhole cs vs }
+{}
+
+/// Values that are alike have the same groups whole, and as many levels.
+pub fn alike_values()
+    ensures groups { (s : List Resolved) (cs : List Component) (vs ws : Row) → AlikeComponents s cs vs ws → GroupsAreWhole cs vs → GroupsAreWhole cs ws }
+    ensures levels { (s : List Resolved) (m n t : ℕ) (v w : AbstractValue) → Alike s t v w → ValueIn s n t v → ValueIn s m t w → ValueIn s n t w }
 {}
 
 /// Being the same is an equivalence on the values of a type, the limit on nodes apart.

@@ -1,6 +1,7 @@
 //! Modules that are ready for use.
 
 ghost use Rattle.std.specs.Prelude.{◌≡◌, ◌<◌, ◌↔◌, ℕ, List, length, map, Some, IfSome, IfOk, IfErr, MatchOption, MatchResult};
+ghost use Rattle.asn_base.specs.Accepted.{IsAccepted};
 ghost use Rattle.asn_base.specs.Types.{Resolved};
 ghost use Rattle.trees.specs.Modules.{ModuleTree, module_tree_of};
 ghost use Rattle.text.specs.declared.fault.LexFault.{LexFault};
@@ -20,6 +21,7 @@ ghost use Rattle.first_path.specs.Resolving.{AreTypes};
 ghost use Rattle.asnc.specs.Writing.{IsEncoded, IsNotEncoded};
 
 use crate::opening::modules_of;
+use asn_base::law::accepted_are_schemas;
 use asn_base::schema::{Schema, TypeId};
 use der_writer::{WriteFault, write_der};
 use first_path::{ProgramFault, Scope, ValueFault, check_program, notation_at, table_types, typed};
@@ -35,6 +37,7 @@ pub struct Kit {
     schema: Schema,
     ghost sized: { length schema ≡ length scope.types },
     ghost resolved: { ∥ AreTypes scope.types schema ∥₁ },
+    ghost accepted: { IsAccepted schema },
 }
 
 /// The parts of a text before and behind its first dot.
@@ -73,6 +76,7 @@ fn kit_of_program(alloc: Global, linked: Linked) -> Result<Kit, Fault>
         }
     }
     let types = table_types(alloc, linked.types())?;
+    accepted_are_schemas();
     let schema = Schema::of(types);
     let scope = Scope::of(alloc, linked)?;
     Ok(Kit { scope, schema })

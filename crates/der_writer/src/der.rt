@@ -1,6 +1,7 @@
 //! The distinguished encoding of a value of a schema's type.
 
 ghost use Rattle.asn_base.specs.Abstract.{abstract};
+ghost use Rattle.asn_base.specs.Accepted.{IsAccepted};
 ghost use Rattle.asn_base.specs.Typed.{IsValue};
 ghost use Rattle.der_writer.specs.Long.{IsTooLong};
 ghost use Rattle.encodings.specs.Encoding.{Der, Shortest};
@@ -30,7 +31,9 @@ pub fn write_der(
     id: TypeId,
     value: &Value,
 ) -> Result<Vec<u8>, WriteFault>
-    requires { id.index < length schema.now }
+    requires there { id.index < length schema.now }
+    // The types are those of the first path.
+    requires accepted { IsAccepted schema.now }
     // What is written is a value of the type.
     ensures value { IfOk result (λ o. IsValue schema.now id.index (abstract value.now)) }
     // The octets encode it by the distinguished rules.
@@ -45,7 +48,6 @@ pub fn write_der(
     ensures not_of_type { IsErrOf result WriteFault.NotOfType → IsValue schema.now id.index (abstract value.now) → ⊥ }
     ensures too_long { IsErrOf result WriteFault.TooLong → IsTooLong schema.now id.index (abstract value.now) }
 {
-    schema.accepted();
     writer_laws();
     let octets = encode(alloc, schema, id, value)?;
     if octets.len() > MOST_OCTETS {

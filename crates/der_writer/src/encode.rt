@@ -1,22 +1,34 @@
 //! The distinguished encoding of a value, part by part (X.690, 8.1 and 8.9).
 
 ghost use Rattle.asn_base.specs.Abstract.{Row, abstract, fields};
-ghost use Rattle.asn_base.specs.Accepted.{IsSimple, IsSimpleMember};
+ghost use Rattle.asn_base.specs.Accepted.{IsAccepted, IsAcceptedType, IsSimple, IsSimpleMember};
+ghost use Rattle.asn_base.specs.Seen.{resolved_of};
 ghost use Rattle.asn_base.specs.Typed.{AreComponents, IsValue, ValueIn};
 ghost use Rattle.der_writer.specs.Joined.{Joins, components_of, row_of};
 ghost use Rattle.encodings.specs.Encoding.{Says};
 ghost use Rattle.encodings.specs.Rules.{Distinguished};
 ghost use Rattle.std.specs.List.{AllByRecursion};
-ghost use Rattle.std.specs.Prelude.{◌≡◌, ◌<◌, IfOk, IsErrOf, IsSomeAnd, length, slice_get, suc, ℕ};
+ghost use Rattle.std.specs.Prelude.{◌≡◌, ◌<◌, IfOk, IsErrOf, IsSomeAnd, Some, length, slice_get, suc, ℕ};
 
 use crate::fault::EncodeFault;
 use crate::frame::framed;
 use crate::leaf::contents;
-use asn_base::law::{abstract_values, few_nodes};
-use asn_base::schema::{Component, Core, Schema, TypeId};
+use asn_base::law::{abstract_values, few_nodes, schemas_grow, without_groups};
+use asn_base::schema::{Component, Core, Resolved, Schema, TypeId};
 use asn_base::value::Value;
 use octets::Form;
 use std::alloc::Global;
+
+/// The type, which is one that this writer takes.
+fn type_at(schema: &Schema, id: TypeId) -> &Resolved
+    requires there { id.index < length schema.now }
+    requires accepted { IsAccepted schema.now }
+    ensures is { slice_get schema.now id.index ≡ Some (resolved_of result.now) }
+    ensures accepted { IsAcceptedType schema.now (resolved_of result.now) }
+{
+    schemas_grow();
+    schema.get(id)
+}
 
 /// The distinguished encoding of the value. `NotOfType`: it is no value of the type.
 pub fn encode(
@@ -25,16 +37,17 @@ pub fn encode(
     id: TypeId,
     value: &Value,
 ) -> Result<Vec<u8>, EncodeFault>
-    requires { id.index < length schema.now }
+    requires there { id.index < length schema.now }
+    requires accepted { IsAccepted schema.now }
     ensures value { IfOk result (λ o. IsValue schema.now id.index (abstract value.now)) }
     ensures says { IfOk result (λ o. Says schema.now Distinguished id.index (abstract value.now) 0 o.items) }
     ensures not { IsErrOf result EncodeFault.NotOfType → IsValue schema.now id.index (abstract value.now) → ⊥ }
 {
     few_nodes();
-    schema.accepted();
-    let resolved = schema.get(id);
+    without_groups();
+    let resolved = type_at(schema, id);
     match &resolved.core {
-        Core::Sequence(components) => {
+        Core::Sequence(_, components) => {
             let values = members_of(value)?;
             let joined = encode_members(alloc, schema, components.as_slice(), values)?;
             Ok(framed(alloc, resolved.tags.as_slice(), Form::Constructed, joined)?)

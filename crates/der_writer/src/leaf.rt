@@ -42,7 +42,11 @@ pub fn contents(alloc: Global, core: &Core, value: &Value) -> Result<Vec<u8>, En
             Value::Octets(octets) => Ok(copied(alloc, octets.as_slice())?),
             _ => Err(EncodeFault::NotOfType),
         },
-        Core::Sequence(_) => unreachable!(),
+        Core::Enumerated(_) | Core::BitString(_) | Core::NamedBits(_) => unreachable!(),
+        Core::Null | Core::ObjectIdentifier | Core::RelativeOid => unreachable!(),
+        Core::Utf8String(_) | Core::RestrictedString(_, _, _) => unreachable!(),
+        Core::Sequence(_, _) | Core::Set(_, _) => unreachable!(),
+        Core::SequenceOf(_, _) | Core::SetOf(_, _) | Core::Choice(_) => unreachable!(),
     }
 }
 

@@ -7,7 +7,7 @@ use Rattle.asn_base.specs.Tags.{HasFewTags}
 use Rattle.asn_base.specs.Typed.{ValueIn, value_in, ValueOf, of_leaf, of_sequence, of_set, of_sequence_of, of_set_of, of_choice, AreComponents, component_absent, component_present, AreElements, one_element}
 use Rattle.encodings.specs.Rules.{Distinguished}
 use Rattle.encodings.specs.Strings.{Pieces, whole, cut, BitPieces, whole_bits, cut_bits}
-use Rattle.encodings.specs.Contents.{Contents, of_false, of_true, of_integer, of_enumerated, of_bits, of_named_bits, of_octets, of_null, of_oid, of_utf8, of_restricted}
+use Rattle.encodings.specs.Contents.{Contents, of_false, of_true, of_integer, of_enumerated, of_bits, of_named_bits, of_octets, of_null, of_oid, of_relative_oid, of_utf8, of_restricted}
 use Rattle.encodings.specs.Encoding.{no_unknown, unknown, UnknownIf, closed, extensible, Says, says, Holds, leaf, sequence, set, sequence_of, set_of, choice, Members, no_member, left_out, member, Elements, no_element, element}
 use Rattle.encodings.specs.Levels.{piece_levels, bit_piece_levels, leaf_levels, unknown_levels, levels, inner_levels, member_levels, element_levels}
 use Rattle.encodings.proofs.Least.{same_kind, alternative_type}
@@ -30,6 +30,7 @@ flat (of_named_bits p e f t) = flat_bits p e
 flat (of_octets p e) = flat_piece p e
 flat of_null = refl
 flat (of_oid a) = refl
+flat (of_relative_oid a) = refl
 flat (of_utf8 p e) = flat_piece p e
 flat (of_restricted p e) = flat_piece p e
 
@@ -56,9 +57,9 @@ module _ (s : List Resolved) (few : HasFewTags s) where
 
     inner_few : {kind : Kind} {n k : ℕ} {v : AbstractValue} {c : Bool} {x : List ℕ} (h : Holds s Distinguished kind v k c x) → k ≡ 0 → ValueOf s n kind v → inner_levels h ≤ 6 * n
     inner_few (leaf con) z a = let e = flat con in omega arith
-    inner_few {n = n} (sequence ms u) z (of_sequence a) = both_least (member_levels ms) (unknown_levels u) (6 * n) (members_few ms (omega arith) a) (let e = none_new u (omega arith) in omega arith)
+    inner_few {n = n} (sequence ms u) z (of_sequence a g) = both_least (member_levels ms) (unknown_levels u) (6 * n) (members_few ms (omega arith) a) (let e = none_new u (omega arith) in omega arith)
     inner_few (sequence ms u) z (of_leaf f) = elim f [ ]
-    inner_few {n = n} (set ms p st u m) z (of_set a) = both_least (member_levels ms) (unknown_levels u) (6 * n) (members_few ms (omega arith) a) (let e = none_new u (omega arith) in omega arith)
+    inner_few {n = n} (set ms p st u m) z (of_set a g) = both_least (member_levels ms) (unknown_levels u) (6 * n) (members_few ms (omega arith) a) (let e = none_new u (omega arith) in omega arith)
     inner_few (set ms p st u m) z (of_leaf f) = elim f [ ]
     inner_few (sequence_of es) z (of_sequence_of a l) = elements_few es z a
     inner_few (sequence_of es) z (of_leaf f) = elim f [ ]

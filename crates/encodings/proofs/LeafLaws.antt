@@ -3,9 +3,9 @@ use Rattle.std.proofs.Common.{arith, ◌≡◌, ℕ, ◌≤◌, ◌^◌, ℤ, Bo
 use Rattle.asn_base.specs.Abstract.{AbstractValue}
 use Rattle.asn_base.specs.Types.{Kind}
 use Rattle.asn_base.specs.Same.{IsLeaf}
-use Rattle.encodings.specs.Rules.{Rules, Basic, Distinguished, Strictly}
+use Rattle.encodings.specs.Rules.{Rules, Basic, Unsorted, Distinguished, Strictly}
 use Rattle.encodings.specs.Strings.{Pieces, whole, cut, Segments, no_segment, segment, BitPieces}
-use Rattle.encodings.specs.Contents.{TwosComplement, not_negative, negative, Number, FilledWithZeros, Contents, of_false, of_true, of_integer, of_enumerated, of_bits, of_named_bits, of_octets, of_null, of_oid, of_utf8, of_restricted}
+use Rattle.encodings.specs.Contents.{TwosComplement, not_negative, negative, Number, FilledWithZeros, Contents, of_false, of_true, of_integer, of_enumerated, of_bits, of_named_bits, of_octets, of_null, of_oid, of_relative_oid, of_utf8, of_restricted}
 use Rattle.encodings.proofs.Digits.{same_digits}
 use Rattle.encodings.proofs.BitLaws.{bits_least, pieces_are_whole, filled_only}
 
@@ -46,6 +46,7 @@ same_best r o p e = record { least = let l = ap length e in omega arith; only = 
   where
     by : (r : Rules) → Strictly r (p ≡ o)
     by Basic = tt
+    by Unsorted = e
     by Distinguished = e
 
 pieces_best : (r : Rules) {s : List ℕ} {b c : Bool} {o p : List ℕ} → Pieces s b o → b ≡ false → Pieces s c p → Strictly r (c ≡ false) → Best r o p
@@ -55,6 +56,7 @@ pieces_best r {s} {b} {c} {o} {p} a e d f =
   where
     by : (r : Rules) → Strictly r (c ≡ false) → Strictly r (p ≡ o)
     by Basic f = tt
+    by Unsorted f = pieces_whole d f ∙ sym (pieces_whole a e)
     by Distinguished f = pieces_whole d f ∙ sym (pieces_whole a e)
 
 true_best : (r : Rules) (x y : ℕ) → x ≡ 255 → Strictly r (y ≡ 255) → Best r (x ∷ []) (y ∷ [])
@@ -62,6 +64,7 @@ true_best r x y e f = record { least = omega arith; only = by r f }
   where
     by : (r : Rules) → Strictly r (y ≡ 255) → Strictly r ((y ∷ []) ≡ (x ∷ []))
     by Basic f = tt
+    by Unsorted f = ap (λ z. z ∷ []) (f ∙ sym e)
     by Distinguished f = ap (λ z. z ∷ []) (f ∙ sym e)
 
 -- bits of which the first are the same, or no more
@@ -70,10 +73,12 @@ bits_best r {a} {b} {c} {d} {o} {p} x e f y g h le same = record { least = bits_
   where
     by : (r : Rules) → Strictly r (d ≡ false) → Strictly r (FilledWithZeros b p) → Strictly r (a ≡ b) → Strictly r (p ≡ o)
     by Basic g h same = tt
+    by Unsorted g h same = filled_only x y e g f h same
     by Distinguished g h same = filled_only x y e g f h same
 
 itself : (r : Rules) {A : Type 0} (a : A) → Strictly r (a ≡ a)
 itself Basic a = tt
+itself Unsorted a = refl
 itself Distinguished a = refl
 
 pub contents_best : {r : Rules} {k : Kind} {v : AbstractValue} {b c : Bool} {x y : List ℕ} → Contents Distinguished k v b x → Contents r k v c y → Best r x y
@@ -86,6 +91,7 @@ contents_best {r} (of_named_bits {s = s} a e f t) (of_named_bits b g h u) = bits
 contents_best {r} (of_octets a e) (of_octets b f) = pieces_best r a e b f
 contents_best {r} of_null of_null = same_best r _ _ refl
 contents_best {r} (of_oid a) (of_oid b) = same_best r _ _ refl
+contents_best {r} (of_relative_oid a) (of_relative_oid b) = same_best r _ _ refl
 contents_best {r} (of_utf8 a e) (of_utf8 b f) = pieces_best r a e b f
 contents_best {r} (of_restricted a e) (of_restricted b f) = pieces_best r a e b f
 
@@ -99,6 +105,7 @@ contents_leaf (of_named_bits a e y z) = tt
 contents_leaf (of_octets a e) = tt
 contents_leaf of_null = tt
 contents_leaf (of_oid a) = tt
+contents_leaf (of_relative_oid a) = tt
 contents_leaf (of_utf8 a e) = tt
 contents_leaf (of_restricted a e) = tt
 
@@ -113,5 +120,6 @@ leaf_form (of_named_bits a e y z) = e
 leaf_form (of_octets a e) = e
 leaf_form of_null = refl
 leaf_form (of_oid a) = refl
+leaf_form (of_relative_oid a) = refl
 leaf_form (of_utf8 a e) = e
 leaf_form (of_restricted a e) = e

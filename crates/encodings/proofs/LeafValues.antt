@@ -4,13 +4,13 @@ use Rattle.std.specs.Prelude.{flat_map}
 use Rattle.std.proofs.Math.Nat.{pow-suc}
 use Rattle.std.specs.Int.Digits.{digits_of, number_from_digits}
 use Rattle.asn_base.specs.declared.tag.Tag.{Tag}
-use Rattle.asn_base.specs.Abstract.{AbstractValue, integer, enumerated, bits, octets, text, oid, bits_of_octet}
+use Rattle.asn_base.specs.Abstract.{AbstractValue, integer, enumerated, bits, octets, text, oid, relative_oid, bits_of_octet}
 use Rattle.asn_base.specs.Types.{Kind}
 use Rattle.asn_base.specs.Typed.{IsObjectIdentifier, arcs}
 use Rattle.encodings.specs.Rules.{Rules}
 use Rattle.encodings.specs.Header.{identifier, Header, LengthOf, short, long, septets}
 use Rattle.encodings.specs.Strings.{Pieces, whole, cut, Segments, no_segment, segment, WholeBits, BitPieces, whole_bits, cut_bits, BitSegments, last_segment, bit_segment, octet_string_tag, bit_string_tag}
-use Rattle.encodings.specs.Contents.{TwosComplement, not_negative, negative, joined, Contents, of_false, of_true, of_integer, of_enumerated, of_bits, of_named_bits, of_octets, of_null, of_oid, of_utf8, of_restricted}
+use Rattle.encodings.specs.Contents.{TwosComplement, not_negative, negative, joined, Contents, of_false, of_true, of_integer, of_enumerated, of_bits, of_named_bits, of_octets, of_null, of_oid, of_relative_oid, of_utf8, of_restricted}
 use Rattle.encodings.proofs.Fronts.{split_front}
 use Rattle.encodings.proofs.Identifiers.{any_front, septets_front}
 use Rattle.encodings.proofs.BitLaws.{bits_front}
@@ -165,5 +165,6 @@ contents_value (of_named_bits a g h i) (of_named_bits b g' h' i') f e = ap bits 
 contents_value (of_octets a g) (of_octets b g') f e = ap octets (pieces_value a b f e)
 contents_value of_null of_null f e = refl
 contents_value (of_oid {ns = ms} a) (of_oid {ns = ns} b) f e = ap oid (arcs_value a b (septet_lists (joined ms) (joined ns) e))
+contents_value (of_relative_oid {ns = ms} a) (of_relative_oid {ns = ns} b) f e = ap relative_oid (septet_lists ms ns e)
 contents_value (of_utf8 a g) (of_utf8 b g') f e = ap text (pieces_value a b f e)
 contents_value (of_restricted a g) (of_restricted b g') f e = ap text (pieces_value a b f e)

@@ -1,12 +1,13 @@
 -- A schema with every kind of type, for worked rows; it is one whose types are told apart.
 use Rattle.std.proofs.Common.{arith, lit<, ◌≡◌, ℕ, zero, suc, ◌<◌, true, false, List, [], ◌∷◌, length, refl, sym, ap, subst, ◌∙◌}
-use Rattle.std.specs.Prelude.{pos, Option, Some, None, slice_get}
+use Rattle.std.specs.Prelude.{◌+◌, pos, Option, Some, None, slice_get}
 use Rattle.std.specs.List.{AllByRecursion}
 use Rattle.asn_base.specs.declared.tag.Class.{Class}
 use Rattle.asn_base.specs.declared.tag.Class.TheVariants.{Universal, Application, Context, Private}
 use Rattle.asn_base.specs.declared.tag.Tag.{Tag}
 use Rattle.asn_base.specs.Abstract.{AbstractValue, integer, fields, list, end, present}
-use Rattle.asn_base.specs.Types.{Constraint, Alternative, Presence, mandatory, optional, default, Component, Kind, a_boolean, an_integer, an_enumerated, a_bit_string, a_named_bit_string, an_octet_string, a_null, an_object_identifier, a_utf8_string, a_restricted_string, a_sequence, a_set, a_sequence_of, a_set_of, a_choice, Resolved}
+use Rattle.asn_base.specs.declared.strings.StringKind.TheVariants.{Numeric}
+use Rattle.asn_base.specs.Types.{Constraint, any_number, any_size, Alternative, Presence, mandatory, optional, default, Component, Kind, a_boolean, an_integer, an_enumerated, a_bit_string, a_named_bit_string, an_octet_string, a_null, an_object_identifier, a_utf8_string, a_restricted_string, a_sequence, a_set, a_sequence_of, a_set_of, a_choice, Resolved}
 use Rattle.asn_base.specs.Tags.{First, first_tag, first_of_choice, AreApart, IsTellable, AllTellable, IsChoice, AllTagged}
 
 abbrev pub universal : (n : ℕ) → n < 2147483648 → 0 < n → Tag
@@ -22,7 +23,7 @@ abbrev pub context : (n : ℕ) → n < 2147483648 → Tag
 context n h = record { class = Context; number = n; in_range = h; not_reserved = λ e. absurd (subst IsContext e tt) }
 
 abbrev pub free : Constraint
-free = record { allowed = None; visible = record { least = None; greatest = None; extensible = false } }
+free = any_number
 
 abbrev pub u1 : Tag
 u1 = universal 1 (lit< tt) (lit< tt)
@@ -70,10 +71,10 @@ abbrev type : List Tag → Kind → Resolved
 type ts k = record { tags = ts; kind = k }
 
 abbrev pub a_component : ℕ → Presence → Component
-a_component t p = record { name = []; type = t; presence = p }
+a_component t p = record { name = (97 + t) ∷ []; type = t; presence = p }
 
 abbrev pub an_alternative : ℕ → Alternative
-an_alternative t = record { name = []; type = t }
+an_alternative t = record { name = (97 + t) ∷ []; type = t }
 
 -- SET OF INTEGER {1, 2}
 abbrev pub one_and_two : AbstractValue
@@ -87,12 +88,12 @@ abbrev pub rows : List Resolved
 rows =
     type (u1 ∷ []) a_boolean  -- 0
     ∷ type (u2 ∷ []) (an_integer free)  -- 1
-    ∷ type (u3 ∷ []) (a_bit_string free)  -- 2
-    ∷ type (u4 ∷ []) (an_octet_string free)  -- 3
-    ∷ type (u3 ∷ []) (a_named_bit_string (record { name = []; place = 0 } ∷ record { name = []; place = 9 } ∷ []))  -- 4
+    ∷ type (u3 ∷ []) (a_bit_string any_size)  -- 2
+    ∷ type (u4 ∷ []) (an_octet_string any_size)  -- 3
+    ∷ type (u3 ∷ []) (a_named_bit_string (record { name = 97 ∷ []; place = 0 } ∷ record { name = 98 ∷ []; place = 9 } ∷ []))  -- 4
     ∷ type (u5 ∷ []) a_null  -- 5
     ∷ type (u6 ∷ []) an_object_identifier  -- 6
-    ∷ type (u17 ∷ []) (a_set_of free 1)  -- 7
+    ∷ type (u17 ∷ []) (a_set_of any_size 1)  -- 7
     ∷ type (u16 ∷ []) (a_sequence false (a_component 7 (default one_and_two) ∷ []))  -- 8
     ∷ type (c1 ∷ []) a_boolean  -- 9
     ∷ type (c0 ∷ []) a_boolean  -- 10
@@ -103,11 +104,11 @@ rows =
     ∷ type (u16 ∷ []) (a_sequence true (a_component 14 optional ∷ []))  -- 15
     ∷ type [] (a_choice (an_alternative 5 ∷ []) true (an_alternative 0 ∷ []))  -- 16
     ∷ type (c0 ∷ []) (a_choice (an_alternative 5 ∷ an_alternative 0 ∷ []) false [])  -- 17
-    ∷ type (u16 ∷ []) (a_sequence_of free 16)  -- 18
-    ∷ type (u12 ∷ []) (a_utf8_string free)  -- 19
-    ∷ type (u18 ∷ []) (a_restricted_string (32 ∷ 48 ∷ 57 ∷ []) free)  -- 20
-    ∷ type (u10 ∷ []) (an_enumerated (record { name = []; number = pos 0 } ∷ []) true (record { name = []; number = pos 2 } ∷ []))  -- 21
-    ∷ type (u16 ∷ []) (a_sequence_of free 22)  -- 22
+    ∷ type (u16 ∷ []) (a_sequence_of any_size 16)  -- 18
+    ∷ type (u12 ∷ []) (a_utf8_string any_size)  -- 19
+    ∷ type (u18 ∷ []) (a_restricted_string Numeric (32 ∷ 48 ∷ 57 ∷ []) any_size)  -- 20
+    ∷ type (u10 ∷ []) (an_enumerated (record { name = 97 ∷ []; number = pos 0 } ∷ []) true (record { name = 98 ∷ []; number = pos 2 } ∷ []))  -- 21
+    ∷ type (u16 ∷ []) (a_sequence_of any_size 22)  -- 22
     ∷ type (u16 ∷ []) (a_sequence false (a_component 15 (default seven) ∷ []))  -- 23
     ∷ type (u17 ∷ []) (a_set true (a_component 9 mandatory ∷ []))  -- 24
     ∷ []

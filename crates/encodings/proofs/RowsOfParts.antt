@@ -12,7 +12,7 @@ use Rattle.encodings.specs.Orders.{ascending_one, ascending_more, InTagOrder, pe
 use Rattle.encodings.specs.Encoding.{bare, innermost, no_unknown, unknown, closed, extensible, Says, says, leaf, sequence, set, sequence_of, set_of, choice, no_member, member, no_element, element}
 use Rattle.encodings.proofs.Headers.{shortest_is}
 use Rattle.encodings.proofs.RowTypes.{rows, u2, u16, u17, c0, c1, one_and_two, first_only}
-use Rattle.encodings.proofs.Theorems.{basic_of}
+use Rattle.encodings.proofs.Weaker.{basic_of}
 use Rattle.encodings.proofs.RowsThatHold.{short_header, small, is_256, is_minus_1, true_is, null_is, must_stand}
 
 false_at : Says rows Distinguished 10 (boolean false) 0 (128 ∷ 1 ∷ 0 ∷ [])
@@ -82,7 +82,7 @@ optional_no d e = subst IsOptional e tt
     IsOptional mandatory = ⊥
     IsOptional optional = Unit {0}
     IsOptional (default d) = ⊥
-    IsOptional addition = ⊥
+    IsOptional (addition o g) = ⊥
 
 -- SEQUENCE {a [0] INTEGER OPTIONAL, ...}: 3006800107810105 says {a 7} with one unknown addition
 pub addition_skipped : Says rows Distinguished 15 (fields (present (integer (pos 7)) end)) 1 (48 ∷ 6 ∷ 128 ∷ 1 ∷ 7 ∷ 129 ∷ 1 ∷ 5 ∷ [])

@@ -1,6 +1,6 @@
 -- Worked rows: the encoding of a value by the distinguished rules, where it says another value that is the same.
-use Rattle.std.proofs.Common.{lit<, refl}
-use Rattle.std.specs.Prelude.{ℕ, suc, Bool, true, false, List, [], ◌∷◌, pos, negsuc}
+use Rattle.std.proofs.Common.{lit<, ◌≡◌, ⊎_elim, refl}
+use Rattle.std.specs.Prelude.{Option, Some, None, ℕ, suc, Bool, true, false, List, [], ◌∷◌, pos, negsuc}
 use Rattle.asn_base.specs.Abstract.{bits, integer, fields, list, end, absent, present}
 use Rattle.asn_base.specs.Typed.{fits_integer, fits_named_bits, ValueIn, value_in, of_leaf, of_sequence, of_set_of, where_default, no_component, component_absent, component_present, no_element, one_element}
 use Rattle.encodings.specs.Encoding.{Der}
@@ -39,13 +39,16 @@ three_numbers = (
   set_of_is,
 )
 
+none_some : {g : ℕ} → ◌≡◌ {A = Option ℕ} None (Some g) → ⊥
+none_some e = cc
+
 -- SEQUENCE {a SET OF INTEGER DEFAULT {1,2}} {a {2,1}} is 3000
 pub default_left_out : Der rows 8 (fields (present (list (present (integer (pos 2)) (present (integer (pos 1)) end))) end)) 0 (48 ∷ 0 ∷ [])
 default_left_out = (
   fields (absent end),
   record {
-    first = value_in (record { found = refl }) (of_sequence (component_present (value_in (record { found = refl }) (of_set_of (one_element plus_2 (one_element plus_1 no_element)) tt)) no_component));
-    second = value_in (record { found = refl }) (of_sequence (component_absent (where_default (value_in (record { found = refl }) (of_set_of (one_element plus_1 (one_element plus_2 no_element)) tt))) no_component));
+    first = value_in (record { found = refl }) (of_sequence (component_present (value_in (record { found = refl }) (of_set_of (one_element plus_2 (one_element plus_1 no_element)) tt)) no_component) (λ g h l. ⊎_elim none_some (λ b. b) h));
+    second = value_in (record { found = refl }) (of_sequence (component_absent (where_default (value_in (record { found = refl }) (of_set_of (one_element plus_1 (one_element plus_2 no_element)) tt))) no_component) (λ g h l. h));
     are_alike = default_alike;
   },
   default_absent,

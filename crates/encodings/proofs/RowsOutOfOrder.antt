@@ -3,7 +3,7 @@ use Rattle.std.proofs.Common.{arith, lit<, ◌≡◌, ℕ, ⊎_elim, Bool, true,
 use Rattle.std.specs.Prelude.{flat_map}
 use Rattle.std.specs.List.{concat}
 use Rattle.asn_base.specs.Abstract.{AbstractValue, fields, end, present, bits_of_octet}
-use Rattle.asn_base.specs.Types.{NamedBit, a_bit_string, a_named_bit_string, an_octet_string, a_sequence, a_set, a_set_of, mandatory, optional, default, Component, Resolved}
+use Rattle.asn_base.specs.Types.{any_size, NamedBit, a_bit_string, a_named_bit_string, an_octet_string, a_sequence, a_set, a_set_of, mandatory, optional, default, Component, Resolved}
 use Rattle.asn_base.specs.Tags.{First, first_tag}
 use Rattle.asn_base.specs.Same.{Alike, alike, equal, alike_set_of, pair, none_left, here}
 use Rattle.encodings.specs.Rules.{Basic, Distinguished}
@@ -17,14 +17,14 @@ use Rattle.encodings.proofs.Units.{IsUnit, says_unit, tag_order_anti}
 use Rattle.encodings.proofs.Firsts.{says_first, one_tag, units_list, members_units, elements_units, unknown_units, unit_some}
 use Rattle.encodings.proofs.Unique.{says_same}
 use Rattle.encodings.proofs.Least.{merged_alone, all_permutes}
-use Rattle.encodings.proofs.Theorems.{basic_of}
+use Rattle.encodings.proofs.Weaker.{basic_of}
 use Rattle.encodings.proofs.RowTypes.{rows, free, u2, u3, u4, u16, u17, c0, c1, one_and_two, a_component, rows_tagged, rows_tellable, first_only}
 use Rattle.encodings.proofs.RowsThatHold.{short_header}
 use Rattle.encodings.proofs.RowsOfParts.{tags_ascend, default_present}
 use Rattle.encodings.proofs.RowsThatFail.{inside}
 
 -- 2400 is no encoding of an OCTET STRING by the distinguished rules
-cut_string : {w : AbstractValue} {n : ℕ} {c : Bool} {x : List ℕ} → Holds rows Distinguished (an_octet_string free) w n c x → c ≡ true → ⊥
+cut_string : {w : AbstractValue} {n : ℕ} {c : Bool} {x : List ℕ} → Holds rows Distinguished (an_octet_string any_size) w n c x → c ≡ true → ⊥
 cut_string (leaf (of_octets a e)) f = let g : false ≡ true = sym e ∙ f in cc
 
 pub not_der_string : (w : AbstractValue) (n : ℕ) → Says rows Distinguished 3 w n (36 ∷ 0 ∷ []) → ⊥
@@ -57,7 +57,7 @@ not_filled {s} e f z =
     = ap (flat_map bits_of_octet) (sym (ap other_octets g)) ∙ z.3 ∙ ap (λ q. q ++ replicate z.0 false) f ∙ ap (λ q. (true ∷ true ∷ true ∷ true ∷ []) ++ replicate q false) (ap first_octet g) in
     let k : true ≡ false = ap fifth h in cc
 
-unused_bits : {w : AbstractValue} {n : ℕ} {c : Bool} {x : List ℕ} → Holds rows Distinguished (a_bit_string free) w n c x → x ≡ 4 ∷ 255 ∷ [] → ⊥
+unused_bits : {w : AbstractValue} {n : ℕ} {c : Bool} {x : List ℕ} → Holds rows Distinguished (a_bit_string any_size) w n c x → x ≡ 4 ∷ 255 ∷ [] → ⊥
 unused_bits (leaf (of_bits a e f)) g = not_filled g (bits_value a (whole_bits ones_are) e g) f
 
 pub not_der_unused : (w : AbstractValue) (n : ℕ) → Says rows Distinguished 2 w n (3 ∷ 2 ∷ 4 ∷ 255 ∷ []) → ⊥
@@ -121,7 +121,7 @@ falling a e = by (subst (Ascending AtMost) e a)
     by : Ascending AtMost ((2 ∷ 1 ∷ 2 ∷ []) ∷ (2 ∷ 1 ∷ 1 ∷ []) ∷ []) → ⊥
     by (ascending_more h a) = ⊎_elim (λ l. omega arith) (λ p. ⊎_elim (λ l. omega arith) (λ q. ⊎_elim (λ l. omega arith) (λ r. let f : 2 ≡ 1 = r.0 in omega arith) q.1) p.1) h
 
-unsorted : {w : AbstractValue} {n : ℕ} {c : Bool} {x : List ℕ} → Holds rows Distinguished (a_set_of free 1) w n c x → x ≡ 2 ∷ 1 ∷ 2 ∷ 2 ∷ 1 ∷ 1 ∷ [] → ⊥
+unsorted : {w : AbstractValue} {n : ℕ} {c : Bool} {x : List ℕ} → Holds rows Distinguished (a_set_of any_size 1) w n c x → x ≡ 2 ∷ 1 ∷ 2 ∷ 2 ∷ 1 ∷ 1 ∷ [] → ⊥
 unsorted (set_of {xs = xs} es st) e = falling st (units_list xs ((2 ∷ 1 ∷ 2 ∷ []) ∷ (2 ∷ 1 ∷ 1 ∷ []) ∷ []) (elements_units rows_tagged es) (element_unit 2, (element_unit 1, tt)) e)
 unsorted (leaf con) e = elim con [ ]
 

@@ -4,7 +4,7 @@ use Rattle.std.specs.Prelude.{ℤ}
 use Rattle.std.specs.Int.Digits.{number_from_digits}
 use Rattle.asn_base.specs.declared.tag.Tag.{Tag}
 use Rattle.asn_base.specs.Abstract.{AbstractValue}
-use Rattle.asn_base.specs.Types.{Kind, a_boolean, an_integer, a_bit_string, an_octet_string, Is}
+use Rattle.asn_base.specs.Types.{any_size, Kind, a_boolean, an_integer, a_bit_string, an_octet_string, Is}
 use Rattle.encodings.specs.Rules.{Rules, Basic, Distinguished}
 use Rattle.encodings.specs.Header.{identifier, Header, long, shortest_header}
 use Rattle.encodings.specs.Strings.{BitPieces, whole_bits, cut_bits, BitSegments, last_segment, bit_segment, bit_string_tag}
@@ -36,10 +36,10 @@ is_0 = record { found = refl }
 is_1 : Is rows 1 (u2 ∷ []) (an_integer free)
 is_1 = record { found = refl }
 
-is_2 : Is rows 2 (u3 ∷ []) (a_bit_string free)
+is_2 : Is rows 2 (u3 ∷ []) (a_bit_string any_size)
 is_2 = record { found = refl }
 
-is_3 : Is rows 3 (u4 ∷ []) (an_octet_string free)
+is_3 : Is rows 3 (u4 ∷ []) (an_octet_string any_size)
 is_3 = record { found = refl }
 
 abbrev head_or_0 : List ℕ → ℕ
@@ -88,7 +88,7 @@ pub not_der_length : (w : AbstractValue) (n : ℕ) → Says rows Distinguished 1
 not_der_length w n (says i h fr) = too_long (framed_at (same_tags is_1 i) fr) refl
 
 -- 2300 says nothing: a constructed bit string has a segment
-no_segments : {w : AbstractValue} {n : ℕ} {c : Bool} {x : List ℕ} → Holds rows Basic (a_bit_string free) w n c x → c ≡ true → x ≡ [] → ⊥
+no_segments : {w : AbstractValue} {n : ℕ} {c : Bool} {x : List ℕ} → Holds rows Basic (a_bit_string any_size) w n c x → c ≡ true → x ≡ [] → ⊥
 no_segments (leaf (of_bits (whole_bits b) e f)) g h = cc
 no_segments (leaf (of_bits (cut_bits b) e f)) g h = segments_some b h
 
@@ -123,6 +123,6 @@ pub uneven_segment : (w : AbstractValue) (n : ℕ) → Says rows Basic 2 w n (35
 unfolding identifier
 uneven_segment w n a = by (inside {x = 3 ∷ 2 ∷ 4 ∷ 160 ∷ 3 ∷ 2 ∷ 0 ∷ 255 ∷ []} is_2 (short_header u3 true 8 (lit< tt)) refl a) refl refl
   where
-    by : {w : AbstractValue} {n : ℕ} {c : Bool} {x : List ℕ} → Holds rows Basic (a_bit_string free) w n c x → c ≡ true → x ≡ 3 ∷ 2 ∷ 4 ∷ 160 ∷ 3 ∷ 2 ∷ 0 ∷ 255 ∷ [] → ⊥
+    by : {w : AbstractValue} {n : ℕ} {c : Bool} {x : List ℕ} → Holds rows Basic (a_bit_string any_size) w n c x → c ≡ true → x ≡ 3 ∷ 2 ∷ 4 ∷ 160 ∷ 3 ∷ 2 ∷ 0 ∷ 255 ∷ [] → ⊥
     by (leaf (of_bits (whole_bits b) e f)) g h = cc
     by (leaf (of_bits (cut_bits b) e f)) g h = uneven b h

@@ -176,7 +176,7 @@ must_stand d e = subst IsMandatory e tt
     IsMandatory mandatory = Unit {0}
     IsMandatory optional = ⊥
     IsMandatory (default d) = ⊥
-    IsMandatory addition = ⊥
+    IsMandatory (addition o g) = ⊥
 
 -- SEQUENCE {a BOOLEAN} with TRUE is 30030101FF
 pub sequence_is : Says rows Distinguished 13 (fields (present (boolean true) end)) 0 (48 ∷ 3 ∷ 1 ∷ 1 ∷ 255 ∷ [])

@@ -6,7 +6,7 @@ use Rattle.asn_base.specs.Types.{Kind, Resolved}
 use Rattle.asn_base.specs.Tags.{IsChoice, AllTagged, class_rank, TagBefore}
 use Rattle.encodings.specs.Rules.{Rules}
 use Rattle.encodings.specs.Header.{Header}
-use Rattle.encodings.specs.Contents.{Contents, of_false, of_true, of_integer, of_enumerated, of_bits, of_named_bits, of_octets, of_null, of_oid, of_utf8, of_restricted}
+use Rattle.encodings.specs.Contents.{Contents, of_false, of_true, of_integer, of_enumerated, of_bits, of_named_bits, of_octets, of_null, of_oid, of_relative_oid, of_utf8, of_restricted}
 use Rattle.encodings.specs.Orders.{AtMost, BeginsWith, InTagOrder}
 use Rattle.encodings.specs.Encoding.{Framed, bare, innermost, outer, Says, says, Holds, leaf, sequence, set, sequence_of, set_of, choice}
 use Rattle.encodings.proofs.Fronts.{split_front}
@@ -35,6 +35,7 @@ no_leaf h (of_named_bits a e y z) = h
 no_leaf h (of_octets a e) = h
 no_leaf h of_null = h
 no_leaf h (of_oid a) = h
+no_leaf h (of_relative_oid a) = h
 no_leaf h (of_utf8 a e) = h
 no_leaf h (of_restricted a e) = h
 

@@ -6,6 +6,10 @@ use Rattle.asn_base.specs.declared.tag.Class.TheVariants.{Universal, Application
 use Rattle.asn_base.specs.declared.tag.Tag.{Tag}
 use Rattle.encodings.specs.Rules.{Rules, Strictly}
 
+-- a list of octets; that each is below 256 is said where it matters
+abbrev pub Octets : Type 0
+Octets = List ℕ
+
 -- two bits of class
 abbrev pub class_bits : Class → ℕ
 class_bits Universal = 0
@@ -24,7 +28,10 @@ septets n = map (λ d. 128 + d) (digits_of 128 (n / 128)) ++ ((n % 128) ∷ [])
 
 -- the identifier octets: five bits of number, or 31 and the number in septets
 unfoldable pub identifier : Class → ℕ → Bool → List ℕ
-identifier class number c = if nat_lt number 31 then (class_bits class + form_bit c + number) ∷ [] else (class_bits class + form_bit c + 31) ∷ septets number
+identifier class number c =
+    if nat_lt number 31
+    then (class_bits class + form_bit c + number) ∷ []
+    else (class_bits class + form_bit c + 31) ∷ septets number
 
 -- one to 126 octets, the greatest first, leading zeros allowed
 pub record LongForm (n : ℕ) (ds : List ℕ) : Type 0 where
@@ -34,22 +41,26 @@ pub record LongForm (n : ℕ) (ds : List ℕ) : Type 0 where
   pub worth : number_from_digits 256 ds ≡ n
 
 -- a definite length, in any of its forms
-pub data LengthOf : ℕ → List ℕ → Type 0 where
-  short : {n : ℕ} → n < 128 → LengthOf n (n ∷ [])
-  long : {n : ℕ} {ds : List ℕ} → LongForm n ds → LengthOf n ((128 + length ds) ∷ ds)
+pub data LengthOf : ℕ → Octets → Type 0 where
+  short : {n : ℕ}
+      → n < 128
+      → LengthOf n (n ∷ [])
+  long : {n : ℕ} {ds : List ℕ}
+      → LongForm n ds
+      → LengthOf n ((128 + length ds) ∷ ds)
 
 -- a header in any of its forms
-pub record Header (t : Tag) (c : Bool) (n : ℕ) (o : List ℕ) : Type 0 where
-  pub size : List ℕ
+pub record Header (t : Tag) (c : Bool) (n : ℕ) (o : Octets) : Type 0 where
+  pub size : Octets
   pub is_size : LengthOf n size
   pub whole : o ≡ identifier t.class t.number c ++ size
 
 -- no header of these has fewer octets
-abbrev pub FewestOctets : Tag → Bool → ℕ → List ℕ → Type 0
-FewestOctets t c n o = (p : List ℕ) → Header t c n p → length o ≤ length p
+abbrev pub FewestOctets : Tag → Bool → ℕ → Octets → Type 0
+FewestOctets t c n o = (p : Octets) → Header t c n p → length o ≤ length p
 
 -- a header by these rules
-pub record HeaderBy (r : Rules) (t : Tag) (c : Bool) (n : ℕ) (o : List ℕ) : Type 0 where
+pub record HeaderBy (r : Rules) (t : Tag) (c : Bool) (n : ℕ) (o : Octets) : Type 0 where
   pub header : Header t c n o
   pub fewest : Strictly r (FewestOctets t c n o)
 

@@ -5,7 +5,7 @@ use Rattle.asn_base.specs.Abstract.{AbstractValue, Row}
 use Rattle.asn_base.specs.Types.{Kind, Component, Resolved}
 use Rattle.encodings.specs.Rules.{Rules}
 use Rattle.encodings.specs.Strings.{Pieces, whole, cut, Segments, no_segment, segment, BitPieces, whole_bits, cut_bits, BitSegments, last_segment, bit_segment}
-use Rattle.encodings.specs.Contents.{Contents, of_false, of_true, of_integer, of_enumerated, of_bits, of_named_bits, of_octets, of_null, of_oid, of_utf8, of_restricted}
+use Rattle.encodings.specs.Contents.{Contents, of_false, of_true, of_integer, of_enumerated, of_bits, of_named_bits, of_octets, of_null, of_oid, of_relative_oid, of_utf8, of_restricted}
 use Rattle.encodings.specs.Encoding.{no_unknown, unknown, UnknownIf, closed, extensible, Says, says, Holds, leaf, sequence, set, sequence_of, set_of, choice, Members, no_member, left_out, member, Elements, no_element, element}
 
 abbrev mutual
@@ -36,6 +36,7 @@ leaf_levels (of_named_bits p e f t) = bit_piece_levels p
 leaf_levels (of_octets p e) = piece_levels p
 leaf_levels of_null = 0
 leaf_levels (of_oid a) = 0
+leaf_levels (of_relative_oid a) = 0
 leaf_levels (of_utf8 p e) = piece_levels p
 leaf_levels (of_restricted p e) = piece_levels p
 

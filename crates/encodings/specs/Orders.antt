@@ -2,31 +2,34 @@
 use Rattle.std.specs.Prelude.{◌≡◌, ℕ, ◌<◌, ◌⊎◌, Bool, List, [], ◌∷◌, ◌++◌}
 use Rattle.asn_base.specs.declared.tag.Tag.{Tag}
 use Rattle.asn_base.specs.Tags.{TagBefore}
-use Rattle.encodings.specs.Header.{Header}
+use Rattle.encodings.specs.Header.{Octets, Header}
 
 -- each is related to the next
-pub data Ascending (R : List ℕ → List ℕ → Type 0) : List (List ℕ) → Type 0 where
+pub data Ascending (R : Octets → Octets → Type 0) : List Octets → Type 0 where
   ascending_none : Ascending R []
-  ascending_one : {x : List ℕ} → Ascending R (x ∷ [])
-  ascending_more : {x y : List ℕ} {ys : List (List ℕ)} → R x y → Ascending R (y ∷ ys) → Ascending R (x ∷ y ∷ ys)
+  ascending_one : {x : Octets} → Ascending R (x ∷ [])
+  ascending_more : {x y : Octets} {ys : List Octets}
+      → R x y
+      → Ascending R (y ∷ ys)
+      → Ascending R (x ∷ y ∷ ys)
 
 -- the first list is at most the second, octet by octet, where the shorter one is filled with zeros (11.6)
-abbrev pub AtMost : List ℕ → List ℕ → Type 0
+abbrev pub AtMost : Octets → Octets → Type 0
 AtMost [] ys = Unit {0}
 AtMost (x ∷ xs) [] = (x ≡ 0) × AtMost xs []
 AtMost (x ∷ xs) (y ∷ ys) = (x < y) ⊎ ((x ≡ y) × AtMost xs ys)
 
 -- an encoding begins with a header of this tag
-pub record BeginsWith (g : Tag) (o : List ℕ) : Type 0 where
+pub record BeginsWith (g : Tag) (o : Octets) : Type 0 where
   pub constructed : Bool
   pub count : ℕ
-  pub header : List ℕ
-  pub rest : List ℕ
+  pub header : Octets
+  pub rest : Octets
   pub is_header : Header g constructed count header
   pub whole : o ≡ header ++ rest
 
 -- the first encoding's tag stands before the second's (10.3)
-pub record InTagOrder (x y : List ℕ) : Type 0 where
+pub record InTagOrder (x y : Octets) : Type 0 where
   pub former : Tag
   pub latter : Tag
   pub begins_former : BeginsWith former x
@@ -34,17 +37,20 @@ pub record InTagOrder (x y : List ℕ) : Type 0 where
   pub before : TagBefore former latter
 
 -- the second list is the first with x at some place
-pub data Inserted : List ℕ → List (List ℕ) → List (List ℕ) → Type 0 where
-  here : {x : List ℕ} {xs : List (List ℕ)} → Inserted x xs (x ∷ xs)
-  there : {x y : List ℕ} {xs ys : List (List ℕ)} → Inserted x xs ys → Inserted x (y ∷ xs) (y ∷ ys)
+pub data Inserted : Octets → List Octets → List Octets → Type 0 where
+  here : {x : Octets} {xs : List Octets} → Inserted x xs (x ∷ xs)
+  there : {x y : Octets} {xs ys : List Octets} → Inserted x xs ys → Inserted x (y ∷ xs) (y ∷ ys)
 
 -- the same lists in some order
-pub data Permutes : List (List ℕ) → List (List ℕ) → Type 0 where
+pub data Permutes : List Octets → List Octets → Type 0 where
   permutes_none : Permutes [] []
-  permutes_more : {x : List ℕ} {xs ys zs : List (List ℕ)} → Permutes xs ys → Inserted x ys zs → Permutes (x ∷ xs) zs
+  permutes_more : {x : Octets} {xs ys zs : List Octets}
+      → Permutes xs ys
+      → Inserted x ys zs
+      → Permutes (x ∷ xs) zs
 
 -- the third list has the members of the first two, each in their order
-pub data Merges : List (List ℕ) → List (List ℕ) → List (List ℕ) → Type 0 where
+pub data Merges : List Octets → List Octets → List Octets → Type 0 where
   merges_none : Merges [] [] []
-  merges_first : {x : List ℕ} {xs ys zs : List (List ℕ)} → Merges xs ys zs → Merges (x ∷ xs) ys (x ∷ zs)
-  merges_second : {y : List ℕ} {xs ys zs : List (List ℕ)} → Merges xs ys zs → Merges xs (y ∷ ys) (y ∷ zs)
+  merges_first : {x : Octets} {xs ys zs : List Octets} → Merges xs ys zs → Merges (x ∷ xs) ys (x ∷ zs)
+  merges_second : {y : Octets} {xs ys zs : List Octets} → Merges xs ys zs → Merges xs (y ∷ ys) (y ∷ zs)

@@ -5,7 +5,7 @@ use Rattle.std.proofs.Common.{lit<}
 use Rattle.asn_base.specs.declared.tag.Class.TheVariants.{Universal}
 use Rattle.asn_base.specs.declared.tag.Tag.{Tag}
 use Rattle.asn_base.specs.Abstract.{bits_of_octet}
-use Rattle.encodings.specs.Header.{Header}
+use Rattle.encodings.specs.Header.{Octets, Header}
 
 abbrev pub bit_string_tag : Tag
 bit_string_tag = record { class = Universal; number = 3; in_range = lit< tt; not_reserved = λ e. lit< tt }
@@ -15,19 +15,27 @@ octet_string_tag = record { class = Universal; number = 4; in_range = lit< tt; n
 
 mutual
   -- contents octets, constructed or not, that hold the octets s: whole (8.7.2), or in segments (8.7.3)
-  pub data Pieces : List ℕ → Bool → List ℕ → Type 0 where
-    whole : {s : List ℕ} → AllBelowBase 256 s → Pieces s false s
-    cut : {s o : List ℕ} → Segments s o → Pieces s true o
+  pub data Pieces : Octets → Bool → Octets → Type 0 where
+    whole : {s : Octets}
+        → AllBelowBase 256 s
+        → Pieces s false s
+    cut : {s o : Octets}
+        → Segments s o
+        → Pieces s true o
 
   -- any number of segments, each with the tag of OCTET STRING, which may be constructed again (8.7.3.2)
-  pub data Segments : List ℕ → List ℕ → Type 0 where
+  pub data Segments : Octets → Octets → Type 0 where
     no_segment : Segments [] []
-    segment : {c : Bool} {h x p s o : List ℕ} → Header octet_string_tag c (length p) h → Pieces x c p → Segments s o → Segments (x ++ s) (h ++ p ++ o)
+    segment : {c : Bool} {h x p s o : Octets}
+        → Header octet_string_tag c (length p) h
+        → Pieces x c p
+        → Segments s o
+        → Segments (x ++ s) (h ++ p ++ o)
 
 -- an octet with the number of unused bits, and the bits (8.6.2); unused bits may have any value (8.6.2.1)
-pub record WholeBits (s : List Bool) (o : List ℕ) : Type 0 where
+pub record WholeBits (s : List Bool) (o : Octets) : Type 0 where
   pub unused : ℕ
-  pub octets : List ℕ
+  pub octets : Octets
   pub filling : List Bool
   pub few : unused < 8
   pub are_octets : AllBelowBase 256 octets
@@ -37,11 +45,23 @@ pub record WholeBits (s : List Bool) (o : List ℕ) : Type 0 where
 
 mutual
   -- the same for bits: whole, or in at least one segment (8.6.4)
-  pub data BitPieces : List Bool → Bool → List ℕ → Type 0 where
-    whole_bits : {s : List Bool} {o : List ℕ} → WholeBits s o → BitPieces s false o
-    cut_bits : {s : List Bool} {o : List ℕ} → BitSegments s o → BitPieces s true o
+  pub data BitPieces : List Bool → Bool → Octets → Type 0 where
+    whole_bits : {s : List Bool} {o : Octets}
+        → WholeBits s o
+        → BitPieces s false o
+    cut_bits : {s : List Bool} {o : Octets}
+        → BitSegments s o
+        → BitPieces s true o
 
   -- each segment but the last holds a multiple of eight bits (8.6.4.2), at every level
-  pub data BitSegments : List Bool → List ℕ → Type 0 where
-    last_segment : {c : Bool} {h p : List ℕ} {s : List Bool} → Header bit_string_tag c (length p) h → BitPieces s c p → BitSegments s (h ++ p)
-    bit_segment : {c : Bool} {h p o : List ℕ} {x s : List Bool} → Header bit_string_tag c (length p) h → BitPieces x c p → length x % 8 ≡ 0 → BitSegments s o → BitSegments (x ++ s) (h ++ p ++ o)
+  pub data BitSegments : List Bool → Octets → Type 0 where
+    last_segment : {c : Bool} {h p : Octets} {s : List Bool}
+        → Header bit_string_tag c (length p) h
+        → BitPieces s c p
+        → BitSegments s (h ++ p)
+    bit_segment : {c : Bool} {h p o : Octets} {x s : List Bool}
+        → Header bit_string_tag c (length p) h
+        → BitPieces x c p
+        → length x % 8 ≡ 0
+        → BitSegments s o
+        → BitSegments (x ++ s) (h ++ p ++ o)

@@ -8,9 +8,9 @@ ghost use Rattle.asn_base.specs.Tags.{AllTagged, AllTellable, HasFewTags};
 ghost use Rattle.asn_base.specs.Same.{Same};
 ghost use Rattle.asn_base.specs.Typed.{IsValueWithoutNodes, ValueIn};
 ghost use Rattle.asn_base.specs.Types.{Resolved};
-ghost use Rattle.encodings.specs.Encoding.{Ber, Der, Encodes, Says, Shortest};
+ghost use Rattle.encodings.specs.Encoding.{Ber, Der, Encodes, EncodesBy, Says, Shortest};
 ghost use Rattle.encodings.specs.Levels.{levels};
-ghost use Rattle.encodings.specs.Rules.{Rules, Basic, Distinguished};
+ghost use Rattle.encodings.specs.Rules.{Rules, Basic, Unsorted, Distinguished};
 
 use asn_base::law::{accepted_are_told_apart, sameness};
 
@@ -24,9 +24,20 @@ pub fn der_laws()
     ensures as_it_stands { (s : List Resolved) (t k : ℕ) (w : AbstractValue) (o : List ℕ) → Encodes s Basic t w k o → Ber s t w k o }
     // Values that are the same have one such encoding, where only a CHOICE has no tag.
     ensures one { (s : List Resolved) (t : ℕ) (v w : AbstractValue) (o p : List ℕ) → AllTagged s → Same s t v w → Der s t v 0 o → Der s t w 0 p → p ≡ o }
-    // None by the basic rules of a value that is the same has fewer octets.
-    ensures none_shorter { (s : List Resolved) (t : ℕ) (v w : AbstractValue) (o p : List ℕ) → Same s t v w → Der s t v 0 o → Ber s t w 0 p → length o ≤ length p }
+    // Such an encoding is one by the distinguished rules but for the order in sets.
+    ensures unsorted { (s : List Resolved) (t k : ℕ) (v : AbstractValue) (o : List ℕ) → Der s t v k o → EncodesBy Unsorted s t v k o }
     ensures shortest { (s : List Resolved) (t : ℕ) (v : AbstractValue) (o : List ℕ) → Der s t v 0 o → Shortest s t v o }
+{
+    sameness();
+    unsorted_laws();
+}
+
+/// Whatever keeps the distinguished rules but for the order in SET and SET OF has as few octets as any encoding.
+pub fn unsorted_laws()
+    ensures ber { (s : List Resolved) (t k : ℕ) (v : AbstractValue) (o : List ℕ) → EncodesBy Unsorted s t v k o → Ber s t v k o }
+    // None by the basic rules of a value that is the same has fewer octets.
+    ensures none_shorter { (s : List Resolved) (t : ℕ) (v w : AbstractValue) (o p : List ℕ) → Same s t v w → EncodesBy Unsorted s t v 0 o → Ber s t w 0 p → length o ≤ length p }
+    ensures shortest { (s : List Resolved) (t : ℕ) (v : AbstractValue) (o : List ℕ) → EncodesBy Unsorted s t v 0 o → Shortest s t v o }
 {
     sameness();
 }

@@ -32,6 +32,8 @@ pub enum Construct {
     SetOf,
     Tag,
     Constraint,
+    /// A member's name that is no identifier, which no text gives.
+    Name,
     Optional,
     Default,
     /// `NULL` as a value.
