@@ -43,18 +43,3 @@ impl Constraint {
         }
     }
 }
-
-#[cfg(test)]
-mod tests {
-    use super::*;
-
-    #[test]
-    fn none_has_no_bounds(rt: HostRuntime) -> Result<(), std::test::Fail> {
-        let none = Constraint::none();
-        assert!(rt; none.allowed.is_none());
-        assert!(rt; none.visible.least.is_none());
-        assert!(rt; none.visible.greatest.is_none());
-        assert!(rt; !none.visible.extensible);
-        Ok(())
-    }
-}

@@ -1,19 +1,8 @@
-//! Tests of the crate `asnc`. They stand apart, so that the crate is not proved a second time for them.
+//! Tests of the crates `resolve` and `asnc` that no text can express; the rows of the program `rows` are all others. They stand
+//! apart, so that no crate is proved a second time for them.
 #![tactic(auto)]
 
 #[cfg(test)]
-mod common;
+mod fault_tests;
 #[cfg(test)]
-mod construct_line_tests;
-#[cfg(test)]
-mod file_line_tests;
-#[cfg(test)]
-mod job_tests;
-#[cfg(test)]
-mod kit_tests;
-#[cfg(test)]
-mod limit_line_tests;
-#[cfg(test)]
-mod name_line_tests;
-#[cfg(test)]
-mod text_line_tests;
+mod tree_tests;

@@ -6,8 +6,6 @@ mod fault;
 mod form;
 mod header;
 pub mod law;
-#[cfg(test)]
-mod tests;
 
 pub use digits::octets_of;
 pub use fault::Fault;

@@ -13,6 +13,3 @@ mod tagged;
 pub use fault::{Limit, TagFault};
 pub use path::{Form, FormedTag, TagPath};
 pub use tagged::{Tagged, tag, tags_of};
-
-#[cfg(test)]
-mod tests;
