@@ -2,8 +2,8 @@
 //!
 //! The files that its words name are files of rows. A row's first word is a command and its second the row's own name:
 //! `link`, `tags`, `header`, `octets`, `line`, `asnc` and `job`, each described where it is answered and at the head of the
-//! files that use it. The answers that the stored run compares are written from the standards' rules and from the rows'
-//! texts, not taken from this program. A row with `numbered` among its words has each `#` of its texts counted, from 0.
+//! files that use it. The answers that the stored run compares are written by hand, not taken from this program. A row
+//! with `numbered` among its words has each `#` of its texts counted, from 0.
 #![tactic(auto)]
 
 mod headers;
