@@ -1,5 +1,5 @@
-//! Tests of the crates `resolve` and `asnc` that no text can express; the rows of the program `rows` are all others. They stand
-//! apart, so that no crate is proved a second time for them.
+//! Tests of the crates `resolve` and `asnc` that no text can express; the rows of the program `rows` are all others.
+//! They stand apart, so that no crate is proved a second time for them.
 #![tactic(auto)]
 
 #[cfg(test)]

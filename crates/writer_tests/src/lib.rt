@@ -1,5 +1,5 @@
-//! Tests of the crates `asn_base` and `der_writer` whose values no notation gives; the rows of the program `rows` are all others.
-//! They stand apart, so that no crate is proved a second time for them.
+//! Tests of the crates `asn_base` and `der_writer` whose values no notation gives; the rows of the program `rows` are
+//! all others. They stand apart, so that no crate is proved a second time for them.
 #![tactic(auto)]
 
 #[cfg(test)]
