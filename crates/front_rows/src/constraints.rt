@@ -1,6 +1,6 @@
 //! Constraints as they are read.
 
-use crate::pieces::{put_number, put_reference, put_text};
+use crate::pieces::{put_between, put_number, put_reference, put_text};
 use notation::{CharsSyntax, ConstraintSyntax, EndSyntax, RangeSyntax, RangesSyntax, SizeSyntax};
 use std::alloc::AllocError;
 
@@ -31,25 +31,25 @@ fn put_range(out: &mut String, range: &RangeSyntax) -> Result<(), AllocError> {
 }
 
 fn put_ranges(out: &mut String, ranges: &RangesSyntax) -> Result<(), AllocError> {
-    let mut mark = "";
+    let mut is_first = true;
     for range in &ranges.ranges {
-        out.push_str(mark)?;
+        put_between(out, " | ", is_first)?;
         put_range(out, range)?;
-        mark = " | ";
+        is_first = false;
     }
     Ok(())
 }
 
 fn put_chars(out: &mut String, chars: &[CharsSyntax]) -> Result<(), AllocError> {
-    let mut mark = "";
+    let mut is_first = true;
     for part in chars {
-        out.push_str(mark)?;
+        put_between(out, " | ", is_first)?;
         put_text(out, &part.first)?;
         if let Some(last) = &part.last {
             out.push_str("..")?;
             put_text(out, last)?;
         }
-        mark = " | ";
+        is_first = false;
     }
     Ok(())
 }

@@ -1,6 +1,6 @@
 //! Modules as they are read.
 
-use crate::pieces::put_names;
+use crate::pieces::{put_between, put_names};
 use crate::types::put_type;
 use crate::values::put_value;
 use std::alloc::AllocError;
@@ -25,11 +25,11 @@ pub fn put_assignments(out: &mut String, assignments: &[Assignment]) -> Result<(
     if assignments.is_empty() {
         return out.push_str("nothing");
     }
-    let mut mark = "";
+    let mut is_first = true;
     for assignment in assignments {
-        out.push_str(mark)?;
+        put_between(out, "; ", is_first)?;
         put_assignment(out, assignment)?;
-        mark = "; ";
+        is_first = false;
     }
     Ok(())
 }
@@ -38,12 +38,12 @@ fn put_imports(out: &mut String, imports: &[Import]) -> Result<(), AllocError> {
     if imports.is_empty() {
         return out.push_str("none");
     }
-    let mut mark = "";
+    let mut is_first = true;
     for import in imports {
-        out.push_str(mark)?;
+        put_between(out, " ", is_first)?;
         put_names(out, &import.names)?;
         write!(out, " FROM {}", import.module)?;
-        mark = " ";
+        is_first = false;
     }
     Ok(())
 }

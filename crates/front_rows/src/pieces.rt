@@ -45,15 +45,16 @@ pub fn put_names(out: &mut String, names: &[String]) -> Result<(), AllocError> {
     if names.is_empty() {
         return out.push_str("none");
     }
-    let mut mark = "";
+    let mut is_first = true;
     for name in names {
-        write!(out, "{mark}{name}")?;
-        mark = ", ";
+        put_between(out, ", ", is_first)?;
+        out.push_str(name.as_str())?;
+        is_first = false;
     }
     Ok(())
 }
 
-/// Writes a comma before each part but the first.
-pub fn put_comma(out: &mut String, is_first: bool) -> Result<(), AllocError> {
-    if is_first { Ok(()) } else { out.push_str(", ") }
+/// Writes what stands between parts, before each part but the first.
+pub fn put_between(out: &mut String, mark: &str, is_first: bool) -> Result<(), AllocError> {
+    if is_first { Ok(()) } else { out.push_str(mark) }
 }

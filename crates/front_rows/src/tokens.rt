@@ -1,6 +1,6 @@
 //! Tokens and places.
 
-use crate::pieces::put_octets;
+use crate::pieces::{put_between, put_octets};
 use std::alloc::AllocError;
 use text::{Mark, Token, TokenKind};
 
@@ -57,16 +57,13 @@ pub fn put_tokens(out: &mut String, text: &[u8], tokens: &[Token]) -> Result<(),
     if tokens.is_empty() {
         return out.push_str("nothing");
     }
-    let mut mark = "";
+    let mut is_first = true;
     for token in tokens {
+        put_between(out, " | ", is_first)?;
         let kind = kind_text(token.kind);
-        write!(
-            out,
-            "{mark}{kind} {}..{} ",
-            token.span.start, token.span.end
-        )?;
+        write!(out, "{kind} {}..{} ", token.span.start, token.span.end)?;
         put_spelling(out, text, *token)?;
-        mark = " | ";
+        is_first = false;
     }
     Ok(())
 }

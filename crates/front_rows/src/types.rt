@@ -1,7 +1,7 @@
 //! Types as they are read.
 
 use crate::constraints::{put_constraints, put_size};
-use crate::pieces::{put_comma, put_number, put_reference};
+use crate::pieces::{put_between, put_number, put_reference};
 use crate::values::put_value;
 use asn_base::tag::{Class, Tag};
 use notation::SizeSyntax;
@@ -9,11 +9,13 @@ use std::alloc::AllocError;
 use syntax::{EnumeratedItem, Keyword, Member, NamedBit, NamedNumber, PresenceSyntax, TypeSyntax};
 
 fn put_named_numbers(out: &mut String, numbers: &[NamedNumber]) -> Result<(), AllocError> {
-    let mut mark = "{";
+    out.push('{')?;
+    let mut is_first = true;
     for named in numbers {
-        write!(out, "{mark}{} ", named.name)?;
+        put_between(out, ", ", is_first)?;
+        write!(out, "{} ", named.name)?;
         put_number(out, named.minus, named.number)?;
-        mark = ", ";
+        is_first = false;
     }
     out.push('}')
 }
@@ -22,23 +24,27 @@ fn put_bits(out: &mut String, bits: &[NamedBit]) -> Result<(), AllocError> {
     if bits.is_empty() {
         return Ok(());
     }
-    let mut mark = "{";
+    out.push('{')?;
+    let mut is_first = true;
     for bit in bits {
-        write!(out, "{mark}{} {}", bit.name, bit.place)?;
-        mark = ", ";
+        put_between(out, ", ", is_first)?;
+        write!(out, "{} {}", bit.name, bit.place)?;
+        is_first = false;
     }
     out.push('}')
 }
 
 fn put_enumerated(out: &mut String, items: &[EnumeratedItem]) -> Result<(), AllocError> {
-    let mut mark = "{";
+    out.push('{')?;
+    let mut is_first = true;
     for item in items {
-        write!(out, "{mark}{}", item.name)?;
+        put_between(out, ", ", is_first)?;
+        out.push_str(item.name.as_str())?;
         if let Some((minus, number)) = item.number {
             out.push(' ')?;
             put_number(out, minus, number)?;
         }
-        mark = ", ";
+        is_first = false;
     }
     out.push('}')
 }
@@ -74,7 +80,7 @@ fn put_members(out: &mut String, members: &[Member<TypeSyntax>]) -> Result<(), A
     out.push('{')?;
     let mut is_first = true;
     for member in members {
-        put_comma(out, is_first)?;
+        put_between(out, ", ", is_first)?;
         write!(out, "{} ", member.name)?;
         put_type(out, &member.syntax)?;
         put_presence(out, &member.presence)?;

@@ -1,6 +1,6 @@
 //! Values as they are read.
 
-use crate::pieces::{put_comma, put_number, put_reference, put_text};
+use crate::pieces::{put_between, put_number, put_reference, put_text};
 use notation::{Named, ValueSyntax};
 use std::alloc::AllocError;
 
@@ -14,10 +14,11 @@ fn put_digits(out: &mut String, digits: &[u8], kind: &str) -> Result<(), AllocEr
 
 fn put_numbers(out: &mut String, numbers: &[u128]) -> Result<(), AllocError> {
     out.push_str("numbers{")?;
-    let mut mark = "";
+    let mut is_first = true;
     for number in numbers {
-        write!(out, "{mark}{number}")?;
-        mark = " ";
+        put_between(out, " ", is_first)?;
+        write!(out, "{number}")?;
+        is_first = false;
     }
     out.push('}')
 }
@@ -27,7 +28,7 @@ fn put_items(out: &mut String, items: &[ValueSyntax]) -> Result<(), AllocError> 
     out.push_str("items{")?;
     let mut is_first = true;
     for item in items {
-        put_comma(out, is_first)?;
+        put_between(out, ", ", is_first)?;
         put_value(out, item)?;
         is_first = false;
     }
@@ -39,7 +40,7 @@ fn put_fields(out: &mut String, fields: &[Named<ValueSyntax>]) -> Result<(), All
     out.push_str("fields{")?;
     let mut is_first = true;
     for field in fields {
-        put_comma(out, is_first)?;
+        put_between(out, ", ", is_first)?;
         write!(out, "{} = ", field.name)?;
         put_value(out, &field.value)?;
         is_first = false;
