@@ -8,13 +8,13 @@ ghost use Rattle.grammar.specs.Single.{tags_at};
 ghost use Rattle.module_head.specs.HeadingReading.{tag_word_at, default_words_at, semicolon_at, symbol_at, some_exports_at, all_exports_at, no_exports_at, exported_at, exports_at};
 ghost use Rattle.module_head.specs.HeadReading.{tag_default_at, export_list_at};
 
-use trees::TagDefault;
 use notation::ReadError;
 use notation::decode::name_of;
 use notation::reading::comma;
 use std::alloc::Global;
 use text::reserved::Word;
 use text::{Mark, Token, TokenKind};
+use trees::TagDefault;
 
 /// The tokens behind `TAGS`.
 #[tactic(auto, unfolding(grammar::specs::Single::tags_at))]

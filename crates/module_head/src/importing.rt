@@ -13,7 +13,6 @@ ghost use Rattle.module_head.specs.ImportReading.{begins_arc, begins_symbol, arc
 ghost use Rattle.module_head.specs.HeadReading.{import_list_at};
 
 use crate::heading::{semicolon, symbols};
-use trees::Import;
 use notation::ReadError;
 use notation::constraint_reading::{close, open};
 use notation::decode::{name_of, small_number};
@@ -21,6 +20,7 @@ use notation::reading::closed;
 use std::alloc::Global;
 use text::reserved::Word;
 use text::{Mark, Token, TokenKind};
+use trees::Import;
 
 /// Reads a number.
 #[tactic(auto, unfolding(notation::specs::Rules::number_at))]

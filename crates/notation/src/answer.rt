@@ -11,9 +11,9 @@ ghost use Rattle.notation.specs.Answer.{Stands};
 use crate::fault::{ReadError, SyntaxFault};
 use crate::reading::value;
 use crate::refused::unexpected;
-use trees::ValueSyntax;
 use std::alloc::Global;
 use text::Token;
+use trees::ValueSyntax;
 
 /// How many things may be open at one place.
 pub const MAX_NESTING: usize = 128;

@@ -8,12 +8,12 @@ ghost use Rattle.notation.specs.ConstraintGrammar.{constraint, size, flat};
 ghost use Rattle.notation.specs.Given.{IsLexed};
 ghost use Rattle.notation.specs.Answer.{Stands};
 
-use trees::{ConstraintSyntax, SizeSyntax};
 use crate::constraint_reading::{constraint, size};
 use crate::fault::{ReadError, SyntaxFault};
 use crate::refused::unexpected;
 use std::alloc::Global;
 use text::Token;
+use trees::{ConstraintSyntax, SizeSyntax};
 
 /// Reads the constraint that begins at a place.
 ///

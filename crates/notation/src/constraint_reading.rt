@@ -8,14 +8,12 @@ ghost use Rattle.trees.specs.Constraints.{end_of, range_of, ranges_of, size_of, 
 ghost use Rattle.notation.specs.Given.{Gives, IsTokenOf, AreTokens};
 ghost use Rattle.notation.specs.ConstraintReading.{open_at, close_at, next_or, by_or_at, last_chars_at, more_chars_at, chars_at, from_at, minus_at, end_dot_at, end_at, some_end_at, upper_at, behind_min_at, behind_end_at, single_at, range_at, ranges_at, size_at, size_in_at, from_in_at, values_in_at, inside_at, constraint_at};
 
-use trees::{
-    CharsSyntax, ConstraintSyntax, EndSyntax, RangeSyntax, RangesSyntax, SizeSyntax,
-};
 use crate::decode::{chars_of, name_of, number_of, small_number};
 use crate::fault::ReadError;
 use std::alloc::Global;
 use text::reserved::Word;
 use text::{Mark, Token, TokenKind};
+use trees::{CharsSyntax, ConstraintSyntax, EndSyntax, RangeSyntax, RangesSyntax, SizeSyntax};
 
 /// The tokens behind an open parenthesis.
 #[tactic(auto, unfolding(crate::specs::ConstraintReading::open_at))]

@@ -12,10 +12,10 @@ ghost use Rattle.notation.specs.Reading.{negative_at, qualified_at, next_number,
 
 use crate::decode::{chars_of, digits_of, name_of, number_of, small_number};
 use crate::fault::{Limit, ReadError};
-use trees::{Named, ValueSyntax};
 use std::alloc::Global;
 use text::reserved::Word;
 use text::{Mark, Token, TokenKind};
+use trees::{Named, ValueSyntax};
 
 /// Reads the number behind a minus.
 #[tactic(auto, unfolding(crate::specs::Reading::negative_at))]

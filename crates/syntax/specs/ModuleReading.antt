@@ -9,4 +9,4 @@ use Rattle.syntax.specs.Reading.{assignments_at}
 -- fits: the test that numbers with no minus meet
 module _ (fits : ℕ → Bool) where
   unfoldable pub module_at : ℕ → Reader ModuleTree
-  module_at n ts = head_at ts >>= λ h. assignments_at fits n h.1 >>= λ xs. Ok (module_of h.0 xs.0, xs.1)
+  module_at n ts = head_at fits ts >>= λ h. assignments_at fits n h.1 >>= λ xs. Ok (module_of h.0 xs.0, xs.1)

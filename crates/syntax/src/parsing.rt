@@ -9,11 +9,11 @@ ghost use Rattle.trees.specs.Modules.{ModuleTree, module_tree_of};
 ghost use Rattle.syntax.specs.Syntax.{module_text};
 
 use crate::modules::module;
-use trees::Module;
 use notation::refused::unexpected;
 use notation::{MAX_NESTING, ReadError, SyntaxFault};
 use std::alloc::Global;
 use text::Token;
+use trees::Module;
 
 /// Reads the module that a text is.
 ///

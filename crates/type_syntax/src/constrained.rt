@@ -11,12 +11,12 @@ ghost use Rattle.notation.specs.ConstraintReading.{is_open, parens_at, constrain
 ghost use Rattle.trees.specs.Types.{type_tree_of};
 ghost use Rattle.type_syntax.specs.TypeReading.{constraints_at, with_constraints_at, some_size_at, size_in_parens_at, list_size_at};
 
-use trees::TypeSyntax;
 use notation::constraint_reading::{close, constraint, open, size};
 use notation::{ConstraintSyntax, ReadError, SizeSyntax};
 use std::alloc::Global;
 use text::reserved::Word;
 use text::{Mark, Token, TokenKind};
+use trees::TypeSyntax;
 
 /// Whether a constraint is next.
 fn begins(text: &[u8], tokens: &[Token]) -> bool

@@ -10,13 +10,13 @@ ghost use Rattle.notation.specs.Rules.{number_at};
 ghost use Rattle.trees.specs.Types.{number_of as named_number_of, bit_of, item_of, type_tree_of};
 ghost use Rattle.type_syntax.specs.TypeReading.{negative_at, signed_at, given_at, item_number_at, numbers_in_at, bits_in_at, items_in_at, integer_at, bits_at, bit_string_at, enumerated_at};
 
-use trees::{EnumeratedItem, NamedBit, NamedNumber, TypeSyntax};
 use notation::constraint_reading::{close, open};
 use notation::decode::{name_of, number_of, small_number};
 use notation::reading::{closed, comma};
 use notation::{Limit, ReadError};
 use std::alloc::Global;
 use text::{Mark, Token, TokenKind};
+use trees::{EnumeratedItem, NamedBit, NamedNumber, TypeSyntax};
 
 /// Reads the number behind a minus.
 #[tactic(auto, unfolding(crate::specs::TypeReading::negative_at))]

@@ -14,13 +14,13 @@ ghost use Rattle.type_syntax.specs.TypeReading.{string_at, identifier_at, one_wo
 use crate::constrained::{list_size, with_constraints};
 use crate::named::{bit_string, enumerated, integer};
 use crate::tags::{keyword, tag};
-use trees::{Member, PresenceSyntax, TypeSyntax};
 use notation::decode::name_of;
 use notation::reading::{closed, comma, value};
 use notation::{Limit, ReadError};
 use std::alloc::Global;
 use text::reserved::Word;
 use text::{Mark, Token, TokenKind};
+use trees::{Member, PresenceSyntax, TypeSyntax};
 
 /// The tokens behind `STRING`.
 #[tactic(auto, unfolding(crate::specs::TypeReading::string_at))]
