@@ -280,16 +280,16 @@ clear_next ts k cs vs q us keys col e f free before p r c d l m g h t =
     elim (cases_lt r q) [
       | inl z ↦ before p r c d l z g h t
       | inr z ↦ (
-        let s : r ≡ q = omega (arith, z, m) in
-        let a = tags_at ts cs vs p c col g in
-        let b = collected_at ts cs vs q d us col (ap (slice_get cs) (sym s) ∙ h) e in
-        λ u x y.
-            let v = a.2.all u x in
-            let w = b.all u y in
-            let k1 : HasKey a.0 (key_of u) = record { place = v.0; tag = u; there = contained_at a.0 u v; is = refl } in
-            let k2 : HasKey us (key_of u) = record { place = w.0; tag = u; there = contained_at us u w; is = refl } in
-            free (key_of u) k2 ((f (key_of u)).1 (record { place = p; before = omega (arith, l, s); together = subst (Together k cs p) s t; tags = a.0; there = a.1; has = k1 }))
-      )
+          let s : r ≡ q = omega (arith, z, m) in
+          let a = tags_at ts cs vs p c col g in
+          let b = collected_at ts cs vs q d us col (ap (slice_get cs) (sym s) ∙ h) e in
+          λ u x y.
+          let v = a.2.all u x in
+          let w = b.all u y in
+          let k1 : HasKey a.0 (key_of u) = record { place = v.0; tag = u; there = contained_at a.0 u v; is = refl } in
+          let k2 : HasKey us (key_of u) = record { place = w.0; tag = u; there = contained_at us u w; is = refl } in
+          free (key_of u) k2 ((f (key_of u)).1 (record { place = p; before = omega (arith, l, s); together = subst (Together k cs p) s t; tags = a.0; there = a.1; has = k1 }))
+          )
     ]
 
 member_there : (cs : List Part) (k : ℕ) → k < length cs → (c : Part) × (slice_get cs k ≡ Some c)
@@ -304,18 +304,20 @@ clash_met ts k cs vs q us keys x col l e f b h =
     let m = (f x).0 h in
     let c = member_there cs m.place (omega (arith, m.before, l)) in
     let d = member_there cs q l in
-    let s : m.has.tag ≡ b.tag = tag_exact m.has.tag b.tag (m.has.is ∙ sym b.is) in
-    (m.place, record {
-      first = c.0;
-      second = d.0;
-      before = m.before;
-      at_first = c.1;
-      at_second = d.1;
-      together = m.together;
-      tag = b.tag;
-      in_first = (collected_at ts cs vs m.place c.0 m.tags col c.1 m.there).each b.tag (subst (Contains m.tags) s (contains_at m.tags m.has.place m.has.tag m.has.there));
-      in_second = (collected_at ts cs vs q d.0 us col d.1 e).each b.tag (contains_at us b.place b.tag b.there);
-    })
+    let s : m.has.tag ≡ b.tag = tag_exact m.has.tag b.tag (m.has.is ∙ sym b.is) in (
+      m.place,
+      record {
+        first = c.0;
+        second = d.0;
+        before = m.before;
+        at_first = c.1;
+        at_second = d.1;
+        together = m.together;
+        tag = b.tag;
+        in_first = (collected_at ts cs vs m.place c.0 m.tags col c.1 m.there).each b.tag (subst (Contains m.tags) s (contains_at m.tags m.has.place m.has.tag m.has.there));
+        in_second = (collected_at ts cs vs q d.0 us col d.1 e).each b.tag (contains_at us b.place b.tag b.there);
+      },
+    )
 
 -- where all members are clear the list is distinct
 pub distinct_all : (ts : List Type') (k : ListKind) (cs : List Part) (n : ℕ) → length cs ≤ n → ((p : ℕ) → IsClear ts k cs p n) → Distinct ts k cs
