@@ -136,6 +136,9 @@ none_in : (keys : List (ℕ × ℕ)) (x : ℕ × ℕ) → keys ≡ [] → IsIn k
 none_in [] x e h = absurd cc
 none_in (k ∷ keys) x e h = absurd cc
 
+pub not_in : (keys : List (ℕ × ℕ)) (x : ℕ × ℕ) → list_any (λ y. is_eq (key_cmp x y)) keys ≡ false → IsIn keys x → ⊥
+not_in keys x e h = let g = sym e ∙ h in absurd cc
+
 put_cases : (k x : ℕ × ℕ) (a b : Bool) → is_eq (key_cmp k x) ≡ b → cond b true a ≡ true → (a ≡ true) ⊎ (k ≡ x)
 put_cases k x a true e f = inr (key_exact k x e)
 put_cases k x a false e f = inl f

@@ -6,6 +6,7 @@ ghost use Rattle.resolve.specs.Table.{Type'};
 ghost use Rattle.tagging.specs.First.{Distinct};
 ghost use Rattle.tagging.specs.Lists.{Collected, tag_lists, Reaches, key_of, IsIn, HasKey, IsHeld, IsMet};
 ghost use Rattle.tagging.specs.Tagged.{Clash};
+ghost use Rattle.tagging.specs.Tags.{Label as Tag};
 
 use crate::path::Label;
 use asn_base::tag::Class;
@@ -64,7 +65,7 @@ fn left(
     seen: BTreeSet<(u8, usize)>,
 ) -> BTreeSet<(u8, usize)>
     requires within { place < length members.now }
-    ensures { (vs : List (List Rattle.tagging.specs.Tags.Label)) → ((k : ℕ × ℕ) → IsIn seen.keys k ↔ IsHeld kind (map part_of members.now) vs place k) → (k : ℕ × ℕ) → IsIn result.keys k ↔ IsMet kind (map part_of members.now) vs place k }
+    ensures { (vs : List (List Tag)) → ((k : ℕ × ℕ) → IsIn seen.keys k ↔ IsHeld kind (map part_of members.now) vs place k) → (k : ℕ × ℕ) → IsIn result.keys k ↔ IsMet kind (map part_of members.now) vs place k }
 {
     if place == 0 {
         return seen;
