@@ -73,7 +73,7 @@ pub refused_memory : {A X Y : Type 0} (R : X → Y → Type 0) (f : A → X) (P 
 refused_memory R f P xs k x l e r ys z = let t = zip_at R (map f xs) ys k (f x) z (seen_here f xs k x l e) in r t.0 t.2
 
 -- a construct that is left out stands in no program that is taken
-Excludes : Type 0
+abbrev pub Excludes : Type 0
 Excludes = (p : Program) (c : Construct) (M x : Name) → IsOutside p c M x → IsFirstPath p → ⊥
 
 outside_memory : Excludes → (p : Program) (e : Fault) → IsFirstPath p → IsOutsideFault p e → SaysMemory e
