@@ -6,7 +6,7 @@ use Rattle.std.specs.List.{AllZip}
 use Rattle.std.proofs.lemmas.List.{map-append, take_all, length-map}
 use Rattle.text.specs.declared.token.Token.{Token}
 use Rattle.grammar.specs.Lexeme.{lexemes}
-use Rattle.grammar.specs.Places.{small}
+use Rattle.grammar.specs.Places.{bounded}
 use Rattle.asn_base.specs.Types.{Resolved}
 use Rattle.syntax.specs.Syntax.{module_text}
 use Rattle.trees.specs.declared.module.Module.{Module}
@@ -31,8 +31,8 @@ pub record AreRead (texts : List (Vec ℕ Global)) (k : ℕ) (read : List Module
   pub only : (ms : List ModuleTree) → AllZip IsModule (map octets_of texts) ms → map module_tree_of read ≡ take k ms
 
 -- the tree stands on the tokens that were read
-pub same_tokens : (x : List ℕ) (ts : List Token) (m : ModuleTree) (i : IsModule x m) → ts ≡ i.tokens → (module_text small 128).Is m (lexemes x ts)
-same_tokens x ts m i e = subst (λ (us : List Token). (module_text small 128).Is m (lexemes x us)) (sym e) i.tree
+pub same_tokens : (x : List ℕ) (ts : List Token) (m : ModuleTree) (i : IsModule x m) → ts ≡ i.tokens → (module_text (bounded 128)).Is m (lexemes x ts)
+same_tokens x ts m i e = subst (λ (us : List Token). (module_text (bounded 128)).Is m (lexemes x us)) (sym e) i.tree
 
 -- what stands beside an element
 zip_at : {X Y : Type 0} (R : X → Y → Type 0) (xs : List X) (ys : List Y) (k : ℕ) (x : X) → AllZip R xs ys → slice_get xs k ≡ Some x → (y : Y) × (slice_get ys k ≡ Some y) × R x y

@@ -5,7 +5,7 @@ use Rattle.std.specs.List.{AllZip}
 use Rattle.text.specs.declared.token.Token.{Token}
 use Rattle.text.specs.Text as texts
 use Rattle.grammar.specs.Lexeme.{lexemes}
-use Rattle.grammar.specs.Places.{small}
+use Rattle.grammar.specs.Places.{bounded}
 use Rattle.asn_base.specs.Types.{Resolved}
 use Rattle.notation.specs.Given.{IsLexed}
 use Rattle.notation.specs.Answer as answers
@@ -28,7 +28,7 @@ octets_of v = v.items
 pub record IsModule (x : List ℕ) (m : ModuleTree) : Type 0 where
   pub tokens : List Token
   pub lexed : IsLexed x tokens
-  pub tree : (module_text small 128).Is m (lexemes x tokens)
+  pub tree : (module_text (bounded 128)).Is m (lexemes x tokens)
 
 -- the program of linked modules is one that this compiler takes, and the schema has its types
 pub record IsKitOf (ms : List ModuleTree) (p : Program) (s : List Resolved) : Type 0 where
@@ -46,7 +46,7 @@ pub record IsOpened (xs : List (List ℕ)) (p : Program) (s : List Resolved) : T
 pub record IsNoModule (x : List ℕ) (fault : SyntaxFault) : Type 0 where
   pub tokens : List Token
   pub lexed : IsLexed x tokens
-  pub stands : answers.Stands module_text (lexemes x tokens) 0 128 fault
+  pub stands : answers.Stands module_text (lexemes x tokens) 0 (bounded 128) fault
 
 -- the fault of the octets of a text, or of its tokens, stands
 abbrev pub IsRefused : List ℕ → Fault → Type 0

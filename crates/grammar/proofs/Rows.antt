@@ -1,11 +1,12 @@
 -- Worked rows: what tokens say, what stands at a place, and what parts are.
-use Rattle.std.proofs.Common.{arith, ◌≡◌, ℕ, ◌^◌, inl, inr, true, false, List, [], ◌∷◌, ◌++◌, length, length-append, Some, None, refl, ap}
+use Rattle.std.proofs.Common.{arith, ◌≡◌, ◌<◌, ◌≤◌, ℕ, ◌^◌, inl, inr, true, false, List, [], ◌∷◌, ◌++◌, length, length-append, Some, None, refl, ap}
 use Rattle.text.specs.declared.token.TokenKind.TheVariants as kinds
 use Rattle.text.specs.declared.token.Mark.TheVariants.{Comma, OpenBrace, CloseBrace}
 use Rattle.text.specs.Octets.{is_hex}
 use Rattle.grammar.specs.Lexeme.{Lexeme, TypeRef, Ident, Number, BString, HString, CString, Mark, digit_of, single_quotes, lexeme_at}
 use Rattle.grammar.specs.Grammar.{Grammar, token, mark, number_of, ◌∙◌, many, listed, braces, optional, cut_off}
-use Rattle.grammar.specs.Places.{any, small, IsRead, IsFirst, PassesLimit}
+use Rattle.grammar.specs.Places.{Limits, Limited, any, small, bounded, free, between, raised, IsRead, Stops, Ends, PassesLimit}
+use Rattle.grammar.specs.Reading.{Nesting, Integer, TagNumber}
 
 -- ---- what tokens say
 
@@ -52,21 +53,50 @@ least_too_great = refl
 greatest : small 170141183460469231731687303715884105727 ≡ true
 greatest = refl
 
--- the limit is passed at the number itself
-passed_at_a_number : PassesLimit (number_of small) (number_of any) (Number (2 ^ 127) ∷ []) 0 0
-passed_at_a_number = record { from = omega arith; to = omega arith; before = inl refl; goes_on = inr (2 ^ 127, refl, refl); after = not_within }
+abbrev number : Limited ℕ
+number a = number_of a.number
+
+abbrev too_great : List Lexeme
+too_great = Number (2 ^ 127) ∷ []
+
+stops_at_the_number : Stops number (bounded 0) too_great 0 0
+stops_at_the_number = record { from = omega arith; to = omega arith; before = inl refl; longest = longest }
   where
-    not_within : (number_of small).CanGoOn (Number (2 ^ 127) ∷ []) → ⊥
+    not_within : (number (bounded 0)).CanGoOn too_great → ⊥
     not_within (inl e) = absurd cc
     not_within (inr (n, f, e)) = absurd cc
 
+    longest : (j : ℕ) → 0 < j → j ≤ 1 → (number (bounded 0)).CanGoOn (between too_great 0 j) → ⊥
+    longest ℕ.zero lt le h = absurd (omega (arith, lt))
+    longest (ℕ.suc ℕ.zero) lt le h = not_within h
+    longest (ℕ.suc (ℕ.suc j)) lt le h = absurd (omega (arith, le))
+
+-- the limit on numbers is passed at the number itself
+passed_at_a_number : PassesLimit number (bounded 0) too_great 0 0 Integer
+passed_at_a_number = record {
+  stops = stops_at_the_number;
+  others = record { nesting = 0; number = any; tag = any };
+  further = 1;
+  longer = omega arith;
+  to = omega arith;
+  goes_on = inr (2 ^ 127, refl, refl);
+}
+
+-- and no other limit is
+no_nesting_passed : PassesLimit number (bounded 0) too_great 0 0 Nesting → ⊥
+no_nesting_passed p = stops_at_the_number.longest p.further p.longer p.to p.goes_on
+
 -- no limit is passed where the lexemes end
-passed_before_the_end : {A : Type 0} (limited beyond : Grammar A) (ts : List Lexeme) (start : ℕ) → PassesLimit limited beyond ts start (length ts) → ⊥
-passed_before_the_end limited beyond ts start p = let lt = p.to in absurd (omega arith)
+passed_before_the_end : {A : Type 0} (g : Limited A) (a : Limits) (ts : List Lexeme) (start : ℕ) → PassesLimit g a ts start (length ts) Nesting → ⊥
+passed_before_the_end g a ts start p = let lt = p.longer in let to = p.to in absurd (omega (arith, lt, to))
 
 -- "," alone is no whole of ", ,", so their end is the first fault; of "," it is none
-missing_comma : IsFirst (mark Comma ∙ mark Comma) (Mark Comma ∷ []) 0 1
-missing_comma = record { from = omega arith; to = omega arith; before = inl (inr (tt, refl)); after = λ lt. absurd (omega arith); none = λ e x h. one x h }
+missing_comma : Ends (λ a. mark Comma ∙ mark Comma) (bounded 0) (Mark Comma ∷ []) 0 1
+missing_comma = record {
+  stops = record { from = omega arith; to = omega arith; before = inl (inr (tt, refl)); longest = λ j lt le. absurd (omega (arith, lt, le)) };
+  always = λ b j lt le. absurd (omega (arith, lt, le));
+  none = λ e x h. one x h.1;
+}
   where
     one : (x : _) → (mark Comma ∙ mark Comma).Is x (Mark Comma ∷ []) → ⊥
     one x (u, v, e, p, q) = two u v e p q
@@ -74,8 +104,8 @@ missing_comma = record { from = omega arith; to = omega arith; before = inl (inr
         two : (u v : List Lexeme) → Mark Comma ∷ [] ≡ u ++ v → u ≡ Mark Comma ∷ [] → v ≡ Mark Comma ∷ [] → ⊥
         two u v e p q = omega (arith, ap length e, ap length p, ap length q, length-append u v)
 
-no_missing_comma : IsFirst (mark Comma) (Mark Comma ∷ []) 0 1 → ⊥
-no_missing_comma f = f.none refl tt refl
+no_missing_comma : Ends (λ a. mark Comma) (bounded 0) (Mark Comma ∷ []) 0 1 → ⊥
+no_missing_comma f = f.none refl tt (bounded 0, refl)
 
 -- of ", ," both are read, and not the first alone
 two_commas : IsRead (many (mark Comma)) (many (mark Comma)) (Mark Comma ∷ Mark Comma ∷ []) 0 (tt ∷ tt ∷ []) 2

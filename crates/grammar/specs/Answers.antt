@@ -1,52 +1,120 @@
 -- What a reader answers from a place on.
-use Rattle.std.proofs.Common.{suc, ◌≡◌, ℕ, ◌+◌, ◌-◌, ◌<◌, ◌≤◌, ◌⊎◌, inl, inr, Bool, true, false, List, [], ◌∷◌, ◌++◌, length, take, drop, Ok, Err, sym, ap, subst, ◌∙◌ as ◌⋆◌, append_assoc, arith, length-append, length-drop}
-use Rattle.std.proofs.lemmas.List.{take_all, take_at, take-append-drop, append-nil}
+use Rattle.std.proofs.Common.{zero, suc, ◌≡◌, ℕ, ◌+◌, ◌-◌, ◌<◌, ◌≤◌, ◌||◌, ◌⊎◌, inl, inr, Bool, true, false, List, [], ◌∷◌, ◌++◌, length, take, drop, Ok, Err, refl, sym, ap, subst, ◌∙◌ as ◌⋆◌, append_assoc, arith, length-append, length-drop}
+use Rattle.std.proofs.lemmas.List.{take_at, take-append-drop, append-nil}
 use Rattle.grammar.specs.Lexeme.{Lexeme}
 use Rattle.grammar.specs.Grammar.{Grammar}
-use Rattle.grammar.specs.Reading.{Limit, Nesting, Integer, Fault, Unexpected, Beyond, Read, Reader}
-use Rattle.grammar.specs.Laws.{nowhere, deeper, wider, more, more_than, left_of, Sound, Passes, Stands}
-use Rattle.grammar.specs.Places.{unbounded, between, IsRead, IsFirst, PassesLimit}
+use Rattle.grammar.specs.Grows.{Grows}
+use Rattle.grammar.specs.Reading.{Limit, Nesting, Integer, TagNumber, Fault, Unexpected, Beyond, Read, Reader}
+use Rattle.grammar.specs.Laws.{nowhere, past, everywhere, more, more_than, left_of, Sound, Passes, Stands, Finds}
+use Rattle.grammar.specs.Places.{Limits, Within, raised, Limited, free, between, IsRead, Stops, Ends, PassesLimit}
 
 -- the next lexeme, if there is one, can't go on with u
 abbrev pub Closed : {A : Type 0} → Grammar A → List Lexeme → List Lexeme → Type 0
 Closed all u us = (t : Lexeme) (r : List Lexeme) → us ≡ t ∷ r → all.CanGoOn (u ++ t ∷ []) → ⊥
 
--- What a reader keeps within limits, where all is the grammar without them.
-pub record Reads {A : Type 0} (limited all : Grammar A) (read : Reader A) : Type 0 where
-  pub weaker : (u : List Lexeme) → limited.CanGoOn u → all.CanGoOn u
-  pub sound : (ts : List Lexeme) → Sound nowhere limited ts (read ts)
-  pub front : (u us : List Lexeme) → all.CanGoOn u → Passes false us (read (u ++ us))
-  pub front_within : (u us : List Lexeme) → limited.CanGoOn u → Passes true us (read (u ++ us))
-  pub whole : (x : A) (u : List Lexeme) → all.Is x u → Stands false (read (u ++ [])) x []
-  pub closed : (x : A) (u us : List Lexeme) → limited.Is x u → Closed all u us → Stands true (read (u ++ us)) x us
+-- the numbers of the limits b, and those of a too
+abbrev pub joined : Limits → Limits → Limits
+joined a b = record { nesting = b.nesting; number = λ n. a.number n || b.number n; tag = λ n. a.tag n || b.tag n }
 
-module _ {A : Type 0} (limited all : Grammar A) (read : Reader A) (reads : Reads limited all read) where
-  passes_last : (u r : List Lexeme) (t : Lexeme) → all.CanGoOn (u ++ t ∷ []) → Passes false r (read (u ++ t ∷ r))
-  passes_last u r t h = subst (λ (l : List Lexeme). Passes false r (read l)) (append_assoc u (t ∷ []) r) (reads.front (u ++ t ∷ []) r h)
+either_left : (x y : Bool) → x ≡ true → (x || y) ≡ true
+either_left true y e = refl
+either_left false y e = absurd cc
 
-  passes_last_within : (u r : List Lexeme) (t : Lexeme) → limited.CanGoOn (u ++ t ∷ []) → Passes true r (read (u ++ t ∷ r))
-  passes_last_within u r t h = subst (λ (l : List Lexeme). Passes true r (read l)) (append_assoc u (t ∷ []) r) (reads.front_within (u ++ t ∷ []) r h)
+either_right : (x y : Bool) → y ≡ true → (x || y) ≡ true
+either_right true y e = refl
+either_right false y e = e
 
-  -- No front goes on with the lexeme before which the reading stopped.
-  ok_stuck : (u r : List Lexeme) (t : Lexeme) (x : A) → read (u ++ t ∷ r) ≡ Ok (x, t ∷ r) → all.CanGoOn (u ++ t ∷ []) → ⊥
-  ok_stuck u r t x e h =
-      let p : length (t ∷ r) ≤ length r = subst (Passes false r) e (passes_last u r t h) in omega arith
+one_of : (x y : Bool) → (x || y) ≡ true → (y ≡ true → x ≡ true) → x ≡ true
+one_of true y e h = refl
+one_of false y e h = h e
 
-  err_stuck : (u r : List Lexeme) (t : Lexeme) (k : ℕ) → read (u ++ t ∷ r) ≡ Err (Unexpected k) → k ≡ length (t ∷ r) → all.CanGoOn (u ++ t ∷ []) → ⊥
-  err_stuck u r t k e d h =
-      let p : k ≤ length r = subst (Passes false r) e (passes_last u r t h) in omega arith
+pub joined_first : (f g : ℕ → Bool) (n : ℕ) → f n ≡ true → (f n || g n) ≡ true
+joined_first f g n = either_left (f n) (g n)
 
-  limit_stuck : (u r : List Lexeme) (t : Lexeme) (l : Limit) (k : ℕ) → read (u ++ t ∷ r) ≡ Err (Beyond l k) → k ≡ length (t ∷ r) → limited.CanGoOn (u ++ t ∷ []) → ⊥
-  limit_stuck u r t l k e d h = elim (subst (Passes true r) e (passes_last_within u r t h)) [
-    | inl p ↦ omega arith
-    | inr p ↦ absurd cc
-  ]
+pub joined_second : (f g : ℕ → Bool) (n : ℕ) → g n ≡ true → (f n || g n) ≡ true
+joined_second f g n = either_right (f n) (g n)
+
+-- what is within a, is so together with a
+joined_within : (l : Limit) (a b : Limits) → Within l b a → Within l (joined a b) a
+joined_within Nesting a b w = w
+joined_within Integer a b w = λ n e. one_of (a.number n) (b.number n) e (w n)
+joined_within TagNumber a b w = λ n e. one_of (a.tag n) (b.tag n) e (w n)
+
+-- What a reader within the limits a keeps.
+pub record Reads {A : Type 0} (g : Limited A) (a : Limits) (read : Reader A) : Type 0 where
+  pub grows : (b : Limits) → Grows (g b) (g (joined a b))
+  pub front : (b : Limits) (u us : List Lexeme) → (g (joined a b)).CanGoOn u → Passes (λ l. Within l (joined a b) a) us (read (u ++ us))
+  pub whole : (b : Limits) (x : A) (u : List Lexeme) → (g (joined a b)).Is x u → Stands (λ l. Within l (joined a b) a) (read (u ++ [])) x []
+  pub part : (x : A) (u : List Lexeme) → (g a).Is x u → (g a).CanGoOn u
+  pub sound : (ts : List Lexeme) → Sound nowhere (g a) ts (read ts)
+  pub passed : (l : Limit) → (b : Limits) × ((ts : List Lexeme) → Sound (past l) (g (raised l a b)) ts (read ts))
+  pub closed : (x : A) (u us : List Lexeme) → (g a).Is x u → Closed (free g) u us → Stands (λ l. Within l a a) (read (u ++ us)) x us
+
+pub within_all : (l : Limit) (a : Limits) → Within l a a
+within_all Nesting a = omega arith
+within_all Integer a = λ n h. h
+within_all TagNumber a = λ n h. h
+
+-- raising one limit leaves the others as they were
+kept : (l m : Limit) (a b : Limits) → (l ≡ m) ⊎ Within m (raised l a b) a
+kept Nesting Nesting a b = inl refl
+kept Nesting Integer a b = inr (λ n h. h)
+kept Nesting TagNumber a b = inr (λ n h. h)
+kept Integer Nesting a b = inr (omega arith)
+kept Integer Integer a b = inl refl
+kept Integer TagNumber a b = inr (λ n h. h)
+kept TagNumber Nesting a b = inr (omega arith)
+kept TagNumber Integer a b = inr (λ n h. h)
+kept TagNumber TagNumber a b = inl refl
+
+plain : (f : Fault) (n : ℕ) → more_than f nowhere n ≡ n
+plain (Unexpected k) n = refl
+plain (Beyond l k) n = refl
+
+its_own : (l : Limit) (n : ℕ) → more (past l l) n ≡ suc n
+its_own Nesting n = refl
+its_own Integer n = refl
+its_own TagNumber n = refl
+
+-- two places with neither before the other
+pub same_place : (i j : ℕ) → (i < j → ⊥) → (j < i → ⊥) → i ≡ j
+same_place zero zero h k = refl
+same_place zero (suc j) h k = absurd (h (omega arith))
+same_place (suc i) zero h k = absurd (k (omega arith))
+same_place (suc i) (suc j) h k = ap suc (same_place i j (λ lt. h (omega (arith, lt))) (λ lt. k (omega (arith, lt))))
+
+-- the longest front is one
+pub one_stop : {A : Type 0} (g : Limited A) (a : Limits) (ts : List Lexeme) (start i j : ℕ) → Stops g a ts start i → Stops g a ts start j → i ≡ j
+one_stop g a ts start i j s s' = same_place i j (λ lt. s.longest j lt s'.to s'.before) (λ lt. s'.longest i lt s.to s.before)
+
+-- where nothing goes on under any limits, none is passed
+pub not_both : {A : Type 0} (g : Limited A) (a : Limits) (ts : List Lexeme) (start i j : ℕ) (l : Limit) → Ends g a ts start i → PassesLimit g a ts start j l → ⊥
+not_both g a ts start i j l e p =
+    let same = one_stop g a ts start i j e.stops p.stops in
+    let lt = p.longer in
+    e.always (raised l a p.others) p.further (omega (arith, same, lt)) p.to p.goes_on
+
+module _ {A : Type 0} (g : Limited A) (a : Limits) (read : Reader A) (reads : Reads g a read) where
+  front : (b : Limits) (u us : List Lexeme) → (g b).CanGoOn u → Passes (λ l. Within l b a) us (read (u ++ us))
+  front b u us h = weaker (read (u ++ us)) (reads.front b u us ((reads.grows b).on u h))
+    where
+      weaker : (r : Read A) → Passes (λ l. Within l (joined a b) a) us r → Passes (λ l. Within l b a) us r
+      weaker (Ok x) k = k
+      weaker (Err (Unexpected n)) k = k
+      weaker (Err (Beyond l n)) (inl k) = inl k
+      weaker (Err (Beyond l n)) (inr k) = inr (λ w. k (joined_within l a b w))
+
+  -- how far a fault has come
+  far : (f : Fault) (us : List Lexeme) → Passes {A = A} (λ l. Within l a a) us (Err f) → left_of f ≤ length us
+  far (Unexpected k) us h = h
+  far (Beyond l k) us (inl h) = h
+  far (Beyond l k) us (inr w) = absurd (w (within_all l a))
 
   -- Where the lexemes end, a refusal says that they are no whole.
-  no_whole : (k : ℕ) (u : List Lexeme) (x : A) → read (u ++ []) ≡ Err (Unexpected k) → all.Is x u → ⊥
-  no_whole k u x q w = elim (reads.whole x u w) [
+  no_whole : (k : ℕ) (u : List Lexeme) (x : A) → read (u ++ []) ≡ Err (Unexpected k) → (free g).Is x u → ⊥
+  no_whole k u x q (b, w) = elim (reads.whole b x u ((reads.grows b).is x u w)) [
     | inl e ↦ let d = sym e ⋆ q in absurd cc
-    | inr (g, p, e) ↦ let d = sym e ⋆ q in absurd cc
+    | inr (p, n, e) ↦ let d = sym e ⋆ q in absurd cc
   ]
 
   module _ (ts : List Lexeme) (start : ℕ) (place : start ≤ length ts) where
@@ -61,88 +129,130 @@ module _ {A : Type 0} (limited all : Grammar A) (read : Reader A) (reads : Reads
         let n : ((length ts - length (t ∷ r)) + 1) - start ≡ length (u ++ t ∷ []) = omega (arith, ap length e, length-append u (t ∷ r), length-append u (t ∷ []), length-drop start ts) in
         sym (ap (λ (l : List Lexeme). take (((length ts - length (t ∷ r)) + 1) - start) l) (e ⋆ sym (append_assoc u (t ∷ []) r)) ⋆ take_at (u ++ t ∷ []) r (((length ts - length (t ∷ r)) + 1) - start) (sym n))
 
-    read_is : (x : A) (u rest : List Lexeme) → drop start ts ≡ u ++ rest → limited.Is x u → read (u ++ rest) ≡ Ok (x, rest) → IsRead limited all ts start x (length ts - length rest)
-    read_is x u [] e h q =
-        let f = front_at u [] e in
-        record { from = f.0; to = f.1; is = subst (λ (l : List Lexeme). limited.Is x l) f.2 h; ends = λ lt. absurd (omega arith) }
-    read_is x u (t ∷ r) e h q =
-        let f = front_at u (t ∷ r) e in
-        record { from = f.0; to = f.1; is = subst (λ (l : List Lexeme). limited.Is x l) f.2 h; ends = λ lt g. ok_stuck u r t x q (subst all.CanGoOn (sym (next_at u r t e)) g) }
+    rest_fits : (u rest : List Lexeme) → drop start ts ≡ u ++ rest → length rest ≤ length ts
+    rest_fits u rest e = omega (arith, ap length e, length-append u rest, length-drop start ts)
 
-    first_is : (k : ℕ) (u rest : List Lexeme) → drop start ts ≡ u ++ rest → k ≡ length rest → limited.CanGoOn u → read (u ++ rest) ≡ Err (Unexpected k) → IsFirst all ts start (length ts - k)
-    first_is k u [] e d h q =
-        let f = front_at u [] e in
-        subst (λ (k : ℕ). IsFirst all ts start (length ts - k)) (sym d) (record {
-          from = f.0;
-          to = f.1;
-          before = subst all.CanGoOn f.2 (reads.weaker u h);
-          after = λ lt. absurd (omega arith);
-          none = λ le x w. no_whole k u x q (subst (λ (l : List Lexeme). all.Is x l) (sym f.2) w);
-        })
-    first_is k u (t ∷ r) e d h q =
-        let f = front_at u (t ∷ r) e in
-        subst (λ (k : ℕ). IsFirst all ts start (length ts - k)) (sym d) (record {
-          from = f.0;
-          to = f.1;
-          before = subst all.CanGoOn f.2 (reads.weaker u h);
-          after = λ lt g. err_stuck u r t k q d (subst all.CanGoOn (sym (next_at u r t e)) g);
-          none = λ le. absurd (omega (arith, ap length e, length-append u (t ∷ r), length-drop start ts));
-        })
+    -- the lexemes behind a place
+    abbrev behind : ℕ → List Lexeme
+    behind j = drop (j - start) (drop start ts)
 
-    pub found_at : (x : A × List Lexeme) → read (drop start ts) ≡ Ok x → IsRead limited all ts start x.0 (length ts - length x.1)
+    behind_long : (j : ℕ) → start ≤ j → j ≤ length ts → length (behind j) ≡ length ts - j
+    behind_long j from to = omega (arith, length-drop (j - start) (drop start ts), length-drop start ts)
+
+    -- the reading comes as far as a front goes on
+    come : (b : Limits) (j : ℕ) → (g b).CanGoOn (between ts start j) → Passes (λ l. Within l b a) (behind j) (read (drop start ts))
+    come b j h = subst (λ (l : List Lexeme). Passes (λ l. Within l b a) (behind j) (read l)) (take-append-drop (j - start) (drop start ts)) (front b (between ts start j) (behind j) h)
+
+    pub found_at : (x : A × List Lexeme) → read (drop start ts) ≡ Ok x → IsRead (g a) (free g) ts start x.0 (length ts - length x.1)
     found_at x e =
-        let s : Sound nowhere limited (drop start ts) (Ok x) = subst (Sound nowhere limited (drop start ts)) e (reads.sound (drop start ts)) in
-        read_is x.0 s.0 x.1 s.1 s.2 (subst (λ (l : List Lexeme). read l ≡ Ok x) s.1 e)
-
-    pub unexpected_at : (k : ℕ) → read (drop start ts) ≡ Err (Unexpected k) → IsFirst all ts start (length ts - k)
-    unexpected_at k e =
-        let s : Sound nowhere limited (drop start ts) (Err (Unexpected k)) = subst (Sound nowhere limited (drop start ts)) e (reads.sound (drop start ts)) in
-        first_is k s.0 s.1 s.2 s.3 s.4 (subst (λ (l : List Lexeme). read l ≡ Err (Unexpected k)) s.2 e)
-
-    -- a lexeme stands where a limit is passed, and the lexemes can go on with it beyond the limit
-    limit_is : (beyond : Grammar A) (l : Limit) (k : ℕ) (u rest w back : List Lexeme) → drop start ts ≡ u ++ rest → k ≡ length rest → limited.CanGoOn u → read (u ++ rest) ≡ Err (Beyond l k) → drop start ts ≡ w ++ back → k ≡ suc (length back) → beyond.CanGoOn w → PassesLimit limited beyond ts start (length ts - k)
-    limit_is beyond l k u [] w back e d h q e' d' h' = absurd (omega arith)
-    limit_is beyond l k u (t ∷ r) w back e d h q e' d' h' =
-        let f = front_at u (t ∷ r) e in
-        let g = front_at w back e' in
-        let i : length ts - length back ≡ (length ts - length (t ∷ r)) + 1 = omega (arith, ap length e, length-append u (t ∷ r), length-drop start ts) in
-        subst (λ (k : ℕ). PassesLimit limited beyond ts start (length ts - k)) (sym d) (record {
+        let s : Sound nowhere (g a) (drop start ts) (Ok x) = subst (Sound nowhere (g a) (drop start ts)) e (reads.sound (drop start ts)) in
+        let f = front_at s.0 x.1 s.1 in
+        let fits = rest_fits s.0 x.1 s.1 in
+        let end = length ts - length x.1 in
+        record {
           from = f.0;
-          to = omega (arith, ap length e, length-append u (t ∷ r), length-drop start ts);
-          before = subst limited.CanGoOn f.2 h;
-          goes_on = subst (λ (j : ℕ). beyond.CanGoOn (between ts start j)) i (subst beyond.CanGoOn g.2 h');
-          after = λ m. limit_stuck u r t l k q d (subst limited.CanGoOn (sym (next_at u r t e)) m);
+          to = f.1;
+          is = subst (λ (l : List Lexeme). (g a).Is x.0 l) f.2 s.2;
+          ends = λ lt h.
+              let p : length x.1 ≤ length (behind (end + 1)) = subst (Passes (λ l. Within l h.0 a) (behind (end + 1))) e (come h.0 (end + 1) h.1) in
+              let from = f.0 in
+              absurd (omega (arith, p, behind_long (end + 1) (omega (arith, from)) (omega (arith, lt)), fits, lt));
+        }
+
+    stopped : (f : Fault) (u rest : List Lexeme) → drop start ts ≡ u ++ rest → left_of f ≡ length rest → (g a).CanGoOn u → read (drop start ts) ≡ Err f → Stops g a ts start (length ts - left_of f)
+    stopped f u rest e d h q =
+        let p = front_at u rest e in
+        let fits = rest_fits u rest e in
+        let place' = p.0 in
+        subst (λ (k : ℕ). Stops g a ts start (length ts - k)) (sym d) (record {
+          from = p.0;
+          to = p.1;
+          before = subst (g a).CanGoOn p.2 h;
+          longest = λ j lt to c.
+              let m = far f (behind j) (subst (Passes (λ l. Within l a a) (behind j)) q (come a j c)) in
+              absurd (omega (arith, m, d, lt, to, fits, behind_long j (omega (arith, place', lt)) to));
         })
 
-    pub limit_at : (over : Limit → ℕ) (beyond : Grammar A) (l : Limit) (k : ℕ) → over l ≡ 1 → ((ts : List Lexeme) → Sound over beyond ts (read ts)) → read (drop start ts) ≡ Err (Beyond l k) → PassesLimit limited beyond ts start (length ts - k)
-    limit_at over beyond l k one past e =
-        let s : Sound nowhere limited (drop start ts) (Err (Beyond l k)) = subst (Sound nowhere limited (drop start ts)) e (reads.sound (drop start ts)) in
-        let p : Sound over beyond (drop start ts) (Err (Beyond l k)) = subst (Sound over beyond (drop start ts)) e (past (drop start ts)) in
-        limit_is beyond l k s.0 s.1 p.0 p.1 s.2 s.3 s.4 (subst (λ (m : List Lexeme). read m ≡ Err (Beyond l k)) s.2 e) p.2 (p.3 ⋆ ap (λ (n : ℕ). more n (length p.1)) one) p.4
+    pub stops_at : (f : Fault) → read (drop start ts) ≡ Err f → Stops g a ts start (length ts - left_of f)
+    stops_at f q =
+        let s : Sound nowhere (g a) (drop start ts) (Err f) = subst (Sound nowhere (g a) (drop start ts)) q (reads.sound (drop start ts)) in
+        stopped f s.0 s.1 s.2 (s.3 ⋆ plain f (length s.1)) s.4 q
 
-    fault_le : (f : Fault) (u rest : List Lexeme) → drop start ts ≡ u ++ rest → left_of f ≡ more_than f nowhere (length rest) → left_of f ≤ length ts
-    fault_le (Unexpected k) u rest e d = omega (arith, ap length e, d, length-append u rest, length-drop start ts)
-    fault_le (Beyond l k) u rest e d = omega (arith, ap length e, d, length-append u rest, length-drop start ts)
+    none_at : (k : ℕ) (u rest : List Lexeme) → drop start ts ≡ u ++ rest → k ≡ length rest → read (u ++ rest) ≡ Err (Unexpected k) → length ts - k ≡ length ts → (x : A) → (free g).Is x (between ts start (length ts - k)) → ⊥
+    none_at k u [] e d q le x w =
+        let f = front_at u [] e in
+        no_whole k u x q (subst (λ (l : List Lexeme). (free g).Is x l) (ap (λ (k : ℕ). between ts start (length ts - k)) d ⋆ sym f.2) w)
+    none_at k u (t ∷ r) e d q le x w = absurd (omega (arith, d, le, rest_fits u (t ∷ r) e))
+
+    pub unexpected_at : (k : ℕ) → read (drop start ts) ≡ Err (Unexpected k) → Ends g a ts start (length ts - k)
+    unexpected_at k q =
+        let s : Sound nowhere (g a) (drop start ts) (Err (Unexpected k)) = subst (Sound nowhere (g a) (drop start ts)) q (reads.sound (drop start ts)) in
+        let stops = stops_at (Unexpected k) q in
+        let from = stops.from in
+        let fits = rest_fits s.0 s.1 s.2 in
+        let d = s.3 in
+        record {
+          stops = stops;
+          always = λ b j lt to c.
+              let m : k ≤ length (behind j) = subst (Passes (λ l. Within l b a) (behind j)) q (come b j c) in
+              absurd (omega (arith, m, lt, to, fits, d, behind_long j (omega (arith, from, lt)) to));
+          none = none_at k s.0 s.1 s.2 s.3 (subst (λ (l : List Lexeme). read l ≡ Err (Unexpected k)) s.2 q);
+        }
 
     pub left_le : (f : Fault) → read (drop start ts) ≡ Err f → left_of f ≤ length ts
     left_le f e =
-        let s : Sound nowhere limited (drop start ts) (Err f) = subst (Sound nowhere limited (drop start ts)) e (reads.sound (drop start ts)) in
-        fault_le f s.0 s.1 s.2 s.3
+        let s : Sound nowhere (g a) (drop start ts) (Err f) = subst (Sound nowhere (g a) (drop start ts)) e (reads.sound (drop start ts)) in
+        let d = s.3 ⋆ plain f (length s.1) in
+        omega (arith, d, rest_fits s.0 s.1 s.2)
+
+    pub limit_at : (l : Limit) (k : ℕ) → read (drop start ts) ≡ Err (Beyond l k) → PassesLimit g a ts start (length ts - k) l
+    limit_at l k q =
+        let b = (reads.passed l).0 in
+        let s : Sound (past l) (g (raised l a b)) (drop start ts) (Err (Beyond l k)) = subst (Sound (past l) (g (raised l a b)) (drop start ts)) q ((reads.passed l).1 (drop start ts)) in
+        let f = front_at s.0 s.1 s.2 in
+        let fits = rest_fits s.0 s.1 s.2 in
+        let d : k ≡ suc (length s.1) = s.3 ⋆ its_own l (length s.1) in
+        let n = left_le (Beyond l k) q in
+        record {
+          stops = stops_at (Beyond l k) q;
+          others = b;
+          further = length ts - length s.1;
+          longer = omega (arith, d, n);
+          to = f.1;
+          goes_on = subst (g (raised l a b)).CanGoOn f.2 s.4;
+        }
 
     pub rest_le : (x : A × List Lexeme) → read (drop start ts) ≡ Ok x → length x.1 ≤ length ts
     rest_le x e =
-        let s : Sound nowhere limited (drop start ts) (Ok x) = subst (Sound nowhere limited (drop start ts)) e (reads.sound (drop start ts)) in
-        omega (arith, ap length s.1, length-append s.0 x.1, length-drop start ts)
+        let s : Sound nowhere (g a) (drop start ts) (Ok x) = subst (Sound nowhere (g a) (drop start ts)) e (reads.sound (drop start ts)) in
+        rest_fits s.0 x.1 s.1
+
+    -- behind what is read nothing goes on
+    pub ended_at : (x : A × List Lexeme) → read (drop start ts) ≡ Ok x → 1 ≤ length x.1 → Ends g a ts start (length ts - length x.1)
+    ended_at x e some =
+        let s : Sound nowhere (g a) (drop start ts) (Ok x) = subst (Sound nowhere (g a) (drop start ts)) e (reads.sound (drop start ts)) in
+        let f = front_at s.0 x.1 s.1 in
+        let from = f.0 in
+        let fits = rest_fits s.0 x.1 s.1 in
+        let beyond : (b : Limits) (j : ℕ) → length ts - length x.1 < j → j ≤ length ts → (g b).CanGoOn (between ts start j) → ⊥ =
+            λ b j lt to c.
+                let p : length x.1 ≤ length (behind j) = subst (Passes (λ l. Within l b a) (behind j)) e (come b j c) in
+                omega (arith, p, lt, to, fits, behind_long j (omega (arith, from, lt)) to) in
+        record {
+          stops = record { from = f.0; to = f.1; before = subst (g a).CanGoOn f.2 (reads.part x.0 s.0 s.2); longest = beyond a };
+          always = beyond;
+          none = λ k. absurd (omega (arith, k, some, fits));
+        }
 
     -- what is there is read
-    closed_at : (u us : List Lexeme) (end : ℕ) → drop start ts ≡ u ++ us → end ≡ length ts - length us → (end < length ts → all.CanGoOn (between ts start (end + 1)) → ⊥) → Closed all u us
-    closed_at u us end e d ends t r g h =
-        let shape : drop start ts ≡ u ++ t ∷ r = e ⋆ ap (λ (l : List Lexeme). u ++ l) g in
+    closed_at : (u us : List Lexeme) (end : ℕ) → drop start ts ≡ u ++ us → end ≡ length ts - length us → (end < length ts → (free g).CanGoOn (between ts start (end + 1)) → ⊥) → Closed (free g) u us
+    closed_at u us end e d ends t r g' h =
+        let shape : drop start ts ≡ u ++ t ∷ r = e ⋆ ap (λ (l : List Lexeme). u ++ l) g' in
         let long : length (t ∷ r) ≤ length ts = omega (arith, ap length shape, length-append u (t ∷ r), length-drop start ts) in
-        let k : end ≡ length ts - length (t ∷ r) = d ⋆ ap (λ (l : List Lexeme). length ts - length l) g in
-        ends (omega arith) (subst (λ (i : ℕ). all.CanGoOn (between ts start (i + 1))) (sym k) (subst all.CanGoOn (next_at u r t shape) h))
+        let k : end ≡ length ts - length (t ∷ r) = d ⋆ ap (λ (l : List Lexeme). length ts - length l) g' in
+        ends (omega arith) (subst (λ (i : ℕ). (free g).CanGoOn (between ts start (i + 1))) (sym k) (subst (free g).CanGoOn (next_at u r t shape) h))
 
-    pub only_at : (x : A) (end : ℕ) → IsRead limited all ts start x end → (us : List Lexeme) × (read (drop start ts) ≡ Ok (x, us)) × (length ts - length us ≡ end)
+    pub only_at : (x : A) (end : ℕ) → IsRead (g a) (free g) ts start x end → (us : List Lexeme) × (read (drop start ts) ≡ Ok (x, us)) × (length ts - length us ≡ end)
     only_at x end i =
         let n = end - start in
         let us = drop n (drop start ts) in
@@ -152,24 +262,69 @@ module _ {A : Type 0} (limited all : Grammar A) (read : Reader A) (reads : Reads
         let d : end ≡ length ts - length us = omega (arith, length-drop n (drop start ts), length-drop start ts) in
         elim (reads.closed x (take n (drop start ts)) us i.is (closed_at (take n (drop start ts)) us end e d i.ends)) [
           | inl q ↦ (us, subst (λ (l : List Lexeme). read l ≡ Ok (x, us)) (sym e) q, sym d)
-          | inr (g, k, q) ↦ absurd cc
+          | inr (p, k, q) ↦ absurd (k (within_all p.0 a))
         ]
 
--- the whole of the lexemes
-module _ {A : Type 0} (limited all : Grammar A) (read : Reader A) (reads : Reads limited all read) where
-  pub whole_is : (ts : List Lexeme) (x : A) → read ts ≡ Ok (x, []) → limited.Is x ts
-  whole_is ts x e =
-      let s : Sound nowhere limited ts (Ok (x, [])) = subst (Sound nowhere limited ts) e (reads.sound ts) in
-      subst (limited.Is x) (sym (s.1 ⋆ append-nil s.0)) s.2
+    -- ---- a limit that is passed is told
 
-  pub whole_read : (ts : List Lexeme) (x : A) → limited.Is x ts → read ts ≡ Ok (x, [])
+    -- what can go on within the limits is no longer than the longest such front
+    no_longer : (i j : ℕ) → Stops g a ts start i → (u rest : List Lexeme) → drop start ts ≡ u ++ rest → (g a).CanGoOn u → i < j → length rest ≤ length ts - j → j ≤ length ts → ⊥
+    no_longer i j s u rest e h lt le to =
+        let f = front_at u rest e in
+        s.longest (length ts - length rest) (omega (arith, lt, le, to)) f.1 (subst (g a).CanGoOn f.2 h)
+
+    told_by : (l : Limit) (i : ℕ) (p : PassesLimit g a ts start i l) (r : Read A) → Sound nowhere (g a) (drop start ts) r → Passes (λ m. Within m (raised l a p.others) a) (behind p.further) r → (k : ℕ) × (r ≡ Err (Beyond l k))
+    told_by l i p (Ok x) s c =
+        let stops = p.stops in
+        let from = stops.from in
+        let lt = p.longer in
+        let to = p.to in
+        let long = behind_long p.further (omega (arith, from, lt)) to in
+        absurd (no_longer i p.further stops s.0 x.1 s.1 (reads.part x.0 s.0 s.2) lt (omega (arith, c, long)) to)
+    told_by l i p (Err (Unexpected k)) s c =
+        let stops = p.stops in
+        let from = stops.from in
+        let lt = p.longer in
+        let to = p.to in
+        let long = behind_long p.further (omega (arith, from, lt)) to in
+        let d = s.3 in
+        absurd (no_longer i p.further stops s.0 s.1 s.2 s.4 lt (omega (arith, c, long, d)) to)
+    told_by l i p (Err (Beyond m k)) s (inl c) =
+        let stops = p.stops in
+        let from = stops.from in
+        let lt = p.longer in
+        let to = p.to in
+        let long = behind_long p.further (omega (arith, from, lt)) to in
+        let d = s.3 ⋆ plain (Beyond m k) (length s.1) in
+        absurd (no_longer i p.further stops s.0 s.1 s.2 s.4 lt (omega (arith, c, long, d)) to)
+    told_by l i p (Err (Beyond m k)) s (inr w) = elim (kept l m a p.others) [
+      | inl e ↦ (k, ap (λ (m : Limit). Err (Beyond m k)) (sym e))
+      | inr h ↦ absurd (w h)
+    ]
+
+    told : (l : Limit) (i : ℕ) → PassesLimit g a ts start i l → (k : ℕ) × (read (drop start ts) ≡ Err (Beyond l k))
+    told l i p = told_by l i p (read (drop start ts)) (reads.sound (drop start ts)) (come (raised l a p.others) p.further p.goes_on)
+
+    same_limit : (l m : Limit) (k n : ℕ) (r : Read A) → r ≡ Err (Beyond l k) → r ≡ Err (Beyond m n) → l ≡ m
+    same_limit l m k n r p q = let e = sym p ⋆ q in cc
+
+    -- one limit at most is passed
+    pub one_limit : (l m : Limit) (i j : ℕ) → PassesLimit g a ts start i l → PassesLimit g a ts start j m → l ≡ m
+    one_limit l m i j p q =
+        let s = told l i p in
+        let t = told m j q in
+        same_limit l m s.0 t.0 (read (drop start ts)) s.1 t.1
+
+-- the whole of the lexemes
+module _ {A : Type 0} (g : Limited A) (a : Limits) (read : Reader A) (reads : Reads g a read) where
+  pub whole_is : (ts : List Lexeme) (x : A) → read ts ≡ Ok (x, []) → (g a).Is x ts
+  whole_is ts x e =
+      let s : Sound nowhere (g a) ts (Ok (x, [])) = subst (Sound nowhere (g a) ts) e (reads.sound ts) in
+      subst ((g a).Is x) (sym (s.1 ⋆ append-nil s.0)) s.2
+
+  pub whole_read : (ts : List Lexeme) (x : A) → (g a).Is x ts → read ts ≡ Ok (x, [])
   whole_read ts x h = subst (λ (l : List Lexeme). read l ≡ Ok (x, [])) (append-nil ts) (go (reads.closed x ts [] h (λ t r e. absurd cc)))
     where
-      go : Stands true (read (ts ++ [])) x [] → read (ts ++ []) ≡ Ok (x, [])
+      go : Stands (λ l. Within l a a) (read (ts ++ [])) x [] → read (ts ++ []) ≡ Ok (x, [])
       go (inl e) = e
-      go (inr (w, p, e)) = absurd cc
-
--- what is sound at one depth is so at any
-pub unbound : {A : Type 0} (g : ℕ → Grammar A) (n : ℕ) (over : Limit → ℕ) (ts : List Lexeme) (r : Read A) → Sound over (g n) ts r → Sound over (unbounded g) ts r
-unbound g n over ts (Ok x) s = (s.0, s.1, (n, s.2))
-unbound g n over ts (Err f) s = (s.0, s.1, s.2, s.3, (n, s.4))
+      go (inr (p, n, e)) = absurd (n (within_all p.0 a))

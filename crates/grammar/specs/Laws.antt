@@ -25,7 +25,7 @@ more_than (Beyond l k) over n = more (over l) n
 abbrev pub nowhere : Limit → ℕ
 nowhere l = 0
 
--- the fault behind it where more may be open, or where a number may be greater
+-- the fault behind it where more may be open, where a number may be greater, or where the number of a tag may be
 abbrev pub deeper : Limit → ℕ
 deeper Nesting = 1
 deeper Integer = 0
@@ -34,7 +34,22 @@ deeper TagNumber = 0
 abbrev pub wider : Limit → ℕ
 wider Nesting = 0
 wider Integer = 1
-wider TagNumber = 1
+wider TagNumber = 0
+
+abbrev pub higher : Limit → ℕ
+higher Nesting = 0
+higher Integer = 0
+higher TagNumber = 1
+
+-- the fault of this one limit behind the lexeme that passes it
+abbrev pub past : Limit → Limit → ℕ
+past Nesting = deeper
+past Integer = wider
+past TagNumber = higher
+
+-- everything is within each limit
+abbrev pub everywhere : Limit → Type 0
+everywhere l = Unit {0}
 
 -- What is read is so, and the lexemes before a fault can go on.
 abbrev pub Sound : {A : Type 0} → (Limit → ℕ) → Grammar A → List Lexeme → Read A → Type 0
@@ -47,17 +62,17 @@ abbrev pub Follows : (Lexeme → Bool) → List Lexeme → Type 0
 Follows ends [] = Unit {0}
 Follows ends (t ∷ us) = ends t ≡ false
 
--- The reading has come to the lexemes us, or met a limit. Where all is within the limits, that is no way out.
-abbrev pub Passes : {A : Type 0} → Bool → List Lexeme → Read A → Type 0
+-- The reading has come to the lexemes us, or met a limit. Where all is within that limit, this is no way out.
+abbrev pub Passes : {A : Type 0} → (Limit → Type 0) → List Lexeme → Read A → Type 0
 Passes within us (Ok x) = length x.1 ≤ length us
 Passes within us (Err (Unexpected n)) = n ≤ length us
-Passes within us (Err (Beyond l n)) = (n ≤ length us) ⊎ (within ≡ false)
+Passes within us (Err (Beyond l n)) = (n ≤ length us) ⊎ (within l → ⊥)
 
-abbrev pub Stands : {A : Type 0} → Bool → Read A → A → List Lexeme → Type 0
-Stands within r x us = (r ≡ Ok (x, us)) ⊎ ((within ≡ false) × (p : Limit × ℕ) × (r ≡ Err (Beyond p.0 p.1)))
+abbrev pub Stands : {A : Type 0} → (Limit → Type 0) → Read A → A → List Lexeme → Type 0
+Stands within r x us = (r ≡ Ok (x, us)) ⊎ ((p : Limit × ℕ) × (within p.0 → ⊥) × (r ≡ Err (Beyond p.0 p.1)))
 
 -- Each whole is read, and no front is refused.
-pub record Finds {A : Type 0} (within : Bool) (g : Grammar A) (starts ends : Lexeme → Bool) (read : Reader A) : Type 0 where
+pub record Finds {A : Type 0} (within : Limit → Type 0) (g : Grammar A) (starts ends : Lexeme → Bool) (read : Reader A) : Type 0 where
   pub nil : g.CanGoOn []
   pub part : (x : A) (u : List Lexeme) → g.Is x u → g.CanGoOn u
   pub first : (t : Lexeme) (u : List Lexeme) → g.CanGoOn (t ∷ u) → starts t ≡ true
@@ -85,18 +100,18 @@ module _ (over : Limit → ℕ) {A B C : Type 0} (a : Grammar A) (b : Grammar B)
   seq_sound ts (Err g) rb sa sb = (sa.0, sa.1, sa.2, sa.3, inl sa.4)
 
 -- a result that has come to tokens that us ends with
-pub passes_on : {A : Type 0} (within : Bool) (us vs : List Lexeme) (r : Read A) → length vs ≤ length us → Passes within vs r → Passes within us r
+pub passes_on : {A : Type 0} (within : Limit → Type 0) (us vs : List Lexeme) (r : Read A) → length vs ≤ length us → Passes within vs r → Passes within us r
 passes_on within us vs (Ok x) le h = omega arith
 passes_on within us vs (Err (Unexpected n)) le h = omega arith
 passes_on within us vs (Err (Beyond l n)) le (inl h) = inl (omega arith)
 passes_on within us vs (Err (Beyond l n)) le (inr h) = inr h
 
-pub passes_made : {A B : Type 0} (within : Bool) (us : List Lexeme) (r : Read A) (f : A → B) → Passes within us r → Passes within us (r >>= λ y. Ok (f y.0, y.1))
+pub passes_made : {A B : Type 0} (within : Limit → Type 0) (us : List Lexeme) (r : Read A) (f : A → B) → Passes within us r → Passes within us (r >>= λ y. Ok (f y.0, y.1))
 passes_made within us (Ok x) f h = h
 passes_made within us (Err (Unexpected n)) f h = h
 passes_made within us (Err (Beyond l n)) f h = h
 
-module _ {A B C : Type 0} (within : Bool) (a : Grammar A) (b : Grammar B) (f : A × B → C) (starts-a ends-a starts-b ends-b ends : Lexeme → Bool) (ra : Reader A) (rb : Reader B) (fa : Finds within a starts-a ends-a ra) (fb : Finds within b starts-b ends-b rb) where
+module _ {A B C : Type 0} (within : Limit → Type 0) (a : Grammar A) (b : Grammar B) (f : A × B → C) (starts-a ends-a starts-b ends-b ends : Lexeme → Bool) (ra : Reader A) (rb : Reader B) (fa : Finds within a starts-a ends-a ra) (fb : Finds within b starts-b ends-b rb) where
   first_passes : (us : List Lexeme) (r : Read A) → Passes within us r → Passes within us (after_read f r rb)
   first_passes us (Ok x) h = passes_on within us x.1 _ h (passes_made within x.1 (rb x.1) (λ y. f (x.0, y)) (fb.front [] x.1 fb.nil))
   first_passes us (Err (Unexpected n)) h = h
@@ -105,7 +120,7 @@ module _ {A B C : Type 0} (within : Bool) (a : Grammar A) (b : Grammar B) (f : A
   stands_then : (x : A) (us vs : List Lexeme) (r : Read A) → Stands within r x vs → Passes within us (rb vs) → Passes within us (after_read f r rb)
   stands_then x us vs r (inl e) h =
       subst (λ (q : Read A). Passes within us (after_read f q rb)) (sym e) (passes_made within us (rb vs) (λ y. f (x, y)) h)
-  stands_then x us vs r (inr w) h = subst (λ (q : Read A). Passes within us (after_read f q rb)) (sym w.2) (inr w.0)
+  stands_then x us vs r (inr w) h = subst (λ (q : Read A). Passes within us (after_read f q rb)) (sym w.2) (inr w.1)
 
   pub seq_front : ((t : Lexeme) → starts-b t ≡ true → ends-a t ≡ false) → (u us : List Lexeme) → (a ∙ b).CanGoOn u → Passes within us (then_read f ra rb (u ++ us))
   seq_front apart u us (inl h) = first_passes us (ra (u ++ us)) (fa.front u us h)
@@ -173,7 +188,7 @@ module _ (over : Limit → ℕ) {A : Type 0} (a : Grammar A) (read : Reader A) w
   commas_sound s (suc k) ((Mark Comma) ∷ ts) = one_sound ts (read ts) (behind_commas_at read k) (s ts) (commas_sound s k)
   commas_sound s (suc k) (t ∷ ts) = ([], refl, refl)
 
-module _ {A : Type 0} (within : Bool) (a : Grammar A) (starts ends : Lexeme → Bool) (read : Reader A) (fa : Finds within a starts ends read) where
+module _ {A : Type 0} (within : Limit → Type 0) (a : Grammar A) (starts ends : Lexeme → Bool) (read : Reader A) (fa : Finds within a starts ends read) where
   one_passes : (us : List Lexeme) (r : Read A) (more : Reader (List A)) → ((vs : List Lexeme) → Passes within vs (more vs)) → Passes within us r → Passes within us (r >>= λ x. more x.1 >>= λ xs. Ok (x.0 ∷ xs.0, xs.1))
   one_passes us (Ok x) more all h = passes_on within us x.1 _ h (passes_made within x.1 (more x.1) (λ xs. x.0 ∷ xs) (all x.1))
   one_passes us (Err (Unexpected n)) more all h = h
@@ -191,7 +206,7 @@ module _ {A : Type 0} (within : Bool) (a : Grammar A) (starts ends : Lexeme → 
   stands_more : (x : A) (us vs : List Lexeme) (r : Read A) (more : Reader (List A)) → Stands within r x vs → Passes within us (more vs) → Passes within us (r >>= λ x. more x.1 >>= λ xs. Ok (x.0 ∷ xs.0, xs.1))
   stands_more x us vs r more (inl e) h =
       subst (λ (q : Read A). Passes within us (q >>= λ x. more x.1 >>= λ xs. Ok (x.0 ∷ xs.0, xs.1))) (sym e) (passes_made within us (more vs) (λ xs. x ∷ xs) h)
-  stands_more x us vs r more (inr w) h = subst (λ (q : Read A). Passes within us (q >>= λ x. more x.1 >>= λ xs. Ok (x.0 ∷ xs.0, xs.1))) (sym w.2) (inr w.0)
+  stands_more x us vs r more (inr w) h = subst (λ (q : Read A). Passes within us (q >>= λ x. more x.1 >>= λ xs. Ok (x.0 ∷ xs.0, xs.1))) (sym w.2) (inr w.1)
 
   -- a front behind commas is empty or begins with one
   pub begins : (xs : List A) (u v : List Lexeme) → IsMany (behind (Mark Comma) a) xs u → (behind (Mark Comma) a).CanGoOn v → (u ++ v ≡ []) ⊎ ((w : List Lexeme) × (u ++ v ≡ (Mark Comma) ∷ w))
@@ -265,6 +280,6 @@ module _ {A : Type 0} (within : Bool) (a : Grammar A) (starts ends : Lexeme → 
       (fa.whole x b.0 (q ++ us) b.2 (follows_many apart xs q us hq f))
       (commas_whole apart j xs q us (omega (arith, length-append b.0 (q ++ us))) hq f g))
 
-pub stands_made : {A B : Type 0} (within : Bool) (us : List Lexeme) (r : Read A) (x : A) (f : A → B) → Stands within r x us → Stands within (r >>= λ y. Ok (f y.0, y.1)) (f x) us
+pub stands_made : {A B : Type 0} (within : Limit → Type 0) (us : List Lexeme) (r : Read A) (x : A) (f : A → B) → Stands within r x us → Stands within (r >>= λ y. Ok (f y.0, y.1)) (f x) us
 stands_made within us r x f (inl e) = inl (ap (λ (r : Read _). r >>= λ y. Ok (f y.0, y.1)) e)
 stands_made within us r x f (inr w) = inr (w.0, w.1, ap (λ (r : Read _). r >>= λ y. Ok (f y.0, y.1)) w.2)

@@ -107,7 +107,7 @@ comma_apart : (ends : Lexeme → Bool) → ends (Mark Comma) ≡ false → (t : 
 comma_apart ends apart (Mark Comma) e = apart
 comma_apart ends apart t e = absurd cc
 
-module _ {A : Type 0} (within : Bool) (a : Grammar A) (starts ends : Lexeme → Bool) (read : Reader A) (fa : Finds within a starts ends read) (apart : ends (Mark Comma) ≡ false) where
+module _ {A : Type 0} (within : Limit → Type 0) (a : Grammar A) (starts ends : Lexeme → Bool) (read : Reader A) (fa : Finds within a starts ends read) (apart : ends (Mark Comma) ≡ false) where
   comma_first : (t : Lexeme) (u : List Lexeme) → (many (behind (Mark Comma) a)).CanGoOn (t ∷ u) → is_comma t ≡ true
   comma_first t u (xs, v, w, e, hv, hw) = elim (begins within a starts ends read fa xs v w hv hw) [
     | inl n ↦ absurd (nothing_is t u (e ⋆ n))
@@ -146,7 +146,7 @@ is_rbrace t = false
 abbrev pub no_lexeme : Lexeme → Bool
 no_lexeme t = false
 
-pub finds_closed : (within : Bool) → Finds within (mark CloseBrace) is_rbrace no_lexeme closed_at
+pub finds_closed : (within : Limit → Type 0) → Finds within (mark CloseBrace) is_rbrace no_lexeme closed_at
 unfolding closed_at
 finds_closed within = record { nil = inl refl; part = λ x u h. inr (tt, h); first = first; whole = λ x u us h f. subst (λ (l : List Lexeme). Stands within (closed_at (l ++ us)) tt us) (sym h) (inl refl); front = front }
   where
@@ -167,7 +167,7 @@ rbrace_apart : (ends : Lexeme → Bool) → ends (Mark CloseBrace) ≡ false →
 rbrace_apart ends apart (Mark CloseBrace) e = apart
 rbrace_apart ends apart t e = absurd cc
 
-module _ {A C : Type 0} (within : Bool) (a : Grammar A) (starts ends : Lexeme → Bool) (read : Reader A) (fa : Finds within a starts ends read) (apart : ends (Mark Comma) ≡ false) (apart_end : ends (Mark CloseBrace) ≡ false) (solid : IsSolid a) (f : List A × Unit {0} → C) where
+module _ {A C : Type 0} (within : Limit → Type 0) (a : Grammar A) (starts ends : Lexeme → Bool) (read : Reader A) (fa : Finds within a starts ends read) (apart : ends (Mark Comma) ≡ false) (apart_end : ends (Mark CloseBrace) ≡ false) (solid : IsSolid a) (f : List A × Unit {0} → C) where
   listed_solid : IsSolid (listed a)
   listed_solid = seq_solid a (many (behind (Mark Comma) a)) (λ p. p.0 ∷ p.1) solid
 
@@ -213,7 +213,7 @@ is_ident t = false
 abbrev put_name : {A : Type 0} → List ℕ → Read A → Read (List ℕ × A)
 put_name x r = r >>= λ v. Ok ((x, v.0), v.1)
 
-module _ {A : Type 0} (within : Bool) (v : Grammar A) (starts ends : Lexeme → Bool) (read : Reader A) (fv : Finds within v starts ends read) where
+module _ {A : Type 0} (within : Limit → Type 0) (v : Grammar A) (starts ends : Lexeme → Bool) (read : Reader A) (fv : Finds within v starts ends read) where
   read_named : (x : List ℕ) (us : List Lexeme) (r : Read A) → Passes within us r → Passes {A = List ℕ × A} within us (r >>= λ v. Ok ((x, v.0), v.1))
   read_named x us r h = passes_made within us r (λ t. (x, t)) h
 

@@ -45,7 +45,7 @@ module _ (over : Limit → ℕ) {A : Type 0} (a : Grammar A) where
 
 -- ---- no front is refused, and each whole is read
 
-module _ {A : Type 0} (within : Bool) (a : Grammar A) (starts ends ends' : Lexeme → Bool) (read : Reader A) (fa : Finds within a starts ends read) (solid : IsSolid a)
+module _ {A : Type 0} (within : Limit → Type 0) (a : Grammar A) (starts ends ends' : Lexeme → Bool) (read : Reader A) (fa : Finds within a starts ends read) (solid : IsSolid a)
     (apart : (t : Lexeme) → starts t ≡ true → ends t ≡ false) (es : (t : Lexeme) → ends' t ≡ false → starts t ≡ false) (ee : (t : Lexeme) → ends' t ≡ false → ends t ≡ false) where
   one_passes : (us : List Lexeme) (r : Read A) (more : Reader (List A)) → ((vs : List Lexeme) → Passes within vs (more vs)) → Passes within us r → Passes within us (next r more)
   one_passes us (Ok x) more all h = passes_on within us x.1 _ h (passes_made within x.1 (more x.1) (λ xs. x.0 ∷ xs) (all x.1))
@@ -66,7 +66,7 @@ module _ {A : Type 0} (within : Bool) (a : Grammar A) (starts ends ends' : Lexem
   stands_more : (x : A) (us vs : List Lexeme) (r : Read A) (more : Reader (List A)) → Stands within r x vs → Passes within us (more vs) → Passes within us (next r more)
   stands_more x us vs r more (inl e) h =
       subst (λ (q : Read A). Passes within us (next q more)) (sym e) (passes_made within us (more vs) (λ xs. x ∷ xs) h)
-  stands_more x us vs r more (inr w) h = subst (λ (q : Read A). Passes within us (next q more)) (sym w.2) (inr w.0)
+  stands_more x us vs r more (inr w) h = subst (λ (q : Read A). Passes within us (next q more)) (sym w.2) (inr w.1)
 
   -- a whole begins with a lexeme that begins one
   is_begun : (x : A) (u : List Lexeme) → a.Is x u → (t : Lexeme) × (w : List Lexeme) × (u ≡ t ∷ w) × (starts t ≡ true)

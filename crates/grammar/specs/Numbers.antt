@@ -26,26 +26,29 @@ fitting_sound over fits fits' past g true n u ts r before with_it h = h refl
 fitting_sound over fits fits' past g false n u ts r before with_it h =
     beyond_sound over (over Integer) refl ((n : ℕ) → fits' n ≡ true) past g n u ts before (λ all. with_it (all n))
 
--- where the reader refuses a number, not all is within the limits
-not_within : (within b : Bool) → (within ≡ true → b ≡ true) → b ≡ false → within ≡ false
-not_within true b h e = absurd (let p = h refl in cc)
-not_within false b h e = refl
+-- where the reader refuses a number, not all is within the limit
+not_within : (within : Limit → Type 0) → (within Integer → false ≡ true) → within Integer → ⊥
+not_within within room w = absurd (let e = room w in cc)
 
 -- a number of a front
-pub fitting_passes : {A : Type 0} (within b : Bool) (us ts : List Lexeme) (r : Read A) → (within ≡ true → b ≡ true) → Passes within us r → Passes within us (fitting b ts r)
+pub fitting_passes : {A : Type 0} (within : Limit → Type 0) (b : Bool) (us ts : List Lexeme) (r : Read A)
+    → (within Integer → b ≡ true) → Passes within us r → Passes within us (fitting b ts r)
 fitting_passes within true us ts r room h = h
-fitting_passes within false us ts r room h = inr (not_within within false room refl)
+fitting_passes within false us ts r room h = inr (not_within within room)
 
 -- a number that stands behind a front
-pub fitting_shrinks : {A : Type 0} (within b : Bool) (n : ℕ) (us : List Lexeme) (r : Read A) → Passes within us r → Passes within (Number n ∷ us) (fitting b (Number n ∷ us) r)
+pub fitting_shrinks : {A : Type 0} (within : Limit → Type 0) (b : Bool) (n : ℕ) (us : List Lexeme) (r : Read A)
+    → Passes within us r → Passes within (Number n ∷ us) (fitting b (Number n ∷ us) r)
 fitting_shrinks within true n us r h = passes_on within (Number n ∷ us) us r (omega arith) h
 fitting_shrinks within false n us r h = inl (omega arith)
 
-pub fitting_stands : {A : Type 0} (within b : Bool) (ts us : List Lexeme) (r : Read A) (x : A) → (within ≡ true → b ≡ true) → Stands within r x us → Stands within (fitting b ts r) x us
+pub fitting_stands : {A : Type 0} (within : Limit → Type 0) (b : Bool) (ts us : List Lexeme) (r : Read A) (x : A)
+    → (within Integer → b ≡ true) → Stands within r x us → Stands within (fitting b ts r) x us
 fitting_stands within true ts us r x room h = h
-fitting_stands within false ts us r x room h = inr (not_within within false room refl, (Integer, length ts), refl)
+fitting_stands within false ts us r x room h = inr ((Integer, length ts), not_within within room, refl)
 
 -- a number that stands among what is behind a front
-pub fitting_behind : {A : Type 0} (within b : Bool) (us ts : List Lexeme) (r : Read A) → length ts ≤ length us → Passes within us r → Passes within us (fitting b ts r)
+pub fitting_behind : {A : Type 0} (within : Limit → Type 0) (b : Bool) (us ts : List Lexeme) (r : Read A)
+    → length ts ≤ length us → Passes within us r → Passes within us (fitting b ts r)
 fitting_behind within true us ts r le h = h
 fitting_behind within false us ts r le h = inl le

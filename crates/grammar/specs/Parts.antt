@@ -31,7 +31,7 @@ module _ {A : Type 0} (kind : A → Lexeme) (test : Lexeme → Bool) (read : Rea
           subst (Sound over (token kind) (s ∷ ts)) (sym (ap (λ (s : Lexeme). read (s ∷ ts)) o.1 ⋆ is.hit o.0 ts)) (s ∷ [], refl, ap (λ (s : Lexeme). s ∷ []) o.1)
       by false e = subst (Sound over (token kind) (s ∷ ts)) (sym (is.miss s ts e)) ([], s ∷ ts, refl, refl, inl refl)
 
-  token_passes : (within : Bool) (us : List Lexeme) → Passes within us (read us)
+  token_passes : (within : Limit → Type 0) (us : List Lexeme) → Passes within us (read us)
   token_passes within [] = subst (Passes within []) (sym is.nil) (le_same 0)
     where
       le_same : (n : ℕ) → n ≤ n
@@ -48,7 +48,7 @@ module _ {A : Type 0} (kind : A → Lexeme) (test : Lexeme → Bool) (read : Rea
       by true e = let o = is.one s e in subst (Passes within (s ∷ ts)) (sym (ap (λ (s : Lexeme). read (s ∷ ts)) o.1 ⋆ is.hit o.0 ts)) less
       by false e = subst (Passes within (s ∷ ts)) (sym (is.miss s ts e)) same
 
-  pub token_finds : (within : Bool) → Finds within (token kind) test no_lexeme read
+  pub token_finds : (within : Limit → Type 0) → Finds within (token kind) test no_lexeme read
   token_finds within = record {
     nil = inl refl;
     part = λ x u h. inr (x, h);
@@ -80,7 +80,7 @@ made_sound {A} {B} over a f read s ts = go (read ts) (s ts)
     go (Ok x) (u, e, h) = (u, e, (x.0, refl, h))
     go (Err g) h = h
 
-pub made_finds : {A B : Type 0} (within : Bool) (a : Grammar A) (f : A → B) (starts ends : Lexeme → Bool) (read : Reader A) → Finds within a starts ends read → Finds within (a ⇒ f) starts ends (λ ts. read ts >>= λ x. Ok (f x.0, x.1))
+pub made_finds : {A B : Type 0} (within : Limit → Type 0) (a : Grammar A) (f : A → B) (starts ends : Lexeme → Bool) (read : Reader A) → Finds within a starts ends read → Finds within (a ⇒ f) starts ends (λ ts. read ts >>= λ x. Ok (f x.0, x.1))
 made_finds {A} {B} within a f starts ends read fa = record {
   nil = fa.nil;
   part = λ y u h. fa.part h.0 u h.2;
@@ -98,7 +98,7 @@ made_solid a f s = record { no_empty = λ y h. s.no_empty h.0 h.2 }
 -- ---- one after the other
 
 -- a part that is not empty, and then one that is not
-pub seq_finds : {A B C : Type 0} (within : Bool) (a : Grammar A) (b : Grammar B) (f : A × B → C) (starts-a ends-a starts-b ends-b : Lexeme → Bool) (ra : Reader A) (rb : Reader B)
+pub seq_finds : {A B C : Type 0} (within : Limit → Type 0) (a : Grammar A) (b : Grammar B) (f : A × B → C) (starts-a ends-a starts-b ends-b : Lexeme → Bool) (ra : Reader A) (rb : Reader B)
     → Finds within a starts-a ends-a ra → Finds within b starts-b ends-b rb → IsSolid a → IsSolid b → ((t : Lexeme) → starts-b t ≡ true → ends-a t ≡ false) → Finds within ((a ∙ b) ⇒ f) starts-a ends-b (then_read f ra rb)
 seq_finds {A} {B} within a b f starts-a ends-a starts-b ends-b ra rb fa fb sa sb apart = record {
   nil = inl fa.nil;
@@ -113,7 +113,7 @@ seq_finds {A} {B} within a b f starts-a ends-a starts-b ends-b ra rb fa fb sa sb
     after y (t ∷ v) us h g = apart t (fb.first t v (fb.part y (t ∷ v) h))
 
 -- a part that may be empty, and then one that is not
-pub open_finds : {A B C : Type 0} (within : Bool) (a : Grammar A) (b : Grammar B) (f : A × B → C) (starts starts-a ends-a starts-b ends-b : Lexeme → Bool) (ra : Reader A) (rb : Reader B)
+pub open_finds : {A B C : Type 0} (within : Limit → Type 0) (a : Grammar A) (b : Grammar B) (f : A × B → C) (starts starts-a ends-a starts-b ends-b : Lexeme → Bool) (ra : Reader A) (rb : Reader B)
     → Finds within a starts-a ends-a ra → Finds within b starts-b ends-b rb → IsSolid b → ((t : Lexeme) → starts-b t ≡ true → ends-a t ≡ false)
     → ((t : Lexeme) → starts-a t ≡ true → starts t ≡ true) → ((t : Lexeme) → starts-b t ≡ true → starts t ≡ true) → Finds within ((a ∙ b) ⇒ f) starts ends-b (then_read f ra rb)
 open_finds {A} {B} within a b f starts starts-a ends-a starts-b ends-b ra rb fa fb sb apart ga gb = record {
@@ -148,7 +148,7 @@ pair_sound {A} {B} over a b read s ts = go (read ts) (s ts)
     go (Ok x) (u, e, (p, q, h)) = (u, e, subst (λ (p : A × B). (a ∙ b).Is p u) (sym q) h)
     go (Err g) h = h
 
-pub pair_finds : {A B : Type 0} (within : Bool) (a : Grammar A) (b : Grammar B) (starts ends : Lexeme → Bool) (read : Reader (A × B)) → Finds within ((a ∙ b) ⇒ (λ p. p)) starts ends read → Finds within (a ∙ b) starts ends read
+pub pair_finds : {A B : Type 0} (within : Limit → Type 0) (a : Grammar A) (b : Grammar B) (starts ends : Lexeme → Bool) (read : Reader (A × B)) → Finds within ((a ∙ b) ⇒ (λ p. p)) starts ends read → Finds within (a ∙ b) starts ends read
 pair_finds within a b starts ends read f = record {
   nil = f.nil;
   part = λ x u h. f.part x u (x, refl, h);
@@ -182,7 +182,7 @@ pick_sound over a b test ra rb sa sb (t ∷ ts) =
 either_is : (x : Bool) → x ≡ true → x ≡ false → ⊥
 either_is x p q = let e = sym p ⋆ q in absurd cc
 
-module _ {A : Type 0} (within : Bool) (a b : Grammar A) (starts-a starts-b starts ends-a ends-b ends : Lexeme → Bool) (ra rb : Reader A) (fa : Finds within a starts-a ends-a ra) (fb : Finds within b starts-b ends-b rb)
+module _ {A : Type 0} (within : Limit → Type 0) (a b : Grammar A) (starts-a starts-b starts ends-a ends-b ends : Lexeme → Bool) (ra rb : Reader A) (fa : Finds within a starts-a ends-a ra) (fb : Finds within b starts-b ends-b rb)
     (apart : (t : Lexeme) → starts-b t ≡ true → starts-a t ≡ false) (sa : IsSolid a) (sb : IsSolid b)
     (ga : (t : Lexeme) → starts-a t ≡ true → starts t ≡ true) (gb : (t : Lexeme) → starts-b t ≡ true → starts t ≡ true)
     (ea : (t : Lexeme) → ends t ≡ false → ends-a t ≡ false) (eb : (t : Lexeme) → ends t ≡ false → ends-b t ≡ false) where
@@ -245,7 +245,7 @@ optional_sound {A} over a test read s (t ∷ ts) = chosen_is (Sound over (option
     go (Ok x) h = h
     go (Err f) (u, rest, e, k, h) = (u, rest, e, k, inr h)
 
-module _ {A : Type 0} (within : Bool) (a : Grammar A) (starts ends ends' : Lexeme → Bool) (read : Reader A) (fa : Finds within a starts ends read) (sa : IsSolid a)
+module _ {A : Type 0} (within : Limit → Type 0) (a : Grammar A) (starts ends ends' : Lexeme → Bool) (read : Reader A) (fa : Finds within a starts ends read) (sa : IsSolid a)
     (es : (t : Lexeme) → ends' t ≡ false → starts t ≡ false) (ee : (t : Lexeme) → ends' t ≡ false → ends t ≡ false) where
   some_read : Read A → Read (Option A)
   some_read r = r >>= λ x. Ok (Some x.0, x.1)
@@ -290,7 +290,7 @@ module _ {A : Type 0} (within : Bool) (a : Grammar A) (starts ends ends' : Lexem
 
 -- ---- what can't be whole
 
-pub cut_off_finds : {A : Type 0} (within : Bool) (starts ends : Lexeme → Bool) (read : Reader A) → ((us : List Lexeme) → Passes within us (read us)) → Finds within cut_off starts ends read
+pub cut_off_finds : {A : Type 0} (within : Limit → Type 0) (starts ends : Lexeme → Bool) (read : Reader A) → ((us : List Lexeme) → Passes within us (read us)) → Finds within cut_off starts ends read
 cut_off_finds within starts ends read h = record {
   nil = refl;
   part = λ x u f. absurd f;
@@ -307,7 +307,7 @@ cut_off_solid = record { no_empty = λ x h. h }
 pub same_sound : {A : Type 0} (over : Limit → ℕ) (g : Grammar A) (r r' : Reader A) → ((ts : List Lexeme) → r ts ≡ r' ts) → SoundReader over g r → SoundReader over g r'
 same_sound over g r r' e s ts = subst (Sound over g ts) (e ts) (s ts)
 
-pub same_finds : {A : Type 0} (within : Bool) (g : Grammar A) (starts ends : Lexeme → Bool) (r r' : Reader A) → ((ts : List Lexeme) → r ts ≡ r' ts) → Finds within g starts ends r → Finds within g starts ends r'
+pub same_finds : {A : Type 0} (within : Limit → Type 0) (g : Grammar A) (starts ends : Lexeme → Bool) (r r' : Reader A) → ((ts : List Lexeme) → r ts ≡ r' ts) → Finds within g starts ends r → Finds within g starts ends r'
 same_finds within g starts ends r r' e f = record {
   nil = f.nil;
   part = f.part;

@@ -1,11 +1,14 @@
 -- What stands at a place among lexemes.
-use Rattle.std.specs.Prelude.{◌≡◌, ℕ, ◌+◌, ◌-◌, ◌^◌, ◌<◌, ◌≤◌, Bool, true, nat_lt, List, length, take, drop}
+use Rattle.std.specs.Prelude.{◌≡◌, ℕ, ◌+◌, ◌-◌, ◌^◌, ◌<◌, ◌≤◌, ◌||◌, Bool, true, nat_lt, List, length, take, drop}
 use Rattle.grammar.specs.Lexeme.{Lexeme}
 use Rattle.grammar.specs.Grammar.{Grammar}
+use Rattle.grammar.specs.Reading.{Limit, Nesting, Integer, TagNumber}
 
--- A grammar under limits: a test that numbers with no minus meet, and how many things may be open at one place.
-abbrev pub Limited : Type 0 → Type 1
-Limited A = (ℕ → Bool) → ℕ → Grammar A
+-- What each limit allows: how many things may be open at one place, which numbers with no minus, and which numbers of tags.
+pub record Limits : Type 0 where
+  pub nesting : ℕ
+  pub number : ℕ → Bool
+  pub tag : ℕ → Bool
 
 -- every number
 abbrev pub any : ℕ → Bool
@@ -15,16 +18,36 @@ any n = true
 abbrev pub small : ℕ → Bool
 small n = nat_lt n (2 ^ 127)
 
--- with any number of things open
-abbrev pub unbounded : {A : Type 0} → (ℕ → Grammar A) → Grammar A
-unbounded {A} g = record {
-  Is = λ x ts. (n : ℕ) × (g n).Is x ts;
-  CanGoOn = λ ts. (n : ℕ) × (g n).CanGoOn ts;
-}
+-- the numbers below 2 to the 31
+abbrev pub tag_small : ℕ → Bool
+tag_small n = nat_lt n 2147483648
 
--- under no limit
+-- the limits of this compiler, where n more things may be open
+abbrev pub bounded : ℕ → Limits
+bounded n = record { nesting = n; number = small; tag = tag_small }
+
+-- all that this limit allows by the first, it allows by the second
+abbrev pub Within : Limit → Limits → Limits → Type 0
+Within Nesting a b = a.nesting ≤ b.nesting
+Within Integer a b = (n : ℕ) → a.number n ≡ true → b.number n ≡ true
+Within TagNumber a b = (n : ℕ) → a.tag n ≡ true → b.tag n ≡ true
+
+-- the limits a, but for this one, which is that of b
+abbrev pub raised : Limit → Limits → Limits → Limits
+raised Nesting a b = record { nesting = b.nesting; number = a.number; tag = a.tag }
+raised Integer a b = record { nesting = a.nesting; number = b.number; tag = a.tag }
+raised TagNumber a b = record { nesting = a.nesting; number = a.number; tag = b.tag }
+
+-- A grammar under limits.
+abbrev pub Limited : Type 0 → Type 1
+Limited A = Limits → Grammar A
+
+-- under any limits
 abbrev pub free : {A : Type 0} → Limited A → Grammar A
-free g = unbounded (g any)
+free g = record {
+  Is = λ x ts. (a : Limits) × (g a).Is x ts;
+  CanGoOn = λ ts. (a : Limits) × (g a).CanGoOn ts;
+}
 
 -- the lexemes from place i on, as far as place j
 abbrev pub between : List Lexeme → ℕ → ℕ → List Lexeme
@@ -37,18 +60,25 @@ pub record IsRead {A : Type 0} (limited all : Grammar A) (ts : List Lexeme) (sta
   pub is : limited.Is x (between ts start end)
   pub ends : end < length ts → all.CanGoOn (between ts start (end + 1)) → ⊥
 
--- Place i is the first with which the lexemes from start on can't go on, or the end, with no whole before it.
-pub record IsFirst {A : Type 0} (all : Grammar A) (ts : List Lexeme) (start i : ℕ) : Type 0 where
-  pub from : start ≤ i
-  pub to : i ≤ length ts
-  pub before : all.CanGoOn (between ts start i)
-  pub after : i < length ts → all.CanGoOn (between ts start (i + 1)) → ⊥
-  pub none : i ≡ length ts → (x : A) → all.Is x (between ts start i) → ⊥
+module _ {A : Type 0} (g : Limited A) (a : Limits) (ts : List Lexeme) (start i : ℕ) where
+  -- The longest front of the lexemes from start on that can go on within the limits ends before place i.
+  pub record Stops : Type 0 where
+    pub from : start ≤ i
+    pub to : i ≤ length ts
+    pub before : (g a).CanGoOn (between ts start i)
+    pub longest : (j : ℕ) → i < j → j ≤ length ts → (g a).CanGoOn (between ts start j) → ⊥
 
--- Place i is the first with which a limit is passed: with its lexeme those from start on can go on, but not within the limit.
-pub record PassesLimit {A : Type 0} (limited beyond : Grammar A) (ts : List Lexeme) (start i : ℕ) : Type 0 where
-  pub from : start ≤ i
-  pub to : i < length ts
-  pub before : limited.CanGoOn (between ts start i)
-  pub goes_on : beyond.CanGoOn (between ts start (i + 1))
-  pub after : limited.CanGoOn (between ts start (i + 1)) → ⊥
+  -- Nothing goes on so at place i: that front is the longest under any limits, and no whole where the lexemes end.
+  pub record Ends : Type 0 where
+    pub stops : Stops
+    pub always : (b : Limits) (j : ℕ) → i < j → j ≤ length ts → (g b).CanGoOn (between ts start j) → ⊥
+    pub none : i ≡ length ts → (x : A) → (free g).Is x (between ts start i) → ⊥
+
+  -- A limit is passed at place i: a longer front can go on once this limit alone is raised.
+  pub record PassesLimit (l : Limit) : Type 0 where
+    pub stops : Stops
+    pub others : Limits
+    pub further : ℕ
+    pub longer : i < further
+    pub to : further ≤ length ts
+    pub goes_on : (g (raised l a others)).CanGoOn (between ts start further)

@@ -5,7 +5,7 @@ use Rattle.text.specs.declared.reserved.Word.TheVariants.{Explicit, Implicit, Au
 use Rattle.grammar.specs.Lexeme.{Lexeme, TypeRef, Ident, Word, Mark}
 use Rattle.grammar.specs.Grammar.{Grammar, mark, word, only as lexeme, ◌∙◌, ◌∣◌, ◌⇒◌, optional}
 use Rattle.grammar.specs.Reading.{Limit, Read, Reader, ◌>>=◌, stop, listed_at}
-use Rattle.grammar.specs.Laws.{nowhere, then_read, after_read}
+use Rattle.grammar.specs.Laws.{nowhere, everywhere, then_read, after_read}
 use Rattle.grammar.specs.Lists.{no_lexeme, is_ident, with_comma}
 use Rattle.grammar.specs.Loops.{Shrinks, sound_short}
 use Rattle.grammar.specs.Parts.{IsKind, pick, perhaps}
@@ -173,7 +173,7 @@ after_names = either is_symbol (with_comma (either no_lexeme no_lexeme))
 semicolon_after : (t : Lexeme) → is_semicolon t ≡ true → after_names t ≡ false
 semicolon_after t e = subst (λ (t : Lexeme). after_names t ≡ false) (sym (semicolon_one t e)) refl
 
-module _ {over : Limit → ℕ} {within : Bool} where
+module _ {over : Limit → ℕ} {within : Limit → Type 0} where
   rule_explicit_word : Rules over within (lexeme (Word Explicit)) is_explicit_word no_lexeme (one_at is_explicit_word)
   rule_explicit_word = rule_token (one_is (Word Explicit) is_explicit_word refl explicit_word_one)
 
@@ -216,4 +216,4 @@ module _ {over : Limit → ℕ} {within : Bool} where
   rule_exports = rule_read exports_at exports_same (rule_behind rule_exports_word rule_exported)
 
 pub symbol_shrinks : Shrinks symbol_at
-symbol_shrinks = record { shorter = λ ts x e. sound_short symbol ts (symbol_at ts) x e ((rule_symbol {over = nowhere} {within = false}).sound tt ts) }
+symbol_shrinks = record { shorter = λ ts x e. sound_short symbol ts (symbol_at ts) x e ((rule_symbol {over = nowhere} {within = everywhere}).sound tt ts) }

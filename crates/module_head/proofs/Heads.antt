@@ -74,7 +74,7 @@ no_more (Word Exports) e = absurd cc
 no_more (Word Imports) e = absurd cc
 no_more t e = refl
 
-module _ {over : Limit → ℕ} {within : Bool} where
+module _ {over : Limit → ℕ} {within : Limit → Type 0} where
   -- the tree made of what may be empty
   loose_made : {A B : Type 0} {a : Grammar A} {starts ends : Lexeme → Bool} {r : Reader A} (f : A → B) (r' : Reader B) → ((ts : List Lexeme) → made f (r ts) ≡ r' ts) → Loose over within a starts ends r → Loose over within (a ⇒ f) starts ends r'
   loose_made {A} {B} {a} {starts} {ends} {r} f r' e k = record {
@@ -102,7 +102,7 @@ module _ {over : Limit → ℕ} {within : Bool} where
   loose_exports = loose_made exports_or export_list_at export_same (loose_optional rule_exports)
 
 -- fits is the reader's test on numbers, fits' the grammar's
-module _ (over : Limit → ℕ) (within : Bool) (fits fits' : ℕ → Bool) (grows : (n : ℕ) → fits n ≡ true → fits' n ≡ true) (past : Past (over Integer) ((n : ℕ) → fits' n ≡ true)) (room : (n : ℕ) → fits' n ≡ true → within ≡ true → fits n ≡ true) where
+module _ (over : Limit → ℕ) (within : Limit → Type 0) (fits fits' : ℕ → Bool) (grows : (n : ℕ) → fits n ≡ true → fits' n ≡ true) (past : Past (over Integer) ((n : ℕ) → fits' n ≡ true)) (room : (n : ℕ) → fits' n ≡ true → within Integer → fits n ≡ true) where
   loose_imports : Loose over within (import_list fits') is_imports_word (either is_imports_word no_lexeme) (import_list_at fits)
   loose_imports = loose_made imports_or (import_list_at fits) (import_same fits) (loose_optional (rule_imports over within fits fits' grows past room))
 

@@ -5,7 +5,7 @@ use Rattle.text.specs.declared.reserved.Word.TheVariants.{Imports, From}
 use Rattle.grammar.specs.Lexeme.{Lexeme, TypeRef, Ident, Number, Word, Mark}
 use Rattle.grammar.specs.Grammar.{token, mark, only as lexeme, number_of, ◌∙◌, ◌⇒◌, many, optional, behind}
 use Rattle.grammar.specs.Reading.{Limit, Integer, Fault, Read, Reader, ◌>>=◌, closed_at, many_at, with_front}
-use Rattle.grammar.specs.Laws.{nowhere, then_read, after_read}
+use Rattle.grammar.specs.Laws.{everywhere, nowhere, then_read, after_read}
 use Rattle.grammar.specs.Manies.{Consumes, consumes, is_begun_by, many_more, many_end, many_fail}
 use Rattle.grammar.specs.Places.{small}
 use Rattle.notation.specs.declared.fault.ReadError.{ReadError}
@@ -64,7 +64,7 @@ closed_same [] = refl
 closed_same (Mark CloseBrace ∷ ts) = refl
 closed_same (t ∷ ts) = refl
 
-module _ {over : Limit → ℕ} {within : Bool} where
+module _ {over : Limit → ℕ} {within : Limit → Type 0} where
   rule_from_word : Rules over within (lexeme (Word From)) is_from_word no_lexeme (one_at is_from_word)
   rule_from_word = rule_token (one_is (Word From) is_from_word refl from_word_one)
 
@@ -81,7 +81,7 @@ module _ {over : Limit → ℕ} {within : Bool} where
   rule_closed = rule_read closed_at closed_same rule_close_brace
 
 -- fits is the reader's test on numbers, fits' the grammar's
-module _ (over : Limit → ℕ) (within : Bool) (fits fits' : ℕ → Bool) (grows : (n : ℕ) → fits n ≡ true → fits' n ≡ true) (past : Past (over Integer) ((n : ℕ) → fits' n ≡ true)) (room : (n : ℕ) → fits' n ≡ true → within ≡ true → fits n ≡ true) where
+module _ (over : Limit → ℕ) (within : Limit → Type 0) (fits fits' : ℕ → Bool) (grows : (n : ℕ) → fits n ≡ true → fits' n ≡ true) (past : Past (over Integer) ((n : ℕ) → fits' n ≡ true)) (room : (n : ℕ) → fits' n ≡ true → within Integer → fits n ≡ true) where
   -- ---- object identifiers
 
   rule_arc_number : Rules over within (parens (number_of fits')) is_open no_lexeme (parens_at (number_at fits))
@@ -244,10 +244,10 @@ module _ (over : Limit → ℕ) (within : Bool) (fits fits' : ℕ → Bool) (gro
 -- ---- what the loops keep
 
 pub arc_consumes : Consumes (arc_at small)
-arc_consumes = let k = rule_arc nowhere true small small (λ n e. e) tt (λ n e t. e) in consumes (arc small) (arc_at small) k.solid (k.sound tt)
+arc_consumes = let k = rule_arc nowhere everywhere small small (λ n e. e) tt (λ n e t. e) in consumes (arc small) (arc_at small) k.solid (k.sound tt)
 
 pub import_consumes : Consumes (import_from_at small)
-import_consumes = let k = rule_import nowhere true small small (λ n e. e) tt (λ n e t. e) in consumes (import_from small) (import_from_at small) k.solid (k.sound tt)
+import_consumes = let k = rule_import nowhere everywhere small small (λ n e. e) tt (λ n e t. e) in consumes (import_from small) (import_from_at small) k.solid (k.sound tt)
 
 -- arcs, which leave nothing behind
 abbrev skipped : Read (List (Unit {0})) → Read (Unit {0})

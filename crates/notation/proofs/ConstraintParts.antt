@@ -6,7 +6,7 @@ use Rattle.text.specs.declared.reserved.Word.TheVariants.{From, Size, Union, Min
 use Rattle.grammar.specs.Lexeme.{Lexeme, TypeRef, Ident, Number, CString, Word, Mark}
 use Rattle.grammar.specs.Grammar.{Grammar, token, word, only as lexeme, ◌∙◌, ◌∣◌, ◌⇒◌, optional, behind}
 use Rattle.grammar.specs.Reading.{Limit, Integer, Read, Reader, ◌>>=◌, stop}
-use Rattle.grammar.specs.Laws.{nowhere, then_read, after_read}
+use Rattle.grammar.specs.Laws.{everywhere, nowhere, then_read, after_read}
 use Rattle.grammar.specs.Loops.{Shrinks, sound_short}
 use Rattle.grammar.specs.Lists.{no_lexeme, is_ident}
 use Rattle.grammar.specs.Numbers.{Past}
@@ -172,7 +172,7 @@ typeref_no_ident : (t : Lexeme) → is_typeref t ≡ true → is_ident t ≡ fal
 typeref_no_ident (TypeRef x) e = refl
 typeref_no_ident t e = absurd cc
 
-module _ {over : Limit → ℕ} {within : Bool} where
+module _ {over : Limit → ℕ} {within : Limit → Type 0} where
   rule_dots : Rules over within (lexeme (Mark Range)) is_range no_lexeme (one_at is_range)
   rule_dots = rule_token (one_is (Mark Range) is_range refl range_one)
 
@@ -274,7 +274,7 @@ module _ {over : Limit → ℕ} {within : Bool} where
       typeref_no_ident
 
 -- fits is the reader's test on numbers, fits' the grammar's
-module _ (over : Limit → ℕ) (within : Bool) (fits fits' : ℕ → Bool) (grows : (n : ℕ) → fits n ≡ true → fits' n ≡ true) (past : Past (over Integer) ((n : ℕ) → fits' n ≡ true)) (room : (n : ℕ) → fits' n ≡ true → within ≡ true → fits n ≡ true) where
+module _ (over : Limit → ℕ) (within : Limit → Type 0) (fits fits' : ℕ → Bool) (grows : (n : ℕ) → fits n ≡ true → fits' n ≡ true) (past : Past (over Integer) ((n : ℕ) → fits' n ≡ true)) (room : (n : ℕ) → fits' n ≡ true → within Integer → fits n ≡ true) where
   -- ---- ends of ranges
 
   abbrev ends_start : Lexeme → Bool
@@ -563,7 +563,7 @@ module _ (over : Limit → ℕ) (within : Bool) (fits fits' : ℕ → Bool) (gro
 -- ---- what the loops need
 
 pub chars_shrinks : Shrinks chars_at
-chars_shrinks = record { shorter = λ ts x e. sound_short chars ts (chars_at ts) x e ((rule_chars {over = nowhere} {within = false}).sound tt ts) }
+chars_shrinks = record { shorter = λ ts x e. sound_short chars ts (chars_at ts) x e ((rule_chars {over = nowhere} {within = everywhere}).sound tt ts) }
 
 pub range_shrinks : (fits : ℕ → Bool) → Shrinks (range_at fits)
-range_shrinks fits = record { shorter = λ ts x e. sound_short (range fits) ts (range_at fits ts) x e ((rule_range nowhere true fits fits (λ n h. h) tt (λ n h t. h)).sound tt ts) }
+range_shrinks fits = record { shorter = λ ts x e. sound_short (range fits) ts (range_at fits ts) x e ((rule_range nowhere everywhere fits fits (λ n h. h) tt (λ n h t. h)).sound tt ts) }

@@ -1,16 +1,16 @@
 -- What is read from a place on is a constraint or a size there, all of them are read, and a fault is the first one.
-use Rattle.std.proofs.Common.{◌≡◌, ℕ, inl, inr, Bool, true, false, List, [], ◌∷◌, ◌++◌, Option, Some, None, Ok, refl, sym, ap, ◌∙◌ as ◌⋆◌}
+use Rattle.std.proofs.Common.{◌≡◌, ℕ, ◌||◌, inl, inr, Bool, true, false, List, [], ◌∷◌, ◌++◌, Option, Some, None, Ok, refl, sym, ap, ◌∙◌ as ◌⋆◌}
 use Rattle.text.specs.declared.token.Mark.TheVariants.{Range, OpenParenthesis, CloseParenthesis, Minus}
 use Rattle.text.specs.declared.reserved.Word.TheVariants.{From, Size, Min, Max}
 use Rattle.grammar.specs.Lexeme.{Lexeme, Number, Word, Mark}
 use Rattle.grammar.specs.Grammar.{Grammar, token, mark, word, number_of, ◌∙◌, ◌∣◌, ◌⇒◌, many, behind}
 use Rattle.grammar.specs.Grows.{Grows, same_grows, number_grows, seq_grows, made_grows, either_grows, many_grows, behind_grows}
-use Rattle.grammar.specs.Reading.{Limit, Integer, Read, Reader}
-use Rattle.grammar.specs.Laws.{nowhere, deeper, wider, Sound, Follows, Stands, Finds}
+use Rattle.grammar.specs.Reading.{Limit, Nesting, Integer, TagNumber, Read, Reader}
+use Rattle.grammar.specs.Laws.{nowhere, deeper, wider, higher, past, Sound, Follows, Stands, Finds}
 use Rattle.grammar.specs.Lists.{no_lexeme}
 use Rattle.grammar.specs.Numbers.{Past}
-use Rattle.grammar.specs.Places.{any, small, free, unbounded}
-use Rattle.grammar.specs.Answers.{Reads, unbound}
+use Rattle.grammar.specs.Places.{Limits, any, small, bounded, Within, raised}
+use Rattle.grammar.specs.Answers.{joined, joined_first, joined_second, within_all, Reads}
 use Rattle.notation.specs.Rules.{Rules, Ruled}
 use Rattle.trees.specs.Constraints.{EndTree, number_end, name_end, only, between, values_in, sizes_in, chars_in}
 use Rattle.notation.specs.ConstraintGrammar.{parens, or, by_or, ref, chars, end, range, ranges, size, constraint, flat}
@@ -68,59 +68,54 @@ all_follow : (us : List Lexeme) → Follows no_lexeme us
 all_follow [] = tt
 all_follow (t ∷ us) = refl
 
-module _ {A : Type 0} (g : (ℕ → Bool) → Grammar A) (starts : Lexeme → Bool) (read : (ℕ → Bool) → Reader A) (ruled : Ruled g starts read) (grows : Grows (g small) (g any)) where
-  -- of the reader under the limit, with the grammar under none
-  free_finds : Finds false (g any) starts no_lexeme (read small)
-  free_finds = (ruled nowhere false small any (λ n e. refl) tt (λ n e t. absurd cc)).finds tt
-
-  limited_rules : (over : Limit → ℕ) → over Integer ≡ 0 → Rules over true (g small) starts no_lexeme (read small)
-  limited_rules over e = ruled over true small small (λ n e. e) (past (over Integer) e) (λ n e t. e)
+module _ {A : Type 0} (g : (ℕ → Bool) → Grammar A) (starts : Lexeme → Bool) (read : (ℕ → Bool) → Reader A) (ruled : Ruled g starts read)
+    (grows : (fits fits' : ℕ → Bool) → ((n : ℕ) → fits n ≡ true → fits' n ≡ true) → Grows (g fits) (g fits')) where
+  rules : (over : Limit → ℕ) → over Integer ≡ 0 → Rules over (λ l. Within l (bounded 0) (bounded 0)) (g small) starts no_lexeme (read small)
+  rules over e = ruled over (bounded 0) (bounded 0) (λ n e. e) (none (over Integer) e)
     where
-      past : (k : ℕ) → k ≡ 0 → Past k ((n : ℕ) → small n ≡ true)
-      past ℕ.zero e = tt
-      past (ℕ.suc k) e = absurd cc
+      none : (k : ℕ) → k ≡ 0 → Past k ((n : ℕ) → small n ≡ true)
+      none ℕ.zero e = tt
+      none (ℕ.suc k) e = absurd cc
 
-  pub flat_reads : Reads (g small) (free (flat g)) (read small)
+  abbrev numberless : Limits
+  numberless = record { nesting = 0; number = any; tag = any }
+
+  -- where a limit is passed, the lexemes can go on once it alone is raised
+  flat_passed : (l : Limit) → (b : Limits) × ((ts : List Lexeme) → Sound (past l) (flat g (raised l (bounded 0) b)) ts (read small ts))
+  flat_passed Nesting = (bounded 0, (rules deeper refl).sound tt)
+  flat_passed Integer = (numberless, (ruled wider (bounded 0) numberless (λ n e. refl) (λ n. refl)).sound tt)
+  flat_passed TagNumber = (bounded 0, (rules higher refl).sound tt)
+
+  flat_finds : (b : Limits) → Finds (λ l. Within l (joined (bounded 0) b) (bounded 0)) (flat g (joined (bounded 0) b)) starts no_lexeme (read small)
+  flat_finds b = (ruled nowhere (bounded 0) (joined (bounded 0) b) (joined_first small b.number) tt).finds tt
+
+  pub flat_reads : Reads (flat g) (bounded 0) (read small)
   flat_reads = record {
-    weaker = λ u h. (0, grows.on u h);
-    sound = (limited_rules nowhere refl).sound tt;
-    front = λ u us h. free_finds.front u us h.1;
-    front_within = λ u us h. ((limited_rules nowhere refl).finds tt).front u us h;
-    whole = λ x u h. free_finds.whole x u [] h.1 tt;
-    closed = λ x u us h c. ((limited_rules nowhere refl).finds tt).whole x u us h (all_follow us);
+    grows = λ b. grows b.number (λ k. small k || b.number k) (joined_second small b.number);
+    front = λ b u us h. (flat_finds b).front u us h;
+    whole = λ b x u h. (flat_finds b).whole x u [] h tt;
+    part = ((rules nowhere refl).finds tt).part;
+    sound = (rules nowhere refl).sound tt;
+    passed = flat_passed;
+    closed = λ x u us h c. ((rules nowhere refl).finds tt).whole x u us h (all_follow us);
   }
-
-  pub flat_deeper : (ts : List Lexeme) → Sound deeper (unbounded (flat g small)) ts (read small ts)
-  flat_deeper ts = unbound (flat g small) 0 deeper ts (read small ts) ((limited_rules deeper refl).sound tt ts)
-
-  pub flat_wider : (ts : List Lexeme) → Sound wider (free (flat g)) ts (read small ts)
-  flat_wider ts = unbound (flat g any) 0 wider ts (read small ts) ((ruled wider false small any (λ n e. refl) (λ n. refl) (λ n e t. absurd cc)).sound tt ts)
 
   -- a list of lexemes is one tree at most
   pub flat_one : (u : List Lexeme) (v w : A) → (g any).Is v u → (g any).Is w u → v ≡ w
   flat_one u v w h k =
-      let f = (ruled nowhere true any any (λ n e. e) tt (λ n e t. refl)).finds tt in
+      let f = (ruled nowhere numberless numberless (λ n e. e) tt).finds tt in
       same (f.whole v u [] h tt) (f.whole w u [] k tt)
     where
       one_result : (x y : A × List Lexeme) (r : Read A) → r ≡ Ok x → r ≡ Ok y → x ≡ y
       one_result x y r p q = let e = sym p ⋆ q in cc
 
-      same : Stands true (read any (u ++ [])) v [] → Stands true (read any (u ++ [])) w [] → v ≡ w
+      same : Stands (λ l. Within l numberless numberless) (read any (u ++ [])) v [] → Stands (λ l. Within l numberless numberless) (read any (u ++ [])) w [] → v ≡ w
       same (inl p) (inl q) = ap (λ (x : A × List Lexeme). x.0) (one_result (v, []) (w, []) (read any (u ++ [])) p q)
-      same (inl p) (inr (e, n, q)) = absurd cc
-      same (inr (e, n, p)) q = absurd cc
-
-small_is_any : (n : ℕ) → small n ≡ true → any n ≡ true
-small_is_any n e = refl
+      same (inl p) (inr (g, n, q)) = absurd (n (within_all g.0 numberless))
+      same (inr (g, n, p)) q = absurd (n (within_all g.0 numberless))
 
 pub constraint_ruled : Ruled constraint is_open constraint_at
-constraint_ruled = rule_constraint
+constraint_ruled over a b grows past = rule_constraint over (λ l. Within l b a) a.number b.number grows past (λ n e w. w n e)
 
 pub size_ruled : Ruled size is_size size_at
-size_ruled = rule_size
-
-pub constraint_more : Grows (constraint small) (constraint any)
-constraint_more = constraint_grows small any small_is_any
-
-pub size_more : Grows (size small) (size any)
-size_more = size_grows small any small_is_any
+size_ruled over a b grows past = rule_size over (λ l. Within l b a) a.number b.number grows past (λ n e w. w n e)

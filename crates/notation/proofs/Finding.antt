@@ -4,7 +4,7 @@ use Rattle.std.proofs.lemmas.List.{append-nil}
 use Rattle.text.specs.declared.token.Mark.TheVariants.{Comma, Colon, CloseBrace}
 use Rattle.grammar.specs.Lexeme.{Lexeme, Ident, Number, Mark}
 use Rattle.grammar.specs.Grammar.{Grammar, token, mark, number_of, ◌∙◌, ◌⇒◌, IsMany, many, listed}
-use Rattle.grammar.specs.Reading.{Read, Reader, ◌>>=◌, closed_at, named_at, fitting}
+use Rattle.grammar.specs.Reading.{Limit, Integer, Read, Reader, ◌>>=◌, closed_at, named_at, fitting}
 use Rattle.grammar.specs.Laws.{Follows, Passes, Stands, Finds, seq_front, seq_whole, passes_on, passes_made, stands_made}
 use Rattle.grammar.specs.Lists.{IsSolid, Next, head_is, second_is, no_lexeme, is_rbrace, is_ident, finds_closed, finds_body, body_next, finds_named}
 use Rattle.grammar.specs.Numbers.{fitting_passes, fitting_shrinks, fitting_stands, fitting_behind}
@@ -25,7 +25,7 @@ rbrace_no_num (Number n) e = absurd cc
 rbrace_no_num t e = refl
 
 -- fits is the reader's test on numbers, fits' the grammar's
-module _ (within : Bool) (fits fits' : ℕ → Bool) (room : (n : ℕ) → fits' n ≡ true → within ≡ true → fits n ≡ true) where
+module _ (within : Limit → Type 0) (fits fits' : ℕ → Bool) (room : (n : ℕ) → fits' n ≡ true → within Integer → fits n ≡ true) where
   abbrev more : Grammar (List ℕ)
   more = many (number_of fits')
 
@@ -127,7 +127,7 @@ body_long a solid f z s (p, d, ([], w, e, (x, dx, (t ∷ y', y, ex, hx, hy)), hr
 body_long a solid f z s (p, d, (t ∷ [], w, e, ha, hr)) = let g = e ⋆ ap (λ (l : List Lexeme). t ∷ l) hr in absurd cc
 body_long a solid f z s (p, d, (t ∷ t' ∷ q, w, e, ha, hr)) = absurd cc
 
-module _ (within : Bool) (fits fits' : ℕ → Bool) (room : (n : ℕ) → fits' n ≡ true → within ≡ true → fits n ≡ true) (v : Grammar Tree) (read : Reader Tree) (fv : Finds within v (starts fits') goes_on read) (solid : IsSolid v)
+module _ (within : Limit → Type 0) (fits fits' : ℕ → Bool) (room : (n : ℕ) → fits' n ≡ true → within Integer → fits n ≡ true) (v : Grammar Tree) (read : Reader Tree) (fv : Finds within v (starts fits') goes_on read) (solid : IsSolid v)
     (one_number : (a : ℕ) → fits' a ≡ true → v.CanGoOn (Number a ∷ [])) (one_name : (x : List ℕ) → v.CanGoOn (Ident x ∷ []))
     (behind_number : (a : ℕ) → Next v (Number a) (λ t. ends_item t ≡ true)) (behind_name : (x : List ℕ) → Next v (Ident x) (λ t. ends_item t ≡ true)) where
   member_solid : IsSolid (token Ident ∙ v)

@@ -1,11 +1,11 @@
 -- What is read as a value is one, and the lexemes before a fault can go on.
-use Rattle.std.proofs.Common.{◌≡◌, ℕ, zero, suc, inl, inr, Bool, true, false, List, [], ◌∷◌, None, Ok, Err, refl, ap, arith}
+use Rattle.std.proofs.Common.{◌≡◌, ℕ, zero, suc, inl, inr, Bool, true, false, List, [], ◌∷◌, length, None, Ok, Err, refl, sym, ap, arith}
 use Rattle.text.specs.declared.token.Mark.TheVariants.{Colon, Dot, Minus, OpenBrace, CloseBrace}
 use Rattle.text.specs.declared.reserved.Word.TheVariants.{True, False, Null}
 use Rattle.grammar.specs.Lexeme.{Lexeme, TypeRef, Ident, Number, BString, HString, CString, Word, Mark}
 use Rattle.grammar.specs.Grammar.{Grammar, token, mark, number_of, ◌∙◌, ◌∣◌, ◌⇒◌, many, behind, listed, braces}
-use Rattle.grammar.specs.Reading.{Limit, Integer, Read, Reader, ◌>>=◌, stop, closed_at, listed_at, named_at, fitting, opened}
-use Rattle.grammar.specs.Laws.{nowhere, deeper, wider, Sound, seq_sound, is_behind, front_behind}
+use Rattle.grammar.specs.Reading.{Limit, Nesting, Integer, Read, Reader, ◌>>=◌, stop, closed_at, listed_at, named_at, fitting, opened}
+use Rattle.grammar.specs.Laws.{nowhere, deeper, wider, higher, more as left_when, Sound, seq_sound, is_behind, front_behind}
 use Rattle.grammar.specs.Lists.{left_sound, right_sound, stop_sound, closed_sound, listed_sound, brace_sound, named_sound}
 use Rattle.grammar.specs.Numbers.{Past, fitting_sound}
 use Rattle.grammar.specs.Places.{any}
@@ -220,14 +220,20 @@ module _ (fits : ℕ → Bool) where
   past_any : (n : ℕ) → any n ≡ true
   past_any n = refl
 
-  -- What is read is so, where a limit's fault stands before the lexeme that passes it.
-  pub value_sound : (n : ℕ) (ts : List Lexeme) → Sound nowhere (value fits n) ts (value_at fits n ts)
+  -- What is read is so, where the faults of nesting and of numbers stand before the lexeme that passes the limit.
+  unmoved : (over : Limit → ℕ) → over Nesting ≡ 0 → Past (over Integer) ((n : ℕ) → fits n ≡ true) → (n : ℕ) (ts : List Lexeme) → Sound over (value fits n) ts (value_at fits n ts)
   unfolding value_at
-  value_sound zero ts =
-      step_sound nowhere fits fits same_fits tt (simple fits) zero stop (λ ts r s. s)
-      (λ x ts. (Ident x ∷ [], Mark Colon ∷ ts, refl, refl, inr (inr (inr (inr (inr (inr (inr (inr (inl (inr (x, refl))))))))))))
-      (λ ts. ([], Mark OpenBrace ∷ ts, refl, refl, inl (inl refl))) ts
-  value_sound (suc n) ts = inner_sound nowhere fits fits same_fits tt n (value fits n) (value_at fits n) (value_sound n) ts
+  unmoved over e past zero ts =
+      step_sound over fits fits same_fits past (simple fits) zero stop (λ ts r s. s)
+      (λ x ts. (Ident x ∷ [], Mark Colon ∷ ts, refl, ap (λ (k : ℕ). left_when k (length (Mark Colon ∷ ts))) (sym e), inr (inr (inr (inr (inr (inr (inr (inr (inl (inr (x, refl))))))))))))
+      (λ ts. ([], Mark OpenBrace ∷ ts, refl, ap (λ (k : ℕ). left_when k (length (Mark OpenBrace ∷ ts))) (sym e), inl (inl refl))) ts
+  unmoved over e past (suc n) ts = inner_sound over fits fits same_fits past n (value fits n) (value_at fits n) (unmoved over e past n) ts
+
+  pub value_sound : (n : ℕ) (ts : List Lexeme) → Sound nowhere (value fits n) ts (value_at fits n ts)
+  value_sound = unmoved nowhere refl tt
+
+  pub value_higher : (n : ℕ) (ts : List Lexeme) → Sound higher (value fits n) ts (value_at fits n ts)
+  value_higher = unmoved higher refl tt
 
   -- The same with all numbers, where the fault of a number stands behind it: it can stand there.
   pub value_wider : (n : ℕ) (ts : List Lexeme) → Sound wider (value any n) ts (value_at fits n ts)

@@ -4,7 +4,7 @@ use Rattle.text.specs.declared.token.Mark.TheVariants.{Colon, Dot, Minus, OpenBr
 use Rattle.text.specs.declared.reserved.Word.TheVariants.{True, False, Null}
 use Rattle.grammar.specs.Lexeme.{Lexeme, TypeRef, Ident, Number, BString, HString, CString, Word, Mark}
 use Rattle.grammar.specs.Grammar.{Grammar, token, mark, number_of, ◌∙◌, ◌∣◌, ◌⇒◌, behind, listed, braces}
-use Rattle.grammar.specs.Reading.{Read, Reader, ◌>>=◌, opened}
+use Rattle.grammar.specs.Reading.{Limit, Integer, Read, Reader, ◌>>=◌, opened}
 use Rattle.grammar.specs.Laws.{Follows, Passes, Stands, Finds, passes_on, passes_made, behind_is, behind_front}
 use Rattle.grammar.specs.Lists.{IsSolid, Next, braces_is, braces_front}
 use Rattle.grammar.specs.Numbers.{fitting_passes, fitting_shrinks, fitting_stands}
@@ -28,19 +28,19 @@ braced_ones fits' v =
 abbrev pub ends_item_is : Lexeme → Type 0
 ends_item_is t = ends_item t ≡ true
 
-negative_shrinks : (within : Bool) (us : List Lexeme) → Passes within us (negative_at us)
+negative_shrinks : (within : Limit → Type 0) (us : List Lexeme) → Passes within us (negative_at us)
 unfolding negative_at
 negative_shrinks within [] = omega arith
 negative_shrinks within (Number n ∷ us) = omega arith
 negative_shrinks within (t ∷ us) = omega arith
 
-value_name_shrinks : (within : Bool) (m : List ℕ) (us : List Lexeme) → Passes within us (value_name_at m us)
+value_name_shrinks : (within : Limit → Type 0) (m : List ℕ) (us : List Lexeme) → Passes within us (value_name_at m us)
 unfolding value_name_at
 value_name_shrinks within m [] = omega arith
 value_name_shrinks within m (Ident n ∷ us) = omega arith
 value_name_shrinks within m (t ∷ us) = omega arith
 
-qualified_shrinks : (within : Bool) (m : List ℕ) (us : List Lexeme) → Passes within us (qualified_at m us)
+qualified_shrinks : (within : Limit → Type 0) (m : List ℕ) (us : List Lexeme) → Passes within us (qualified_at m us)
 unfolding qualified_at
 qualified_shrinks within m [] = omega arith
 qualified_shrinks within m ((Mark Dot) ∷ us) = passes_on within ((Mark Dot) ∷ us) us (value_name_at m us) (omega arith) (value_name_shrinks within m us)
@@ -49,7 +49,7 @@ qualified_shrinks within m (t ∷ us) = omega arith
 le_same : (n : ℕ) → n ≤ n
 le_same n = omega arith
 
-module _ (within : Bool) (fits fits' : ℕ → Bool) (room : (n : ℕ) → fits' n ≡ true → within ≡ true → fits n ≡ true) (n : ℕ) (read : Reader Tree)
+module _ (within : Limit → Type 0) (fits fits' : ℕ → Bool) (room : (n : ℕ) → fits' n ≡ true → within Integer → fits n ≡ true) (n : ℕ) (read : Reader Tree)
     (colon : (x : List ℕ) (us : List Lexeme) → Passes within ((Mark Colon) ∷ us) (opened n ((Mark Colon) ∷ us) (read us >>= λ v. Ok (chosen x v.0, v.1))))
     (brace : (us : List Lexeme) → Passes within ((Mark OpenBrace) ∷ us) (opened n ((Mark OpenBrace) ∷ us) (braced_at fits read us))) where
   named_shrinks : (x : List ℕ) (us : List Lexeme) → Passes within us (alternative_at fits n read x us)

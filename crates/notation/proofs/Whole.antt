@@ -4,7 +4,7 @@ use Rattle.text.specs.declared.token.Mark.TheVariants.{Colon, Dot, Minus, OpenBr
 use Rattle.text.specs.declared.reserved.Word.TheVariants.{True, False, Null}
 use Rattle.grammar.specs.Lexeme.{Lexeme, TypeRef, Ident, Number, BString, HString, CString, Word, Mark}
 use Rattle.grammar.specs.Grammar.{Grammar, token, mark, number_of, ◌∙◌, behind, listed, braces}
-use Rattle.grammar.specs.Reading.{Nesting, Read, Reader, ◌>>=◌, stop, opened}
+use Rattle.grammar.specs.Reading.{Limit, Integer, Nesting, Read, Reader, ◌>>=◌, stop, opened}
 use Rattle.grammar.specs.Laws.{Follows, Passes, Stands, Finds, behind_front, passes_on, passes_made}
 use Rattle.grammar.specs.Lists.{IsSolid, Next, head_is, second_is}
 use Rattle.trees.specs.Values.{Tree, chosen}
@@ -202,7 +202,7 @@ module _ (fits' : ℕ → Bool) where
   v_behind_name m x = record { next = v_behind m (Ident x) (name_head x) }
 
 -- fits is the reader's test on numbers, fits' the grammar's
-module _ (within : Bool) (fits fits' : ℕ → Bool) (room : (n : ℕ) → fits' n ≡ true → within ≡ true → fits n ≡ true) where
+module _ (within : Limit → Type 0) (fits fits' : ℕ → Bool) (room : (n : ℕ) → fits' n ≡ true → within Integer → fits n ≡ true) where
   -- the reader of values with (simple fits') ones alone
   simple_finds : (n : ℕ) (read : Reader Tree) (colon : (x : List ℕ) (us : List Lexeme) → Passes within ((Mark Colon) ∷ us) (opened n ((Mark Colon) ∷ us) (read us >>= λ v. Ok (chosen x v.0, v.1)))) (brace : (us : List Lexeme) → Passes within ((Mark OpenBrace) ∷ us) (opened n ((Mark OpenBrace) ∷ us) (braced_at fits read us))) → Finds within (simple fits') (starts fits') goes_on (step_at fits n read)
   simple_finds n read colon brace = record {
@@ -263,19 +263,12 @@ module _ (within : Bool) (fits fits' : ℕ → Bool) (room : (n : ℕ) → fits'
   unfolding value_at
   zero_step ts = sym (none_open ts)
 
-  not_deep : (m : ℕ) (b : Bool) → (b ≡ true → suc m ≤ zero) → b ≡ false
-  not_deep m true deep = absurd (omega (arith, deep refl))
-  not_deep m false deep = refl
-
-  never : (b : Bool) → b ≡ false → {A : Type 0} → b ≡ true → A
-  never b e d = absurd (let p = sym e ⋆ d in cc)
-
-  zero_finds : (m : ℕ) → (within ≡ true → m ≤ zero) → Finds within (value fits' m) (starts fits') goes_on (value_at fits zero)
+  zero_finds : (m : ℕ) → (within Nesting → m ≤ zero) → Finds within (value fits' m) (starts fits') goes_on (value_at fits zero)
   zero_finds zero deep = same_reader (simple fits') (step_at fits zero (value_at fits zero)) (value_at fits zero) zero_step (simple_finds zero (value_at fits zero) zero_colon zero_brace)
   zero_finds (suc m) deep =
-      let w = not_deep m within deep in
+      let w : within Nesting → ⊥ = λ d. omega (arith, deep d) in
       same_reader (value fits' (suc m)) (step_at fits zero (value_at fits zero)) (value_at fits zero) zero_step
-      (all_finds zero m (value_at fits zero) zero_colon zero_brace (zero_finds m (λ e. never within w e)) (λ ts us r h. inr w) (λ ts us z r h. inr (w, (Nesting, length ts), refl)))
+      (all_finds zero m (value_at fits zero) zero_colon zero_brace (zero_finds m (λ d. absurd (w d))) (λ ts us r h. inr w) (λ ts us z r h. inr ((Nesting, length ts), w, refl)))
 
   -- ---- the theorem
 
@@ -289,7 +282,7 @@ module _ (within : Bool) (fits fits' : ℕ → Bool) (room : (n : ℕ) → fits'
   pub suc_brace : (n : ℕ) → Finds within (value fits' zero) (starts fits') goes_on (value_at fits n) → (us : List Lexeme) → Passes within ((Mark OpenBrace) ∷ us) (opened (suc n) ((Mark OpenBrace) ∷ us) (braced_at fits (value_at fits n) us))
   suc_brace n f us = passes_on within ((Mark OpenBrace) ∷ us) us (braced_at fits (value_at fits n) us) (omega arith) (braced_shrinks within fits fits' room (value fits' zero) (value_at fits n) f (v_solid fits' zero) (v_number fits' zero) (v_name fits' zero) (v_behind_number fits' zero) (v_behind_name fits' zero) us)
 
-  pub value_finds : (n m : ℕ) → (within ≡ true → m ≤ n) → Finds within (value fits' m) (starts fits') goes_on (value_at fits n)
+  pub value_finds : (n m : ℕ) → (within Nesting → m ≤ n) → Finds within (value fits' m) (starts fits') goes_on (value_at fits n)
   value_finds zero m deep = zero_finds m deep
   value_finds (suc n) zero deep =
       let f = value_finds n zero (λ e. omega arith) in

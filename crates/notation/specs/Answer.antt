@@ -5,10 +5,10 @@ use Rattle.text.specs.declared.token.Mark.TheVariants.{OpenVersion, CloseVersion
 use Rattle.text.specs.declared.reserved.Word.{Word as Word'}
 use Rattle.text.specs.declared.reserved.Word.TheVariants as words
 use Rattle.grammar.specs.Lexeme.{Lexeme, Word, Mark}
-use Rattle.grammar.specs.Places.{Limited, small, free, unbounded, IsFirst, PassesLimit}
+use Rattle.grammar.specs.Places.{Limits, Limited, Ends, PassesLimit}
 use Rattle.notation.specs.declared.fault.SyntaxFault.{SyntaxFault}
 use Rattle.notation.specs.declared.fault.SyntaxFault.TheVariants as faults
-use Rattle.notation.specs.declared.fault.Limit.TheVariants as limits
+use Rattle.notation.specs.Given.{limit_of}
 
 -- the words of constructs that this compiler leaves out
 abbrev pub is_refused_word : Word' → Bool
@@ -70,11 +70,9 @@ is_refused_at None = false
 abbrev pub unexpected : List Lexeme → ℕ → SyntaxFault
 unexpected ts i = if is_refused_at (slice_get ts i) then faults.OutOfProfile i else faults.Unexpected i
 
--- A fault stands at its place: of what a grammar says of the lexemes from start on, where n things may be open at one place.
-abbrev pub Stands : {A : Type 0} → Limited A → List Lexeme → ℕ → ℕ → SyntaxFault → Type 0
-Stands g ts start n faults.Memory = ⊤
-Stands g ts start n (faults.Unexpected i) = IsFirst (free g) ts start i × (is_refused_at (slice_get ts i) ≡ false)
-Stands g ts start n (faults.OutOfProfile i) = IsFirst (free g) ts start i × (is_refused_at (slice_get ts i) ≡ true)
-Stands g ts start n (faults.Limit limits.Nesting i) = PassesLimit (g small n) (unbounded (g small)) ts start i
-Stands g ts start n (faults.Limit limits.Integer i) = PassesLimit (g small n) (free g) ts start i
-Stands g ts start n (faults.Limit limits.TagNumber i) = PassesLimit (g small n) (free g) ts start i
+-- A fault stands at its place: of what a grammar says of the lexemes from start on, within these limits.
+abbrev pub Stands : {A : Type 0} → Limited A → List Lexeme → ℕ → Limits → SyntaxFault → Type 0
+Stands g ts start a faults.Memory = ⊤
+Stands g ts start a (faults.Unexpected i) = Ends g a ts start i × (is_refused_at (slice_get ts i) ≡ false)
+Stands g ts start a (faults.OutOfProfile i) = Ends g a ts start i × (is_refused_at (slice_get ts i) ≡ true)
+Stands g ts start a (faults.Limit l i) = PassesLimit g a ts start i (limit_of l)

@@ -57,4 +57,4 @@ module _ (fits : ℕ → Bool) where
 
 -- the grammar of what opens nothing that is counted
 abbrev pub flat : {A : Type 0} → ((ℕ → Bool) → Grammar A) → Limited A
-flat g fits n = g fits
+flat g a = g a.number

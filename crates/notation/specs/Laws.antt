@@ -1,13 +1,18 @@
 -- What the reader of values keeps, for the grammars above that have values in them.
-use Rattle.std.specs.Prelude.{◌≡◌, ℕ, suc, ◌≤◌, Bool, true, false, List, slice_get, if◌then◌else◌}
+use Rattle.std.specs.Prelude.{◌≡◌, ℕ, suc, ◌≤◌, Bool, true, false, List, length, slice_get, if◌then◌else◌}
 use Rattle.std.proofs.Common.{refl, sym, ap, subst, ◌∙◌ as ◌⋆◌}
 use Rattle.text.specs.declared.token.Mark.TheVariants.{Colon, Minus, OpenBrace}
 use Rattle.text.specs.declared.reserved.Word.TheVariants.{True, False, Null}
 use Rattle.grammar.specs.Lexeme.{Lexeme, Number, Word, Mark}
 use Rattle.grammar.specs.Grows.{Grows}
-use Rattle.grammar.specs.Laws.{nowhere, deeper, wider, Sound, Finds}
+use Rattle.grammar.specs.Answers.{Reads, one_stop, not_both, one_limit}
+use Rattle.grammar.specs.Laws.{nowhere, deeper, wider, higher, Sound, Finds}
 use Rattle.grammar.specs.Lists.{IsSolid}
-use Rattle.grammar.specs.Places.{Limited, any, small, free, IsFirst}
+use Rattle.grammar.specs.Places.{Limits, Limited, Within, any, small, Stops, Ends, PassesLimit}
+use Rattle.grammar.specs.Reading.{Limit, Nesting, Integer, Reader}
+use Rattle.notation.specs.declared.fault.Limit.{Limit as Limit'}
+use Rattle.notation.specs.declared.fault.Limit.TheVariants as limits
+use Rattle.notation.specs.Given.{limit_of}
 use Rattle.notation.specs.declared.fault.SyntaxFault.{SyntaxFault}
 use Rattle.notation.specs.declared.fault.SyntaxFault.TheVariants as faults
 use Rattle.notation.specs.Answer.{is_refused_at, unexpected, Stands}
@@ -34,17 +39,50 @@ goes_on t = false
 pub record ValueLaws : Type 0 where
   pub sound : (n : ℕ) (ts : List Lexeme) → Sound nowhere (value small n) ts (value_at small n ts)
   pub sound_any : (n : ℕ) (ts : List Lexeme) → Sound wider (value any n) ts (value_at small n ts)
+  pub sound_higher : (n : ℕ) (ts : List Lexeme) → Sound higher (value small n) ts (value_at small n ts)
   pub sound_deeper : (n : ℕ) (ts : List Lexeme) → Sound deeper (value small (suc n)) ts (value_at small n ts)
-  pub finds : (n m : ℕ) → m ≤ n → Finds true (value small m) (starts small) goes_on (value_at small n)
-  pub finds_free : (n m : ℕ) → Finds false (value any m) (starts any) goes_on (value_at small n)
-  pub finds_any : (n m : ℕ) → m ≤ n → Finds true (value any m) (starts any) goes_on (value_at any n)
-  pub grows : (n : ℕ) → Grows (value small n) (value any n)
+  -- a are the reader's limits, b the grammar's
+  pub finds : (a b : Limits) → Finds (λ l. Within l b a) (value b.number b.nesting) (starts b.number) goes_on (value_at a.number a.nesting)
+  pub grows : (fits fits' : ℕ → Bool)
+      → ((n : ℕ) → fits n ≡ true → fits' n ≡ true)
+      → (n : ℕ) → Grows (value fits n) (value fits' n)
   pub solid : (fits : ℕ → Bool) (n : ℕ) → IsSolid (value fits n)
 
--- the fault at the first place stands
-pub first_stands : {A : Type 0} (g : Limited A) (ts : List Lexeme) (start n i : ℕ) (f : SyntaxFault) → f ≡ unexpected ts i → IsFirst (free g) ts start i → Stands g ts start n f
-first_stands g ts start n i f e h = go f (is_refused_at (slice_get ts i)) refl e
+-- the fault of a place where nothing goes on stands
+pub first_stands : {A : Type 0} (g : Limited A) (ts : List Lexeme) (start : ℕ) (a : Limits) (i : ℕ) (f : SyntaxFault) → f ≡ unexpected ts i → Ends g a ts start i → Stands g ts start a f
+first_stands g ts start a i f e h = go f (is_refused_at (slice_get ts i)) refl e
   where
-    go : (f : SyntaxFault) (b : Bool) → is_refused_at (slice_get ts i) ≡ b → f ≡ unexpected ts i → Stands g ts start n f
-    go f true q e = subst (Stands g ts start n) (sym (e ⋆ ap (λ (b : Bool). if b then faults.OutOfProfile i else faults.Unexpected i) q)) (h, q)
-    go f false q e = subst (Stands g ts start n) (sym (e ⋆ ap (λ (b : Bool). if b then faults.OutOfProfile i else faults.Unexpected i) q)) (h, q)
+    go : (f : SyntaxFault) (b : Bool) → is_refused_at (slice_get ts i) ≡ b → f ≡ unexpected ts i → Stands g ts start a f
+    go f true q e = subst (Stands g ts start a) (sym (e ⋆ ap (λ (b : Bool). if b then faults.OutOfProfile i else faults.Unexpected i) q)) (h, q)
+    go f false q e = subst (Stands g ts start a) (sym (e ⋆ ap (λ (b : Bool). if b then faults.OutOfProfile i else faults.Unexpected i) q)) (h, q)
+
+-- one fault at most stands, want of memory apart
+module _ {A : Type 0} (g : Limited A) (a : Limits) (read : Reader A) (reads : Reads g a read) (ts : List Lexeme) (start : ℕ) (place : start ≤ length ts) where
+  true_false : (b : Bool) → b ≡ false → b ≡ true → ⊥
+  true_false b p q = absurd (let e = sym p ⋆ q in cc)
+
+  refused_at : (i j : ℕ) (b c : Bool) → i ≡ j → is_refused_at (slice_get ts i) ≡ b → is_refused_at (slice_get ts j) ≡ c → b ≡ c
+  refused_at i j b c e p q = sym p ⋆ ap (λ (i : ℕ). is_refused_at (slice_get ts i)) e ⋆ q
+
+  limit_is : (l m : Limit') → limit_of l ≡ limit_of m → l ≡ m
+  limit_is limits.Nesting limits.Nesting e = refl
+  limit_is limits.Integer limits.Integer e = refl
+  limit_is limits.TagNumber limits.TagNumber e = refl
+  limit_is l m e = absurd cc
+
+  pub one_stands : (f f' : SyntaxFault) → (f ≡ faults.Memory → ⊥) → (f' ≡ faults.Memory → ⊥) → Stands g ts start a f → Stands g ts start a f' → f ≡ f'
+  one_stands faults.Memory f' n n' s s' = absurd (n refl)
+  one_stands f faults.Memory n n' s s' = absurd (n' refl)
+  one_stands (faults.Unexpected i) (faults.Unexpected j) n n' s s' = ap (λ (i : ℕ). faults.Unexpected i) (one_stop g a ts start i j s.0.stops s'.0.stops)
+  one_stands (faults.OutOfProfile i) (faults.OutOfProfile j) n n' s s' = ap (λ (i : ℕ). faults.OutOfProfile i) (one_stop g a ts start i j s.0.stops s'.0.stops)
+  one_stands (faults.Unexpected i) (faults.OutOfProfile j) n n' s s' = let e = refused_at i j false true (one_stop g a ts start i j s.0.stops s'.0.stops) s.1 s'.1 in absurd cc
+  one_stands (faults.OutOfProfile i) (faults.Unexpected j) n n' s s' = let e = refused_at i j true false (one_stop g a ts start i j s.0.stops s'.0.stops) s.1 s'.1 in absurd cc
+  one_stands (faults.Unexpected i) (faults.Limit l j) n n' s s' = absurd (not_both g a ts start i j (limit_of l) s.0 s')
+  one_stands (faults.OutOfProfile i) (faults.Limit l j) n n' s s' = absurd (not_both g a ts start i j (limit_of l) s.0 s')
+  one_stands (faults.Limit l i) (faults.Unexpected j) n n' s s' = absurd (not_both g a ts start j i (limit_of l) s'.0 s)
+  one_stands (faults.Limit l i) (faults.OutOfProfile j) n n' s s' = absurd (not_both g a ts start j i (limit_of l) s'.0 s)
+  one_stands (faults.Limit l i) (faults.Limit m j) n n' s s' =
+      same_limit l m i j (limit_is l m (one_limit g a read reads ts start place (limit_of l) (limit_of m) i j s s')) (one_stop g a ts start i j s.stops s'.stops)
+    where
+      same_limit : (l m : Limit') (i j : ℕ) → l ≡ m → i ≡ j → faults.Limit l i ≡ faults.Limit m j
+      same_limit l m i j e d = ap (λ (l : Limit'). faults.Limit l i) e ⋆ ap (λ (i : ℕ). faults.Limit m i) d

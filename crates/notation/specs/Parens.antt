@@ -37,7 +37,7 @@ close_same (t ∷ ts) = refl
 close_only : (ends : Lexeme → Bool) → ends (Mark CloseParenthesis) ≡ false → (t : Lexeme) → is_close t ≡ true → ends t ≡ false
 close_only ends e t h = subst (λ (t : Lexeme). ends t ≡ false) (sym (close_one t h)) e
 
-module _ {s f : Type 0} {over : Limit → ℕ} {within : Bool} where
+module _ {s f : Type 0} {over : Limit → ℕ} {within : Limit → Type 0} where
   rule_open : Owes s f over within (lexeme (Mark OpenParenthesis)) is_open no_lexeme (one_at is_open)
   rule_open = rule_token (one_is (Mark OpenParenthesis) is_open refl open_one)
 

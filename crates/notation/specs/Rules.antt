@@ -7,30 +7,31 @@ use Rattle.grammar.specs.Grows.{Grows}
 use Rattle.grammar.specs.Reading.{Limit, Integer, Read, Reader, ◌>>=◌, stop, fitting, many_at, listed_at}
 use Rattle.grammar.specs.Laws.{Sound, Follows, Passes, Stands, Finds, then_read, seq_sound, seq_front, seq_whole, seq_part}
 use Rattle.grammar.specs.Lists.{IsSolid, no_lexeme, head_is, seq_first, seq_solid, with_comma, listed_sound, finds_listed}
+use Rattle.grammar.specs.Places.{Limits, Within}
 use Rattle.grammar.specs.Numbers.{Past, fitting_sound, fitting_passes, fitting_shrinks, fitting_stands}
 use Rattle.grammar.specs.Parts.{SoundReader, IsKind, token_sound, token_finds, token_solid, made_sound, made_finds, made_solid, seq_finds, open_finds, open_solid, pair_sound, pair_finds, pair_solid, pick, pick_sound, pick_finds, either_solid, perhaps, optional_sound, optional_finds, same_sound, same_finds}
 use Rattle.grammar.specs.Manies.{many_sound, many_finds}
 
 -- What a reader owes a production: where s is asked, what is read is so; where f is asked, no front is refused and each whole is read.
-pub record OwesLoosely {A : Type 0} (s f : Type 0) (over : Limit → ℕ) (within : Bool) (g : Grammar A) (starts ends : Lexeme → Bool) (read : Reader A) : Type 0 where
+pub record OwesLoosely {A : Type 0} (s f : Type 0) (over : Limit → ℕ) (within : Limit → Type 0) (g : Grammar A) (starts ends : Lexeme → Bool) (read : Reader A) : Type 0 where
   pub sound : s → SoundReader over g read
   pub finds : f → Finds within g starts ends read
 
 -- and no whole is empty
-pub record Owes {A : Type 0} (s f : Type 0) (over : Limit → ℕ) (within : Bool) (g : Grammar A) (starts ends : Lexeme → Bool) (read : Reader A) : Type 0 where
+pub record Owes {A : Type 0} (s f : Type 0) (over : Limit → ℕ) (within : Limit → Type 0) (g : Grammar A) (starts ends : Lexeme → Bool) (read : Reader A) : Type 0 where
   pub sound : s → SoundReader over g read
   pub finds : f → Finds within g starts ends read
   pub solid : IsSolid g
 
 -- both are asked
-abbrev pub Loose : {A : Type 0} → (Limit → ℕ) → Bool → Grammar A → (Lexeme → Bool) → (Lexeme → Bool) → Reader A → Type 0
+abbrev pub Loose : {A : Type 0} → (Limit → ℕ) → (Limit → Type 0) → Grammar A → (Lexeme → Bool) → (Lexeme → Bool) → Reader A → Type 0
 Loose over within g starts ends read = OwesLoosely (Unit {0}) (Unit {0}) over within g starts ends read
 
-abbrev pub Rules : {A : Type 0} → (Limit → ℕ) → Bool → Grammar A → (Lexeme → Bool) → (Lexeme → Bool) → Reader A → Type 0
+abbrev pub Rules : {A : Type 0} → (Limit → ℕ) → (Limit → Type 0) → Grammar A → (Lexeme → Bool) → (Lexeme → Bool) → Reader A → Type 0
 Rules over within g starts ends read = Owes (Unit {0}) (Unit {0}) over within g starts ends read
 
 -- what is owed where both are asked is owed where less is
-pub asked : {A : Type 0} {s f : Type 0} {over : Limit → ℕ} {within : Bool} {g : Grammar A} {starts ends : Lexeme → Bool} {read : Reader A} → Rules over within g starts ends read → Owes s f over within g starts ends read
+pub asked : {A : Type 0} {s f : Type 0} {over : Limit → ℕ} {within : Limit → Type 0} {g : Grammar A} {starts ends : Lexeme → Bool} {read : Reader A} → Rules over within g starts ends read → Owes s f over within g starts ends read
 asked k = record { sound = λ q. k.sound tt; finds = λ q. k.finds tt; solid = k.solid }
 
 -- one test or the other
@@ -62,7 +63,7 @@ pub record Same {A : Type 0} (a b : Grammar A) : Type 0 where
   pub to : Grows a b
   pub back : Grows b a
 
-module _ {s f : Type 0} {over : Limit → ℕ} {within : Bool} where
+module _ {s f : Type 0} {over : Limit → ℕ} {within : Limit → Type 0} where
   pub rule_token : {A : Type 0} {kind : A → Lexeme} {test : Lexeme → Bool} {read : Reader A} → IsKind kind test read → Owes s f over within (token kind) test no_lexeme read
   rule_token {A} {kind} {test} {read} is = record { sound = λ q. token_sound kind test read is over; finds = λ q. token_finds kind test read is within; solid = token_solid kind }
 
@@ -202,7 +203,7 @@ number_at fits (Number n ∷ rest) = fitting (fits n) (Number n ∷ rest) (Ok (n
 number_at fits ts = stop ts
 
 -- fits is the reader's test on numbers, fits' the grammar's
-module _ (over : Limit → ℕ) (within : Bool) (fits fits' : ℕ → Bool) (grows : (n : ℕ) → fits n ≡ true → fits' n ≡ true) (past : Past (over Integer) ((n : ℕ) → fits' n ≡ true)) (room : (n : ℕ) → fits' n ≡ true → within ≡ true → fits n ≡ true) where
+module _ (over : Limit → ℕ) (within : Limit → Type 0) (fits fits' : ℕ → Bool) (grows : (n : ℕ) → fits n ≡ true → fits' n ≡ true) (past : Past (over Integer) ((n : ℕ) → fits' n ≡ true)) (room : (n : ℕ) → fits' n ≡ true → within Integer → fits n ≡ true) where
   le_same : (us : List Lexeme) → length us ≤ length us
   le_same us = omega arith
 
@@ -266,6 +267,9 @@ one_at test (t ∷ ts) = taken (test t) (t ∷ ts) ts
 pub one_is : (s : Lexeme) (test : Lexeme → Bool) → test s ≡ true → ((t : Lexeme) → test t ≡ true → t ≡ s) → IsKind (λ (x : Unit {0}). s) test (one_at test)
 one_is s test holds one = record { yes = λ x. holds; one = λ t e. (tt, one t e); nil = refl; hit = λ x ts. ap (λ (b : Bool). taken b (s ∷ ts) ts) holds; miss = λ t ts e. ap (λ (b : Bool). taken b (t ∷ ts) ts) e }
 
--- what a production and its reader owe each other under each limit: fits is the reader's test on numbers, fits' the grammar's
+-- what a production and its reader owe each other under limits: a are the reader's, b the grammar's
 abbrev pub Ruled : {A : Type 0} → ((ℕ → Bool) → Grammar A) → (Lexeme → Bool) → ((ℕ → Bool) → Reader A) → Type 0
-Ruled g starts read = (over : Limit → ℕ) (within : Bool) (fits fits' : ℕ → Bool) → ((n : ℕ) → fits n ≡ true → fits' n ≡ true) → Past (over Integer) ((n : ℕ) → fits' n ≡ true) → ((n : ℕ) → fits' n ≡ true → within ≡ true → fits n ≡ true) → Rules over within (g fits') starts no_lexeme (read fits)
+Ruled g starts read = (over : Limit → ℕ) (a b : Limits)
+    → ((n : ℕ) → a.number n ≡ true → b.number n ≡ true)
+    → Past (over Integer) ((n : ℕ) → b.number n ≡ true)
+    → Rules over (λ l. Within l b a) (g b.number) starts no_lexeme (read a.number)

@@ -4,6 +4,7 @@ use Rattle.text.specs.declared.token.Mark.TheVariants.{Colon, Dot, Minus, OpenBr
 use Rattle.text.specs.declared.reserved.Word.TheVariants.{True, False, Null}
 use Rattle.grammar.specs.Lexeme.{TypeRef, Ident, Number, BString, HString, CString, Mark}
 use Rattle.grammar.specs.Grammar.{Grammar, token, mark, word, number_of, ◌∙◌, ◌∣◌, ◌⇒◌, many, behind, listed, braces}
+use Rattle.grammar.specs.Places.{Limited}
 use Rattle.trees.specs.Values.{Tree, yes, no, null, number, binary, hex, chars, reference, chosen, nothing, numbers, items, fields, trees, members}
 
 -- A limit on numbers is a test that numbers with no minus meet.
@@ -35,3 +36,7 @@ module _ (fits : ℕ → Bool) where
   abbrev pub value : ℕ → Grammar Tree
   value zero = simple
   value (suc n) = simple ∣ nested (value n)
+
+-- the values within limits
+abbrev pub values : Limited Tree
+values a = value a.number a.nesting

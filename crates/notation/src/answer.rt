@@ -2,9 +2,9 @@
 
 ghost use Rattle.std.specs.Prelude.{◌≡◌, ◌-◌, ◌≤◌, ℕ, length, IfOk, IfErr, MatchResult};
 ghost use Rattle.grammar.specs.Lexeme.{lexemes};
-ghost use Rattle.grammar.specs.Places.{small, free, IsRead};
+ghost use Rattle.grammar.specs.Places.{bounded, free, IsRead};
 ghost use Rattle.trees.specs.Values.{Tree, tree_of};
-ghost use Rattle.notation.specs.Value.{value};
+ghost use Rattle.notation.specs.Value.{values};
 ghost use Rattle.notation.specs.Given.{IsLexed};
 ghost use Rattle.notation.specs.Answer.{Stands};
 
@@ -25,11 +25,13 @@ pub const MAX_NESTING: usize = 128;
 /// The notation is that of X.680, clause 17.1, with the values of the types that this compiler knows.
 ///
 /// # Errors
-/// - [`SyntaxFault::Unexpected`] and [`SyntaxFault::OutOfProfile`] at the first token with which no value can go on;
-///   `OutOfProfile` where that token is a word or mark of a construct that is left out.
-/// - [`SyntaxFault::Limit`] at the brace or colon that opens more than 128 things, and at a number of 2 to the 127
-///   with no minus before it.
-/// - [`SyntaxFault::Memory`] if there is not enough memory.
+/// The place of a fault is the first token with which no value within the limits can go on. It is told there as
+/// - [`SyntaxFault::Limit`] where a value could go on if this one limit were higher: at the brace or colon that opens
+///   more than 128 things, and at a number of 2 to the 127 with no minus before it;
+/// - [`SyntaxFault::Unexpected`] and [`SyntaxFault::OutOfProfile`] where none could under any limits; `OutOfProfile`
+///   where that token is a word or mark of a construct that is left out.
+///
+/// Besides, [`SyntaxFault::Memory`] is told if there is not enough memory.
 pub fn value_at(
     alloc: Global,
     text: &[u8],
@@ -41,12 +43,12 @@ pub fn value_at(
     requires place { place ≤ length tokens.now }
     requires room { opened ≤ 128 }
     // What is answered is the value there.
-    ensures found { IfOk result (λ x. IsRead (value small (128 - opened)) (free value) (lexemes text.now tokens.now) place (tree_of x.0) x.1) }
+    ensures found { IfOk result (λ x. IsRead (values (bounded (128 - opened))) (free values) (lexemes text.now tokens.now) place (tree_of x.0) x.1) }
     // A value that is there is answered, unless memory runs out.
-    ensures only { (v : Tree) (end : ℕ) → IsRead (value small (128 - opened)) (free value) (lexemes text.now tokens.now) place v end
+    ensures only { (v : Tree) (end : ℕ) → IsRead (values (bounded (128 - opened))) (free values) (lexemes text.now tokens.now) place v end
         → MatchResult result (λ x. (tree_of x.0 ≡ v) × (x.1 ≡ end)) (λ f. f ≡ SyntaxFault.Memory) }
     // A fault stands at its place.
-    ensures fault { IfErr result (Stands value (lexemes text.now tokens.now) place (128 - opened)) }
+    ensures fault { IfErr result (Stands values (lexemes text.now tokens.now) place (bounded (128 - opened))) }
 {
     text::law::spans_within();
     match value(alloc, text, &tokens[place..], MAX_NESTING - opened) {

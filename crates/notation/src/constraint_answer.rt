@@ -2,7 +2,7 @@
 
 ghost use Rattle.std.specs.Prelude.{◌≡◌, ◌≤◌, ℕ, List, length, IfOk, IfErr, MatchResult};
 ghost use Rattle.grammar.specs.Lexeme.{lexemes};
-ghost use Rattle.grammar.specs.Places.{small, free, IsRead};
+ghost use Rattle.grammar.specs.Places.{bounded, free, IsRead};
 ghost use Rattle.trees.specs.Constraints.{ConstraintTree, RangeTree, constraint_of, size_of};
 ghost use Rattle.notation.specs.ConstraintGrammar.{constraint, size, flat};
 ghost use Rattle.notation.specs.Given.{IsLexed};
@@ -23,10 +23,12 @@ use trees::{ConstraintSyntax, SizeSyntax};
 /// extension marker.
 ///
 /// # Errors
-/// - [`SyntaxFault::Unexpected`] and [`SyntaxFault::OutOfProfile`] at the first token with which no constraint can go
-///   on; `OutOfProfile` where that token is a word or mark of a construct that is left out.
-/// - [`SyntaxFault::Limit`] at a number of 2 to the 127 with no minus before it.
-/// - [`SyntaxFault::Memory`] if there is not enough memory.
+/// The place of a fault is the first token with which no constraint within the limits can go on. It is told there as
+/// - [`SyntaxFault::Limit`] at a number of 2 to the 127 with no minus before it, with which one could go on otherwise;
+/// - [`SyntaxFault::Unexpected`] and [`SyntaxFault::OutOfProfile`] where none could under any limits; `OutOfProfile`
+///   where that token is a word or mark of a construct that is left out.
+///
+/// Besides, [`SyntaxFault::Memory`] is told if there is not enough memory.
 pub fn constraint_at(
     alloc: Global,
     text: &[u8],
@@ -36,12 +38,12 @@ pub fn constraint_at(
     requires text { IsLexed text.now tokens.now }
     requires place { place ≤ length tokens.now }
     // What is answered is the constraint there.
-    ensures found { IfOk result (λ x. IsRead (constraint small) (free (flat constraint)) (lexemes text.now tokens.now) place (constraint_of x.0) x.1) }
+    ensures found { IfOk result (λ x. IsRead (flat constraint (bounded 0)) (free (flat constraint)) (lexemes text.now tokens.now) place (constraint_of x.0) x.1) }
     // A constraint that is there is answered, unless memory runs out.
-    ensures only { (v : ConstraintTree) (end : ℕ) → IsRead (constraint small) (free (flat constraint)) (lexemes text.now tokens.now) place v end
+    ensures only { (v : ConstraintTree) (end : ℕ) → IsRead (flat constraint (bounded 0)) (free (flat constraint)) (lexemes text.now tokens.now) place v end
         → MatchResult result (λ x. (constraint_of x.0 ≡ v) × (x.1 ≡ end)) (λ f. f ≡ SyntaxFault.Memory) }
     // A fault stands at its place.
-    ensures fault { IfErr result (Stands (flat constraint) (lexemes text.now tokens.now) place 0) }
+    ensures fault { IfErr result (Stands (flat constraint) (lexemes text.now tokens.now) place (bounded 0)) }
 {
     text::law::spans_within();
     match constraint(alloc, text, &tokens[place..]) {
@@ -59,10 +61,12 @@ pub fn constraint_at(
 /// The notation is that of X.680, clause 51.5, with no extension marker.
 ///
 /// # Errors
-/// - [`SyntaxFault::Unexpected`] and [`SyntaxFault::OutOfProfile`] at the first token with which no size can go on;
-///   `OutOfProfile` where that token is a word or mark of a construct that is left out.
-/// - [`SyntaxFault::Limit`] at a number of 2 to the 127 with no minus before it.
-/// - [`SyntaxFault::Memory`] if there is not enough memory.
+/// The place of a fault is the first token with which no size within the limits can go on. It is told there as
+/// - [`SyntaxFault::Limit`] at a number of 2 to the 127 with no minus before it, with which one could go on otherwise;
+/// - [`SyntaxFault::Unexpected`] and [`SyntaxFault::OutOfProfile`] where none could under any limits; `OutOfProfile`
+///   where that token is a word or mark of a construct that is left out.
+///
+/// Besides, [`SyntaxFault::Memory`] is told if there is not enough memory.
 pub fn size_at(
     alloc: Global,
     text: &[u8],
@@ -72,12 +76,12 @@ pub fn size_at(
     requires text { IsLexed text.now tokens.now }
     requires place { place ≤ length tokens.now }
     // What is answered is the size there.
-    ensures found { IfOk result (λ x. IsRead (size small) (free (flat size)) (lexemes text.now tokens.now) place (size_of x.0) x.1) }
+    ensures found { IfOk result (λ x. IsRead (flat size (bounded 0)) (free (flat size)) (lexemes text.now tokens.now) place (size_of x.0) x.1) }
     // A size that is there is answered, unless memory runs out.
-    ensures only { (v : List RangeTree) (end : ℕ) → IsRead (size small) (free (flat size)) (lexemes text.now tokens.now) place v end
+    ensures only { (v : List RangeTree) (end : ℕ) → IsRead (flat size (bounded 0)) (free (flat size)) (lexemes text.now tokens.now) place v end
         → MatchResult result (λ x. (size_of x.0 ≡ v) × (x.1 ≡ end)) (λ f. f ≡ SyntaxFault.Memory) }
     // A fault stands at its place.
-    ensures fault { IfErr result (Stands (flat size) (lexemes text.now tokens.now) place 0) }
+    ensures fault { IfErr result (Stands (flat size) (lexemes text.now tokens.now) place (bounded 0)) }
 {
     text::law::spans_within();
     match size(alloc, text, &tokens[place..]) {

@@ -1,14 +1,17 @@
 //! Laws on values and constraints as they are written.
 
-ghost use Rattle.std.specs.Prelude.{◌≡◌, ℕ, Bool, true, List};
+ghost use Rattle.std.specs.Prelude.{◌≡◌, ◌≤◌, ℕ, Bool, true, List, length};
 ghost use Rattle.text.specs.declared.token.Token.{Token};
 ghost use Rattle.notation.specs.Given.{IsLexed, AreTokens};
 ghost use Rattle.grammar.specs.Lexeme.{Lexeme};
-ghost use Rattle.grammar.specs.Places.{any, free};
+ghost use Rattle.grammar.specs.Places.{any, bounded, free};
+ghost use Rattle.notation.specs.Answer.{Stands};
+ghost use Rattle.notation.specs.declared.fault.SyntaxFault.{SyntaxFault as Fault};
+ghost use Rattle.notation.specs.declared.fault.SyntaxFault.TheVariants as faults;
 ghost use Rattle.trees.specs.Values.{Tree};
-ghost use Rattle.notation.specs.Value.{value};
+ghost use Rattle.notation.specs.Value.{values};
 ghost use Rattle.trees.specs.Constraints.{ConstraintTree, RangeTree};
-ghost use Rattle.notation.specs.ConstraintGrammar.{constraint, size};
+ghost use Rattle.notation.specs.ConstraintGrammar.{constraint, size, flat};
 ghost use Rattle.notation.specs.Laws.{ValueLaws};
 ghost use Rattle.notation.specs.Rules.{Ruled};
 ghost use Rattle.notation.specs.ConstraintReading.{is_open, is_size, constraint_at, size_at};
@@ -16,7 +19,7 @@ ghost use Rattle.grammar.specs.Grows.{Grows};
 
 /// A list of lexemes is one value at most.
 pub fn one_value()
-    ensures { (ts : List Lexeme) (v w : Tree) → (free value).Is v ts → (free value).Is w ts → v ≡ w }
+    ensures { (ts : List Lexeme) (v w : Tree) → (free values).Is v ts → (free values).Is w ts → v ≡ w }
 {}
 
 /// A list of lexemes is one constraint at most.
@@ -27,6 +30,36 @@ pub fn one_constraint()
 /// A list of lexemes is one size at most.
 pub fn one_size()
     ensures { (ts : List Lexeme) (v w : List RangeTree) → (size any).Is v ts → (size any).Is w ts → v ≡ w }
+{}
+
+/// One fault at most stands where a value is read, want of memory apart.
+pub fn one_value_fault()
+    ensures { (ts : List Lexeme) (start n : ℕ) → start ≤ length ts → (f g : Fault)
+        → (f ≡ faults.Memory → ⊥)
+        → (g ≡ faults.Memory → ⊥)
+        → Stands values ts start (bounded n) f
+        → Stands values ts start (bounded n) g
+        → f ≡ g }
+{}
+
+/// One fault at most stands where a constraint is read, want of memory apart.
+pub fn one_constraint_fault()
+    ensures { (ts : List Lexeme) (start : ℕ) → start ≤ length ts → (f g : Fault)
+        → (f ≡ faults.Memory → ⊥)
+        → (g ≡ faults.Memory → ⊥)
+        → Stands (flat constraint) ts start (bounded 0) f
+        → Stands (flat constraint) ts start (bounded 0) g
+        → f ≡ g }
+{}
+
+/// One fault at most stands where a size is read, want of memory apart.
+pub fn one_size_fault()
+    ensures { (ts : List Lexeme) (start : ℕ) → start ≤ length ts → (f g : Fault)
+        → (f ≡ faults.Memory → ⊥)
+        → (g ≡ faults.Memory → ⊥)
+        → Stands (flat size) ts start (bounded 0) f
+        → Stands (flat size) ts start (bounded 0) g
+        → f ≡ g }
 {}
 
 /// What is read as a constraint is one, each constraint is read, and a fault is the first one.

@@ -7,7 +7,7 @@ use Rattle.grammar.specs.Reading.{Limit, Reader}
 use Rattle.grammar.specs.Laws.{nowhere, seq_sound, Finds, then_read}
 use Rattle.grammar.specs.Lists.{IsSolid, no_lexeme, seq_solid}
 use Rattle.grammar.specs.Manies.{Consumes, consumes}
-use Rattle.grammar.specs.Places.{small}
+use Rattle.grammar.specs.Places.{small, tag_small}
 use Rattle.grammar.specs.Grows.{Grows, same_grows, seq_grows, made_grows, either_grows, behind_grows}
 use Rattle.grammar.specs.Parts.{SoundReader, token_sound, token_finds, token_solid, seq_finds, pair_sound, pair_finds, pair_solid, pick, pick_sound, pick_finds, either_solid, same_sound, same_finds}
 use Rattle.trees.specs.Values.{Tree}
@@ -111,7 +111,7 @@ pub assigns_solid : (t : Grammar TypeTree) (v : Grammar Tree) → IsSolid (assig
 assigns_solid t v =
     either_solid (assigns_a_type t) (assigns_a_value t v) (seq_solid (token TypeRef) (behind (Mark Assign) t) (λ p. assigns_type p.0 p.1) (token_solid TypeRef)) (seq_solid (token Ident) (typed t v) (λ p. assigns_value p.0 p.1.0 p.1.1) (token_solid Ident))
 
-module _ (within : Bool) (fits : ℕ → Bool) (n : ℕ) (t : Grammar TypeTree) (v : Grammar Tree) (type_starts value_starts : Lexeme → Bool)
+module _ (within : Limit → Type 0) (fits : ℕ → Bool) (n : ℕ) (t : Grammar TypeTree) (v : Grammar Tree) (type_starts value_starts : Lexeme → Bool)
     (ft : Finds within t type_starts type_ends (type_at fits n)) (fv : Finds within v value_starts goes_on (value_at fits n)) (solid_t : IsSolid t) (solid_v : IsSolid v) where
   behind_finds : {A : Type 0} (m : Lexeme) (test : Lexeme → Bool) (mark : Reader (Unit {0})) (a : Grammar A) (starts ends : Lexeme → Bool) (read : Reader A)
       → Finds within (token (λ (x : Unit {0}). m)) test no_lexeme mark → Finds within a starts ends read → IsSolid a → Finds within (behind m a) test ends (then_at mark read)
@@ -139,4 +139,4 @@ assigns_grow t t' v v' gt gv =
     (made_grows (token Ident ∙ typed t v) (token Ident ∙ typed t' v') (λ p. assigns_value p.0 p.1.0 p.1.1) (seq_grows (token Ident) (token Ident) (typed t v) (typed t' v') (same_grows (token Ident)) (seq_grows t t' (behind (Mark Assign) v) (behind (Mark Assign) v') gt (behind_grows (Mark Assign) v v' gv))))
 
 pub assignment_consumes : (all : TypeLaws) (n : ℕ) → Consumes (assignment_at small n)
-assignment_consumes all n = consumes (assigns (type small n) (value small n)) (assignment_at small n) (assigns_solid (type small n) (value small n)) (assignment_sound nowhere small n (type small n) (value small n) (all.sound n) (all.values.sound n))
+assignment_consumes all n = consumes (assigns (type small tag_small n) (value small n)) (assignment_at small n) (assigns_solid (type small tag_small n) (value small n)) (assignment_sound nowhere small n (type small tag_small n) (value small n) (all.sound n) (all.values.sound n))

@@ -1,18 +1,20 @@
 -- What is read as a module is one; the reader refuses no front of a module, and reads each whole one.
-use Rattle.std.proofs.Common.{◌≡◌, ℕ, suc, ◌≤◌, ◌+◌, inl, inr, Bool, true, false, List, [], ◌∷◌, ◌++◌, length, Ok, refl, sym, ap, ◌∙◌ as ◌⋆◌, arith}
+use Rattle.std.proofs.Common.{◌≡◌, ℕ, suc, ◌≤◌, ◌+◌, inl, inr, Bool, true, false, List, [], ◌∷◌, ◌++◌, length, Ok, refl, sym, ap, subst, ◌∙◌ as ◌⋆◌, arith}
 use Rattle.text.specs.declared.reserved.Word.TheVariants.{Exports, Imports, End}
 use Rattle.grammar.specs.Lexeme.{Lexeme, Word}
 use Rattle.grammar.specs.Grammar.{Grammar, word, ◌∙◌, ◌⇒◌, many}
 use Rattle.grammar.specs.Grows.{Grows, same_grows, seq_grows, made_grows, many_grows}
 use Rattle.grammar.specs.Numbers.{Past}
-use Rattle.grammar.specs.Reading.{Limit, Integer, Read, Reader, many_at}
-use Rattle.grammar.specs.Laws.{nowhere, deeper, wider, seq_sound, Sound, Follows, Stands, Finds}
+use Rattle.grammar.specs.Reading.{Limit, Nesting, Integer, TagNumber, Read, Reader, many_at}
+use Rattle.grammar.specs.Laws.{nowhere, deeper, wider, higher, past, seq_sound, Sound, Follows, Stands, Finds}
 use Rattle.grammar.specs.Lists.{IsSolid, no_lexeme}
 use Rattle.grammar.specs.Manies.{many_sound, many_finds}
-use Rattle.grammar.specs.Places.{any, small, free, unbounded}
-use Rattle.grammar.specs.Answers.{Reads, unbound}
+use Rattle.grammar.specs.Places.{Limits, any, small, tag_small, bounded, Within, raised, free}
+use Rattle.grammar.specs.Answers.{joined, joined_first, joined_second, Reads}
 use Rattle.grammar.specs.Parts.{SoundReader, token_sound, token_finds, token_solid, seq_finds, open_finds, open_solid}
 use Rattle.notation.specs.Rules.{Rules, either, no_left, no_right, bor_left, bor_right}
+use Rattle.type_syntax.specs.TypeLaws.{Allows}
+use Rattle.type_syntax.specs.TypeReading.{tag_fits}
 use Rattle.trees.specs.Modules.{AssignmentTree, ModuleTree}
 use Rattle.module_head.specs.Heading.{HeadTree, head}
 use Rattle.syntax.specs.Syntax.{assignment, module_of, module_text}
@@ -63,11 +65,9 @@ body_solid : (a : Grammar AssignmentTree) → IsSolid (body a)
 body_solid a = open_solid (many a) (word End) (λ p. p.0) (token_solid (λ (x : Unit {0}). Word End))
 
 -- fits is the reader's test on numbers, fits' the grammar's
-module _ (heads : HeadLaws) (over : Limit → ℕ) (within : Bool) (fits fits' : ℕ → Bool) (grows : (n : ℕ) → fits n ≡ true → fits' n ≡ true) (past : Past (over Integer) ((n : ℕ) → fits' n ≡ true)) (room : (n : ℕ) → fits' n ≡ true → within ≡ true → fits n ≡ true)
+module _ (over : Limit → ℕ) (within : Limit → Type 0) (fits fits' : ℕ → Bool) (headed : Rules over within (head fits') is_typeref head_ends (head_at fits))
     (n : ℕ) (a : Grammar AssignmentTree) where
-  headed : Rules over within (head fits') is_typeref head_ends (head_at fits)
-  headed = heads.read over within fits fits' grows past room
-
+  
   body_sound : SoundReader over a (assignment_at fits n) → SoundReader over (body a) (assignments_at fits n)
   unfolding assignments_at
   body_sound s ts = seq_sound over (many a) (word End) (λ p. p.0) ts (many_read fits n ts) end_at (many_sound over a begins_assignment (assignment_at fits n) s (length ts) ts) (token_sound (λ (x : Unit {0}). Word End) is_end end_at end_is over)
@@ -96,49 +96,78 @@ module_grows heads fits fits' grows a a' g =
 -- ---- under each limit
 
 module _ (laws : ModuleLaws) where
-  within_finds : (n m : ℕ) → m ≤ n → Finds true (module_text small m) is_typeref no_lexeme (module_at small n)
-  within_finds n m le = module_finds laws.heads nowhere true small small (λ k e. e) tt (λ k e w. e) n (assignment small m) (laws.finds n m le) (laws.solid small m)
+  -- a are the reader's limits, b the grammar's
+  finds : (a b : Limits) → Allows a b → Finds (λ l. Within l b a) (module_text b) is_typeref no_lexeme (module_at a.number a.nesting)
+  finds a b allows =
+      module_finds nowhere (λ l. Within l b a) a.number b.number (laws.heads.read nowhere a b allows.number tt) a.nesting (assignment b.number b.tag b.nesting)
+      (laws.finds a b allows) (laws.solid b.number b.tag b.nesting)
 
-  free_finds : (n m : ℕ) → Finds false (module_text any m) is_typeref no_lexeme (module_at small n)
-  free_finds n m = module_finds laws.heads nowhere false small any (λ k e. refl) tt (λ k e w. absurd cc) n (assignment any m) (laws.finds_free n m) (laws.solid any m)
-
-  any_finds : (n m : ℕ) → m ≤ n → Finds true (module_text any m) is_typeref no_lexeme (module_at any n)
-  any_finds n m le = module_finds laws.heads nowhere true any any (λ k e. e) tt (λ k e w. e) n (assignment any m) (laws.finds_any n m le) (laws.solid any m)
+  sound_at : (over : Limit → ℕ) (n : ℕ) (b : Limits) → ((n : ℕ) → small n ≡ true → b.number n ≡ true) → Past (over Integer) ((n : ℕ) → b.number n ≡ true)
+      → SoundReader over (assignment b.number b.tag b.nesting) (assignment_at small n) → SoundReader over (module_text b) (module_at small n)
+  sound_at over n b grows past s = module_sound over (λ l. Within l b (bounded n)) small b.number (laws.heads.read over (bounded n) b grows past) n (assignment b.number b.tag b.nesting) s
 
   no_end : (us : List Lexeme) → Follows no_lexeme us
   no_end [] = tt
   no_end (t ∷ us) = refl
 
-  weaker : (n : ℕ) (u : List Lexeme) → (module_text small n).CanGoOn u → (free module_text).CanGoOn u
-  weaker n u h = (n, (module_grows laws.heads small any (λ k e. refl) (assignment small n) (assignment any n) (laws.grows n)).on u h)
-
-  pub module_part_goes : (n : ℕ) (x : ModuleTree) (u : List Lexeme) → (module_text small n).Is x u → (free module_text).CanGoOn u
-  module_part_goes n x u h = weaker n u ((within_finds n n (omega arith)).part x u h)
-
-  pub module_reads : (n : ℕ) → Reads (module_text small n) (free module_text) (module_at small n)
-  module_reads n = record {
-    weaker = weaker n;
-    sound = module_sound laws.heads nowhere true small small (λ k e. e) tt (λ k e w. e) n (assignment small n) (laws.sound n);
-    front = λ u us h. (free_finds n h.0).front u us h.1;
-    front_within = λ u us h. (within_finds n n (omega arith)).front u us h;
-    whole = λ x u h. (free_finds n h.0).whole x u [] h.1 tt;
-    closed = λ x u us h c. (within_finds n n (omega arith)).whole x u us h (no_end us);
+  -- the reader's limits are within those that are joined with them
+  allows : (n : ℕ) (b : Limits) → Allows (bounded n) (joined (bounded n) b)
+  allows n b = record {
+    number = joined_first small b.number;
+    tag = λ k e. joined_first tag_small b.tag k (laws.small_tags k e);
+    own = laws.tags_small;
   }
 
-  pub deeper_modules : (n : ℕ) (ts : List Lexeme) → Sound deeper (unbounded (module_text small)) ts (module_at small n ts)
-  deeper_modules n ts = unbound (module_text small) (suc n) deeper ts (module_at small n ts) (module_sound laws.heads deeper true small small (λ k e. e) tt (λ k e w. e) n (assignment small (suc n)) (laws.sound_deeper n) ts)
+  itself : (n : ℕ) → Allows (bounded n) (bounded n)
+  itself n = record { number = λ k e. e; tag = laws.small_tags; own = laws.tags_small }
 
-  pub wider_modules : (n : ℕ) (ts : List Lexeme) → Sound wider (free module_text) ts (module_at small n ts)
-  wider_modules n ts = unbound (module_text any) n wider ts (module_at small n ts) (module_sound laws.heads wider false small any (λ k e. refl) (λ k. refl) (λ k e w. absurd cc) n (assignment any n) (laws.sound_any n) ts)
+  -- where a limit is passed, the lexemes can go on once it alone is raised
+  passed : (n : ℕ) (l : Limit) → (b : Limits) × ((ts : List Lexeme) → Sound (past l) (module_text (raised l (bounded n) b)) ts (module_at small n ts))
+  passed n Nesting = (bounded (suc n), sound_at deeper n (bounded (suc n)) (λ k e. e) tt (laws.sound_deeper n))
+  passed n Integer = (record { nesting = n; number = any; tag = any }, sound_at wider n (record { nesting = n; number = any; tag = tag_small }) (λ k e. refl) (λ k. refl) (laws.sound_any n))
+  passed n TagNumber = (record { nesting = n; number = any; tag = any }, sound_at higher n (record { nesting = n; number = small; tag = any }) (λ k e. e) tt (laws.sound_higher n))
+
+  grown : (a b : Limits) → ((n : ℕ) → a.number n ≡ true → b.number n ≡ true) → ((n : ℕ) → a.tag n ≡ true → b.tag n ≡ true) → a.nesting ≡ b.nesting → Grows (module_text a) (module_text b)
+  grown a b grows grows_tags e = module_grows laws.heads a.number b.number grows (assignment a.number a.tag a.nesting) (assignment b.number b.tag b.nesting)
+      (subst (λ (n : ℕ). Grows (assignment a.number a.tag a.nesting) (assignment b.number b.tag n)) e (laws.grows a b grows grows_tags a.nesting))
+
+  pub module_reads : (n : ℕ) → Reads module_text (bounded n) (module_at small n)
+  module_reads n = record {
+    grows = λ b. grown b (joined (bounded n) b) (joined_second small b.number) (joined_second tag_small b.tag) refl;
+    front = λ b u us h. (finds (bounded n) (joined (bounded n) b) (allows n b)).front u us h;
+    whole = λ b x u h. (finds (bounded n) (joined (bounded n) b) (allows n b)).whole x u [] h tt;
+    part = (finds (bounded n) (bounded n) (itself n)).part;
+    sound = sound_at nowhere n (bounded n) (λ k e. e) tt (laws.sound n);
+    passed = passed n;
+    closed = λ x u us h c. (finds (bounded n) (bounded n) (itself n)).whole x u us h (no_end us);
+  }
 
   -- A list of lexemes is one module at most.
+  abbrev unlimited : ℕ → Limits
+  unlimited n = record { nesting = n; number = any; tag = any }
+
+  read_whole : (n : ℕ) (u : List Lexeme) (a : Limits) (v : ModuleTree) → a.nesting ≤ n → (module_text a).Is v u → module_at any n (u ++ []) ≡ Ok (v, [])
+  read_whole n u a v le h = go (f.whole v u [] ((grown a (unlimited a.nesting) (λ k e. refl) (λ k e. refl) refl).is v u h) tt)
+    where
+      never_tag : (k : ℕ) → any k ≡ true → tag_fits any k ≡ true
+      never_tag k e = bor_right _ true refl
+
+      f : Finds (λ l. Within l (unlimited a.nesting) (unlimited n)) (module_text (unlimited a.nesting)) is_typeref no_lexeme (module_at any n)
+      f = finds (unlimited n) (unlimited a.nesting) (record { number = λ k e. e; tag = λ k e. refl; own = never_tag })
+
+      all : (l : Limit) → Within l (unlimited a.nesting) (unlimited n)
+      all Nesting = le
+      all Integer = λ k e. refl
+      all TagNumber = λ k e. refl
+
+      go : Stands (λ l. Within l (unlimited a.nesting) (unlimited n)) (module_at any n (u ++ [])) v [] → module_at any n (u ++ []) ≡ Ok (v, [])
+      go (inl e) = e
+      go (inr (p, k, e)) = absurd (k (all p.0))
+
   pub one_tree : (u : List Lexeme) (v w : ModuleTree) → (free module_text).Is v u → (free module_text).Is w u → v ≡ w
-  one_tree u v w (m, h) (k, l) = same ((any_finds (m + k) m (omega arith)).whole v u [] h tt) ((any_finds (m + k) k (omega arith)).whole w u [] l tt)
+  one_tree u v w (a, h) (b, k) =
+      let n = a.nesting + b.nesting in
+      ap (λ (x : ModuleTree × List Lexeme). x.0) (one_result (v, []) (w, []) (module_at any n (u ++ [])) (read_whole n u a v (omega arith) h) (read_whole n u b w (omega arith) k))
     where
       one_result : (x y : ModuleTree × List Lexeme) (r : Read ModuleTree) → r ≡ Ok x → r ≡ Ok y → x ≡ y
       one_result x y r p q = let e = sym p ⋆ q in cc
-
-      same : Stands true (module_at any (m + k) (u ++ [])) v [] → Stands true (module_at any (m + k) (u ++ [])) w [] → v ≡ w
-      same (inl p) (inl q) = ap (λ (x : ModuleTree × List Lexeme). x.0) (one_result (v, []) (w, []) (module_at any (m + k) (u ++ [])) p q)
-      same (inl p) (inr (g, n, q)) = absurd cc
-      same (inr (g, n, p)) q = absurd cc

@@ -4,6 +4,7 @@ use Rattle.text.specs.declared.token.Mark.TheVariants.{Assign}
 use Rattle.text.specs.declared.reserved.Word.TheVariants.{End}
 use Rattle.grammar.specs.Lexeme.{TypeRef, Ident, Mark}
 use Rattle.grammar.specs.Grammar.{Grammar, token, word, ◌∙◌, ◌∣◌, ◌⇒◌, many, behind}
+use Rattle.grammar.specs.Places.{Limited}
 use Rattle.notation.specs.Value.{value}
 use Rattle.type_syntax.specs.TypeGrammar.{type}
 use Rattle.trees.specs.Modules.{AssignmentTree, assigns_type, assigns_value, ModuleTree}
@@ -13,14 +14,13 @@ use Rattle.module_head.specs.Heading.{HeadTree, head}
 abbrev pub module_of : HeadTree → List AssignmentTree → ModuleTree
 module_of h xs = record { name = h.name; tag_default = h.tag_default; exports = h.exports; imports = h.imports; assignments = xs }
 
--- A limit on numbers is a test that numbers with no minus meet.
-module _ (fits : ℕ → Bool) where
-  abbrev pub assignment : ℕ → Grammar AssignmentTree
-  assignment n =
-      (token TypeRef ∙ behind (Mark Assign) (type fits n)) ⇒ (λ p. assigns_type p.0 p.1)
-      ∣ (token Ident ∙ (type fits n ∙ behind (Mark Assign) (value fits n))) ⇒ (λ p. assigns_value p.0 p.1.0 p.1.1)
+-- A limit on numbers, or on the numbers of tags, is a test that they meet.
+abbrev pub assignment : (ℕ → Bool) → (ℕ → Bool) → ℕ → Grammar AssignmentTree
+assignment fits tags n =
+    (token TypeRef ∙ behind (Mark Assign) (type fits tags n)) ⇒ (λ p. assigns_type p.0 p.1)
+    ∣ (token Ident ∙ (type fits tags n ∙ behind (Mark Assign) (value fits n))) ⇒ (λ p. assigns_value p.0 p.1.0 p.1.1)
 
-  -- A module with at most n things open at one place, n being one or more: where an object identifier's braces are open,
-  -- at the head, nothing else is.
-  abbrev pub module_text : ℕ → Grammar ModuleTree
-  module_text n = (head fits ∙ ((many (assignment n) ∙ word End) ⇒ (λ p. p.0))) ⇒ (λ p. module_of p.0 p.1)
+-- A module within limits that allow one or more things to be open at one place: where an object identifier's braces are
+-- open, at the head, nothing else is.
+abbrev pub module_text : Limited ModuleTree
+module_text a = (head a.number ∙ ((many (assignment a.number a.tag a.nesting) ∙ word End) ⇒ (λ p. p.0))) ⇒ (λ p. module_of p.0 p.1)

@@ -2,9 +2,11 @@
 
 ghost use Rattle.std.specs.Prelude.{◌≡◌, IfOk, IfErr, MatchResult, List};
 ghost use Rattle.grammar.specs.Lexeme.{Lexeme, lexemes};
-ghost use Rattle.grammar.specs.Places.{small, free};
+ghost use Rattle.grammar.specs.Places.{bounded, free};
 ghost use Rattle.notation.specs.Given.{IsLexed};
 ghost use Rattle.notation.specs.Answer.{Stands};
+ghost use Rattle.notation.specs.declared.fault.SyntaxFault.{SyntaxFault as SyntaxFault'};
+ghost use Rattle.notation.specs.declared.fault.SyntaxFault.TheVariants as faults;
 ghost use Rattle.trees.specs.Modules.{ModuleTree, module_tree_of};
 ghost use Rattle.syntax.specs.Syntax.{module_text};
 
@@ -23,20 +25,24 @@ use trees::Module;
 /// and `END`.
 ///
 /// # Errors
-/// - [`SyntaxFault::Unexpected`] and [`SyntaxFault::OutOfProfile`] at the first token with which no module can go on,
-///   or at the end of the tokens; `OutOfProfile` where that token is a word or mark of a construct that is left out.
-/// - [`SyntaxFault::Limit`] at the brace, bracket, `OF` or colon that opens more than 128 things, at a number of 2 to the
-///   127 with no minus before it, one in an object identifier too, and at a tag's number of 2 to the 31.
-/// - [`SyntaxFault::Memory`] if there is not enough memory.
+/// The place of a fault is the first token with which no module within the limits can go on, or the end of the tokens.
+/// It is told there as
+/// - [`SyntaxFault::Limit`] where a module could go on if this one limit were higher: at the brace, bracket, `OF` or
+///   colon that opens more than 128 things, at a number of 2 to the 127 with no minus before it, one in an object
+///   identifier too, and at a tag's number of 2 to the 31;
+/// - [`SyntaxFault::Unexpected`] and [`SyntaxFault::OutOfProfile`] where none could under any limits; `OutOfProfile`
+///   where that token is a word or mark of a construct that is left out.
+///
+/// Besides, [`SyntaxFault::Memory`] is told if there is not enough memory.
 pub fn parse(alloc: Global, text: &[u8], tokens: &[Token]) -> Result<Module, SyntaxFault>
     requires { IsLexed text.now tokens.now }
     // What is answered is the module that the tokens are.
-    ensures found { IfOk result (λ m. (module_text small 128).Is (module_tree_of m) (lexemes text.now tokens.now)) }
+    ensures found { IfOk result (λ m. (module_text (bounded 128)).Is (module_tree_of m) (lexemes text.now tokens.now)) }
     // The module that the tokens are is answered, unless memory runs out.
-    ensures only { (m : ModuleTree) → (module_text small 128).Is m (lexemes text.now tokens.now)
+    ensures only { (m : ModuleTree) → (module_text (bounded 128)).Is m (lexemes text.now tokens.now)
         → MatchResult result (λ x. module_tree_of x ≡ m) (λ f. f ≡ SyntaxFault.Memory) }
     // A fault stands at its place.
-    ensures fault { IfErr result (Stands module_text (lexemes text.now tokens.now) 0 128) }
+    ensures fault { IfErr result (Stands module_text (lexemes text.now tokens.now) 0 (bounded 128)) }
 {
     notation::law::lexed_tokens();
     module_head::law::heads_are_read();
@@ -58,6 +64,18 @@ pub fn parse(alloc: Global, text: &[u8], tokens: &[Token]) -> Result<Module, Syn
 /// A list of lexemes is one module at most.
 pub fn one_module()
     ensures { (ts : List Lexeme) (m n : ModuleTree) → (free module_text).Is m ts → (free module_text).Is n ts → m ≡ n }
+{
+    module_head::law::heads_are_read();
+    type_syntax::law::types_are_read();
+}
+
+/// One fault at most stands where a module is read, want of memory apart.
+pub fn one_fault()
+    ensures { (ts : List Lexeme) (f g : SyntaxFault') → (f ≡ faults.Memory → ⊥)
+        → (g ≡ faults.Memory → ⊥)
+        → Stands module_text ts 0 (bounded 128) f
+        → Stands module_text ts 0 (bounded 128) g
+        → f ≡ g }
 {
     module_head::law::heads_are_read();
     type_syntax::law::types_are_read();

@@ -7,9 +7,9 @@ use Rattle.text.specs.declared.token.Mark.TheVariants.{OpenBrace, OpenBracket}
 use Rattle.text.specs.declared.reserved.Word.TheVariants as words
 use Rattle.grammar.specs.Lexeme.{Lexeme, Ident, Word, Mark}
 use Rattle.grammar.specs.Grammar.{token, number_of as number, optional, ◌∙◌}
-use Rattle.grammar.specs.Laws.{nowhere, after_read}
+use Rattle.grammar.specs.Laws.{everywhere, nowhere, after_read}
 use Rattle.grammar.specs.Loops.{Shrinks, sound_short, listed_fail, commas_fail}
-use Rattle.grammar.specs.Places.{small}
+use Rattle.grammar.specs.Places.{small, tag_small, bounded}
 use Rattle.grammar.specs.Reading.{Read, Reader, ◌>>=◌, with_front, stop, next_comma, behind_commas_at, listed_at, named_at, many_at}
 use Rattle.grammar.specs.Manies.{Consumes, consumes, is_begun_by, many_fail}
 use Rattle.notation.specs.declared.fault.ReadError.{ReadError}
@@ -31,7 +31,7 @@ use Rattle.trees.specs.declared.types.TypeSyntax.TheFolds.{fold-roll-TypeSyntax}
 use Rattle.trees.specs.declared.types.Member.{Member}
 use Rattle.trees.specs.Types.{PresenceTree, presence_of, TypeTree, a_sequence, a_set, a_choice, a_constrained, type_members, type_layer, type_tree_of, type_member_of}
 use Rattle.type_syntax.specs.TypeGrammar.{list_of, constrained, signed, member, alternative, type}
-use Rattle.type_syntax.specs.TypeReading.{component_at, bare_at, body_at, choice_at, tagged_at, signed_at, item_number_at, one_type_at, with_constraints_at, plain_at, list_size_at, of_at, list_at, structure_at, behind_at, type_step, type_at}
+use Rattle.type_syntax.specs.TypeReading.{tag_fits, component_at, bare_at, body_at, choice_at, tagged_at, signed_at, item_number_at, one_type_at, with_constraints_at, plain_at, list_size_at, of_at, list_at, structure_at, behind_at, type_step, type_at}
 use Rattle.type_syntax.specs.PartLaws.{PartLaws}
 use Rattle.type_syntax.proofs.TypeParts.{rule_number_named, rule_bit_named, rule_item}
 use Rattle.type_syntax.proofs.TypeSteps.{rule_member, rule_alternative}
@@ -96,22 +96,22 @@ type_stepped fits (suc n) ts = let e : n ≡ suc n - 1 = omega arith in ap (λ (
 
 module _ (laws : PartLaws) (n : ℕ) where
   pub member_shrinks : Shrinks (named_at (component_at (type_at small n) (value_at small n)))
-  member_shrinks = record { shorter = λ ts x e. sound_short (member (type small n) (value small n)) ts (named_at (component_at (type_at small n) (value_at small n)) ts) x e ((rule_member (types_read laws n) (values_read laws n)).sound tt ts) }
+  member_shrinks = record { shorter = λ ts x e. sound_short (member (type small tag_small n) (value small n)) ts (named_at (component_at (type_at small n) (value_at small n)) ts) x e ((rule_member (types_read laws n) (values_read laws n)).sound tt ts) }
 
   pub alternative_shrinks : Shrinks (named_at (bare_at (type_at small n)))
-  alternative_shrinks = record { shorter = λ ts x e. sound_short (alternative (type small n)) ts (named_at (bare_at (type_at small n)) ts) x e ((rule_alternative (types_read laws n)).sound tt ts) }
+  alternative_shrinks = record { shorter = λ ts x e. sound_short (alternative (type small tag_small n)) ts (named_at (bare_at (type_at small n)) ts) x e ((rule_alternative (types_read laws n)).sound tt ts) }
 
 pub number_shrinks : Shrinks (named_at (parens_at (signed_at small)))
-number_shrinks = record { shorter = λ ts x e. sound_short (token Ident ∙ parens (signed small)) ts (named_at (parens_at (signed_at small)) ts) x e ((rule_number_named nowhere true small small (λ n e. e) tt tt (λ n e w. e)).sound tt ts) }
+number_shrinks = record { shorter = λ ts x e. sound_short (token Ident ∙ parens (signed small)) ts (named_at (parens_at (signed_at small)) ts) x e ((rule_number_named nowhere everywhere small small (λ n e. e) tt (tag_fits small) (record { grows = λ n e. e; past = tt; room = λ n e w. e }) (λ n e w. e)).sound tt ts) }
 
 pub bit_shrinks : Shrinks (named_at (parens_at (number_at small)))
-bit_shrinks = record { shorter = λ ts x e. sound_short (token Ident ∙ parens (number small)) ts (named_at (parens_at (number_at small)) ts) x e ((rule_bit_named nowhere true small small (λ n e. e) tt tt (λ n e w. e)).sound tt ts) }
+bit_shrinks = record { shorter = λ ts x e. sound_short (token Ident ∙ parens (number small)) ts (named_at (parens_at (number_at small)) ts) x e ((rule_bit_named nowhere everywhere small small (λ n e. e) tt (tag_fits small) (record { grows = λ n e. e; past = tt; room = λ n e w. e }) (λ n e w. e)).sound tt ts) }
 
 pub item_shrinks : Shrinks (named_at (item_number_at small))
-item_shrinks = record { shorter = λ ts x e. sound_short (token Ident ∙ optional (parens (signed small))) ts (named_at (item_number_at small) ts) x e ((rule_item nowhere true small small (λ n e. e) tt tt (λ n e w. e)).sound tt ts) }
+item_shrinks = record { shorter = λ ts x e. sound_short (token Ident ∙ optional (parens (signed small))) ts (named_at (item_number_at small) ts) x e ((rule_item nowhere everywhere small small (λ n e. e) tt (tag_fits small) (record { grows = λ n e. e; past = tt; room = λ n e w. e }) (λ n e w. e)).sound tt ts) }
 
 pub constraint_consumes : PartLaws → Consumes (constraint_at small)
-constraint_consumes laws = let k = laws.constraints nowhere true small small (λ n e. e) tt (λ n e w. e) in consumes (constraint small) (constraint_at small) k.solid (k.sound tt)
+constraint_consumes laws = let k = laws.constraints nowhere (bounded 0) (bounded 0) (λ n e. e) tt in consumes (constraint small) (constraint_at small) k.solid (k.sound tt)
 
 -- ---- trees
 

@@ -13,19 +13,19 @@ use Rattle.type_syntax.specs.TypeGrammar.{opens}
 
 -- ---- small rules
 
-pub loosely : {A : Type 0} {s f : Type 0} {over : Limit → ℕ} {within : Bool} {g : Grammar A} {starts ends : Lexeme → Bool} {read : Reader A} → Owes s f over within g starts ends read → OwesLoosely s f over within g starts ends read
+pub loosely : {A : Type 0} {s f : Type 0} {over : Limit → ℕ} {within : Limit → Type 0} {g : Grammar A} {starts ends : Lexeme → Bool} {read : Reader A} → Owes s f over within g starts ends read → OwesLoosely s f over within g starts ends read
 loosely k = record { sound = k.sound; finds = k.finds }
 
 -- by a reader that answers the same
-pub loose_read : {A : Type 0} {s f : Type 0} {over : Limit → ℕ} {within : Bool} {g : Grammar A} {starts ends : Lexeme → Bool} {r : Reader A} (r' : Reader A) → ((ts : List Lexeme) → r ts ≡ r' ts) → OwesLoosely s f over within g starts ends r → OwesLoosely s f over within g starts ends r'
+pub loose_read : {A : Type 0} {s f : Type 0} {over : Limit → ℕ} {within : Limit → Type 0} {g : Grammar A} {starts ends : Lexeme → Bool} {r : Reader A} (r' : Reader A) → ((ts : List Lexeme) → r ts ≡ r' ts) → OwesLoosely s f over within g starts ends r → OwesLoosely s f over within g starts ends r'
 loose_read {A} {s} {f} {over} {within} {g} {starts} {ends} {r} r' e k = record { sound = λ q. same_sound over g r r' e (k.sound q); finds = λ q. same_finds within g starts ends r r' e (k.finds q) }
 
 -- a pair, the first of which may be empty
-pub rule_both : {A B : Type 0} {s f : Type 0} {over : Limit → ℕ} {within : Bool} (a : Grammar A) (b : Grammar B) {starts ends : Lexeme → Bool} {read : Reader (A × B)} → Owes s f over within ((a ∙ b) ⇒ (λ p. p)) starts ends read → Owes s f over within (a ∙ b) starts ends read
+pub rule_both : {A B : Type 0} {s f : Type 0} {over : Limit → ℕ} {within : Limit → Type 0} (a : Grammar A) (b : Grammar B) {starts ends : Lexeme → Bool} {read : Reader (A × B)} → Owes s f over within ((a ∙ b) ⇒ (λ p. p)) starts ends read → Owes s f over within (a ∙ b) starts ends read
 rule_both {A} {B} {s} {f} {over} {within} a b {starts} {ends} {read} k = record { sound = λ q. pair_sound over a b read (k.sound q); finds = λ q. pair_finds within a b starts ends read (k.finds q); solid = record { no_empty = λ p h. k.solid.no_empty p (p, refl, h) } }
 
 -- a part behind a name
-pub rule_named : {A : Type 0} {s f : Type 0} {over : Limit → ℕ} {within : Bool} {a : Grammar A} {starts ends : Lexeme → Bool} {read : Reader A} → OwesLoosely s f over within a starts ends read → Owes s f over within (token Ident ∙ a) is_ident ends (named_at read)
+pub rule_named : {A : Type 0} {s f : Type 0} {over : Limit → ℕ} {within : Limit → Type 0} {a : Grammar A} {starts ends : Lexeme → Bool} {read : Reader A} → OwesLoosely s f over within a starts ends read → Owes s f over within (token Ident ∙ a) is_ident ends (named_at read)
 rule_named {A} {s} {f} {over} {within} {a} {starts} {ends} {read} k = record { sound = λ q. named_sound over a read (k.sound q); finds = λ q. finds_named within a starts ends read (k.finds q); solid = pair_solid (token Ident) a (token_solid Ident) }
 
 -- a tree made of a tree made of two parts
@@ -77,11 +77,7 @@ opened_same {A} test n read (t ∷ ts) = go (test t)
 le_same : (us : List Lexeme) → length us ≤ length us
 le_same us = omega arith
 
-not_deep : (m : ℕ) (b : Bool) → (b ≡ true → suc m ≤ zero) → b ≡ false
-not_deep m true deep = absurd (omega (arith, deep refl))
-not_deep m false deep = refl
-
-module _ {A : Type 0} (s f : Type 0) (over : Limit → ℕ) (within : Bool) (l : Lexeme) (test : Lexeme → Bool) (holds : test l ≡ true) (one : (t : Lexeme) → test t ≡ true → t ≡ l) (b : Grammar A) (starts ends : Lexeme → Bool) (read : Reader A) where
+module _ {A : Type 0} (s f : Type 0) (over : Limit → ℕ) (within : Limit → Type 0) (l : Lexeme) (test : Lexeme → Bool) (holds : test l ≡ true) (one : (t : Lexeme) → test t ≡ true → t ≡ l) (b : Grammar A) (starts ends : Lexeme → Bool) (read : Reader A) where
   zero_passes : (us : List Lexeme) → Passes within us (opened_by test zero read us)
   zero_passes [] = le_same []
   zero_passes (t ∷ us) = go (test t)
@@ -119,14 +115,14 @@ module _ {A : Type 0} (s f : Type 0) (over : Limit → ℕ) (within : Bool) (l :
       go true q = (t ∷ [], ts, refl, long ⋆ ap (λ (k : ℕ). more k (length ts)) (sym e), inl (inr (tt, ap (λ (u : Lexeme). u ∷ []) (one t q))))
       go false q = ([], t ∷ ts, refl, refl, inl (inl refl))
 
-  -- a lexeme where no more may be open is a way out, where not all is within the limits
-  out_stands : within ≡ false → (x : A) (t : Lexeme) (ts us : List Lexeme) → test t ≡ true → Stands within (opened_by test zero read (t ∷ ts)) x us
-  out_stands w x t ts us e = inr (w, (Nesting, length (t ∷ ts)), ap (λ (c : Bool). barred c zero (t ∷ ts) (read ts)) e)
+  -- a lexeme where no more may be open is a way out, where not all is within the limit
+  out_stands : (within Nesting → ⊥) → (x : A) (t : Lexeme) (ts us : List Lexeme) → test t ≡ true → Stands within (opened_by test zero read (t ∷ ts)) x us
+  out_stands w x t ts us e = inr ((Nesting, length (t ∷ ts)), w, ap (λ (c : Bool). barred c zero (t ∷ ts) (read ts)) e)
 
-  out_passes : within ≡ false → (t : Lexeme) (ts us : List Lexeme) → test t ≡ true → Passes within us (opened_by test zero read (t ∷ ts))
+  out_passes : (within Nesting → ⊥) → (t : Lexeme) (ts us : List Lexeme) → test t ≡ true → Passes within us (opened_by test zero read (t ∷ ts))
   out_passes w t ts us e = subst (λ (c : Bool). Passes within us (barred c zero (t ∷ ts) (read ts))) (sym e) (inr w)
 
-  one_finds : within ≡ false → ((x : A) (u : List Lexeme) → b.Is x u → b.CanGoOn u) → Finds within (behind l b) test ends (opened_by test zero read)
+  one_finds : (within Nesting → ⊥) → ((x : A) (u : List Lexeme) → b.Is x u → b.CanGoOn u) → Finds within (behind l b) test ends (opened_by test zero read)
   one_finds w part = record { nil = inl (inl refl); part = λ x u h. behind_part x u h; first = first; whole = whole; front = front }
     where
       behind_part : (x : A) (u : List Lexeme) → (behind l b).Is x u → (behind l b).CanGoOn u
@@ -146,8 +142,8 @@ module _ {A : Type 0} (s f : Type 0) (over : Limit → ℕ) (within : Bool) (l :
       front (t ∷ u) us h = out_passes w t (u ++ us) us (first t u h)
 
 -- n: how many more things may be open for the reader, and m for the grammar
-module _ {A : Type 0} {s f : Type 0} {over : Limit → ℕ} {within : Bool} (l : Lexeme) (test : Lexeme → Bool) (holds : test l ≡ true) (one : (t : Lexeme) → test t ≡ true → t ≡ l) (b : Grammar A) {starts ends : Lexeme → Bool} {read : Reader A} where
-  pub rule_opens : (n m : ℕ) → (s → m ≡ over Nesting + n) → (f → within ≡ true → m ≤ n) → (f → (x : A) (u : List Lexeme) → b.Is x u → b.CanGoOn u) → (IsOpenable n → Owes s f over within b starts ends read) → Owes s f over within (opens m (behind l b)) test ends (opened_by test n read)
+module _ {A : Type 0} {s f : Type 0} {over : Limit → ℕ} {within : Limit → Type 0} (l : Lexeme) (test : Lexeme → Bool) (holds : test l ≡ true) (one : (t : Lexeme) → test t ≡ true → t ≡ l) (b : Grammar A) {starts ends : Lexeme → Bool} {read : Reader A} where
+  pub rule_opens : (n m : ℕ) → (s → m ≡ over Nesting + n) → (f → within Nesting → m ≤ n) → (f → (x : A) (u : List Lexeme) → b.Is x u → b.CanGoOn u) → (IsOpenable n → Owes s f over within b starts ends read) → Owes s f over within (opens m (behind l b)) test ends (opened_by test n read)
   rule_opens zero zero fit deep part k = record {
     sound = λ q. none_sound s f over within l test holds one b starts ends read (let e = fit q in omega (arith, e));
     finds = λ q. cut_off_finds within test ends (opened_by test zero read) (zero_passes s f over within l test holds one b starts ends read);
@@ -155,7 +151,7 @@ module _ {A : Type 0} {s f : Type 0} {over : Limit → ℕ} {within : Bool} (l :
   }
   rule_opens zero (suc m) fit deep part k = record {
     sound = λ q. one_sound s f over within l test holds one b starts ends read m (let e = fit q in omega (arith, e));
-    finds = λ q. one_finds s f over within l test holds one b starts ends read (not_deep m within (deep q)) (part q);
+    finds = λ q. one_finds s f over within l test holds one b starts ends read (λ d. omega (arith, deep q d)) (part q);
     solid = seq_solid (only l) b (λ p. p.1) (token_solid (λ (x : Unit {0}). l));
   }
   rule_opens (suc n) zero fit deep part k = record {
@@ -191,7 +187,7 @@ opens_same : {A : Type 0} (m : ℕ) (a b : Grammar A) → Same a b → Same (ope
 opens_same zero a b e = record { to = same_grows cut_off; back = same_grows cut_off }
 opens_same (suc m) a b e = e
 
-pub rule_braces : {A : Type 0} {s f : Type 0} {over : Limit → ℕ} {within : Bool} (a : Grammar A) {starts ends : Lexeme → Bool} {read : Reader A} (n m : ℕ) → (s → m ≡ over Nesting + n) → (f → within ≡ true → m ≤ n) → (f → (x : A) (u : List Lexeme) → (inside a).Is x u → (inside a).CanGoOn u)
+pub rule_braces : {A : Type 0} {s f : Type 0} {over : Limit → ℕ} {within : Limit → Type 0} (a : Grammar A) {starts ends : Lexeme → Bool} {read : Reader A} (n m : ℕ) → (s → m ≡ over Nesting + n) → (f → within Nesting → m ≤ n) → (f → (x : A) (u : List Lexeme) → (inside a).Is x u → (inside a).CanGoOn u)
     → (IsOpenable n → Owes s f over within (inside a) starts ends read) → Owes s f over within (opens m (braces a)) is_lbrace ends (opened_by is_lbrace n read)
 rule_braces a n m fit deep part k =
     rule_same (opens m (braces a)) (opens_same m (behind (Mark OpenBrace) (inside a)) (braces a) (braces_same a)) (rule_opens (Mark OpenBrace) is_lbrace refl lbrace_one (inside a) n m fit deep part k)

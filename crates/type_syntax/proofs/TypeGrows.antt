@@ -53,34 +53,30 @@ opened : {A : Type 0} {a a' : Grammar A} (n : ℕ) → Grows a a' → Grows (ope
 opened zero g = same
 opened (suc n) g = g
 
-bor_more : (a b c : Bool) → (b ≡ true → c ≡ true) → bor a b ≡ true → bor a c ≡ true
-bor_more true b c h e = refl
-bor_more false b c h e = h e
-
-module _ (fits fits' : ℕ → Bool) (grows : (n : ℕ) → fits n ≡ true → fits' n ≡ true) (constraints : Grows (constraint fits) (constraint fits')) (sizes : Grows (size fits) (size fits')) where
+module _ (fits fits' : ℕ → Bool) (grows : (n : ℕ) → fits n ≡ true → fits' n ≡ true) (few more : ℕ → Bool) (grows_tags : (n : ℕ) → few n ≡ true → more n ≡ true) (constraints : Grows (constraint fits) (constraint fits')) (sizes : Grows (size fits) (size fits')) where
   number : Grows (number_of fits) (number_of fits')
   number = number_grows fits fits' grows
 
   signed_number : Grows (signed fits) (signed fits')
   signed_number = either (made number) same
 
-  tag_numbers : Grows (tag_number fits) (tag_number fits')
-  tag_numbers = record { is = λ x u h. h; on = on }
+  tag_numbers : Grows (tag_number few) (tag_number more)
+  tag_numbers = record { is = λ x u h. (grows_tags x.0 h.0, h.1); on = on }
     where
-      on : (u : List Lexeme) → (tag_number fits).CanGoOn u → (tag_number fits').CanGoOn u
+      on : (u : List Lexeme) → (tag_number few).CanGoOn u → (tag_number more).CanGoOn u
       on u (inl e) = inl e
-      on u (inr (n, h, e)) = inr (n, bor_more (nat_lt n 2147483648) (fits (2 ^ 127)) (fits' (2 ^ 127)) (grows (2 ^ 127)) h, e)
+      on u (inr (n, h, e)) = inr (n, grows_tags n h, e)
 
-  tag_ends : Grows (tag_end fits) (tag_end fits')
+  tag_ends : Grows (tag_end few) (tag_end more)
   tag_ends = made (seq tag_numbers same)
 
-  tags : Grows (tag fits) (tag fits')
+  tags : Grows (tag few) (tag more)
   tags = either (made (back tag_ends)) (either (made (back tag_ends)) (made tag_ends))
 
-  with_grows : (n : ℕ) (t t' : Grammar TypeTree) (v v' : Grammar Tree) → Grows t t' → Grows v v' → Grows (type_with fits n t v) (type_with fits' n t' v')
+  with_grows : (n : ℕ) (t t' : Grammar TypeTree) (v v' : Grammar Tree) → Grows t t' → Grows v v' → Grows (type_with fits few n t v) (type_with fits' more n t' v')
   with_grows n t t' v v' gt gv = either tagged_grows (either (made (seq (either one_grows (made (seq same members_grow))) (any_number constraints))) list_grows)
     where
-      tagged_grows : Grows (tagged fits n t) (tagged fits' n t')
+      tagged_grows : Grows (tagged few n t) (tagged more n t')
       tagged_grows = opened n (back (made (seq tags (seq same gt))))
 
       members_grow : Grows (members n t v) (members n t' v')
@@ -104,6 +100,6 @@ module _ (fits fits' : ℕ → Bool) (grows : (n : ℕ) → fits n ≡ true → 
       list_grows : Grows (list fits n t) (list fits' n t')
       list_grows = made (seq same (seq (perhaps (either sizes (in_parens sizes))) (opened n (back gt))))
 
-  pub types_grow : ((n : ℕ) → Grows (value fits n) (value fits' n)) → (n : ℕ) → Grows (type fits n) (type fits' n)
+  pub types_grow : ((n : ℕ) → Grows (value fits n) (value fits' n)) → (n : ℕ) → Grows (type fits few n) (type fits' more n)
   types_grow gv zero = with_grows zero cut_off cut_off cut_off cut_off same same
-  types_grow gv (suc n) = with_grows (suc n) (type fits n) (type fits' n) (value fits n) (value fits' n) (types_grow gv n) (gv n)
+  types_grow gv (suc n) = with_grows (suc n) (type fits few n) (type fits' more n) (value fits n) (value fits' n) (types_grow gv n) (gv n)

@@ -212,7 +212,7 @@ bracket_same [] = refl
 bracket_same (Mark CloseBracket ∷ ts) = refl
 bracket_same (t ∷ ts) = refl
 
-module _ {s f : Type 0} {over : Limit → ℕ} {within : Bool} where
+module _ {s f : Type 0} {over : Limit → ℕ} {within : Limit → Type 0} where
   pub rule_object_word : Owes s f over within (only (Word words.Object)) is_object_word no_lexeme (one_at is_object_word)
   rule_object_word = rule_token (one_is (Word words.Object) is_object_word refl object_word_one)
 

@@ -18,12 +18,12 @@ use Rattle.notation.specs.ConstraintReading.{is_open, parens_at}
 use Rattle.trees.specs.declared.types.Keyword.{Keyword}
 use Rattle.trees.specs.declared.types.Keyword.TheVariants as keywords
 use Rattle.trees.specs.Types.{TypeTree, an_enumerated, a_named_integer}
-use Rattle.type_syntax.specs.TypeGrammar.{referred, integer_with, bits_with, keyword_of, TagNumber, application_tag, private_tag, context_tag, ref, sequence_or_set, keyword, tag_fits, signed, integer, bit_string, enumerated, tag_end, tag}
+use Rattle.type_syntax.specs.TypeGrammar.{referred, integer_with, bits_with, keyword_of, TagNumber, application_tag, private_tag, context_tag, ref, sequence_or_set, keyword, signed, integer, bit_string, enumerated, tag_end, tag}
 use Rattle.grammar.specs.Single.{module_name_at}
-use Rattle.type_syntax.specs.TypeReading.{string_at, type_in_at, ref_at, keyword_at, list_in_at, tag_end_at, application_at, private_at, context_at, tag_at, negative_at, signed_at, given_at, item_number_at, numbers_in_at, bits_in_at, items_in_at, integer_at, bits_at, bit_string_at, enumerated_at}
+use Rattle.type_syntax.specs.TypeReading.{tag_fits, string_at, type_in_at, ref_at, keyword_at, list_in_at, tag_end_at, application_at, private_at, context_at, tag_at, negative_at, signed_at, given_at, item_number_at, numbers_in_at, bits_in_at, items_in_at, integer_at, bits_at, bit_string_at, enumerated_at}
 use Rattle.grammar.specs.Single.{is_closed, closed_is, is_typeref, typeref_is}
 use Rattle.type_syntax.proofs.TypeLexemes.{is_bit_word, is_integer_word, is_string_word, is_enumerated_word, is_sequence_word, is_set_word, is_implicit_word, is_explicit_word, is_application_word, is_private_word, is_dot, is_minus, rule_bit_word, rule_integer_word, rule_string_word, rule_enumerated_word, rule_sequence_word, rule_set_word, rule_implicit_word, rule_explicit_word, rule_application_word, rule_private_word, rule_dot, rule_minus, digits_at, rule_digits, rule_bracket}
-use Rattle.type_syntax.proofs.TypeWords.{rule_tag_number}
+use Rattle.type_syntax.proofs.TypeWords.{TagRule, rule_tag_number}
 use Rattle.type_syntax.proofs.Openings.{loosely, loose_read, rule_named, made_made, opened_made, rule_both, opened_by, is_lbrace, inside, rule_braces}
 
 -- ---- lists as far as a brace
@@ -35,7 +35,7 @@ closed_one t e = absurd cc
 pub close_apart : (ends : Lexeme → Bool) → ends (Mark CloseBrace) ≡ false → (t : Lexeme) → is_closed t ≡ true → ends t ≡ false
 close_apart ends e t h = subst (λ (t : Lexeme). ends t ≡ false) (sym (closed_one t h)) e
 
-pub rule_list_in : {A : Type 0} {s f : Type 0} {over : Limit → ℕ} {within : Bool} {a : Grammar A} {starts ends : Lexeme → Bool} {read : Reader A} → Owes s f over within a starts ends read → ends (Mark Comma) ≡ false → with_comma ends (Mark CloseBrace) ≡ false → Owes s f over within (inside (listed a)) starts no_lexeme (list_in_at read)
+pub rule_list_in : {A : Type 0} {s f : Type 0} {over : Limit → ℕ} {within : Limit → Type 0} {a : Grammar A} {starts ends : Lexeme → Bool} {read : Reader A} → Owes s f over within a starts ends read → ends (Mark Comma) ≡ false → with_comma ends (Mark CloseBrace) ≡ false → Owes s f over within (inside (listed a)) starts no_lexeme (list_in_at read)
 unfolding list_in_at
 rule_list_in {A} {s} {f} {over} {within} {a} {starts} {ends} {read} k comma close = rule_seq (λ p. p.0) (rule_listed k comma) (rule_token closed_is) (close_apart (with_comma ends) close)
 
@@ -83,7 +83,7 @@ pub ref_same : (x : Name) (ts : List Lexeme) → ref_read (TypeRef x ∷ ts) ≡
 unfolding module_name_at
 ref_same x ts = dot_same x ts
 
-module _ {s f : Type 0} {over : Limit → ℕ} {within : Bool} where
+module _ {s f : Type 0} {over : Limit → ℕ} {within : Limit → Type 0} where
   pub rule_which : Owes s f over within sequence_or_set (either is_sequence_word is_set_word) (either no_lexeme no_lexeme) which_read
   rule_which = rule_pick (rule_made (λ _. false) rule_sequence_word) (rule_made (λ _. true) rule_set_word) set_no_sequence
 
@@ -137,7 +137,7 @@ module _ (fits : ℕ → Bool) where
   items_same n (t ∷ ts) = refl
 
 -- fits is the reader's test on numbers, fits' the grammar's
-module _ (over : Limit → ℕ) (within : Bool) (fits fits' : ℕ → Bool) (grows : (n : ℕ) → fits n ≡ true → fits' n ≡ true) (past : Past (over Integer) ((n : ℕ) → fits' n ≡ true)) (past_tags : Past (over TagLimit) ((n : ℕ) → tag_fits fits' n ≡ true)) (room : (n : ℕ) → fits' n ≡ true → within ≡ true → fits n ≡ true) where
+module _ (over : Limit → ℕ) (within : Limit → Type 0) (fits fits' : ℕ → Bool) (grows : (n : ℕ) → fits n ≡ true → fits' n ≡ true) (past : Past (over Integer) ((n : ℕ) → fits' n ≡ true)) (tags : ℕ → Bool) (tag_rule : TagRule over within fits tags) (room : (n : ℕ) → fits' n ≡ true → within Integer → fits n ≡ true) where
   rule_num : Rules over within (number_of fits') is_number no_lexeme (number_at fits)
   rule_num = rule_number over within fits fits' grows past room
 
@@ -193,7 +193,7 @@ module _ (over : Limit → ℕ) (within : Bool) (fits fits' : ℕ → Bool) (gro
 
   -- ---- their types
 
-  module _ (s f : Type 0) (n m : ℕ) (fit : s → m ≡ over Nesting + n) (deep : f → within ≡ true → m ≤ n) where
+  module _ (s f : Type 0) (n m : ℕ) (fit : s → m ≡ over Nesting + n) (deep : f → within Nesting → m ≤ n) where
     pub rule_integer : Owes s f over within (integer fits' m) is_integer_word (either no_lexeme (either is_lbrace no_lexeme)) (integer_read fits n)
     rule_integer = rule_tail (λ p. integer_with p.1) rule_integer_word (loose_optional (rule_braces (listed (token Ident ∙ parens (signed fits'))) n m fit deep (λ q. (rule_numbers.finds tt).part) (λ o. asked rule_numbers))) (λ t e. refl)
 
@@ -207,9 +207,9 @@ module _ (over : Limit → ℕ) (within : Bool) (fits fits' : ℕ → Bool) (gro
 
   -- ---- tags
 
-  pub rule_tag_end : Rules over within (tag_end fits') is_number no_lexeme (tag_end_at fits)
+  pub rule_tag_end : Rules over within (tag_end tags) is_number no_lexeme (tag_end_at fits)
   unfolding tag_end_at
-  rule_tag_end = rule_seq (λ p. p.0) (rule_tag_number over within fits fits' grows past_tags room) rule_bracket (λ t e. refl)
+  rule_tag_end = rule_seq (λ p. p.0) (rule_tag_number over within fits tags tag_rule) rule_bracket (λ t e. refl)
 
   abbrev tag_read : Reader Tag
   tag_read =
@@ -231,7 +231,7 @@ module _ (over : Limit → ℕ) (within : Bool) (fits fits' : ℕ → Bool) (gro
   rest_no_application (Word words.Application) e = absurd cc
   rest_no_application t e = refl
 
-  pub rule_tag : Rules over within (tag fits') (either is_application_word (either is_private_word is_number)) (either no_lexeme (either no_lexeme no_lexeme)) (tag_at fits)
+  pub rule_tag : Rules over within (tag tags) (either is_application_word (either is_private_word is_number)) (either no_lexeme (either no_lexeme no_lexeme)) (tag_at fits)
   rule_tag =
       rule_read (tag_at fits) tag_same
       (rule_pick (rule_made application_tag (rule_behind rule_application_word rule_tag_end)) (rule_pick (rule_made private_tag (rule_behind rule_private_word rule_tag_end)) (rule_made context_tag rule_tag_end) number_no_private) rest_no_application)

@@ -19,12 +19,12 @@ use Rattle.notation.specs.ConstraintGrammar.{parens, size, constraint}
 use Rattle.notation.specs.ConstraintReading.{is_open, is_size, parens_at, size_at, constraint_at}
 use Rattle.trees.specs.declared.types.Keyword.{Keyword}
 use Rattle.trees.specs.Types.{PresenceTree, mandatory, optional as may_be_absent, default, TypeTree, an_object_identifier, an_octet_string, a_choice, a_tagged, TypeMembers, type_members}
-use Rattle.type_syntax.specs.TypeGrammar.{opens, members_of, with_members, list_of, present, constrained, sequence_or_set, keyword, presence, member, alternative, members, choice, tag_fits, tag, tagged, one_type, type_with}
+use Rattle.type_syntax.specs.TypeGrammar.{opens, members_of, with_members, list_of, present, constrained, sequence_or_set, keyword, presence, member, alternative, members, choice, tag, tagged, one_type, type_with}
 use Rattle.type_syntax.specs.TypeLaws.{type_ends}
-use Rattle.type_syntax.specs.TypeReading.{identifier_at, string_at, one_word_at, keyword_at, default_at, presence_at, component_at, bare_at, list_in_at, some_members_at, members_at, body_at, alternatives_at, choice_at, tag_at, inside_tag_at, tagged_at, object_at, octets_at, one_type_at, constraints_at, with_constraints_at, plain_at, some_size_at, size_in_parens_at, list_size_at, of_at, list_at, structure_at, behind_at, type_step}
+use Rattle.type_syntax.specs.TypeReading.{tag_fits, identifier_at, string_at, one_word_at, keyword_at, default_at, presence_at, component_at, bare_at, list_in_at, some_members_at, members_at, body_at, alternatives_at, choice_at, tag_at, inside_tag_at, tagged_at, object_at, octets_at, one_type_at, constraints_at, with_constraints_at, plain_at, some_size_at, size_in_parens_at, list_size_at, of_at, list_at, structure_at, behind_at, type_step}
 use Rattle.grammar.specs.Single.{is_closed, closed_is, is_typeref}
 use Rattle.type_syntax.proofs.TypeLexemes.{is_object_word, is_octet_word, is_bit_word, is_integer_word, is_enumerated_word, is_choice_word, is_sequence_word, is_set_word, is_of_word, of_word_one, is_optional_word, is_default_word, is_open_bracket, open_bracket_one, is_application_word, is_private_word, is_dot, rule_object_word, rule_octet_word, rule_choice_word, rule_optional_word, rule_default_word, rule_string, rule_identifier}
-use Rattle.type_syntax.proofs.TypeWords.{is_type_word, rule_one_word}
+use Rattle.type_syntax.proofs.TypeWords.{is_type_word, rule_one_word, TagRule}
 use Rattle.type_syntax.proofs.TypeParts.{close_apart, rule_list_in, which_read, rule_which, is_keyword, loose_keyword, ref_read, ref_same, rule_ref, integer_read, integer_same, rule_integer, bits_read, bits_same, rule_bit_string, items_read, items_same, rule_enumerated, rule_tag}
 use Rattle.type_syntax.proofs.Openings.{loosely, loose_read, rule_both, rule_named, after_made, after_some, opened_made, IsOpenable, opened_by, is_lbrace, inside, rule_opens, rule_braces}
 
@@ -202,7 +202,7 @@ module _ (fits : ℕ → Bool) (n : ℕ) (read : Reader TypeTree) (value : Reade
 
 -- ---- the grammar, with one front for all that SEQUENCE or SET begins
 
-module _ (fits : ℕ → Bool) (m : ℕ) (t : Grammar TypeTree) (v : Grammar Tree) where
+module _ (fits tags : ℕ → Bool) (m : ℕ) (t : Grammar TypeTree) (v : Grammar Tree) where
   abbrev of_members : TypeMembers × List ConstraintTree → Bool → TypeTree
   of_members p set = constrained (with_members set p.0, p.1)
 
@@ -211,21 +211,21 @@ module _ (fits : ℕ → Bool) (m : ℕ) (t : Grammar TypeTree) (v : Grammar Tre
 
   abbrev split : Grammar TypeTree
   split =
-      tagged fits m t
+      tagged tags m t
       ∣ (one_type fits m t ∙ many (constraint fits)) ⇒ constrained
       ∣ (sequence_or_set ∙ ((members m t v ∙ many (constraint fits)) ⇒ of_members ∣ (optional (size fits ∣ parens (size fits)) ∙ opens m (behind (Word words.Of) t)) ⇒ of_element)) ⇒ (λ p. p.1 p.0)
 
-  type_is_split : Same split (type_with fits m t v)
+  type_is_split : Same split (type_with fits tags m t v)
   type_is_split = record { to = record { is = to_is; on = to_on }; back = record { is = back_is; on = back_on } }
     where
-      to_is : (x : TypeTree) (u : List Lexeme) → split.Is x u → (type_with fits m t v).Is x u
+      to_is : (x : TypeTree) (u : List Lexeme) → split.Is x u → (type_with fits tags m t v).Is x u
       to_is x u (inl h) = inl h
       to_is x u (inr (inl (p, d, (a, b, q, ha, hb)))) = inr (inl (p, d, (a, b, q, inl ha, hb)))
       to_is x u (inr (inr (p, d, (a, b, q, ha, inl (r, e, (a', b', q', hm, hc)))))) =
           inr (inl ((with_members p.0 r.0, r.1), d ⋆ ap (λ (g : Bool → TypeTree). g p.0) e, (a ++ a', b', q ⋆ ap (λ (l : List Lexeme). a ++ l) q' ⋆ sym (append_assoc a a' b'), inr ((p.0, r.0), refl, (a, a', refl, ha, hm)), hc)))
       to_is x u (inr (inr (p, d, (a, b, q, ha, inr (r, e, h))))) = inr (inr ((p.0, r), d ⋆ ap (λ (g : Bool → TypeTree). g p.0) e, (a, b, q, ha, h)))
 
-      to_on : (u : List Lexeme) → split.CanGoOn u → (type_with fits m t v).CanGoOn u
+      to_on : (u : List Lexeme) → split.CanGoOn u → (type_with fits tags m t v).CanGoOn u
       to_on u (inl h) = inl h
       to_on u (inr (inl (inl h))) = inr (inl (inl (inl h)))
       to_on u (inr (inl (inr (y, a, b, q, ha, hb)))) = inr (inl (inr (y, a, b, q, inl ha, hb)))
@@ -235,14 +235,14 @@ module _ (fits : ℕ → Bool) (m : ℕ) (t : Grammar TypeTree) (v : Grammar Tre
           inr (inl (inr (with_members k ms, a ++ a', b', q ⋆ ap (λ (l : List Lexeme). a ++ l) q' ⋆ sym (append_assoc a a' b'), inr ((k, ms), refl, (a, a', refl, ha, hm)), hc)))
       to_on u (inr (inr (inr (k, a, b, q, ha, inr h)))) = inr (inr (inr (k, a, b, q, ha, h)))
 
-      back_is : (x : TypeTree) (u : List Lexeme) → (type_with fits m t v).Is x u → split.Is x u
+      back_is : (x : TypeTree) (u : List Lexeme) → (type_with fits tags m t v).Is x u → split.Is x u
       back_is x u (inl h) = inl h
       back_is x u (inr (inl (p, d, (a, b, q, inl h, hc)))) = inr (inl (p, d, (a, b, q, h, hc)))
       back_is x u (inr (inl (p, d, (a, b, q, inr (r, e, (a', b', q', hw, hm)), hc)))) =
           inr (inr ((r.0, of_members (r.1, p.1)), d ⋆ ap (λ (y : TypeTree). constrained (y, p.1)) e, (a', b' ++ b, q ⋆ ap (λ (l : List Lexeme). l ++ b) q' ⋆ append_assoc a' b' b, hw, inl ((r.1, p.1), refl, (b', b, refl, hm, hc)))))
       back_is x u (inr (inr (p, d, (a, b, q, hw, h)))) = inr (inr ((p.0, of_element p.1), d, (a, b, q, hw, inr (p.1, refl, h))))
 
-      back_on : (u : List Lexeme) → (type_with fits m t v).CanGoOn u → split.CanGoOn u
+      back_on : (u : List Lexeme) → (type_with fits tags m t v).CanGoOn u → split.CanGoOn u
       back_on u (inl h) = inl h
       back_on u (inr (inl (inl (inl h)))) = inr (inl (inl h))
       back_on u (inr (inl (inl (inr (inl h))))) = inr (inr (inl h))
@@ -342,18 +342,18 @@ presence_ends = either is_presence (either no_lexeme goes_on)
 abbrev member_ends : Lexeme → Bool
 member_ends = either type_ends presence_ends
 
-module _ {s f : Type 0} {over : Limit → ℕ} {within : Bool} {v : Grammar Tree} {value_starts : Lexeme → Bool} {value : Reader Tree} where
+module _ {s f : Type 0} {over : Limit → ℕ} {within : Limit → Type 0} {v : Grammar Tree} {value_starts : Lexeme → Bool} {value : Reader Tree} where
   loose_presence : Owes s f over within v value_starts goes_on value → OwesLoosely s f over within (presence v) is_presence presence_ends (presence_at value)
   loose_presence kv = loose_read (presence_at value) (presence_same value) (loose_made present (loose_optional (rule_pick (rule_made (λ _. may_be_absent) rule_optional_word) (rule_made default (rule_behind rule_default_word kv)) default_no_optional)))
 
-module _ {s f : Type 0} {over : Limit → ℕ} {within : Bool} {t : Grammar TypeTree} {v : Grammar Tree} {value_starts : Lexeme → Bool} {read : Reader TypeTree} {value : Reader Tree} where
+module _ {s f : Type 0} {over : Limit → ℕ} {within : Limit → Type 0} {t : Grammar TypeTree} {v : Grammar Tree} {value_starts : Lexeme → Bool} {read : Reader TypeTree} {value : Reader Tree} where
   pub rule_member : Owes s f over within t type_starts type_ends read → Owes s f over within v value_starts goes_on value → Owes s f over within (member t v) is_ident member_ends (named_at (component_at read value))
   rule_member kt kv = rule_named (loosely (rule_read (component_at read value) (component_same read value) (rule_both t (presence v) (rule_tail (λ p. p) kt (loose_presence kv) presence_apart))))
 
   rule_in_braces : Owes s f over within t type_starts type_ends read → Owes s f over within v value_starts goes_on value → Owes s f over within (inside (optional (listed (member t v)))) (either is_ident is_closed) no_lexeme (in_braces read value)
   rule_in_braces kt kv = rule_lead (λ p. p.0) (loose_optional (rule_listed (rule_member kt kv) refl)) (rule_token closed_is) (close_apart (either is_ident (with_comma member_ends)) refl)
 
-module _ {s f : Type 0} {over : Limit → ℕ} {within : Bool} {t : Grammar TypeTree} {read : Reader TypeTree} where
+module _ {s f : Type 0} {over : Limit → ℕ} {within : Limit → Type 0} {t : Grammar TypeTree} {read : Reader TypeTree} where
   pub rule_alternative : Owes s f over within t type_starts type_ends read → Owes s f over within (alternative t) is_ident type_ends (named_at (bare_at read))
   unfolding bare_at
   rule_alternative kt = rule_named (loosely (rule_made (λ t. (t, mandatory)) kt))
@@ -364,25 +364,25 @@ module _ {s f : Type 0} {over : Limit → ℕ} {within : Bool} {t : Grammar Type
 -- ---- what is owed for types
 
 -- fits is the reader's test on numbers, fits' the grammar's
-module _ (over : Limit → ℕ) (within : Bool) (fits fits' : ℕ → Bool) (grows : (n : ℕ) → fits n ≡ true → fits' n ≡ true) (past : Past (over Integer) ((n : ℕ) → fits' n ≡ true)) (past_tags : Past (over TagLimit) ((n : ℕ) → tag_fits fits' n ≡ true)) (room : (n : ℕ) → fits' n ≡ true → within ≡ true → fits n ≡ true)
-    (constraints : Ruled constraint is_open constraint_at) (sizes : Ruled size is_size size_at) where
+module _ (over : Limit → ℕ) (within : Limit → Type 0) (fits fits' : ℕ → Bool) (grows : (n : ℕ) → fits n ≡ true → fits' n ≡ true) (past : Past (over Integer) ((n : ℕ) → fits' n ≡ true)) (tags : ℕ → Bool) (tag_rule : TagRule over within fits tags) (room : (n : ℕ) → fits' n ≡ true → within Integer → fits n ≡ true)
+    (constraints : Rules over within (constraint fits') is_open no_lexeme (constraint_at fits)) (sizes : Rules over within (size fits') is_size no_lexeme (size_at fits)) where
   rule_size : Rules over within (size fits') is_size no_lexeme (size_at fits)
-  rule_size = sizes over within fits fits' grows past room
+  rule_size = sizes
 
   module _ (s f : Type 0) where
     loose_constraints : OwesLoosely s f over within (many (constraint fits')) is_open (either is_open no_lexeme) (constraints_at fits)
     unfolding constraints_at
-    loose_constraints = loose_many (asked (constraints over within fits fits' grows past room)) (λ t e. refl)
+    loose_constraints = loose_many (asked (constraints)) (λ t e. refl)
 
     loose_size : OwesLoosely s f over within (optional (size fits' ∣ parens (size fits'))) (either is_size is_open) size_ends (list_size_at fits)
     loose_size = loose_read (list_size_at fits) (size_same fits) (loose_optional (rule_pick (asked rule_size) (rule_parens (asked rule_size) refl) open_no_size))
 
-  rule_inside_tag : {s f : Type 0} {t : Grammar TypeTree} {read : Reader TypeTree} → Owes s f over within t type_starts type_ends read → Owes s f over within ((tag fits' ∙ (keyword ∙ t)) ⇒ tag_tree) (either is_application_word (either is_private_word is_number)) type_ends (inside_tag_at fits read)
+  rule_inside_tag : {s f : Type 0} {t : Grammar TypeTree} {read : Reader TypeTree} → Owes s f over within t type_starts type_ends read → Owes s f over within ((tag tags ∙ (keyword ∙ t)) ⇒ tag_tree) (either is_application_word (either is_private_word is_number)) type_ends (inside_tag_at fits read)
   rule_inside_tag {s} {f} {t} {read} kt =
-      rule_read (inside_tag_at fits read) (inside_same fits read) (rule_seq tag_tree (asked (rule_tag over within fits fits' grows past past_tags room)) (rule_both keyword t (rule_lead (λ p. p) loose_keyword kt type_no_keyword)) (λ t e. refl))
+      rule_read (inside_tag_at fits read) (inside_same fits read) (rule_seq tag_tree (asked (rule_tag over within fits fits' grows past tags tag_rule room)) (rule_both keyword t (rule_lead (λ p. p) loose_keyword kt type_no_keyword)) (λ t e. refl))
 
   -- n: how many more things may be open for the reader, and m for the grammar
-  module _ (s f : Type 0) (n m : ℕ) (fit : s → m ≡ over Nesting + n) (deep : f → within ≡ true → m ≤ n) (t : Grammar TypeTree) (v : Grammar Tree) (value_starts : Lexeme → Bool) (read read0 : Reader TypeTree) (value value0 : Reader Tree)
+  module _ (s f : Type 0) (n m : ℕ) (fit : s → m ≡ over Nesting + n) (deep : f → within Nesting → m ≤ n) (t : Grammar TypeTree) (v : Grammar Tree) (value_starts : Lexeme → Bool) (read read0 : Reader TypeTree) (value value0 : Reader Tree)
       (kt : IsOpenable n → Owes s f over within t type_starts type_ends read) (kv : IsOpenable n → Owes s f over within v value_starts goes_on value) (kt0 : Owes ⊥ f over within t type_starts type_ends read0) (kv0 : Owes ⊥ f over within v value_starts goes_on value0) where
     rule_body : Owes s f over within (members m t v) is_lbrace no_lexeme (body_at n read value)
     rule_body = rule_read (body_at n read value) (body_same n read value) (rule_made members_of (rule_braces (optional (listed (member t v))) n m fit deep (λ q. ((rule_in_braces kt0 kv0).finds q).part) (λ o. rule_in_braces (kt o) (kv o))))
@@ -397,19 +397,19 @@ module _ (over : Limit → ℕ) (within : Bool) (fits fits' : ℕ → Bool) (gro
         (rule_pick (rule_seq (λ _. an_object_identifier) rule_object_word rule_identifier (λ t e. refl))
         (rule_pick (rule_seq (λ _. an_octet_string) rule_octet_word rule_string (λ t e. refl))
         (rule_pick rule_ref
-        (rule_pick (rule_integer over within fits fits' grows past past_tags room s f n m fit deep)
-        (rule_pick (rule_bit_string over within fits fits' grows past past_tags room s f n m fit deep)
-        (rule_pick (rule_enumerated over within fits fits' grows past past_tags room s f n m fit deep) rule_choice choice_no_enumerated) rest_no_bit) rest_no_integer) rest_no_typeref) rest_no_octet) rest_no_object) rest_no_word))
+        (rule_pick (rule_integer over within fits fits' grows past tags tag_rule room s f n m fit deep)
+        (rule_pick (rule_bit_string over within fits fits' grows past tags tag_rule room s f n m fit deep)
+        (rule_pick (rule_enumerated over within fits fits' grows past tags tag_rule room s f n m fit deep) rule_choice choice_no_enumerated) rest_no_bit) rest_no_integer) rest_no_typeref) rest_no_octet) rest_no_object) rest_no_word))
 
-    rule_tagged : Owes s f over within (tagged fits' m t) is_open_bracket type_ends (tagged_at fits n read)
-    rule_tagged = rule_read (tagged_at fits n read) (tagged_same fits n read) (rule_opens (Mark OpenBracket) is_open_bracket refl open_bracket_one ((tag fits' ∙ (keyword ∙ t)) ⇒ tag_tree) n m fit deep (λ q. ((rule_inside_tag kt0).finds q).part) (λ o. rule_inside_tag (kt o)))
+    rule_tagged : Owes s f over within (tagged tags m t) is_open_bracket type_ends (tagged_at fits n read)
+    rule_tagged = rule_read (tagged_at fits n read) (tagged_same fits n read) (rule_opens (Mark OpenBracket) is_open_bracket refl open_bracket_one ((tag tags ∙ (keyword ∙ t)) ⇒ tag_tree) n m fit deep (λ q. ((rule_inside_tag kt0).finds q).part) (λ o. rule_inside_tag (kt o)))
 
     rule_of : Owes s f over within (opens m (behind (Word words.Of) t)) is_of_word type_ends (of_at fits n read)
     rule_of = rule_read (of_at fits n read) (of_same fits n read) (rule_opens (Word words.Of) is_of_word refl of_word_one t n m fit deep (λ q. (kt0.finds q).part) kt)
 
-    pub rule_step : Owes s f over within (type_with fits' m t v) type_starts type_ends (type_step fits n read value)
+    pub rule_step : Owes s f over within (type_with fits' tags m t v) type_starts type_ends (type_step fits n read value)
     rule_step =
-        rule_tests type_starts type_ends (λ t e. e) type_ends_are (rule_same (type_with fits' m t v) (type_is_split fits' m t v) (rule_read (type_step fits n read value) (type_same fits n read value)
+        rule_tests type_starts type_ends (λ t e. e) type_ends_are (rule_same (type_with fits' tags m t v) (type_is_split fits' tags m t v) (rule_read (type_step fits n read value) (type_same fits n read value)
         (rule_pick rule_tagged
         (rule_pick (rule_tail constrained rule_one (loose_constraints s f) constraint_apart)
-        (rule_seq (λ p. p.1 p.0) rule_which (rule_pick (rule_tail (of_members fits' m t v) rule_body (loose_constraints s f) (λ t e. refl)) (rule_lead (of_element fits' m t v) (loose_size s f) rule_of of_apart) list_no_brace) (λ t e. refl)) which_no_plain) rest_no_bracket)))
+        (rule_seq (λ p. p.1 p.0) rule_which (rule_pick (rule_tail (of_members fits' tags m t v) rule_body (loose_constraints s f) (λ t e. refl)) (rule_lead (of_element fits' tags m t v) (loose_size s f) rule_of of_apart) list_no_brace) (λ t e. refl)) which_no_plain) rest_no_bracket)))

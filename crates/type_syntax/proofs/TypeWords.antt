@@ -5,15 +5,15 @@ use Rattle.std.proofs.lemmas.Bool.Decides.{nat_tests}
 use Rattle.std.specs.Prelude.{nat_lt}
 use Rattle.text.specs.declared.reserved.Word.{Word as Word'}
 use Rattle.grammar.specs.Lexeme.{Lexeme, Number, Word}
-use Rattle.grammar.specs.Reading.{Limit, TagNumber as TagLimit, Beyond}
+use Rattle.grammar.specs.Reading.{Integer, Limit, TagNumber as TagLimit, Beyond}
 use Rattle.grammar.specs.Laws.{more, Sound, Passes, Stands}
 use Rattle.grammar.specs.Lists.{no_lexeme, head_is}
 use Rattle.grammar.specs.Numbers.{Past}
 use Rattle.grammar.specs.Parts.{SoundReader}
 use Rattle.notation.specs.Rules.{Rules, bor, bor_left, bor_right, is_number}
 use Rattle.trees.specs.Types.{TypeTree}
-use Rattle.type_syntax.specs.TypeGrammar.{type_of_word, one_word, TagNumber, tag_fits, tag_number}
-use Rattle.type_syntax.specs.TypeReading.{known, one_word_at, by_limit, tag_number_at}
+use Rattle.type_syntax.specs.TypeGrammar.{type_of_word, one_word, TagNumber, tag_number}
+use Rattle.type_syntax.specs.TypeReading.{tag_fits, known, one_word_at, by_limit, tag_number_at}
 
 le_same : (us : List Lexeme) → length us ≤ length us
 le_same us = omega arith
@@ -28,7 +28,7 @@ abbrev pub is_type_word : Lexeme → Bool
 is_type_word (Word w) = stands (type_of_word w)
 is_type_word t = false
 
-module _ (over : Limit → ℕ) (within : Bool) where
+module _ (over : Limit → ℕ) (within : Limit → Type 0) where
   word_sound : SoundReader over one_word one_word_at
   unfolding one_word_at
   word_sound [] = ([], [], refl, refl, inl refl)
@@ -102,21 +102,26 @@ never false h = refl
 true_false : (b : Bool) → b ≡ true → b ≡ false → ⊥
 true_false b p q = absurd (let e = sym p ⋆ q in cc)
 
--- fits is the reader's test on numbers, fits' the grammar's
-module _ (over : Limit → ℕ) (within : Bool) (fits fits' : ℕ → Bool) (grows : (n : ℕ) → fits n ≡ true → fits' n ≡ true) (past : Past (over TagLimit) ((n : ℕ) → tag_fits fits' n ≡ true)) (room : (n : ℕ) → fits' n ≡ true → within ≡ true → fits n ≡ true) where
-  great_sound : (k : ℕ) → over TagLimit ≡ k → Past k ((n : ℕ) → tag_fits fits' n ≡ true) → (n : ℕ) (ts : List Lexeme) → Sound over (tag_number fits') (Number n ∷ ts) (Err (Beyond TagLimit (length (Number n ∷ ts))))
+-- What a reader whose test on numbers is fits owes a grammar whose test on the numbers of tags is this.
+pub record TagRule (over : Limit → ℕ) (within : Limit → Type 0) (fits tags : ℕ → Bool) : Type 0 where
+  pub grows : (n : ℕ) → tag_fits fits n ≡ true → tags n ≡ true
+  pub past : Past (over TagLimit) ((n : ℕ) → tags n ≡ true)
+  pub room : (n : ℕ) → tags n ≡ true → within TagLimit → tag_fits fits n ≡ true
+
+module _ (over : Limit → ℕ) (within : Limit → Type 0) (fits tags : ℕ → Bool) (rule : TagRule over within fits tags) where
+  great_sound : (k : ℕ) → over TagLimit ≡ k → Past k ((n : ℕ) → tags n ≡ true) → (n : ℕ) (ts : List Lexeme) → Sound over (tag_number tags) (Number n ∷ ts) (Err (Beyond TagLimit (length (Number n ∷ ts))))
   great_sound zero e p n ts = ([], Number n ∷ ts, refl, ap (λ (k : ℕ). more k (length (Number n ∷ ts))) (sym e), inl refl)
   great_sound (suc k) e p n ts = (Number n ∷ [], ts, refl, long ⋆ ap (λ (k : ℕ). more k (length ts)) (sym e), inr (n, p n, refl))
     where
       long : length (Number n ∷ ts) ≡ more (suc k) (length ts)
       long = omega arith
 
-  limit_sound : (u : Bool) → fits (2 ^ 127) ≡ u → (n : ℕ) (b : Bool) (e : nat_lt n 2147483648 ≡ b) (ts : List Lexeme) → Sound over (tag_number fits') (Number n ∷ ts) (by_limit u n b e ts)
-  limit_sound u d n true e ts = (Number n ∷ [], refl, refl)
-  limit_sound true d n false e ts = (Number n ∷ [], ts, refl, refl, inr (n, bor_right (nat_lt n 2147483648) (fits' (2 ^ 127)) (grows (2 ^ 127) d), refl))
-  limit_sound false d n false e ts = great_sound (over TagLimit) refl past n ts
+  limit_sound : (u : Bool) → fits (2 ^ 127) ≡ u → (n : ℕ) (b : Bool) (e : nat_lt n 2147483648 ≡ b) (ts : List Lexeme) → Sound over (tag_number tags) (Number n ∷ ts) (by_limit u n b e ts)
+  limit_sound u d n true e ts = (Number n ∷ [], refl, (rule.grows n (bor_left (nat_lt n 2147483648) (fits (2 ^ 127)) e), refl))
+  limit_sound true d n false e ts = (Number n ∷ [], ts, refl, refl, inr (n, rule.grows n (bor_right (nat_lt n 2147483648) (fits (2 ^ 127)) d), refl))
+  limit_sound false d n false e ts = great_sound (over TagLimit) refl rule.past n ts
 
-  tag_sound : SoundReader over (tag_number fits') (tag_number_at fits)
+  tag_sound : SoundReader over (tag_number tags) (tag_number_at fits)
   unfolding tag_number_at
   tag_sound [] = ([], [], refl, refl, inl refl)
   tag_sound (Number n ∷ ts) = limit_sound (fits (2 ^ 127)) refl n (nat_lt n 2147483648) refl ts
@@ -133,12 +138,16 @@ module _ (over : Limit → ℕ) (within : Bool) (fits fits' : ℕ → Bool) (gro
   tag_passes (Number n ∷ us) = limit_passes (fits (2 ^ 127)) n (nat_lt n 2147483648) refl us
   tag_passes (t ∷ us) = le_same (t ∷ us)
 
-  limit_front : (u : Bool) → fits (2 ^ 127) ≡ u → (n : ℕ) (b : Bool) (e : nat_lt n 2147483648 ≡ b) (us : List Lexeme) → tag_fits fits' n ≡ true → Passes within us (by_limit u n b e us)
+  limit_front : (u : Bool) → fits (2 ^ 127) ≡ u → (n : ℕ) (b : Bool) (e : nat_lt n 2147483648 ≡ b) (us : List Lexeme) → tags n ≡ true → Passes within us (by_limit u n b e us)
   limit_front u d n true e us h = le_same us
   limit_front true d n false e us h = le_same us
-  limit_front false d n false e us h = inr (never within (λ w. true_false (fits (2 ^ 127)) (room (2 ^ 127) (bor_none (nat_lt n 2147483648) (fits' (2 ^ 127)) e h) w) d))
+  limit_front false d n false e us h = inr (λ w. true_false (tag_fits fits n) (rule.room n h w) (none (nat_lt n 2147483648) (fits (2 ^ 127)) e d))
+    where
+      none : (x y : Bool) → x ≡ false → y ≡ false → bor x y ≡ false
+      none true y p q = absurd cc
+      none false y p q = q
 
-  tag_front : (u us : List Lexeme) → (tag_number fits').CanGoOn u → Passes within us (tag_number_at fits (u ++ us))
+  tag_front : (u us : List Lexeme) → (tag_number tags).CanGoOn u → Passes within us (tag_number_at fits (u ++ us))
   unfolding tag_number_at
   tag_front u us (inl e) = subst (λ (l : List Lexeme). Passes within us (tag_number_at fits (l ++ us))) (sym e) (tag_passes us)
   tag_front u us (inr (n, h, e)) = subst (λ (l : List Lexeme). Passes within us (tag_number_at fits (l ++ us))) (sym e) (limit_front (fits (2 ^ 127)) refl n (nat_lt n 2147483648) refl us h)
@@ -147,23 +156,23 @@ module _ (over : Limit → ℕ) (within : Bool) (fits fits' : ℕ → Bool) (gro
   limit_whole u x true e us = inl (ap (λ (z : TagNumber). Ok (z, us)) (number_same x.0 _ x.1))
   limit_whole u x false e us = absurd (not_below x.0 e x.1)
 
-  tag_whole : (x : TagNumber) (u us : List Lexeme) → (tag_number fits').Is x u → Stands within (tag_number_at fits (u ++ us)) x us
+  tag_whole : (x : TagNumber) (u us : List Lexeme) → (tag_number tags).Is x u → Stands within (tag_number_at fits (u ++ us)) x us
   unfolding tag_number_at
-  tag_whole x u us h = subst (λ (l : List Lexeme). Stands within (tag_number_at fits (l ++ us)) x us) (sym h) (limit_whole (fits (2 ^ 127)) x (nat_lt x.0 2147483648) refl us)
+  tag_whole x u us h = subst (λ (l : List Lexeme). Stands within (tag_number_at fits (l ++ us)) x us) (sym h.1) (limit_whole (fits (2 ^ 127)) x (nat_lt x.0 2147483648) refl us)
 
-  tag_first : (t : Lexeme) (u : List Lexeme) → (tag_number fits').CanGoOn (t ∷ u) → is_number t ≡ true
+  tag_first : (t : Lexeme) (u : List Lexeme) → (tag_number tags).CanGoOn (t ∷ u) → is_number t ≡ true
   tag_first t u (inl e) = absurd cc
   tag_first t u (inr (n, h, e)) = ap is_number (head_is t (Number n) u [] e)
 
-  pub rule_tag_number : Rules over within (tag_number fits') is_number no_lexeme (tag_number_at fits)
+  pub rule_tag_number : Rules over within (tag_number tags) is_number no_lexeme (tag_number_at fits)
   rule_tag_number = record {
     sound = λ q. tag_sound;
     finds = λ q. record {
       nil = inl refl;
-      part = λ x u h. inr (x.0, bor_left (nat_lt x.0 2147483648) (fits' (2 ^ 127)) (is_below x.0 x.1), h);
+      part = λ x u h. inr (x.0, h.0, h.1);
       first = tag_first;
       whole = λ x u us h g. tag_whole x u us h;
       front = tag_front;
     };
-    solid = record { no_empty = λ x h. absurd (let e = h in cc) };
+    solid = record { no_empty = λ x h. absurd (let e = h.1 in cc) };
   }

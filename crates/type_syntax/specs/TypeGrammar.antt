@@ -7,7 +7,7 @@ use Rattle.asn_base.specs.declared.tag.Class.TheVariants as classes
 use Rattle.asn_base.specs.declared.tag.Tag.{Tag}
 use Rattle.grammar.specs.Lexeme.{TypeRef, Ident, Number, Word, Mark}
 use Rattle.grammar.specs.Grammar.{Grammar, token, mark, word, number_of, ◌∙◌, ◌∣◌, ◌⇒◌, many, optional, behind, listed, braces, cut_off}
-use Rattle.notation.specs.Rules.{bor}
+use Rattle.grammar.specs.Places.{Limited}
 use Rattle.trees.specs.Values.{Name, Tree}
 use Rattle.trees.specs.Constraints.{RangeTree, ConstraintTree}
 use Rattle.notation.specs.ConstraintGrammar.{parens, size, constraint}
@@ -130,29 +130,13 @@ choice n t = (word words.Choice ∙ opens n (braces (listed (alternative t)))) �
 
 -- ---- productions that hold numbers
 
--- the test on the numbers of tags that goes with a test on numbers: they are below 2 to the 31, or of any size where numbers are not limited to 2 to the 127
-abbrev pub tag_fits : (ℕ → Bool) → ℕ → Bool
-tag_fits fits n = bor (nat_lt n 2147483648) (fits (2 ^ 127))
-
--- A limit on numbers is a test that numbers with no minus meet.
-module _ (fits : ℕ → Bool) where
-  abbrev pub signed : Grammar (Bool × ℕ)
-  signed = number_of fits ⇒ (λ n. (false, n)) ∣ behind (Mark Minus) (token Number) ⇒ (λ n. (true, n))
-
-  abbrev pub integer : ℕ → Grammar TypeTree
-  integer n = (word words.Integer ∙ optional (opens n (braces (listed (token Ident ∙ parens signed))))) ⇒ (λ p. integer_with p.1)
-
-  abbrev pub bit_string : ℕ → Grammar TypeTree
-  bit_string n = (word words.Bit ∙ (word words.String ∙ optional (opens n (braces (listed (token Ident ∙ parens (number_of fits))))))) ⇒ (λ p. bits_with p.1.1)
-
-  abbrev pub enumerated : ℕ → Grammar TypeTree
-  enumerated n = (word words.Enumerated ∙ opens n (braces (listed (token Ident ∙ optional (parens signed))))) ⇒ (λ p. an_enumerated p.1)
-
-  -- the number of a tag; one that no tag can have may stand where nothing limits numbers, and is never whole
+-- A limit on the numbers of tags is a test that they meet.
+module _ (tags : ℕ → Bool) where
+  -- the number of a tag; one that no tag can have may stand where nothing limits these numbers, and is never whole
   abbrev pub tag_number : Grammar TagNumber
   tag_number = record {
-    Is = λ x ts. ts ≡ Number x.0 ∷ [];
-    CanGoOn = λ ts. (ts ≡ []) ⊎ ((n : ℕ) × IsTrue (tag_fits fits n) × (ts ≡ Number n ∷ []));
+    Is = λ x ts. IsTrue (tags x.0) × (ts ≡ Number x.0 ∷ []);
+    CanGoOn = λ ts. (ts ≡ []) ⊎ ((n : ℕ) × IsTrue (tags n) × (ts ≡ Number n ∷ []));
   }
 
   abbrev pub tag_end : Grammar TagNumber
@@ -167,6 +151,20 @@ module _ (fits : ℕ → Bool) where
 
   abbrev pub tagged : ℕ → Grammar TypeTree → Grammar TypeTree
   tagged n t = opens n (behind (Mark OpenBracket) ((tag ∙ (keyword ∙ t)) ⇒ (λ p. a_tagged p.0 p.1.0 p.1.1)))
+
+-- A limit on numbers is a test that numbers with no minus meet.
+module _ (fits : ℕ → Bool) where
+  abbrev pub signed : Grammar (Bool × ℕ)
+  signed = number_of fits ⇒ (λ n. (false, n)) ∣ behind (Mark Minus) (token Number) ⇒ (λ n. (true, n))
+
+  abbrev pub integer : ℕ → Grammar TypeTree
+  integer n = (word words.Integer ∙ optional (opens n (braces (listed (token Ident ∙ parens signed))))) ⇒ (λ p. integer_with p.1)
+
+  abbrev pub bit_string : ℕ → Grammar TypeTree
+  bit_string n = (word words.Bit ∙ (word words.String ∙ optional (opens n (braces (listed (token Ident ∙ parens (number_of fits))))))) ⇒ (λ p. bits_with p.1.1)
+
+  abbrev pub enumerated : ℕ → Grammar TypeTree
+  enumerated n = (word words.Enumerated ∙ opens n (braces (listed (token Ident ∙ optional (parens signed))))) ⇒ (λ p. an_enumerated p.1)
 
   -- the plain types that are no SEQUENCE and no SET
   abbrev pub one_type : ℕ → Grammar TypeTree → Grammar TypeTree
@@ -187,10 +185,14 @@ module _ (fits : ℕ → Bool) where
   list n t = (sequence_or_set ∙ (optional (size fits ∣ parens (size fits)) ∙ opens n (behind (Word words.Of) t))) ⇒ (λ p. list_of p.0 p.1.0 p.1.1)
 
   -- types, where n more things may be open, with types and values inside
-  abbrev pub type_with : ℕ → Grammar TypeTree → Grammar Tree → Grammar TypeTree
-  type_with n t v = tagged n t ∣ (plain n t v ∙ many (constraint fits)) ⇒ constrained ∣ list n t
+  abbrev pub type_with : (ℕ → Bool) → ℕ → Grammar TypeTree → Grammar Tree → Grammar TypeTree
+  type_with tags n t v = tagged tags n t ∣ (plain n t v ∙ many (constraint fits)) ⇒ constrained ∣ list n t
 
   -- the types with at most n braces, tags and lists open at one place
-  abbrev pub type : ℕ → Grammar TypeTree
-  type zero = type_with zero cut_off cut_off
-  type (suc n) = type_with (suc n) (type n) (value fits n)
+  abbrev pub type : (ℕ → Bool) → ℕ → Grammar TypeTree
+  type tags zero = type_with tags zero cut_off cut_off
+  type tags (suc n) = type_with tags (suc n) (type tags n) (value fits n)
+
+-- the types within limits
+abbrev pub types : Limited TypeTree
+types a = type a.number a.tag a.nesting

@@ -9,7 +9,7 @@ use Rattle.grammar.specs.Lexeme.{Lexeme, TypeRef, Ident, Number, Word, Mark}
 use Rattle.grammar.specs.Reading.{TagNumber as TagLimit, Beyond, Read, Reader, ◌>>=◌, stop, fitting, opened, closed_at, listed_at, named_at, many_at}
 use Rattle.trees.specs.Values.{Name, Tree}
 use Rattle.trees.specs.Constraints.{RangeTree, ConstraintTree}
-use Rattle.notation.specs.Rules.{number_at}
+use Rattle.notation.specs.Rules.{bor, number_at}
 use Rattle.notation.specs.ConstraintReading.{is_open, parens_at, size_at, constraint_at}
 use Rattle.notation.specs.Reading.{value_at}
 use Rattle.trees.specs.declared.types.Keyword.{Keyword}
@@ -118,6 +118,10 @@ low_number_at ts = stop ts
 
 unfoldable pub low_end_at : Reader ℕ
 low_end_at ts = low_number_at ts >>= λ n. bracket_at n.1 >>= λ e. Ok (n.0, e.1)
+
+-- the numbers of tags that are no fault of a limit: those below 2 to the 31, and all where numbers are not limited to 2 to the 127
+abbrev pub tag_fits : (ℕ → Bool) → ℕ → Bool
+tag_fits fits n = bor (nat_lt n 2147483648) (fits (2 ^ 127))
 
 -- fits: the test that numbers with no minus meet
 module _ (fits : ℕ → Bool) where

@@ -1,19 +1,13 @@
 use Rattle.std.proofs.Common.{◌≡◌, ℕ, ◌-◌, ◌≤◌, List, length, take, drop, Err, refl}
 use Rattle.grammar.specs.Lexeme.{lexemes}
-use Rattle.grammar.specs.Reading.{Unexpected, Beyond, Nesting, Integer, TagNumber}
-use Rattle.grammar.specs.Laws.{deeper, wider}
-use Rattle.grammar.specs.Places.{small, free, unbounded}
+use Rattle.grammar.specs.Reading.{Unexpected, Beyond}
+use Rattle.grammar.specs.Places.{small, bounded}
 use Rattle.grammar.specs.Texts.{found, rest_fits, left_fits, first, passes, same_found, never_found}
 use Rattle.trees.specs.Values.{tree_of}
-use Rattle.notation.specs.Value.{value}
-use Rattle.text.specs.declared.token.Token.{Token}
-use Rattle.notation.specs.declared.fault.Limit.{Limit}
-use Rattle.notation.specs.declared.fault.Limit.TheVariants as limits
-use Rattle.notation.specs.declared.fault.SyntaxFault.TheVariants as faults
-use Rattle.notation.specs.Answer.{Stands}
+use Rattle.notation.specs.Value.{values}
 use Rattle.notation.specs.Given.{limit_of}
 use Rattle.notation.specs.Reading.{value_at}
-use Rattle.notation.proofs.Places.{value_reads, deeper_values, wider_values}
+use Rattle.notation.proofs.Places.{value_reads}
 use Rattle.notation.proofs.Answered.{are_tokens, slice_tokens}
 use Rattle.notation.specs.Laws.{first_stands}
 use Rattle.notation.proofs.answer.value_at.Goals as goal
@@ -24,62 +18,57 @@ value-requires c = record { tokens = slice_tokens c.args.text.now c.args.place c
 pub overflow_sub-result : goal.overflow_sub-result
 overflow_sub-result c =
     let n = 128 - c.args.opened in
-    rest_fits (value small n) (free value) (value_at small n) (value_reads n) c.args.text.now c.args.tokens.now c.args.place c.requires.place (tree_of c.in-Ok.value) c.in-Ok.rest.now c.in-Ok.ensures.read
+    rest_fits values (bounded n) (value_at small n) (value_reads n) c.args.text.now c.args.tokens.now c.args.place c.requires.place (tree_of c.in-Ok.value) c.in-Ok.rest.now c.in-Ok.ensures.read
 
 pub overflow_sub-tokens : goal.overflow_sub-tokens
 overflow_sub-tokens c =
     let n = 128 - c.args.opened in
     let e = c.in-Err-Unexpected in
     let h = rw e.field-0-is at e.ensures.read in
-    left_fits (value small n) (free value) (value_at small n) (value_reads n) c.args.text.now c.args.tokens.now c.args.place c.requires.place (Unexpected e.left) h
+    left_fits values (bounded n) (value_at small n) (value_reads n) c.args.text.now c.args.tokens.now c.args.place c.requires.place (Unexpected e.left) h
 
 pub overflow_sub-result-in-Err-Limit : goal.overflow_sub-result-in-Err-Limit
 overflow_sub-result-in-Err-Limit c =
     let n = 128 - c.args.opened in
     let e = c.in-Err-Limit in
     let h = rw e.field-0-is at e.ensures.read in
-    left_fits (value small n) (free value) (value_at small n) (value_reads n) c.args.text.now c.args.tokens.now c.args.place c.requires.place (Beyond (limit_of e.limit) e.left) h
+    left_fits values (bounded n) (value_at small n) (value_reads n) c.args.text.now c.args.tokens.now c.args.place c.requires.place (Beyond (limit_of e.limit) e.left) h
 
 pub returns-in-Ok-clause-found : goal.returns-in-Ok-clause-found
 returns-in-Ok-clause-found c =
     let n = 128 - c.args.opened in
-    found (value small n) (free value) (value_at small n) (value_reads n) c.args.text.now c.args.tokens.now c.args.place c.requires.place (tree_of c.in-Ok.value) c.in-Ok.rest.now c.in-Ok.ensures.read
+    found values (bounded n) (value_at small n) (value_reads n) c.args.text.now c.args.tokens.now c.args.place c.requires.place (tree_of c.in-Ok.value) c.in-Ok.rest.now c.in-Ok.ensures.read
 
 pub returns-in-Ok-clause-only : goal.returns-in-Ok-clause-only
 returns-in-Ok-clause-only c = λ v end i.
     let n = 128 - c.args.opened in
-    same_found (value small n) (free value) (value_at small n) (value_reads n) c.args.text.now c.args.tokens.now c.args.place c.requires.place (tree_of c.in-Ok.value) v c.in-Ok.rest.now end c.in-Ok.ensures.read i
+    same_found values (bounded n) (value_at small n) (value_reads n) c.args.text.now c.args.tokens.now c.args.place c.requires.place (tree_of c.in-Ok.value) v c.in-Ok.rest.now end c.in-Ok.ensures.read i
 
 pub returns-in-Err-Unexpected-clause-only : goal.returns-in-Err-Unexpected-clause-only
 returns-in-Err-Unexpected-clause-only c = λ v end i.
     let n = 128 - c.args.opened in
     let e = c.in-Err-Unexpected in
     let h = rw e.field-0-is at e.ensures.read in
-    absurd (never_found (value small n) (free value) (value_at small n) (value_reads n) c.args.text.now c.args.tokens.now c.args.place c.requires.place (Unexpected e.left) v end h i)
+    absurd (never_found values (bounded n) (value_at small n) (value_reads n) c.args.text.now c.args.tokens.now c.args.place c.requires.place (Unexpected e.left) v end h i)
 
 pub returns-in-Err-Unexpected-clause-fault : goal.returns-in-Err-Unexpected-clause-fault
 returns-in-Err-Unexpected-clause-fault c =
     let n = 128 - c.args.opened in
     let e = c.in-Err-Unexpected in
     let h = rw e.field-0-is at e.ensures.read in
-    first_stands value (lexemes c.args.text.now c.args.tokens.now) c.args.place n (length c.args.tokens.now - e.left) c.unexpected.result (c.unexpected.ensures c.args.text.now)
-    (first (value small n) (free value) (value_at small n) (value_reads n) c.args.text.now c.args.tokens.now c.args.place c.requires.place e.left h)
+    first_stands values (lexemes c.args.text.now c.args.tokens.now) c.args.place (bounded n) (length c.args.tokens.now - e.left) c.unexpected.result (c.unexpected.ensures c.args.text.now)
+    (first values (bounded n) (value_at small n) (value_reads n) c.args.text.now c.args.tokens.now c.args.place c.requires.place e.left h)
 
 pub returns-in-Err-Limit-clause-only : goal.returns-in-Err-Limit-clause-only
 returns-in-Err-Limit-clause-only c = λ v end i.
     let n = 128 - c.args.opened in
     let e = c.in-Err-Limit in
     let h = rw e.field-0-is at e.ensures.read in
-    absurd (never_found (value small n) (free value) (value_at small n) (value_reads n) c.args.text.now c.args.tokens.now c.args.place c.requires.place (Beyond (limit_of e.limit) e.left) v end h i)
-
-stands : (x : List ℕ) (ts : List Token) (place n : ℕ) (le : place ≤ length ts) (l : Limit) (left : ℕ) → value_at small n (lexemes x (take (length ts - place) (drop place ts))) ≡ Err (Beyond (limit_of l) left)
-    → Stands value (lexemes x ts) place n (faults.Limit l (length ts - left))
-stands x ts place n le limits.Nesting left h = passes (value small n) (free value) (value_at small n) (value_reads n) x ts place le deeper (unbounded (value small)) Nesting left refl (deeper_values n) h
-stands x ts place n le limits.Integer left h = passes (value small n) (free value) (value_at small n) (value_reads n) x ts place le wider (free value) Integer left refl (wider_values n) h
-stands x ts place n le limits.TagNumber left h = passes (value small n) (free value) (value_at small n) (value_reads n) x ts place le wider (free value) TagNumber left refl (wider_values n) h
+    absurd (never_found values (bounded n) (value_at small n) (value_reads n) c.args.text.now c.args.tokens.now c.args.place c.requires.place (Beyond (limit_of e.limit) e.left) v end h i)
 
 pub returns-in-Err-Limit-clause-fault : goal.returns-in-Err-Limit-clause-fault
 returns-in-Err-Limit-clause-fault c =
+    let n = 128 - c.args.opened in
     let e = c.in-Err-Limit in
     let h = rw e.field-0-is at e.ensures.read in
-    stands c.args.text.now c.args.tokens.now c.args.place (128 - c.args.opened) c.requires.place e.limit e.left h
+    passes values (bounded n) (value_at small n) (value_reads n) c.args.text.now c.args.tokens.now c.args.place c.requires.place (limit_of e.limit) e.left h

@@ -1,78 +1,66 @@
 use Rattle.std.proofs.Common.{◌≡◌, ℕ, ◌-◌, ◌≤◌, List, length, take, drop, Err, refl}
 use Rattle.grammar.specs.Lexeme.{lexemes}
-use Rattle.grammar.specs.Reading.{Unexpected, Beyond, Nesting, Integer, TagNumber}
-use Rattle.grammar.specs.Laws.{deeper, wider}
-use Rattle.grammar.specs.Places.{small, free, unbounded}
+use Rattle.grammar.specs.Reading.{Unexpected, Beyond}
+use Rattle.grammar.specs.Places.{small, bounded}
 use Rattle.grammar.specs.Answers.{Reads}
 use Rattle.grammar.specs.Texts.{found, rest_fits, left_fits, first, passes, same_found, never_found}
-use Rattle.text.specs.declared.token.Token.{Token}
-use Rattle.notation.specs.declared.fault.Limit.{Limit}
-use Rattle.notation.specs.declared.fault.Limit.TheVariants as limits
-use Rattle.notation.specs.declared.fault.SyntaxFault.TheVariants as faults
-use Rattle.notation.specs.Answer.{Stands}
 use Rattle.notation.specs.Laws.{first_stands}
 use Rattle.notation.specs.Given.{limit_of}
 use Rattle.trees.specs.Constraints.{constraint_of}
 use Rattle.notation.specs.ConstraintGrammar.{constraint, flat}
 use Rattle.notation.specs.ConstraintReading.{is_open, constraint_at}
-use Rattle.notation.proofs.ConstraintPlaces.{flat_reads, flat_deeper, flat_wider, constraint_ruled, constraint_more}
+use Rattle.notation.proofs.ConstraintPlaces.{flat_reads, constraint_ruled, constraint_grows}
 use Rattle.notation.proofs.Answered.{are_tokens, slice_tokens}
 use Rattle.notation.proofs.constraint_answer.constraint_at.Goals as goal
 
-constraint_reads : Reads (constraint small) (free (flat constraint)) (constraint_at small)
-constraint_reads = flat_reads constraint is_open constraint_at constraint_ruled constraint_more
+constraint_reads : Reads (flat constraint) (bounded 0) (constraint_at small)
+constraint_reads = flat_reads constraint is_open constraint_at constraint_ruled constraint_grows
 
 pub constraint-requires : goal.constraint-requires
 constraint-requires c = record { tokens = slice_tokens c.args.text.now c.args.place c.args.tokens.now (are_tokens c.spans_within.ensures c.args.text.now c.args.tokens.now c.requires.text) }
 
 pub overflow_sub-result : goal.overflow_sub-result
-overflow_sub-result c = rest_fits (constraint small) (free (flat constraint)) (constraint_at small) constraint_reads c.args.text.now c.args.tokens.now c.args.place c.requires.place (constraint_of c.in-Ok.constraint) c.in-Ok.rest.now c.in-Ok.ensures.read
+overflow_sub-result c = rest_fits (flat constraint) (bounded 0) (constraint_at small) constraint_reads c.args.text.now c.args.tokens.now c.args.place c.requires.place (constraint_of c.in-Ok.constraint) c.in-Ok.rest.now c.in-Ok.ensures.read
 
 pub overflow_sub-tokens : goal.overflow_sub-tokens
 overflow_sub-tokens c =
     let e = c.in-Err-Unexpected in
     let h = rw e.field-0-is at e.ensures.read in
-    left_fits (constraint small) (free (flat constraint)) (constraint_at small) constraint_reads c.args.text.now c.args.tokens.now c.args.place c.requires.place (Unexpected e.left) h
+    left_fits (flat constraint) (bounded 0) (constraint_at small) constraint_reads c.args.text.now c.args.tokens.now c.args.place c.requires.place (Unexpected e.left) h
 
 pub overflow_sub-result-in-Err-Limit : goal.overflow_sub-result-in-Err-Limit
 overflow_sub-result-in-Err-Limit c =
     let e = c.in-Err-Limit in
     let h = rw e.field-0-is at e.ensures.read in
-    left_fits (constraint small) (free (flat constraint)) (constraint_at small) constraint_reads c.args.text.now c.args.tokens.now c.args.place c.requires.place (Beyond (limit_of e.limit) e.left) h
+    left_fits (flat constraint) (bounded 0) (constraint_at small) constraint_reads c.args.text.now c.args.tokens.now c.args.place c.requires.place (Beyond (limit_of e.limit) e.left) h
 
 pub returns-in-Ok-clause-found : goal.returns-in-Ok-clause-found
-returns-in-Ok-clause-found c = found (constraint small) (free (flat constraint)) (constraint_at small) constraint_reads c.args.text.now c.args.tokens.now c.args.place c.requires.place (constraint_of c.in-Ok.constraint) c.in-Ok.rest.now c.in-Ok.ensures.read
+returns-in-Ok-clause-found c = found (flat constraint) (bounded 0) (constraint_at small) constraint_reads c.args.text.now c.args.tokens.now c.args.place c.requires.place (constraint_of c.in-Ok.constraint) c.in-Ok.rest.now c.in-Ok.ensures.read
 
 pub returns-in-Ok-clause-only : goal.returns-in-Ok-clause-only
-returns-in-Ok-clause-only c = λ v end i. same_found (constraint small) (free (flat constraint)) (constraint_at small) constraint_reads c.args.text.now c.args.tokens.now c.args.place c.requires.place (constraint_of c.in-Ok.constraint) v c.in-Ok.rest.now end c.in-Ok.ensures.read i
+returns-in-Ok-clause-only c = λ v end i. same_found (flat constraint) (bounded 0) (constraint_at small) constraint_reads c.args.text.now c.args.tokens.now c.args.place c.requires.place (constraint_of c.in-Ok.constraint) v c.in-Ok.rest.now end c.in-Ok.ensures.read i
 
 pub returns-in-Err-Unexpected-clause-only : goal.returns-in-Err-Unexpected-clause-only
 returns-in-Err-Unexpected-clause-only c = λ v end i.
     let e = c.in-Err-Unexpected in
     let h = rw e.field-0-is at e.ensures.read in
-    absurd (never_found (constraint small) (free (flat constraint)) (constraint_at small) constraint_reads c.args.text.now c.args.tokens.now c.args.place c.requires.place (Unexpected e.left) v end h i)
+    absurd (never_found (flat constraint) (bounded 0) (constraint_at small) constraint_reads c.args.text.now c.args.tokens.now c.args.place c.requires.place (Unexpected e.left) v end h i)
 
 pub returns-in-Err-Unexpected-clause-fault : goal.returns-in-Err-Unexpected-clause-fault
 returns-in-Err-Unexpected-clause-fault c =
     let e = c.in-Err-Unexpected in
     let h = rw e.field-0-is at e.ensures.read in
-    first_stands (flat constraint) (lexemes c.args.text.now c.args.tokens.now) c.args.place 0 (length c.args.tokens.now - e.left) c.unexpected.result (c.unexpected.ensures c.args.text.now)
-    (first (constraint small) (free (flat constraint)) (constraint_at small) constraint_reads c.args.text.now c.args.tokens.now c.args.place c.requires.place e.left h)
+    first_stands (flat constraint) (lexemes c.args.text.now c.args.tokens.now) c.args.place (bounded 0) (length c.args.tokens.now - e.left) c.unexpected.result (c.unexpected.ensures c.args.text.now)
+    (first (flat constraint) (bounded 0) (constraint_at small) constraint_reads c.args.text.now c.args.tokens.now c.args.place c.requires.place e.left h)
 
 pub returns-in-Err-Limit-clause-only : goal.returns-in-Err-Limit-clause-only
 returns-in-Err-Limit-clause-only c = λ v end i.
     let e = c.in-Err-Limit in
     let h = rw e.field-0-is at e.ensures.read in
-    absurd (never_found (constraint small) (free (flat constraint)) (constraint_at small) constraint_reads c.args.text.now c.args.tokens.now c.args.place c.requires.place (Beyond (limit_of e.limit) e.left) v end h i)
-
-stands : (x : List ℕ) (ts : List Token) (place : ℕ) (le : place ≤ length ts) (l : Limit) (left : ℕ) → constraint_at small (lexemes x (take (length ts - place) (drop place ts))) ≡ Err (Beyond (limit_of l) left)
-    → Stands (flat constraint) (lexemes x ts) place 0 (faults.Limit l (length ts - left))
-stands x ts place le limits.Nesting left h = passes (constraint small) (free (flat constraint)) (constraint_at small) constraint_reads x ts place le deeper (unbounded (flat constraint small)) Nesting left refl (flat_deeper constraint is_open constraint_at constraint_ruled constraint_more) h
-stands x ts place le limits.Integer left h = passes (constraint small) (free (flat constraint)) (constraint_at small) constraint_reads x ts place le wider (free (flat constraint)) Integer left refl (flat_wider constraint is_open constraint_at constraint_ruled constraint_more) h
-stands x ts place le limits.TagNumber left h = passes (constraint small) (free (flat constraint)) (constraint_at small) constraint_reads x ts place le wider (free (flat constraint)) TagNumber left refl (flat_wider constraint is_open constraint_at constraint_ruled constraint_more) h
+    absurd (never_found (flat constraint) (bounded 0) (constraint_at small) constraint_reads c.args.text.now c.args.tokens.now c.args.place c.requires.place (Beyond (limit_of e.limit) e.left) v end h i)
 
 pub returns-in-Err-Limit-clause-fault : goal.returns-in-Err-Limit-clause-fault
 returns-in-Err-Limit-clause-fault c =
     let e = c.in-Err-Limit in
     let h = rw e.field-0-is at e.ensures.read in
-    stands c.args.text.now c.args.tokens.now c.args.place c.requires.place e.limit e.left h
+    passes (flat constraint) (bounded 0) (constraint_at small) constraint_reads c.args.text.now c.args.tokens.now c.args.place c.requires.place (limit_of e.limit) e.left h

@@ -1,7 +1,7 @@
 use Rattle.notation.specs.ConstraintGrammar.{constraint}
 use Rattle.notation.specs.ConstraintReading.{is_open, constraint_at}
-use Rattle.notation.proofs.ConstraintPlaces.{flat_one, constraint_ruled, constraint_more}
+use Rattle.notation.proofs.ConstraintPlaces.{flat_one, constraint_ruled, constraint_grows}
 use Rattle.notation.proofs.law.one_constraint.Goals as goal
 
 pub returns : goal.returns
-returns c = flat_one constraint is_open constraint_at constraint_ruled constraint_more
+returns c = flat_one constraint is_open constraint_at constraint_ruled constraint_grows

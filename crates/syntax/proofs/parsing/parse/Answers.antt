@@ -1,5 +1,6 @@
 use Rattle.std.proofs.Common.{◌-◌, length, sym, ◌∙◌}
 use Rattle.grammar.specs.Lexeme.{lexemes}
+use Rattle.grammar.specs.Places.{bounded}
 use Rattle.grammar.specs.Reading.{Unexpected, Beyond}
 use Rattle.notation.specs.Given.{limit_of}
 use Rattle.notation.specs.Laws.{first_stands}
@@ -38,7 +39,7 @@ returns-else-is_empty-clause-only c = λ m h. absurd (no_rest (module_laws c.hea
 
 pub returns-else-is_empty-clause-fault : goal.returns-else-is_empty-clause-fault
 returns-else-is_empty-clause-fault c =
-    first_stands module_text (lexemes c.args.text.now c.args.tokens.now) 0 128 (length c.args.tokens.now - length c.in-Ok.rest.now) c.unexpected.result (c.unexpected.ensures c.args.text.now)
+    first_stands module_text (lexemes c.args.text.now c.args.tokens.now) 0 (bounded 128) (length c.args.tokens.now - length c.in-Ok.rest.now) c.unexpected.result (c.unexpected.ensures c.args.text.now)
     (first_rest (module_laws c.heads_are_read.ensures c.types_are_read.ensures) 128 c.args.text.now c.args.tokens.now (module_tree_of c.in-Ok.module) c.in-Ok.rest.now c.in-Ok.ensures.read (not_nil (length c.in-Ok.rest.now) (sym c.is_empty.ensures ∙ c.if-is_empty.false)))
 
 pub returns-in-Err-Unexpected-clause-only : goal.returns-in-Err-Unexpected-clause-only
@@ -51,7 +52,7 @@ pub returns-in-Err-Unexpected-clause-fault : goal.returns-in-Err-Unexpected-clau
 returns-in-Err-Unexpected-clause-fault c =
     let e = c.in-Err-Unexpected in
     let h = rw e.field-0-is at e.ensures.read in
-    first_stands module_text (lexemes c.args.text.now c.args.tokens.now) 0 128 (length c.args.tokens.now - e.left) c.unexpected-in-Err-Unexpected.result (c.unexpected-in-Err-Unexpected.ensures c.args.text.now)
+    first_stands module_text (lexemes c.args.text.now c.args.tokens.now) 0 (bounded 128) (length c.args.tokens.now - e.left) c.unexpected-in-Err-Unexpected.result (c.unexpected-in-Err-Unexpected.ensures c.args.text.now)
     (first_left (module_laws c.heads_are_read.ensures c.types_are_read.ensures) 128 c.args.text.now c.args.tokens.now e.left h)
 
 pub returns-in-Err-Limit-clause-only : goal.returns-in-Err-Limit-clause-only

@@ -1,0 +1,9 @@
+use Rattle.grammar.specs.Places.{small, bounded}
+use Rattle.notation.specs.ConstraintGrammar.{constraint, flat}
+use Rattle.notation.specs.ConstraintReading.{is_open, constraint_at}
+use Rattle.notation.specs.Laws.{one_stands}
+use Rattle.notation.proofs.ConstraintPlaces.{flat_reads, constraint_ruled, constraint_grows}
+use Rattle.notation.proofs.law.one_constraint_fault.Goals as goal
+
+pub returns : goal.returns
+returns c = one_stands (flat constraint) (bounded 0) (constraint_at small) (flat_reads constraint is_open constraint_at constraint_ruled constraint_grows)
