@@ -235,9 +235,9 @@ module _ {A : Type 0} (g : Limited A) (a : Limits) (read : Reader A) (reads : Re
         let from = f.0 in
         let fits = rest_fits s.0 x.1 s.1 in
         let beyond : (b : Limits) (j : ℕ) → length ts - length x.1 < j → j ≤ length ts → (g b).CanGoOn (between ts start j) → ⊥ =
-            λ b j lt to c.
-                let p : length x.1 ≤ length (behind j) = subst (Passes (λ l. Within l b a) (behind j)) e (come b j c) in
-                omega (arith, p, lt, to, fits, behind_long j (omega (arith, from, lt)) to) in
+        λ b j lt to c.
+        let p : length x.1 ≤ length (behind j) = subst (Passes (λ l. Within l b a) (behind j)) e (come b j c) in
+        omega (arith, p, lt, to, fits, behind_long j (omega (arith, from, lt)) to) in
         record {
           stops = record { from = f.0; to = f.1; before = subst (g a).CanGoOn f.2 (reads.part x.0 s.0 s.2); longest = beyond a };
           always = beyond;

@@ -67,7 +67,6 @@ body_solid a = open_solid (many a) (word End) (λ p. p.0) (token_solid (λ (x : 
 -- fits is the reader's test on numbers, fits' the grammar's
 module _ (over : Limit → ℕ) (within : Limit → Type 0) (fits fits' : ℕ → Bool) (headed : Rules over within (head fits') is_typeref head_ends (head_at fits))
     (n : ℕ) (a : Grammar AssignmentTree) where
-  
   body_sound : SoundReader over a (assignment_at fits n) → SoundReader over (body a) (assignments_at fits n)
   unfolding assignments_at
   body_sound s ts = seq_sound over (many a) (word End) (λ p. p.0) ts (many_read fits n ts) end_at (many_sound over a begins_assignment (assignment_at fits n) s (length ts) ts) (token_sound (λ (x : Unit {0}). Word End) is_end end_at end_is over)
