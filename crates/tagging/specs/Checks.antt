@@ -1,7 +1,7 @@
 -- What the check of one type tells.
 use Rattle.std.specs.Prelude.{◌≡◌, ℕ, ◌<◌, ◌≤◌, List, [], Option, Some}
 use Rattle.syntax.specs.declared.tree.Keyword.{Keyword}
-use Rattle.syntax.specs.declared.tree.Keyword.TheVariants.{Absent, Implicit, Explicit}
+use Rattle.syntax.specs.declared.tree.Keyword.TheVariants.{Implicit}
 use Rattle.syntax.specs.declared.tree.TagDefault.{TagDefault}
 use Rattle.resolve.specs.Table.{Type', Kind, tagged, members, Is}
 use Rattle.tagging.specs.declared.check.Fault.{Fault}
