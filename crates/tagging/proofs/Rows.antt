@@ -1,21 +1,20 @@
 -- Worked rows: what the definitions say of small tables.
-use Rattle.std.proofs.Common.{◌≡◌, ℕ, zero, suc, ◌<◌, ◌≤◌, List, [], ◌∷◌, Option, Some, None, refl, arith, Bool, true, false, subst, inl, inr}
-use Rattle.std.specs.Prelude.{slice_get, map}
-use Rattle.asn_base.specs.declared.tag.Class.TheVariants.{Universal, Context, Application}
+use Rattle.std.proofs.Common.{◌≡◌, ℕ, zero, suc, ◌<◌, List, [], ◌∷◌, Option, Some, None, refl, arith, true, subst, inr}
+use Rattle.std.specs.Prelude.{slice_get}
+use Rattle.asn_base.specs.declared.tag.Class.TheVariants.{Universal, Context}
 use Rattle.asn_base.specs.declared.tag.Tag.{Tag}
 use Rattle.trees.specs.declared.types.Keyword.{Keyword}
 use Rattle.trees.specs.declared.types.Keyword.TheVariants as word
 use Rattle.trees.specs.declared.module.TagDefault.{TagDefault}
 use Rattle.trees.specs.declared.module.TagDefault.TheVariants as tags
 use Rattle.trees.specs.Types.{PresenceTree, mandatory, optional}
-use Rattle.resolve.specs.declared.table.ListKind.{ListKind}
 use Rattle.resolve.specs.declared.table.ListKind.TheVariants.{Sequence, Set, Choice}
 use Rattle.resolve.specs.declared.table.ElementsKind.TheVariants.{SequenceOf, SetOf}
-use Rattle.resolve.specs.Table.{Plain, a_boolean, an_integer, a_bit_string, an_octet_string, a_null, an_object_identifier, an_enumerated, a_utf8_string, a_numeric_string, a_printable_string, an_ia5_string, a_visible_string, Part, Type', Kind, simple, reference, tagged, members, elements, Is, IsCore}
+use Rattle.resolve.specs.Table.{a_boolean, an_integer, a_bit_string, an_octet_string, a_null, an_object_identifier, an_enumerated, a_utf8_string, a_numeric_string, a_printable_string, an_ia5_string, a_visible_string, Part, Type', Kind, simple, reference, tagged, members, elements, Is}
 use Rattle.tagging.specs.declared.path.Form.TheVariants.{Implicit, Explicit}
-use Rattle.tagging.specs.Tags.{Path, own, Written, core, behind, inside, Tags, as_written, numbered, TagCount, none_written, one_more, as_behind, automatic}
-use Rattle.tagging.specs.First.{may_be_absent, First, outermost, alternative, Together}
-use Rattle.tagging.specs.Tagged.{IsOverfull, IsImplicit, IsUntagged, Clash, HasClash}
+use Rattle.tagging.specs.Tags.{own, core, behind, inside, Tags, as_written, numbered, none_written, one_more, automatic}
+use Rattle.tagging.specs.First.{may_be_absent, outermost, alternative, Together}
+use Rattle.tagging.specs.Tagged.{IsOverfull, IsImplicit, IsUntagged, HasClash}
 
 -- a type of a table, which stands in a module with this tag default
 abbrev written : Kind → TagDefault → Option (ℕ × ℕ) → Type'

@@ -1,5 +1,5 @@
 -- A table as it lies in memory, and as definitions see it.
-use Rattle.std.proofs.Common.{◌≡◌, ℕ, zero, suc, ◌<◌, ◌+◌, Bool, List, [], ◌∷◌, ◌++◌, length, map, take, Option, Some, refl, sym, ap, ◌∙◌, get_or, option_map, arith}
+use Rattle.std.proofs.Common.{◌≡◌, ℕ, zero, suc, ◌<◌, ◌+◌, Bool, List, [], ◌∷◌, ◌++◌, length, map, take, Some, refl, sym, ap, ◌∙◌, get_or, option_map, arith}
 use Rattle.std.specs.Prelude.{slice_get, Contains}
 use Rattle.std.proofs.lemmas.Option.{slice_get-map, slice_get_read}
 use Rattle.std.proofs.lemmas.List.{length-map, take-map, take_more, map-append}
@@ -9,7 +9,7 @@ use Rattle.resolve.specs.Seen.{type_of, types_of, kind_of, place_of, part_of, as
 use Rattle.resolve.specs.declared.table.Assignment.{Assignment}
 use Rattle.resolve.specs.declared.table.Header.{Header}
 use Rattle.resolve.specs.declared.table.Component.{Component}
-use Rattle.resolve.specs.Table.{behind, behind_of, next, Is, Part}
+use Rattle.resolve.specs.Table.{behind, behind_of, next, Is}
 
 pub type_at : (ws : List Written) (i : ℕ) (w : Written) → i < length ws → w ≡ get_or ws i w → slice_get (types_of ws) i ≡ Some (type_of w)
 type_at ws i w l e = slice_get-map type_of ws i ∙ ap (option_map type_of) (slice_get_read ws (length ws) i w refl l e)

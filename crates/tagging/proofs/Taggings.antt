@@ -1,20 +1,19 @@
 -- Tables that can be tagged, and faults.
-use Rattle.std.proofs.Common.{◌≡◌, ◌⊎◌, inl, inr, ℕ, zero, suc, ◌+◌, ◌<◌, ◌≤◌, List, [], ◌∷◌, ◌++◌, length, Option, Some, None, refl, sym, ap, ◌∙◌, arith, subst}
-use Rattle.std.specs.Prelude.{slice_get, All, MatchResult, Result, Ok, Err}
+use Rattle.std.proofs.Common.{◌≡◌, ◌⊎◌, inl, inr, ℕ, zero, suc, ◌<◌, List, [], ◌∷◌, ◌++◌, length, Option, Some, None, refl, sym, ap, ◌∙◌, arith, subst}
+use Rattle.std.specs.Prelude.{slice_get}
 use Rattle.asn_base.specs.declared.tag.Tag.{Tag}
 use Rattle.trees.specs.declared.types.Keyword.{Keyword}
 use Rattle.trees.specs.declared.types.Keyword.TheVariants.{Absent, Implicit, Explicit}
 use Rattle.trees.specs.declared.module.TagDefault.{TagDefault}
 use Rattle.resolve.specs.declared.table.ListKind.{ListKind}
 use Rattle.resolve.specs.declared.table.ListKind.TheVariants.{Sequence, Set, Choice}
-use Rattle.resolve.specs.Table.{Part, Type', Kind, simple, reference, tagged, members, elements, behind_of, Is, IsLinked}
+use Rattle.resolve.specs.Table.{Part, Type', Kind, tagged, members, behind_of, Is, IsLinked}
 use Rattle.tagging.specs.declared.check.Rule.{Rule}
 use Rattle.tagging.specs.declared.check.Rule.TheVariants.{Tags as TagsRule, TagNumber, TagClash, ImplicitChoice, UntaggedChoice}
-use Rattle.tagging.specs.Tags.{Label, Path, outermost, own, Tags, as_written, numbered, Written, core, behind, inside, TagCount, none_written, as_behind, one_more, automatic, automatic_of, AreNumbered}
-use Rattle.tagging.specs.First.{Distinct}
+use Rattle.tagging.specs.Tags.{Label, Path, outermost, own, Tags, as_written, numbered, Written, core, behind, inside, TagCount, none_written, as_behind, one_more, automatic, automatic_of}
 use Rattle.tagging.specs.Heads.{Head, Fronts, none, front, AreFirst}
 use Rattle.tagging.specs.Lists.{Collected, none as nothing, one}
-use Rattle.tagging.specs.Tagged.{OneFirst, HaveOneFirst, BearTags, IsTagged, IsUntagged, IsOverfull, IsImplicit, HasClash, Breaks}
+use Rattle.tagging.specs.Tagged.{OneFirst, HaveOneFirst, BearTags, IsTagged, IsImplicit, Breaks}
 use Rattle.tagging.specs.Faults.{Stands, StandsIn}
 use Rattle.tagging.specs.declared.fault.TagFault.{TagFault}
 use Rattle.tagging.specs.declared.fault.TagFault.TheVariants as faults

@@ -1,7 +1,7 @@
 -- What the check of one type tells.
 use Rattle.std.specs.Prelude.{◌≡◌, ℕ, ◌<◌, ◌≤◌, List, [], Option, Some}
 use Rattle.trees.specs.declared.types.Keyword.{Keyword}
-use Rattle.trees.specs.declared.types.Keyword.TheVariants.{Absent, Implicit, Explicit}
+use Rattle.trees.specs.declared.types.Keyword.TheVariants.{Implicit}
 use Rattle.trees.specs.declared.module.TagDefault.{TagDefault}
 use Rattle.resolve.specs.Table.{Type', Kind, tagged, members, Is}
 use Rattle.tagging.specs.declared.check.Fault.{Fault}

@@ -1,6 +1,6 @@
 -- What faults say of linked modules. hs: the modules' names and tag defaults; gs: the assignments, each with its module's
 -- number and its name; ts: the written types. Names are lists of octets.
-use Rattle.std.specs.Prelude.{◌≡◌, ℕ, List, Option, Some, slice_get, string_bytes}
+use Rattle.std.specs.Prelude.{◌≡◌, ℕ, List, Some, slice_get, string_bytes}
 use Rattle.trees.specs.declared.module.TagDefault.{TagDefault}
 use Rattle.resolve.specs.Table.{Type'}
 use Rattle.tagging.specs.declared.fault.TagFault.{TagFault}

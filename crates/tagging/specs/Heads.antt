@@ -1,9 +1,6 @@
 -- The outermost tag of a type, and those of a list's members.
-use Rattle.std.specs.Prelude.{◌≡◌, ◌⊎◌, ℕ, List, [], ◌∷◌, Option, Some, None, slice_get, Contains}
-use Rattle.trees.specs.declared.module.TagDefault.{TagDefault}
-use Rattle.resolve.specs.declared.table.ListKind.{ListKind}
-use Rattle.resolve.specs.declared.table.ListKind.TheVariants.{Set, Choice}
-use Rattle.resolve.specs.Table.{Part, Type', Kind, members, Is}
+use Rattle.std.specs.Prelude.{◌≡◌, ℕ, List, [], ◌∷◌, Option, Some, None, slice_get, Contains}
+use Rattle.resolve.specs.Table.{Part, Type', Kind, members}
 use Rattle.tagging.specs.declared.first.FrontFault.{FrontFault}
 use Rattle.tagging.specs.declared.first.FrontFault.TheVariants.{Memory, Untagged}
 use Rattle.tagging.specs.Tags.{Label, Path, outermost, Tags}

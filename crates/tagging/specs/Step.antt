@@ -1,17 +1,16 @@
 -- One step of the way through references and tags.
 use Rattle.std.specs.Prelude.{◌≡◌, ℕ, Bool, true, false, List, [], ◌∷◌, ◌++◌, Option, Some, None}
 use Rattle.resolve.specs.declared.table.ListKind.TheVariants.{Sequence, Set, Choice}
-use Rattle.asn_base.specs.declared.tag.Tag.{Tag}
 use Rattle.resolve.specs.Table.{universal, Type', Kind, simple, reference, tagged, members, elements}
 use Rattle.tagging.specs.declared.path.Step.{Step}
 use Rattle.tagging.specs.declared.path.Step.TheVariants.{Ends, Behind, Inside}
 use Rattle.trees.specs.declared.types.Keyword.{Keyword}
 use Rattle.trees.specs.declared.types.Keyword.TheVariants.{Absent, Implicit as ImplicitWord, Explicit as ExplicitWord}
 use Rattle.trees.specs.declared.module.TagDefault.{TagDefault}
-use Rattle.trees.specs.declared.module.TagDefault.TheVariants.{Explicit as ExplicitTags, Implicit as ImplicitTags, Automatic}
+use Rattle.trees.specs.declared.module.TagDefault.TheVariants.{Explicit as ExplicitTags}
 use Rattle.tagging.specs.declared.path.Form.{Form}
 use Rattle.tagging.specs.declared.path.Form.TheVariants.{Implicit, Explicit}
-use Rattle.tagging.specs.Tags.{Label, Path, universal_tag, elements_number, outermost, Written, Tags}
+use Rattle.tagging.specs.Tags.{Label, Path, universal_tag, elements_number, outermost, Written}
 
 unfoldable pub step_of : Kind → Step
 step_of (simple s) = Ends (Some (universal s))

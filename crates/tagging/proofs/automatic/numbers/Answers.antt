@@ -1,4 +1,4 @@
-use Rattle.std.specs.Prelude.{◌≡◌, not, slice_get}
+use Rattle.std.specs.Prelude.{not, slice_get}
 use Rattle.std.proofs.Common.{ap, sym, ◌∙◌}
 use Rattle.std.specs.List.{list_any}
 use Rattle.resolve.specs.Seen.{part_of, types_of}

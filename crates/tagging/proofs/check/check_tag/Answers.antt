@@ -1,7 +1,4 @@
-use Rattle.std.proofs.Common.{subst}
-use Rattle.std.specs.Prelude.{ℕ, Option}
 use Rattle.resolve.specs.Seen.{types_of}
-use Rattle.resolve.specs.Table.{Is, tagged}
 use Rattle.tagging.proofs.Taggings.{has_tag, untagged, implicit_at, suits_tag}
 use Rattle.tagging.proofs.check.check_tag.Goals as goal
 

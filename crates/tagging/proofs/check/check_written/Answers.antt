@@ -2,7 +2,6 @@ use Rattle.std.proofs.Common.{◌<◌, length, sym, subst, arith}
 use Rattle.std.specs.Prelude.{All, map}
 use Rattle.resolve.specs.Seen.{types_of, kind_of, place_of, part_of}
 use Rattle.resolve.specs.Table.{Is, tagged, members}
-use Rattle.trees.specs.declared.types.Keyword.TheVariants.{Implicit}
 use Rattle.tagging.proofs.Tables.{as_long}
 use Rattle.tagging.proofs.Taggings.{inside_table}
 use Rattle.tagging.proofs.check.check_written.Goals as goal

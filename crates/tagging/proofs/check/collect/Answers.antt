@@ -1,9 +1,9 @@
-use Rattle.std.proofs.Common.{◌≡◌, ℕ, ◌<◌, ◌+◌, [], ◌∷◌, ◌++◌, length, refl, sym, ap, ◌∙◌, arith, subst, take}
+use Rattle.std.proofs.Common.{◌<◌, length, sym, subst}
 use Rattle.std.specs.Prelude.{map}
 use Rattle.std.proofs.lemmas.List.{map-append}
 use Rattle.resolve.specs.Seen.{types_of, part_of}
 use Rattle.tagging.specs.Heads.{AreFirst}
-use Rattle.tagging.specs.Lists.{Collected, none}
+use Rattle.tagging.specs.Lists.{none}
 use Rattle.tagging.proofs.Tables.{part_at, part_more}
 use Rattle.tagging.proofs.Fronts.{within_all}
 use Rattle.tagging.proofs.Taggings.{collected_push}

@@ -1,10 +1,9 @@
-use Rattle.std.proofs.Common.{◌≡◌, ℕ, ◌<◌, length, sym, subst, arith}
+use Rattle.std.proofs.Common.{◌<◌, length, sym, subst, arith}
 use Rattle.std.specs.Prelude.{All, MatchResult, map}
 use Rattle.resolve.specs.Seen.{types_of, kind_of, place_of, part_of}
 use Rattle.resolve.specs.Table.{Is}
 use Rattle.tagging.proofs.Tables.{is_here, as_long}
-use Rattle.resolve.specs.Table.{Part}
-use Rattle.tagging.specs.Heads.{AreFirst, Fronts, IsFrontFault, IsFirstFault, members_of}
+use Rattle.tagging.specs.Heads.{Fronts, IsFrontFault}
 use Rattle.tagging.proofs.Fronts.{choice_answer, single_answer, parts_of}
 use Rattle.tagging.proofs.first.first_tags.Goals as goal
 

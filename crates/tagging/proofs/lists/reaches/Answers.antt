@@ -1,7 +1,6 @@
-use Rattle.std.proofs.Common.{◌≡◌, ◌+◌, ◌-◌, true, sym, ap, ◌∙◌, subst, arith, Some}
-use Rattle.std.specs.Prelude.{map, slice_get}
+use Rattle.std.proofs.Common.{◌-◌, sym, ◌∙◌, arith}
+use Rattle.std.specs.Prelude.{map}
 use Rattle.resolve.specs.Seen.{part_of}
-use Rattle.tagging.specs.First.{may_be_absent}
 use Rattle.tagging.proofs.Tables.{part_at}
 use Rattle.tagging.proofs.Clashes.{absent_before, absent_there}
 use Rattle.tagging.proofs.lists.reaches.Goals as goal

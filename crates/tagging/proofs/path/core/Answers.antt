@@ -1,4 +1,4 @@
-use Rattle.std.proofs.Common.{◌≡◌, ℕ, ◌<◌, length, Some, None, sym, ap, ◌∙◌, arith}
+use Rattle.std.proofs.Common.{◌≡◌, length, Some, sym, ap, ◌∙◌, arith}
 use Rattle.resolve.specs.Seen.{types_of}
 use Rattle.resolve.specs.Table.{walk, next}
 use Rattle.tagging.proofs.Tables.{next_at, as_long}

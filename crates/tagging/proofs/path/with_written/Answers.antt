@@ -1,14 +1,13 @@
-use Rattle.std.proofs.Common.{◌≡◌, ℕ, ◌<◌, ◌+◌, ◌∷◌, [], ◌++◌, length, Some, None, refl, sym, ap, ◌∙◌, arith, subst, append-nil, false}
+use Rattle.std.proofs.Common.{◌≡◌, ◌<◌, ◌∷◌, [], ◌++◌, length, Some, None, refl, sym, ap, ◌∙◌, arith, subst, append-nil}
 use Rattle.std.proofs.lemmas.List.{length-append}
-use Rattle.resolve.specs.Seen.{types_of, type_of, kind_of, place_of}
+use Rattle.resolve.specs.Seen.{types_of, kind_of, place_of}
 use Rattle.resolve.specs.Table.{walk, Is}
 use Rattle.tagging.proofs.Tables.{is_here, as_long}
 use Rattle.tagging.proofs.Walks.{one_more}
 use Rattle.tagging.specs.Tags.{Path, label, path_of, Written}
 use Rattle.tagging.specs.Step.{step_of, form_before, ending}
 use Rattle.std.specs.Prelude.{is_none}
-use Rattle.tagging.specs.declared.path.Form.TheVariants.{Explicit}
-use Rattle.tagging.specs.declared.path.Step.TheVariants.{Ends, Behind, Inside}
+use Rattle.tagging.specs.declared.path.Step.TheVariants.{Ends, Inside}
 use Rattle.tagging.proofs.Paths.{ends_above, ends_written, path_long, pushed_last, inside_path, next_inside, from_behind, next_behind, never_long, same_kind, written_exists, added_long, pushed}
 use Rattle.tagging.proofs.path.with_written.Goals as goal
 use Rattle.tagging.proofs.path.with_written.Goals.{in-Behind, in-Inside+in_ok-push-in-Inside}

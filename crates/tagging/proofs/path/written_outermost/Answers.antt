@@ -1,5 +1,5 @@
-use Rattle.std.proofs.Common.{◌≡◌, ℕ, length, Some, sym, ap, ◌∙◌, arith}
-use Rattle.resolve.specs.Seen.{types_of, type_of, kind_of, place_of}
+use Rattle.std.proofs.Common.{◌≡◌, length, Some, sym, ap, ◌∙◌, arith}
+use Rattle.resolve.specs.Seen.{types_of, kind_of, place_of}
 use Rattle.resolve.specs.Table.{walk, Is}
 use Rattle.tagging.proofs.Tables.{is_here, as_long}
 use Rattle.tagging.proofs.Walks.{one_more}

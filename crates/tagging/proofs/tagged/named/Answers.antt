@@ -1,4 +1,4 @@
-use Rattle.std.proofs.Common.{◌≡◌, ℕ, ◌<◌, ◌*◌, length, refl, sym, ap, ◌∙◌, arith, subst}
+use Rattle.std.proofs.Common.{◌<◌, length, sym, ap, ◌∙◌, arith, subst}
 use Rattle.std.specs.Prelude.{map, slice_get}
 use Rattle.resolve.specs.Seen.{type_of, types_of, assignment_of, header_of}
 use Rattle.tagging.proofs.Tables.{type_at, contains_at, as_long}
