@@ -6,7 +6,7 @@ ghost use Rattle.asn_base.specs.Accepted.{IsAccepted};
 ghost use Rattle.asn_base.specs.Schemas.{IsSchema};
 ghost use Rattle.asn_base.specs.Tags.{AllTagged, AllTellable, HasFewTags};
 ghost use Rattle.asn_base.specs.Same.{Same};
-ghost use Rattle.asn_base.specs.Typed.{IsValueWithoutNodes, ValueIn};
+ghost use Rattle.asn_base.specs.Typed.{IsValue, IsValueWithoutNodes, ValueIn, nodes};
 ghost use Rattle.asn_base.specs.Types.{Resolved};
 ghost use Rattle.encodings.specs.Encoding.{Ber, Der, Encodes, EncodesBy, Says, Shortest};
 ghost use Rattle.encodings.specs.Levels.{levels};
@@ -74,6 +74,13 @@ pub fn reading_laws()
 pub fn level_laws()
     ensures few { (s : List Resolved) (n t : ℕ) (v : AbstractValue) (o : List ℕ) (d : Says s Distinguished t v 0 o) → HasFewTags s → ValueIn s n t v → levels d ≤ 6 * n }
     ensures within_limit { (s : List Resolved) (t : ℕ) (v : AbstractValue) (o : List ℕ) (d : Says s Distinguished t v 0 o) → HasFewTags s → IsValueWithoutNodes s t v → levels d ≤ 400 }
+{}
+
+/// A value that octets say has at most as many nodes as there are octets, so that one within a message's limit is within
+/// the limit on nodes too.
+pub fn message_laws()
+    ensures nodes { (s : List Resolved) (r : Rules) (t k : ℕ) (w : AbstractValue) (o : List ℕ) → IsSchema s → Says s r t w k o → nodes w ≤ length o }
+    ensures value { (s : List Resolved) (r : Rules) (t k : ℕ) (w : AbstractValue) (o : List ℕ) → IsSchema s → IsValueWithoutNodes s t w → Says s r t w k o → length o ≤ 16777216 → IsValue s t w }
 {}
 
 /// The laws together, of a schema with any kinds of types.
