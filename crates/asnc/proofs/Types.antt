@@ -7,7 +7,8 @@ use Rattle.std.proofs.lemmas.List.{map-append}
 use Rattle.std.proofs.lemmas.Slice.Zip.{AllZip-long}
 use Rattle.asn_base.specs.Types as kinds
 use Rattle.asn_base.specs.Types.{Component, Resolved}
-use Rattle.asn_base.specs.Accepted.{IsUnconstrained, IsAccepted, IsAcceptedType, IsSimple, IsSimpleMember, IsOfFirstStage}
+use Rattle.asn_base.specs.Names.{IsIdentifier, IsMember, is_first, is_later, AreDistinct, AreNames}
+use Rattle.asn_base.specs.Accepted.{IsAccepted, IsAcceptedType, IsSimple, IsSimpleMember, IsOfFirstStage}
 use Rattle.asn_base.specs.Seen.{resolved_of, constraint_of, kind_of as core_kind_of, types_of as resolved_types_of}
 use Rattle.asn_base.specs.declared.constraint.Constraint.{Constraint as Constraint'}
 use Rattle.asn_base.specs.declared.schema.Core.{Core}
@@ -22,6 +23,7 @@ use Rattle.resolve.specs.declared.table.Shape.TheVariants as shapes
 use Rattle.resolve.specs.declared.table.ListKind.{ListKind}
 use Rattle.resolve.specs.declared.table.ListKind.TheVariants as lists
 use Rattle.resolve.specs.Seen.{kind_of, plain_of}
+use Rattle.resolve.specs.Modules as twice
 use Rattle.resolve.specs.Sound.{AreSound, IsSoundKind}
 use Rattle.resolve.specs.Table.{an_integer, Part, Kind, simple, reference, tagged, members, elements, Type', behind, behind_of, IsLinked}
 use Rattle.asnc.specs.FirstPath.{IsBasic, Unfolds, IsFirstMember, IsFirstKind, IsFirstType, PartsInside}
@@ -36,11 +38,11 @@ no_numbers : (ns : List NamedNumber) → length ns ≡ 0 → map number_of ns �
 no_numbers [] e = refl
 no_numbers (n ∷ ns) e = absurd cc
 
-pub basic_integer : (s : Shape) (x : Simple) (v : Vec NamedNumber Global) (c : Constraint') → s ≡ shapes.Simple x → x ≡ simples.Integer v → length v.items ≡ 0 → IsUnconstrained (constraint_of c) → IsKind (kind_of s) 2 (core_kind_of (cores.Integer c))
+pub basic_integer : (s : Shape) (x : Simple) (v : Vec NamedNumber Global) (c : Constraint') → s ≡ shapes.Simple x → x ≡ simples.Integer v → length v.items ≡ 0 → constraint_of c ≡ kinds.any_number → IsKind (kind_of s) 2 (core_kind_of (cores.Integer c))
 basic_integer s x v c e f l n =
     subst (λ k. IsKind k 2 (core_kind_of (cores.Integer c))) (sym (ap kind_of e ∙ ap (λ y. simple (plain_of y)) f ∙ ap (λ ns. simple (an_integer ns)) (no_numbers v.items l))) (integer n)
 
-pub basic_octets : (s : Shape) (x : Simple) (c : Constraint') → s ≡ shapes.Simple x → x ≡ simples.OctetString → IsUnconstrained (constraint_of c) → IsKind (kind_of s) 4 (core_kind_of (cores.OctetString c))
+pub basic_octets : (s : Shape) (x : Simple) (c : Constraint') → s ≡ shapes.Simple x → x ≡ simples.OctetString → constraint_of c ≡ kinds.any_size → IsKind (kind_of s) 4 (core_kind_of (cores.OctetString c))
 basic_octets s x c e f n = subst (λ k. IsKind k 4 (core_kind_of (cores.OctetString c))) (sym (ap kind_of e ∙ ap (λ y. simple (plain_of y)) f)) (octet_string n)
 
 pub type_is : (ts : List Type') (i : ℕ) (t : Type') (n : ℕ) (core : Core) (r : Resolved') → Unfolds ts i t → IsKind t.kind n (core_kind_of core) → r.core ≡ core → IsUniversal n r.tags.items → IsTypeOf ts i (resolved_of r)
@@ -111,11 +113,38 @@ simple_members ts s (p ∷ ps) (c ∷ cs) a inside f z = (
   simple_members ts s ps cs a (λ k x e. inside (suc k) x e) f.1 z.1,
 )
 
+-- the members' names are those of the components
+
+same_names : (ps : List Part) (cs : List Component) → AllZip IsComponent ps cs → map (λ c. c.name) cs ≡ map (λ p. p.name) ps
+same_names [] [] z = refl
+same_names [] (c ∷ cs) z = absurd z
+same_names (p ∷ ps) [] z = absurd z
+same_names (p ∷ ps) (c ∷ cs) z = ap (λ x. x ∷ map (λ c. c.name) cs) z.0.name ∙ ap (λ xs. p.name ∷ xs) (same_names ps cs z.1)
+
+all_identifiers : (ts : List Type') (ps : List Part) → AllByRecursion (IsFirstMember ts) ps → AllByRecursion IsIdentifier (map (λ p. p.name) ps)
+all_identifiers ts [] f = tt
+all_identifiers ts (p ∷ ps) f = (f.0.named, all_identifiers ts ps f.1)
+
+place_of : {A : Type 0} (x : A) (xs : List A) → IsMember x xs → (i : ℕ) × (slice_get xs i ≡ Some x)
+place_of x [] m = elim m [ ]
+place_of x (y ∷ ys) is_first = (0, refl)
+place_of x (y ∷ ys) (is_later m) = let r = place_of x ys m in (suc r.0, r.1)
+
+none_twice : {A : Type 0} (xs : List A) → twice.AreDistinct xs → AreDistinct xs
+none_twice [] d = tt
+none_twice (x ∷ xs) d = (
+  (λ m. (let r = place_of x xs m in d x (record { first = 0; second = suc r.0; apart = omega arith; here = refl; there = r.1 }))),
+  none_twice xs (λ y t. d y (record { first = suc t.first; second = suc t.second; apart = (let l = t.apart in omega arith); here = t.here; there = t.there })),
+)
+
+component_names : (ts : List Type') (ps : List Part) (cs : List Component) → AllByRecursion (IsFirstMember ts) ps → twice.AreDistinct (map (λ p. p.name) ps) → AllZip IsComponent ps cs → AreNames (map (λ c. c.name) cs)
+component_names ts ps cs f d z = subst AreNames (sym (same_names ps cs z)) (record { identifiers = all_identifiers ts ps f; distinct = none_twice (map (λ p. p.name) ps) d })
+
 first_stage : (ts : List Type') (s : List Resolved) (k : Kind) (n : ℕ) (c : kinds.Kind) → AreTypes ts s → IsKind k n c → IsFirstKind ts k → IsSoundKind k → ((l : ListKind) (ps : List Part) → k ≡ members l ps → (j : ℕ) (p : Part) → slice_get ps j ≡ Some p → p.ty < length ts) → IsOfFirstStage s c
 first_stage ts s k n c a boolean f o inside = tt
 first_stage ts s k n c a (integer u) f o inside = u
 first_stage ts s k n c a (octet_string u) f o inside = u
-first_stage ts s k n c a (sequence {ps} {cs} z) f o inside = let l = AllZip-long IsComponent ps cs z in (refl, omega (arith, l, o.1), simple_members ts s ps cs a (inside lists.Sequence ps refl) f z)
+first_stage ts s k n c a (sequence {ps} {cs} z) f o inside = let l = AllZip-long IsComponent ps cs z in (refl, record { few = omega (arith, l, o.1); names = component_names ts ps cs f o.0 z; members = simple_members ts s ps cs a (inside lists.Sequence ps refl) f z })
 
 pub all_accepted : (ts : List Type') (s : List Resolved) → IsLinked ts → AllByRecursion (IsFirstType ts) ts → AreSound ts → AreTypes ts s → IsAccepted s
 all_accepted ts s w f o a = all_by_index (IsAcceptedType s) s (λ i r e. go i r (a.each i r e))
@@ -125,6 +154,7 @@ all_accepted ts s w f o a = all_by_index (IsAcceptedType s) s (λ i r e. go i r 
         let one : length r.tags ≡ 1 = ap length h.tags.alone in
         record {
           tagged = omega (arith, one);
+          few_tags = omega (arith, one);
           kind = first_stage ts s h.behind.kind h.universal r.kind a h.kind (first_unfolded ts i h.behind f h.unfolds) (o h.unfolds.number h.behind h.unfolds.there)
               (λ l ps e. (let p = parts_inside ts h.unfolds.number h.behind w h.unfolds.there in inside_of l ps h.behind.kind e p));
         }

@@ -157,5 +157,5 @@ pub stand_all : (m : Program) (s : List Resolved) (M : Name) (cs : List Componen
 stand_all m s M cs fs i os a b h =
     stand_fields m s M (map component_of cs) (map member_of fs) os (subst (λ xs. Stand m s M (map component_of xs) (map member_of fs) os) (take_all i cs a) (subst (λ ys. Stand m s M (map component_of (take i cs)) (map member_of ys) os) (take_all i fs b) h))
 
-pub is_sequence : (s : List Resolved) (t : ℕ) (r : Resolved') (v : Vec Component' Global) → slice_get s t ≡ Some (resolved_of r) → r.core ≡ cores.Sequence v → Is s t r.tags.items (a_sequence false (map component_of v.items))
-is_sequence s t r v e f = record { found = e ∙ ap (λ k. Some (record { tags = r.tags.items; kind = kind_of k })) f }
+pub is_sequence : (s : List Resolved) (t : ℕ) (r : Resolved') (b : Bool) (v : Vec Component' Global) → slice_get s t ≡ Some (resolved_of r) → r.core ≡ cores.Sequence b v → Is s t r.tags.items (a_sequence b (map component_of v.items))
+is_sequence s t r b v e f = record { found = e ∙ ap (λ k. Some (record { tags = r.tags.items; kind = kind_of k })) f }

@@ -6,6 +6,7 @@ use Rattle.syntax.specs.Tree.{mandatory}
 use Rattle.resolve.specs.Table as table
 use Rattle.resolve.specs.Table.{Part, Kind, simple, reference, tagged, members, elements, Type', next, IsCore, IsCircular, IsLinked}
 use Rattle.asnc.specs.Walks.{onward, walk, EndsAt}
+use Rattle.asn_base.specs.Names.{IsIdentifier}
 use Rattle.asnc.specs.FirstPath.{IsBasic, Unfolds, IsFirstMember, IsFirstKind, IsFirstType, PartsInside}
 use Rattle.asnc.proofs.Walks.{below, ends_unique}
 
@@ -31,9 +32,9 @@ unfolds_once ts i t u a b =
     let e = ends_unique (next ts) i a.number b.number (core_ends ts i a.number a.core) (core_ends ts i b.number b.core) in
     some_same t u (sym a.there ∙ ap (slice_get ts) e ∙ b.there)
 
-pub member_match : {X : Type 0} (ts : List Type') (c : Part) (t : Type') (r : Option X) → c.presence ≡ mandatory → Unfolds ts c.ty t → MatchOption r (IsBasic t.kind) (λ _. IsBasic t.kind → ⊥) → MatchOption r (IsFirstMember ts c) (λ _. IsFirstMember ts c → ⊥)
-member_match ts c t None e u h = record { stands = e; behind = t; unfolds = u; basic = h }
-member_match ts c t (Some x) e u h = λ m. h (subst (λ v. IsBasic v.kind) (unfolds_once ts c.ty m.behind t m.unfolds u) m.basic)
+pub member_match : {X : Type 0} (ts : List Type') (c : Part) (t : Type') (r : Option X) → IsIdentifier c.name → c.presence ≡ mandatory → Unfolds ts c.ty t → MatchOption r (IsBasic t.kind) (λ _. IsBasic t.kind → ⊥) → MatchOption r (IsFirstMember ts c) (λ _. IsFirstMember ts c → ⊥)
+member_match ts c t None n e u h = record { named = n; stands = e; behind = t; unfolds = u; basic = h }
+member_match ts c t (Some x) n e u h = λ m. h (subst (λ v. IsBasic v.kind) (unfolds_once ts c.ty m.behind t m.unfolds u) m.basic)
 
 read_back : (cs : List Part) (k : ℕ) (c : Part) → slice_get cs k ≡ Some c → slice_index_or cs k c ≡ c
 read_back [] k c e = absurd cc

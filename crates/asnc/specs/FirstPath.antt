@@ -1,6 +1,7 @@
 -- The programs that this compiler takes today.
 use Rattle.std.specs.Prelude.{◌≡◌, ◌<◌, ⊤, ℕ, List, [], length, Some, slice_get}
 use Rattle.std.specs.List.{AllByRecursion}
+use Rattle.asn_base.specs.Names.{IsIdentifier}
 use Rattle.notation.specs.Tree as trees
 use Rattle.notation.specs.Tree.{Name, Tree, Members, no_member, member_and}
 use Rattle.syntax.specs.declared.tree.TagDefault.TheVariants.{Explicit}
@@ -22,8 +23,9 @@ pub record Unfolds (ts : List Type') (i : ℕ) (t : Type') : Type 0 where
   pub core : IsCore ts i number
   pub there : slice_get ts number ≡ Some t
 
--- a member that must stand, of one of these types
+-- a member that must stand, of one of these types, with an identifier
 pub record IsFirstMember (ts : List Type') (c : Part) : Type 0 where
+  pub named : IsIdentifier c.name
   pub stands : c.presence ≡ mandatory
   pub behind : Type'
   pub unfolds : Unfolds ts c.ty behind

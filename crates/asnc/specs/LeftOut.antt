@@ -1,5 +1,6 @@
 -- The constructs of a program that this compiler leaves out today, each by its name.
 use Rattle.std.specs.Prelude.{◌≡◌, ◌⊎◌, ⊤, ℕ, List, [], ◌∷◌, Option, Some, None, slice_get, string_bytes}
+use Rattle.asn_base.specs.Names.{IsIdentifier}
 use Rattle.notation.specs.Tree as trees
 use Rattle.notation.specs.Tree.{Name, Tree, Members}
 use Rattle.syntax.specs.declared.tree.TagDefault.{TagDefault}
@@ -55,8 +56,9 @@ core_construct (tagged t k j) = Some constructs.Tag
 core_construct (members l cs) = Some (list_construct l)
 core_construct (elements e s j) = Some (elements_construct e)
 
--- a construct that is left out in a member: its mark, or its type
+-- a construct that is left out in a member: its name, its mark, or its type
 pub data IsPartOut (ts : List Type') : Part → Construct → Type 0 where
+  no_identifier : {q : Part} → (IsIdentifier q.name → ⊥) → IsPartOut ts q constructs.Name
   may_be_absent : {q : Part} → q.presence ≡ optional → IsPartOut ts q constructs.Optional
   has_default : {q : Part} (v : Tree) → q.presence ≡ default v → IsPartOut ts q constructs.Default
   of_type : {q : Part} {t : Type'} {c : Construct} → q.presence ≡ mandatory → Unfolds ts q.ty t → core_construct t.kind ≡ Some c → IsPartOut ts q c

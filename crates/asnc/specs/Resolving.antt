@@ -5,7 +5,6 @@ use Rattle.asn_base.specs.declared.tag.Tag.{Tag}
 use Rattle.asn_base.specs.declared.tag.Class.TheVariants as classes
 use Rattle.asn_base.specs.Types.{Component, Resolved, mandatory}
 use Rattle.asn_base.specs.Types as kinds
-use Rattle.asn_base.specs.Accepted.{IsUnconstrained}
 use Rattle.resolve.specs.declared.table.ListKind.TheVariants.{Sequence}
 use Rattle.resolve.specs.Table.{a_boolean, an_integer, an_octet_string, Part, Kind, simple, members, Type'}
 use Rattle.asnc.specs.FirstPath.{Unfolds}
@@ -19,8 +18,8 @@ pub record IsComponent (p : Part) (c : Component) : Type 0 where
 -- what a type holds, and the number of its universal tag (X.680, 8.4)
 pub data IsKind : Kind → ℕ → kinds.Kind → Type 0 where
   boolean : IsKind (simple a_boolean) 1 kinds.a_boolean
-  integer : {c : kinds.Constraint} → IsUnconstrained c → IsKind (simple (an_integer [])) 2 (kinds.an_integer c)
-  octet_string : {c : kinds.Constraint} → IsUnconstrained c → IsKind (simple an_octet_string) 4 (kinds.an_octet_string c)
+  integer : {c : kinds.Constraint} → c ≡ kinds.any_number → IsKind (simple (an_integer [])) 2 (kinds.an_integer c)
+  octet_string : {c : kinds.Constraint} → c ≡ kinds.any_size → IsKind (simple an_octet_string) 4 (kinds.an_octet_string c)
   sequence : {ps : List Part} {cs : List Component} → AllZip IsComponent ps cs → IsKind (members Sequence ps) 16 (kinds.a_sequence false cs)
 
 -- one tag, universal, with this number

@@ -37,6 +37,8 @@ pub enum Construct {
     SetOf,
     Tag,
     Constraint,
+    /// A member's name that is no identifier, which no text gives.
+    Name,
     Optional,
     Default,
     /// `NULL` as a value.

@@ -20,6 +20,7 @@ ghost use Rattle.notation.specs.Tree.{Tree};
 use crate::fault::{Construct, Fault};
 use crate::program::{assigned, header_at, type_at, value_at};
 use crate::resolving::unfolded;
+use asn_base::name::is_identifier;
 use notation::{Named, ValueSyntax};
 use resolve::table::Header;
 use resolve::{Component, ElementsKind, Linked, ListKind, Shape, Simple, ValueAt, Written};
@@ -93,6 +94,9 @@ fn outside_part(types: &[Written], part: &Component) -> Option<Construct>
     ensures first { MatchOption result (IsFirstMember (types_of types.now) (part_of part.now)) (λ _. IsFirstMember (types_of types.now) (part_of part.now) → ⊥) }
     ensures construct { IfSome result (IsPartOut (types_of types.now) (part_of part.now)) }
 {
+    if !is_identifier(part.name.as_str()) {
+        return Some(Construct::Name);
+    }
     match &part.presence {
         PresenceSyntax::Mandatory => {
             let core = unfolded(types, part.ty);

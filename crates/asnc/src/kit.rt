@@ -1,6 +1,7 @@
 //! Modules that are ready for use.
 
 ghost use Rattle.std.specs.Prelude.{◌≡◌, ◌<◌, ◌↔◌, ℕ, List, length, map, Some, IfSome, IfOk, IfErr, MatchOption, MatchResult};
+ghost use Rattle.asn_base.specs.Accepted.{IsAccepted};
 ghost use Rattle.asn_base.specs.Types.{Resolved};
 ghost use Rattle.syntax.specs.Tree.{ModuleTree, module_tree_of};
 ghost use Rattle.text.specs.declared.fault.LexFault.{LexFault};
@@ -26,6 +27,7 @@ use crate::program::notation_at;
 use crate::resolving::table_types;
 use crate::scope::Scope;
 use crate::typing::typed;
+use asn_base::law::accepted_are_schemas;
 use asn_base::schema::{Schema, TypeId};
 use der_writer::{WriteFault, write_der};
 use resolve::{Assigned, Linked, link};
@@ -39,6 +41,7 @@ pub struct Kit {
     schema: Schema,
     ghost sized: { length schema ≡ length scope.types },
     ghost resolved: { ∥ AreTypes scope.types schema ∥₁ },
+    ghost accepted: { IsAccepted schema },
 }
 
 /// The parts of a text before and behind its first dot.
@@ -74,6 +77,7 @@ fn kit_of_program(alloc: Global, linked: Linked) -> Result<Kit, Fault>
         Err(fault) => return Err(fault),
     }
     let types = table_types(alloc, linked.types())?;
+    accepted_are_schemas();
     let schema = Schema::of(types);
     let scope = Scope::of(alloc, linked)?;
     Ok(Kit { scope, schema })

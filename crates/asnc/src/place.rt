@@ -193,6 +193,7 @@ fn first_word(construct: Construct) -> &'static str {
         Construct::Alternative => ":",
         Construct::Numbers | Construct::Items | Construct::NamedNumbers => "{",
         Construct::Sequence | Construct::CharacterString | Construct::Constraint => "",
+        Construct::Name => "",
     }
 }
 

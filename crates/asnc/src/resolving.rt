@@ -40,12 +40,12 @@ fn basic_core(shape: &Shape) -> Option<(Core, u32)>
             Simple::Boolean => Some((Core::Boolean, 1)),
             Simple::Integer(numbers) => {
                 if numbers.is_empty() {
-                    Some((Core::Integer(Constraint::none()), 2))
+                    Some((Core::Integer(Constraint::any_number()), 2))
                 } else {
                     None
                 }
             }
-            Simple::OctetString => Some((Core::OctetString(Constraint::none()), 4)),
+            Simple::OctetString => Some((Core::OctetString(Constraint::any_size()), 4)),
             Simple::BitString(_) | Simple::Null | Simple::ObjectIdentifier => None,
             Simple::Enumerated(_) | Simple::Utf8String | Simple::NumericString => None,
             Simple::PrintableString | Simple::Ia5String | Simple::VisibleString => None,
@@ -106,7 +106,7 @@ fn resolved(alloc: Global, types: &[Written], number: usize) -> Result<Resolved,
         None => match sequence_parts(&written.shape) {
             Some(parts) => {
                 let components = components(alloc, parts)?;
-                universal(alloc, 16, Core::Sequence(components))
+                universal(alloc, 16, Core::Sequence(false, components))
             }
             None => unreachable!(),
         },

@@ -238,6 +238,7 @@ pub fn spelled(construct: Construct) -> &'static str {
         Construct::SetOf => "SET OF",
         Construct::Tag => "a tag",
         Construct::Constraint => "a constraint",
+        Construct::Name => "a name that is no identifier",
         Construct::Optional => "OPTIONAL",
         Construct::Default => "DEFAULT",
         Construct::NullValue => "the value NULL",

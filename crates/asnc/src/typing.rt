@@ -11,15 +11,15 @@ ghost use Rattle.asnc.specs.Wrong.{component_names, field_names, AreIn, IsDisord
 ghost use Rattle.resolve.specs.Modules.{StandsIn, StandsTwice, AreDistinct};
 ghost use Rattle.notation.specs.Tree.{Name};
 ghost use Rattle.std.specs.List.{AllByRecursion, list_any};
-ghost use Rattle.asn_base.specs.Accepted.{IsSimpleMember, IsSimple};
-ghost use Rattle.asn_base.specs.Seen.{component_of, kind_of};
+ghost use Rattle.asn_base.specs.Accepted.{IsAccepted, IsAcceptedType, IsSimpleMember, IsSimple};
+ghost use Rattle.asn_base.specs.Seen.{component_of, kind_of, resolved_of};
 
 use crate::digits::{are_below, bit_octets, hex_octets};
 use crate::fault::ValueFault;
 use crate::notations::{behind_all, binary_in, fields_in, hex_in, number_in, truth_in};
 use crate::scope::Scope;
-use asn_base::law::abstract_values;
-use asn_base::schema::{Component, Core, Schema, TypeId};
+use asn_base::law::{abstract_values, schemas_grow};
+use asn_base::schema::{Component, Core, Resolved, Schema, TypeId};
 use asn_base::value::Value;
 use notation::{Named, ValueSyntax};
 use std::alloc::{AllocError, Global};
@@ -197,7 +197,11 @@ fn typed_leaf(alloc: Global, core: &Core, notation: &ValueSyntax) -> Result<Valu
         Core::Boolean => truth(notation),
         Core::Integer(_) => integer(notation),
         Core::OctetString(_) => octet_string(alloc, notation),
-        Core::Sequence(_) => unreachable!(),
+        Core::Enumerated(_) | Core::BitString(_) | Core::NamedBits(_) => unreachable!(),
+        Core::Null | Core::ObjectIdentifier | Core::RelativeOid => unreachable!(),
+        Core::Utf8String(_) | Core::RestrictedString(_, _, _) => unreachable!(),
+        Core::Sequence(_, _) | Core::Set(_, _) => unreachable!(),
+        Core::SequenceOf(_, _) | Core::SetOf(_, _) | Core::Choice(_) => unreachable!(),
     }
 }
 
@@ -253,6 +257,17 @@ fn typed_fields(
     Ok(values)
 }
 
+/// The type, which is one of the first path.
+fn type_at(schema: &Schema, id: TypeId) -> &Resolved
+    requires there { id.index < length schema.now }
+    requires accepted { IsAccepted schema.now }
+    ensures is { slice_get schema.now id.index ≡ Some (resolved_of result.now) }
+    ensures accepted { IsAcceptedType schema.now (resolved_of result.now) }
+{
+    schemas_grow();
+    schema.get(id)
+}
+
 /// The value that a notation, read in a module, stands for under a type.
 pub fn typed(
     alloc: Global,
@@ -262,7 +277,8 @@ pub fn typed(
     within: &str,
     notation: &ValueSyntax,
 ) -> Result<Value, ValueFault>
-    requires { id.index < length schema.now }
+    requires there { id.index < length schema.now }
+    requires accepted { IsAccepted schema.now }
     ensures value { IfOk result (λ v. Notation scope.now schema.now within.now id.index (tree_of notation.now) (abstract v)) }
     ensures none { IfErr result (Lacks (Notation scope.now schema.now within.now id.index (tree_of notation.now))) }
     ensures fault { IfErr result (IsWrong scope.now schema.now within.now id.index (tree_of notation.now)) }
@@ -272,9 +288,9 @@ pub fn typed(
         Ok(last) => last,
         Err(fault) => return Err(fault),
     };
-    let resolved = schema.get(id);
+    let resolved = type_at(schema, id);
     match &resolved.core {
-        Core::Sequence(components) => match fields_in(last) {
+        Core::Sequence(_, components) => match fields_in(last) {
             None => Err(ValueFault::NotOfType),
             Some(fields) => match typed_fields(
                 alloc,
@@ -291,5 +307,10 @@ pub fn typed(
         Core::Boolean => typed_leaf(alloc, &resolved.core, last),
         Core::Integer(_) => typed_leaf(alloc, &resolved.core, last),
         Core::OctetString(_) => typed_leaf(alloc, &resolved.core, last),
+        Core::Enumerated(_) | Core::BitString(_) | Core::NamedBits(_) => unreachable!(),
+        Core::Null | Core::ObjectIdentifier | Core::RelativeOid => unreachable!(),
+        Core::Utf8String(_) | Core::RestrictedString(_, _, _) => unreachable!(),
+        Core::Set(_, _) | Core::SequenceOf(_, _) => unreachable!(),
+        Core::SetOf(_, _) | Core::Choice(_) => unreachable!(),
     }
 }
