@@ -4,6 +4,7 @@
 mod digits;
 mod fault;
 mod first_path;
+mod first_schema;
 mod kit;
 mod line;
 mod notations;

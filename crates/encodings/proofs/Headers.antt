@@ -115,7 +115,7 @@ map_length : (f : ℕ → ℕ) (xs : List ℕ) → length (map f xs) ≡ length 
 map_length f [] = refl
 map_length f (x ∷ xs) = ap suc (map_length f xs)
 
-septets_length : (n : ℕ) → length (septets n) ≡ length (digits_of 128 (n / 128)) + 1
+pub septets_length : (n : ℕ) → length (septets n) ≡ length (digits_of 128 (n / 128)) + 1
 septets_length n = length-append (map (λ d. 128 + d) (digits_of 128 (n / 128))) ((n % 128) ∷ []) ∙ ap (λ k. k + 1) (map_length (λ d. 128 + d) (digits_of 128 (n / 128)))
 
 pub septets_short : (n : ℕ) → n < 128 → 1 ≡ length (septets n)
