@@ -37,13 +37,13 @@ lacks_back g (second_default p e a) (inr h) = lacks_back g a h
 pub same_groups : (s : List Resolved) (cs : List Component) (vs ws : Row) → AlikeComponents s cs vs ws → GroupsAreWhole cs vs → GroupsAreWhole cs ws
 same_groups s cs vs ws a whole = λ g h l. whole g (has_back g a h) (lacks_back g a l)
 
-value_of_at : {s : List Resolved} {n : ℕ} {k k' : Kind} {v : AbstractValue} → k' ≡ k → ValueOf s n k' v → ValueOf s n k v
+pub value_of_at : {s : List Resolved} {n : ℕ} {k k' : Kind} {v : AbstractValue} → k' ≡ k → ValueOf s n k' v → ValueOf s n k v
 value_of_at {s} {n} {v = v} e a = subst (λ q. ValueOf s n q v) e a
 
-value_at : {s : List Resolved} {n t u : ℕ} {v : AbstractValue} → u ≡ t → ValueIn s n u v → ValueIn s n t v
+pub value_at : {s : List Resolved} {n t u : ℕ} {v : AbstractValue} → u ≡ t → ValueIn s n u v → ValueIn s n t v
 value_at {s} {n} {v = v} e a = subst (λ q. ValueIn s n q v) e a
 
-same_alternative : {o : Option Alternative} {a b : Alternative} → o ≡ Some a → o ≡ Some b → b.type ≡ a.type
+pub same_alternative : {o : Option Alternative} {a b : Alternative} → o ≡ Some a → o ≡ Some b → b.type ≡ a.type
 same_alternative e f = ap type_in (sym f ∙ e)
   where
     type_in : Option Alternative → ℕ
@@ -65,11 +65,11 @@ with_default : {s : List Resolved} {n t : ℕ} {p : Presence} {d : AbstractValue
 with_default {s} {n} {t} e v = subst (MayBeAbsent s n t) (sym e) (where_default v)
 
 -- the element that stands at some place, and the others
-record TakenOut (s : List Resolved) (n u : ℕ) (w : AbstractValue) (ws : Row) : Type 0 where
-  it : ValueIn s n u w
-  rest : AreElements s n u ws
+pub record TakenOut (s : List Resolved) (n u : ℕ) (w : AbstractValue) (ws : Row) : Type 0 where
+  pub it : ValueIn s n u w
+  pub rest : AreElements s n u ws
 
-take_out : {s : List Resolved} {n u : ℕ} {w : AbstractValue} {ws xs : Row} → Inserted w ws xs → AreElements s n u xs → TakenOut s n u w ws
+pub take_out : {s : List Resolved} {n u : ℕ} {w : AbstractValue} {ws xs : Row} → Inserted w ws xs → AreElements s n u xs → TakenOut s n u w ws
 take_out here (one_element v a) = record { it = v; rest = a }
 take_out (there i) (one_element v a) = let o = take_out i a in record { it = o.it; rest = one_element v o.rest }
 

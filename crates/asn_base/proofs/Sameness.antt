@@ -41,7 +41,7 @@ mutual
   elements_self no_element = no_elements
   elements_self (one_element v a) = alike_element (alike_self v) (elements_self a)
 
-  any_order_self : {s : List Resolved} {n u : ℕ} {vs : Row} → AreElements s n u vs → AlikeInAnyOrder s u vs vs
+  pub any_order_self : {s : List Resolved} {n u : ℕ} {vs : Row} → AreElements s n u vs → AlikeInAnyOrder s u vs vs
   any_order_self no_element = none_left
   any_order_self (one_element v a) = pair (alike_self v) (any_order_self a) here
 
@@ -74,7 +74,7 @@ mutual
   elements_sym no_elements = no_elements
   elements_sym (alike_element e a) = alike_element (alike_sym e) (elements_sym a)
 
-  any_order_sym : {s : List Resolved} {u : ℕ} {vs ws : Row} → AlikeInAnyOrder s u vs ws → AlikeInAnyOrder s u ws vs
+  pub any_order_sym : {s : List Resolved} {u : ℕ} {vs ws : Row} → AlikeInAnyOrder s u vs ws → AlikeInAnyOrder s u ws vs
   any_order_sym none_left = none_left
   any_order_sym (pair e a i) = pair_at (alike_sym e) (any_order_sym a) i
 
@@ -178,7 +178,7 @@ mutual
   elements_trans no_elements b = b
   elements_trans (alike_element d a) (alike_element e b) = alike_element (alike_trans d e) (elements_trans a b)
 
-  any_order_trans : {s : List Resolved} {u : ℕ} {vs ws xs : Row} → AlikeInAnyOrder s u vs ws → AlikeInAnyOrder s u ws xs → AlikeInAnyOrder s u vs xs
+  pub any_order_trans : {s : List Resolved} {u : ℕ} {vs ws xs : Row} → AlikeInAnyOrder s u vs ws → AlikeInAnyOrder s u ws xs → AlikeInAnyOrder s u vs xs
   any_order_trans none_left b = b
   any_order_trans (pair d a i) b = let p = partner i b in pair (alike_trans d p.with_it) (any_order_trans a p.others) p.at
 

@@ -61,6 +61,7 @@ CodesAscend (c ∷ cs) = AllByRecursion (λ d. c < d) cs × CodesAscend cs
 pub record IsAlphabet (k : StringKind) (codes : List ℕ) : Type 0 where
   pub some : 1 ≤ length codes
   pub ascend : CodesAscend codes
+  pub below_128 : AllByRecursion (λ c. c < 128) codes
   pub are_characters : AllByRecursion (λ c. IsTrue (is_character k c)) codes
 
 -- ---- items and bits

@@ -1,6 +1,6 @@
 //! Laws of values and schemas, for the crates above.
 
-ghost use Rattle.std.specs.Prelude.{◌≡◌, ◌≤◌, ℕ, ℤ, List, [], ◌∷◌, ◌++◌, map, option_map, string_bytes, Bool as 𝔹, Option, Some, None, slice_get, Vec, String as String', Box};
+ghost use Rattle.std.specs.Prelude.{◌≡◌, ◌≤◌, ◌⊎◌, ℕ, ℤ, List, [], ◌∷◌, ◌++◌, map, option_map, string_bytes, Bool as 𝔹, Option, Some, None, slice_get, Vec, String as String', Box};
 ghost use Rattle.std.specs.List.{AllByRecursion};
 ghost use Rattle.std.specs.declared.alloc.Global.{Global as Global'};
 ghost use Rattle.asn_base.specs.declared.value.BitString.{BitString};
@@ -69,6 +69,8 @@ pub fn without_groups()
 pub fn alike_values()
     ensures groups { (s : List Resolved) (cs : List Component) (vs ws : Row) → AlikeComponents s cs vs ws → GroupsAreWhole cs vs → GroupsAreWhole cs ws }
     ensures levels { (s : List Resolved) (m n t : ℕ) (v w : AbstractValue) → Alike s t v w → ValueIn s n t v → ValueIn s m t w → ValueIn s n t w }
+    // Whether they are alike can be decided.
+    ensures decided { (s : List Resolved) (m n t : ℕ) (v w : AbstractValue) → ValueIn s n t v → ValueIn s m t w → Alike s t v w ⊎ (Alike s t v w → ⊥) }
 {}
 
 /// Being the same is an equivalence on the values of a type, the limit on nodes apart.

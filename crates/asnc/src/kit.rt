@@ -20,6 +20,7 @@ ghost use Rattle.asnc.specs.Opening.{IsKitOf, IsModule, IsNoKit, IsOpened, IsOut
 ghost use Rattle.first_path.specs.Resolving.{AreTypes};
 ghost use Rattle.asnc.specs.Writing.{IsEncoded, IsNotEncoded};
 
+use crate::first_schema::FirstSchema;
 use crate::opening::modules_of;
 use asn_base::law::accepted_are_schemas;
 use asn_base::schema::{Schema, TypeId};
@@ -34,10 +35,9 @@ use syntax::Module;
 #[derive(Drop)]
 pub struct Kit {
     scope: Scope,
-    schema: Schema,
+    schema: FirstSchema,
     ghost sized: { length schema ≡ length scope.types },
     ghost resolved: { ∥ AreTypes scope.types schema ∥₁ },
-    ghost accepted: { IsAccepted schema },
 }
 
 /// The parts of a text before and behind its first dot.
@@ -77,7 +77,7 @@ fn kit_of_program(alloc: Global, linked: Linked) -> Result<Kit, Fault>
     }
     let types = table_types(alloc, linked.types())?;
     accepted_are_schemas();
-    let schema = Schema::of(types);
+    let schema = FirstSchema::of(Schema::of(types));
     let scope = Scope::of(alloc, linked)?;
     Ok(Kit { scope, schema })
 }
@@ -105,6 +105,37 @@ pub fn faults_exclude()
 {
     text::law::tokens_or_fault();
     first_path::law::outside_excludes();
+}
+
+/// The octets that encode a value of a type by the distinguished rules, both found by their names.
+fn encoded(
+    alloc: Global,
+    scope: &Scope,
+    schema: &Schema,
+    ty: &str,
+    id: TypeId,
+    value: &str,
+    number: usize,
+) -> Result<Vec<u8>, Fault>
+    requires there { id.index < length schema.now }
+    requires accepted { IsAccepted schema.now }
+    requires named { TypeNamed scope.now ty.now id.index }
+    requires within { number < length scope.now.values }
+    requires valued { ValueNamed scope.now value.now number }
+    ensures encoded { IfOk result (λ o. IsEncoded scope.now schema.now ty.now value.now o.items) }
+    ensures refused { IfErr result (IsNotEncoded scope.now schema.now ty.now value.now) }
+{
+    let (within, notation) = notation_at(scope.program(), number);
+    let typed = match typed(alloc, scope, schema, id, within, notation) {
+        Ok(typed) => typed,
+        Err(fault) => return Err(Fault::Value(fault)),
+    };
+    match write_der(alloc, schema, id, &typed) {
+        Ok(octets) => Ok(octets),
+        Err(WriteFault::Memory) => Err(Fault::Memory),
+        Err(WriteFault::TooLong) => Err(Fault::TooLong),
+        Err(WriteFault::NotOfType) => Err(Fault::Value(ValueFault::NotOfType)),
+    }
 }
 
 impl Kit {
@@ -167,16 +198,14 @@ impl Kit {
         let Some(number) = self.value_number(value) else {
             return Err(Fault::NoValue(String::from_str(alloc, value)?));
         };
-        let (within, notation) = notation_at(self.scope.program(), number);
-        let typed = match typed(alloc, &self.scope, &self.schema, id, within, notation) {
-            Ok(typed) => typed,
-            Err(fault) => return Err(Fault::Value(fault)),
-        };
-        match write_der(alloc, &self.schema, id, &typed) {
-            Ok(octets) => Ok(octets),
-            Err(WriteFault::Memory) => Err(Fault::Memory),
-            Err(WriteFault::TooLong) => Err(Fault::TooLong),
-            Err(WriteFault::NotOfType) => Err(Fault::Value(ValueFault::NotOfType)),
-        }
+        encoded(
+            alloc,
+            &self.scope,
+            self.schema.schema(),
+            ty,
+            id,
+            value,
+            number,
+        )
     }
 }

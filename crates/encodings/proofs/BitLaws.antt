@@ -44,7 +44,7 @@ pub bits_least : {a b : List Bool} {c : Bool} {o p : List ℕ} → WholeBits a o
 bits_least w ps le = omega (arith, whole_short w, bits_long ps)
 
 -- a digit that is 0 or 1
-abbrev digit : Bool → ℕ
+abbrev pub digit : Bool → ℕ
 digit b = cond b 1 0
 
 digit_back : (x : ℕ) → x < 2 → digit (x == 1) ≡ x
@@ -53,7 +53,7 @@ digit_back (suc zero) h = refl
 digit_back (suc (suc x)) h = absurd (omega arith)
 
 -- the eight bits of an octet tell it
-abbrev octet_of : List Bool → ℕ
+abbrev pub octet_of : List Bool → ℕ
 octet_of (a ∷ b ∷ c ∷ d ∷ e ∷ f ∷ g ∷ h ∷ bs) = 128 * digit a + 64 * digit b + 32 * digit c + 16 * digit d + 8 * digit e + 4 * digit f + 2 * digit g + digit h
 octet_of bs = 0
 

@@ -115,7 +115,7 @@ map_length : (f : ℕ → ℕ) (xs : List ℕ) → length (map f xs) ≡ length 
 map_length f [] = refl
 map_length f (x ∷ xs) = ap suc (map_length f xs)
 
-septets_length : (n : ℕ) → length (septets n) ≡ length (digits_of 128 (n / 128)) + 1
+pub septets_length : (n : ℕ) → length (septets n) ≡ length (digits_of 128 (n / 128)) + 1
 septets_length n = length-append (map (λ d. 128 + d) (digits_of 128 (n / 128))) ((n % 128) ∷ []) ∙ ap (λ k. k + 1) (map_length (λ d. 128 + d) (digits_of 128 (n / 128)))
 
 pub septets_short : (n : ℕ) → n < 128 → 1 ≡ length (septets n)
@@ -133,7 +133,7 @@ septets_most n h =
     let below : n / 128 < 128 ^ 4 = omega arith in
     omega (arith, septets_length n, length-digits_of-le 128 4 (n / 128) (omega arith) below)
 
-identifier_long : (class : Class) (number : ℕ) (c : Bool) → length (identifier class number c) ≡ cond (nat_lt number 31) 1 (1 + length (septets number))
+pub identifier_long : (class : Class) (number : ℕ) (c : Bool) → length (identifier class number c) ≡ cond (nat_lt number 31) 1 (1 + length (septets number))
 unfolding identifier
 identifier_long class number c = by (nat_lt number 31)
   where
@@ -141,7 +141,7 @@ identifier_long class number c = by (nat_lt number 31)
     by true = refl
     by false = omega arith
 
-size_long : (n : ℕ) → length (shortest_size n) ≡ cond (nat_lt n 128) 1 (1 + length (digits_of 256 n))
+pub size_long : (n : ℕ) → length (shortest_size n) ≡ cond (nat_lt n 128) 1 (1 + length (digits_of 256 n))
 size_long n = by (nat_lt n 128)
   where
     by : (t : Bool) → length (cond t (n ∷ []) ((128 + length (digits_of 256 n)) ∷ digits_of 256 n)) ≡ cond t 1 (1 + length (digits_of 256 n))

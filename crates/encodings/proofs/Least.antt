@@ -101,7 +101,7 @@ concat_inserted : {x : List ℕ} {xs ys : List (List ℕ)} → ListInserted x xs
 concat_inserted (list_here {x = x} {xs = xs}) = length-append x (concat xs)
 concat_inserted (list_there {y = y} {xs = xs} {ys = ys} i) = omega (arith, length-append y (concat ys), length-append y (concat xs), concat_inserted i)
 
-concat_permutes : {xs ys : List (List ℕ)} → Permutes xs ys → length (concat ys) ≡ length (concat xs)
+pub concat_permutes : {xs ys : List (List ℕ)} → Permutes xs ys → length (concat ys) ≡ length (concat xs)
 concat_permutes permutes_none = refl
 concat_permutes (permutes_more {x = x} {xs = xs} p i) = omega (arith, concat_inserted i, concat_permutes p, length-append x (concat xs))
 

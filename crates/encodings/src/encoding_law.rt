@@ -1,18 +1,19 @@
 //! The laws of encodings (X.690, 8 to 11).
 
-ghost use Rattle.std.specs.Prelude.{◌≡◌, ℕ, ◌*◌, ◌≤◌, List, [], ◌++◌, length};
+ghost use Rattle.std.specs.Prelude.{◌≡◌, ℕ, ◌*◌, ◌^◌, ◌<◌, ◌≤◌, List, [], ◌++◌, length};
 ghost use Rattle.asn_base.specs.Abstract.{AbstractValue};
 ghost use Rattle.asn_base.specs.Accepted.{IsAccepted};
 ghost use Rattle.asn_base.specs.Schemas.{IsSchema};
 ghost use Rattle.asn_base.specs.Tags.{AllTagged, AllTellable, HasFewTags};
 ghost use Rattle.asn_base.specs.Same.{Same};
-ghost use Rattle.asn_base.specs.Typed.{IsValueWithoutNodes, ValueIn};
+ghost use Rattle.asn_base.specs.Typed.{IsValue, IsValueWithoutNodes, ValueIn, nodes};
 ghost use Rattle.asn_base.specs.Types.{Resolved};
 ghost use Rattle.encodings.specs.Encoding.{Ber, Der, Encodes, EncodesBy, Says, Shortest};
 ghost use Rattle.encodings.specs.Levels.{levels};
+ghost use Rattle.encodings.specs.Weight.{weight};
 ghost use Rattle.encodings.specs.Rules.{Rules, Basic, Unsorted, Distinguished};
 
-use asn_base::law::{accepted_are_told_apart, sameness};
+use asn_base::law::{accepted_are_told_apart, alike_values, sameness};
 
 /// A value of a type has one encoding by the distinguished rules, and none by the basic rules is shorter: for each kind
 /// of type, over every spelling of definite length.
@@ -74,6 +75,22 @@ pub fn reading_laws()
 pub fn level_laws()
     ensures few { (s : List Resolved) (n t : ℕ) (v : AbstractValue) (o : List ℕ) (d : Says s Distinguished t v 0 o) → HasFewTags s → ValueIn s n t v → levels d ≤ 6 * n }
     ensures within_limit { (s : List Resolved) (t : ℕ) (v : AbstractValue) (o : List ℕ) (d : Says s Distinguished t v 0 o) → HasFewTags s → IsValueWithoutNodes s t v → levels d ≤ 400 }
+{}
+
+/// Each value of a type of a schema has an encoding by the distinguished rules, unless its strings are longer than the
+/// longest length octets tell.
+pub fn existence_laws()
+    ensures { (s : List Resolved) (t : ℕ) (v : AbstractValue) → IsSchema s → IsValueWithoutNodes s t v → weight v < 256 ^ 126 → (o : List ℕ) × Der s t v 0 o × (length o ≤ weight v) }
+{
+    sameness();
+    alike_values();
+}
+
+/// A value that octets say has at most as many nodes as there are octets, so that one within a message's limit is within
+/// the limit on nodes too.
+pub fn message_laws()
+    ensures nodes { (s : List Resolved) (r : Rules) (t k : ℕ) (w : AbstractValue) (o : List ℕ) → IsSchema s → Says s r t w k o → nodes w ≤ length o }
+    ensures value { (s : List Resolved) (r : Rules) (t k : ℕ) (w : AbstractValue) (o : List ℕ) → IsSchema s → IsValueWithoutNodes s t w → Says s r t w k o → length o ≤ 16777216 → IsValue s t w }
 {}
 
 /// The laws together, of a schema with any kinds of types.

@@ -1,11 +1,13 @@
 -- Types behind their references, and what this compiler takes of them.
 use Rattle.std.proofs.Common.{◌≡◌, ℕ, zero, suc, ◌<◌, List, [], ◌∷◌, length, Option, Some, None, refl, sym, ap, ◌∙◌, subst}
-use Rattle.std.specs.Prelude.{slice_get, slice_index_or, MatchOption}
+use Rattle.std.proofs.Common.{Bool, true, false, not}
+use Rattle.std.specs.Prelude.{slice_get, slice_index_or, IsTrue, MatchOption}
+use Rattle.trees.specs.Values.{Name}
 use Rattle.std.proofs.lemmas.Option.{slice_get_within}
 use Rattle.trees.specs.Types.{mandatory}
 use Rattle.resolve.specs.Table as table
 use Rattle.resolve.specs.Table.{Part, Kind, simple, reference, tagged, members, elements, Type', next, IsCore, IsCircular, IsLinked}
-use Rattle.asn_base.specs.Names.{IsIdentifier}
+use Rattle.asn_base.specs.Names.{is_identifier, IsIdentifier}
 use Rattle.first_path.specs.Walks.{onward, walk, EndsAt}
 use Rattle.first_path.specs.FirstPath.{IsBasic, Unfolds, IsFirstMember, IsFirstKind, IsFirstType, PartsInside}
 use Rattle.first_path.proofs.Walks.{below, ends_unique}
@@ -31,6 +33,20 @@ pub unfolds_once : (ts : List Type') (i : ℕ) (t u : Type') → Unfolds ts i t 
 unfolds_once ts i t u a b =
     let e = ends_unique (next ts) i a.number b.number (core_ends ts i a.number a.core) (core_ends ts i b.number b.core) in
     some_same t u (sym a.there ∙ ap (slice_get ts) e ∙ b.there)
+
+pub is_name : {r : Bool} {a b : Name} → r ≡ is_identifier a → a ≡ b → false ≡ not r → IsIdentifier b
+is_name {r} e f h = subst IsIdentifier f (subst IsTrue (e) (by r h))
+  where
+    by : (r : Bool) → false ≡ not r → IsTrue r
+    by true h = tt
+    by false h = absurd (cc)
+
+pub is_no_name : {r : Bool} {a b : Name} → r ≡ is_identifier a → a ≡ b → true ≡ not r → IsIdentifier b → ⊥
+is_no_name {r} e f h n = by r h (subst IsTrue (sym e) (subst IsIdentifier (sym f) n))
+  where
+    by : (r : Bool) → true ≡ not r → IsTrue r → ⊥
+    by true h i = cc
+    by false h i = i
 
 pub member_match : {X : Type 0} (ts : List Type') (c : Part) (t : Type') (r : Option X) → IsIdentifier c.name → c.presence ≡ mandatory → Unfolds ts c.ty t → MatchOption r (IsBasic t.kind) (λ _. IsBasic t.kind → ⊥) → MatchOption r (IsFirstMember ts c) (λ _. IsFirstMember ts c → ⊥)
 member_match ts c t None n e u h = record { named = n; stands = e; behind = t; unfolds = u; basic = h }
