@@ -197,6 +197,14 @@ impl Kit {
         let Some(number) = self.value_number(value) else {
             return Err(Fault::NoValue(String::from_str(alloc, value)?));
         };
-        encoded(alloc, &self.scope, self.schema.schema(), ty, id, value, number)
+        encoded(
+            alloc,
+            &self.scope,
+            self.schema.schema(),
+            ty,
+            id,
+            value,
+            number,
+        )
     }
 }
