@@ -139,8 +139,13 @@ put_front {w = w} {x = x} {ws = ws} {xs = xs} v a r = record { row = present w w
 
 put_later : {s : List Resolved} {n u : ℕ} {w y : AbstractValue} {x z : List ℕ} {ws : Row} {xs : List (List ℕ)} → ValueIn s n u y → Says s Distinguished u y 0 z → PutRow s n u w x ws xs → PutRow s n u w x (present y ws) (z ∷ xs)
 put_later {y = y} {z = z} {xs = xs} v a p = record {
-  row = present y p.row; list = z ∷ p.list; at = there p.at; are = rows_more v a p.are;
-  long = omega (arith, p.long, length-append z (concat p.list), length-append z (concat xs)); count = ap suc p.count }
+  row = present y p.row;
+  list = z ∷ p.list;
+  at = there p.at;
+  are = rows_more v a p.are;
+  long = omega (arith, p.long, length-append z (concat p.list), length-append z (concat xs));
+  count = ap suc p.count;
+}
 
 put_behind : {s : List Resolved} {n u : ℕ} {w : AbstractValue} {p x : List ℕ} {ws : Row} {xs : List (List ℕ)} → ValueIn s n u w → Says s Distinguished u w 0 x → AtMost p x → Rows s n u ws xs → Ascending AtMost (p ∷ xs) → PutBehind s n u w p x ws xs
 unfolding put_front put_later
@@ -212,7 +217,6 @@ module _ (s : List Resolved) (schema : IsSchema s)
     (levels : (m n t : ℕ) (v w : AbstractValue) → Alike s t v w → ValueIn s n t v → ValueIn s m t w → ValueIn s n t w)
     (decide : (m n t : ℕ) (v w : AbstractValue) → ValueIn s n t v → ValueIn s m t w → Alike s t v w ⊎ (Alike s t v w → ⊥))
     (most : ℕ) (digits : (n : ℕ) → n < most → length (digits_of 256 n) ≤ 126) where
-
   with_it : {n : ℕ} {c : Component} {cs : List Component} {v : AbstractValue} {vs : Row} (r : Encoded s n c.type v) → (IsDefault s c r.w → ⊥) → MembersIn s n cs vs → MembersIn s n (c ∷ cs) (present v vs)
   with_it {vs = vs} r nd m = record {
     ws = present r.w m.ws;

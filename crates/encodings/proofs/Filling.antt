@@ -27,8 +27,8 @@ eight a b c d e f g h =
     let da = digit_small a in let db = digit_small b in let dc = digit_small c in let dd = digit_small d in
     let de = digit_small e in let df = digit_small f in let dg = digit_small g in let dh = digit_small h in
     eight_cons
-      (bit_back (n / 128) a (omega arith)) (bit_back (n / 64 % 2) b (omega arith)) (bit_back (n / 32 % 2) c (omega arith)) (bit_back (n / 16 % 2) d (omega arith))
-      (bit_back (n / 8 % 2) e (omega arith)) (bit_back (n / 4 % 2) f (omega arith)) (bit_back (n / 2 % 2) g (omega arith)) (bit_back (n % 2) h (omega arith))
+    (bit_back (n / 128) a (omega arith)) (bit_back (n / 64 % 2) b (omega arith)) (bit_back (n / 32 % 2) c (omega arith)) (bit_back (n / 16 % 2) d (omega arith))
+    (bit_back (n / 8 % 2) e (omega arith)) (bit_back (n / 4 % 2) f (omega arith)) (bit_back (n / 2 % 2) g (omega arith)) (bit_back (n % 2) h (omega arith))
 
 record Packed (s : List Bool) : Type 0 where
   octets : List ℕ

@@ -72,24 +72,33 @@ false_3 = says (record { found = refl }) (leaf of_false) (innermost (shortest_is
 
 order_1 : InTagOrder (1 ∷ 1 ∷ 0 ∷ []) (69 ∷ 1 ∷ 0 ∷ [])
 unfolding identifier
-order_1 = record { former = u1; latter = a0;
+order_1 = record {
+  former = u1;
+  latter = a0;
   begins_former = record { constructed = false; count = 1; header = 1 ∷ 1 ∷ []; rest = 0 ∷ []; is_header = short_header u1 false 1 (lit< tt); whole = refl };
   begins_latter = record { constructed = false; count = 1; header = 69 ∷ 1 ∷ []; rest = 0 ∷ []; is_header = short_header a0 false 1 (lit< tt); whole = refl };
-  before = inl (lit< tt) }
+  before = inl (lit< tt);
+}
 
 order_2 : InTagOrder (69 ∷ 1 ∷ 0 ∷ []) (128 ∷ 1 ∷ 0 ∷ [])
 unfolding identifier
-order_2 = record { former = a0; latter = c0;
+order_2 = record {
+  former = a0;
+  latter = c0;
   begins_former = record { constructed = false; count = 1; header = 69 ∷ 1 ∷ []; rest = 0 ∷ []; is_header = short_header a0 false 1 (lit< tt); whole = refl };
   begins_latter = record { constructed = false; count = 1; header = 128 ∷ 1 ∷ []; rest = 0 ∷ []; is_header = short_header c0 false 1 (lit< tt); whole = refl };
-  before = inl (lit< tt) }
+  before = inl (lit< tt);
+}
 
 order_3 : InTagOrder (128 ∷ 1 ∷ 0 ∷ []) (195 ∷ 1 ∷ 0 ∷ [])
 unfolding identifier
-order_3 = record { former = c0; latter = p0;
+order_3 = record {
+  former = c0;
+  latter = p0;
   begins_former = record { constructed = false; count = 1; header = 128 ∷ 1 ∷ []; rest = 0 ∷ []; is_header = short_header c0 false 1 (lit< tt); whole = refl };
   begins_latter = record { constructed = false; count = 1; header = 195 ∷ 1 ∷ []; rest = 0 ∷ []; is_header = short_header p0 false 1 (lit< tt); whole = refl };
-  before = inl (lit< tt) }
+  before = inl (lit< tt);
+}
 
 -- SET {a [PRIVATE 3], b [0], c [APPLICATION 5], d BOOLEAN}: 310C010100450100800100C30100
 pub classes : Says more Distinguished 4 (fields (present (boolean false) (present (boolean false) (present (boolean false) (present (boolean false) end))))) 0 (49 ∷ 12 ∷ 1 ∷ 1 ∷ 0 ∷ 69 ∷ 1 ∷ 0 ∷ 128 ∷ 1 ∷ 0 ∷ 195 ∷ 1 ∷ 0 ∷ [])
@@ -134,10 +143,13 @@ not_1 n f = n (ap (λ g. g.number) (first_only {t = 8} refl f))
 
 known_order : InTagOrder (128 ∷ 1 ∷ 0 ∷ []) (129 ∷ 1 ∷ 255 ∷ [])
 unfolding identifier
-known_order = record { former = c0; latter = c1;
+known_order = record {
+  former = c0;
+  latter = c1;
   begins_former = record { constructed = false; count = 1; header = 128 ∷ 1 ∷ []; rest = 0 ∷ []; is_header = short_header c0 false 1 (lit< tt); whole = refl };
   begins_latter = record { constructed = false; count = 1; header = 129 ∷ 1 ∷ []; rest = 255 ∷ []; is_header = short_header c1 false 1 (lit< tt); whole = refl };
-  before = inr (refl, lit< tt) }
+  before = inr (refl, lit< tt);
+}
 
 pub mixed_set : Says more Distinguished 9 (fields (present (boolean false) (present (boolean true) end))) 3 (49 ∷ 13 ∷ 130 ∷ 1 ∷ 7 ∷ 128 ∷ 1 ∷ 0 ∷ 131 ∷ 0 ∷ 129 ∷ 1 ∷ 255 ∷ 132 ∷ 0 ∷ [])
 unfolding identifier shortest_header
@@ -146,8 +158,8 @@ mixed_set = says (record { found = refl })
     (permutes_more (permutes_more permutes_none list_here) list_here)
     (ascending_more known_order ascending_one)
     (extensible (unknown {g = c2} {c = false} {h = 130 ∷ 1 ∷ []} (7 ∷ []) (short_header c2 false 1 (lit< tt)) (lit< tt, tt) ((λ f. not_0 {g = c2} (λ e. omega arith) f), ((λ f. not_1 {g = c2} (λ e. omega arith) f), tt))
-      (unknown {g = c3} {c = false} {h = 131 ∷ 0 ∷ []} [] (short_header c3 false 0 (lit< tt)) tt ((λ f. not_0 {g = c3} (λ e. omega arith) f), ((λ f. not_1 {g = c3} (λ e. omega arith) f), tt))
-      (unknown {g = c4} {c = false} {h = 132 ∷ 0 ∷ []} [] (short_header c4 false 0 (lit< tt)) tt ((λ f. not_0 {g = c4} (λ e. omega arith) f), ((λ f. not_1 {g = c4} (λ e. omega arith) f), tt)) no_unknown))))
+    (unknown {g = c3} {c = false} {h = 131 ∷ 0 ∷ []} [] (short_header c3 false 0 (lit< tt)) tt ((λ f. not_0 {g = c3} (λ e. omega arith) f), ((λ f. not_1 {g = c3} (λ e. omega arith) f), tt))
+    (unknown {g = c4} {c = false} {h = 132 ∷ 0 ∷ []} [] (short_header c4 false 0 (lit< tt)) tt ((λ f. not_0 {g = c4} (λ e. omega arith) f), ((λ f. not_1 {g = c4} (λ e. omega arith) f), tt)) no_unknown))))
     (merges_second (merges_first (merges_second (merges_first (merges_second merges_none))))))
     (innermost (shortest_is u17 true 13 (lit< tt)))
 

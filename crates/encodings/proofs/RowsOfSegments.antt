@@ -29,8 +29,8 @@ pub nested_segments : Says rows Basic 3 (octets (7 ∷ [])) 0 (36 ∷ 7 ∷ 36 �
 unfolding identifier
 nested_segments = says (record { found = refl })
     (leaf (of_octets (cut (segment {x = 7 ∷ []} {p = 36 ∷ 3 ∷ 4 ∷ 1 ∷ 7 ∷ []} (short_header octet_string_tag true 5 (lit< tt))
-      (cut (segment {x = 7 ∷ []} {p = 4 ∷ 1 ∷ 7 ∷ []} (short_header octet_string_tag true 3 (lit< tt))
-        (cut (segment {x = 7 ∷ []} {p = 7 ∷ []} (short_header octet_string_tag false 1 (lit< tt)) (whole (lit< tt, tt)) no_segment)) no_segment)) no_segment)) tt))
+    (cut (segment {x = 7 ∷ []} {p = 4 ∷ 1 ∷ 7 ∷ []} (short_header octet_string_tag true 3 (lit< tt))
+    (cut (segment {x = 7 ∷ []} {p = 7 ∷ []} (short_header octet_string_tag false 1 (lit< tt)) (whole (lit< tt, tt)) no_segment)) no_segment)) no_segment)) tt))
     (innermost (record { header = short_header u4 true 7 (lit< tt); fewest = tt }))
 
 -- 030204FF: unused bits of any value
@@ -73,7 +73,7 @@ unfolding identifier
 two_unknown = says (record { found = refl })
     (sequence (left_out refl no_member)
     (extensible (unknown {g = c1} {c = false} {h = 129 ∷ 1 ∷ []} (0 ∷ []) (short_header c1 false 1 (lit< tt)) (lit< tt, tt) ((λ f. other f), tt)
-      (unknown {g = c1} {c = true} {h = 161 ∷ 2 ∷ []} (255 ∷ 255 ∷ []) (short_header c1 true 2 (lit< tt)) (lit< tt, (lit< tt, tt)) ((λ f. other f), tt) no_unknown))))
+    (unknown {g = c1} {c = true} {h = 161 ∷ 2 ∷ []} (255 ∷ 255 ∷ []) (short_header c1 true 2 (lit< tt)) (lit< tt, (lit< tt, tt)) ((λ f. other f), tt) no_unknown))))
     (innermost (record { header = short_header u16 true 7 (lit< tt); fewest = tt }))
 
 -- levels of real derivations

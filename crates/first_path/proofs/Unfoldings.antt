@@ -1,7 +1,7 @@
 -- Types behind their references, and what this compiler takes of them.
 use Rattle.std.proofs.Common.{◌≡◌, ℕ, zero, suc, ◌<◌, List, [], ◌∷◌, length, Option, Some, None, refl, sym, ap, ◌∙◌, subst}
-use Rattle.std.proofs.Common.{Bool, true, false, not}
-use Rattle.std.specs.Prelude.{slice_get, slice_index_or, IsTrue, MatchOption}
+use Rattle.std.proofs.Common.{Bool, true, false}
+use Rattle.std.specs.Prelude.{slice_get, slice_index_or, MatchOption}
 use Rattle.trees.specs.Values.{Name}
 use Rattle.std.proofs.lemmas.Option.{slice_get_within}
 use Rattle.trees.specs.Types.{mandatory}
@@ -34,19 +34,11 @@ unfolds_once ts i t u a b =
     let e = ends_unique (next ts) i a.number b.number (core_ends ts i a.number a.core) (core_ends ts i b.number b.core) in
     some_same t u (sym a.there ∙ ap (slice_get ts) e ∙ b.there)
 
-pub is_name : {r : Bool} {a b : Name} → r ≡ is_identifier a → a ≡ b → false ≡ not r → IsIdentifier b
-is_name {r} e f h = subst IsIdentifier f (subst IsTrue (e) (by r h))
-  where
-    by : (r : Bool) → false ≡ not r → IsTrue r
-    by true h = tt
-    by false h = absurd (cc)
+pub is_name : {r : Bool} {a b : Name} → r ≡ is_identifier a → a ≡ b → r ≡ true → IsIdentifier b
+is_name e f h = subst IsIdentifier f (sym e ∙ h)
 
-pub is_no_name : {r : Bool} {a b : Name} → r ≡ is_identifier a → a ≡ b → true ≡ not r → IsIdentifier b → ⊥
-is_no_name {r} e f h n = by r h (subst IsTrue (sym e) (subst IsIdentifier (sym f) n))
-  where
-    by : (r : Bool) → true ≡ not r → IsTrue r → ⊥
-    by true h i = cc
-    by false h i = i
+pub is_no_name : {r : Bool} {a b : Name} → r ≡ is_identifier a → a ≡ b → r ≡ false → IsIdentifier b → ⊥
+is_no_name e f h n = let g : true ≡ false = sym (subst IsIdentifier (sym f) n) ∙ sym e ∙ h in cc
 
 pub member_match : {X : Type 0} (ts : List Type') (c : Part) (t : Type') (r : Option X) → IsIdentifier c.name → c.presence ≡ mandatory → Unfolds ts c.ty t → MatchOption r (IsBasic t.kind) (λ _. IsBasic t.kind → ⊥) → MatchOption r (IsFirstMember ts c) (λ _. IsFirstMember ts c → ⊥)
 member_match ts c t None n e u h = record { named = n; stands = e; behind = t; unfolds = u; basic = h }
