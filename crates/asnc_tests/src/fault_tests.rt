@@ -10,7 +10,7 @@ use text::LexFault;
 /// Of each fault its number, the exit status, the line that is told of it where the file m.asn is empty, and what it prints.
 const TOLD: &str = "\
 1 3 error 1 Memory: out of memory | error 1 Memory: out of memory
-3 3 error 3 File: w x could not be read | error 3 File: w
+3 3 error 3 File: w\\u{A}x could not be read | error 3 File: w
 x: the file can not be read
 4 2 error 4 BadWords: w x | error 4 BadWords: w
 x
