@@ -8,8 +8,6 @@ mod frame;
 pub mod law;
 mod leaf;
 mod number;
-#[cfg(test)]
-mod tests;
 
 pub use der::write_der;
 pub use fault::WriteFault;
