@@ -18,11 +18,11 @@ use Rattle.asn_base.proofs.Groups.{no_groups}
 abbrev tag : Tag
 tag = record { class = Universal; number = 2; in_range = lit< tt; not_reserved = λ e. lit< tt }
 
-abbrev bounds : Bounds
+abbrev pub bounds : Bounds
 bounds = record { least = Some (pos 0); greatest = Some (pos 7); extensible = false }
 
 -- (0..7), and (0..7, ...), which allows every number
-abbrev to_7 : Constraint
+abbrev pub to_7 : Constraint
 to_7 = record { allowed = Some (record { least = Some (pos 0); greatest = Some (pos 7) } ∷ []); visible = bounds }
 
 abbrev free : Constraint

@@ -85,3 +85,7 @@ levels_nested = refl
 levels_of_unknown : levels two_unknown ≡ 2
 unfolding two_unknown
 levels_of_unknown = refl
+
+levels_of_bits : levels nested_bits ≡ 3
+unfolding nested_bits
+levels_of_bits = refl
