@@ -6,6 +6,7 @@ mod headers;
 mod kit;
 mod lexer;
 mod parser;
+mod taken;
 mod writer;
 
 use crate::hog::Hog;

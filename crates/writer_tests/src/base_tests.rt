@@ -14,7 +14,7 @@ fn components(schema: &Schema, index: usize) -> Option<usize> {
         return None;
     }
     match &schema.get(id).core {
-        Core::Sequence(components) => Some(components.len()),
+        Core::Sequence(_, components) => Some(components.len()),
         _ => None,
     }
 }
@@ -22,7 +22,7 @@ fn components(schema: &Schema, index: usize) -> Option<usize> {
 #[test]
 fn parts(rt: HostRuntime) -> Result<(), Fail> {
     let alloc = rt.alloc();
-    let none = Constraint::none();
+    let none = Constraint::any_number();
     let schema = schema(alloc)?;
     // '1010'B is one octet with four unused bits.
     let bits = BitString::of(vec![in alloc; 160]?, 4);

@@ -1,5 +1,7 @@
 //! Values that are written or refused.
 
+ghost use Rattle.asn_base.specs.Accepted.{IsAccepted};
+
 use crate::schema::{BOOLEAN, EMPTY, INTEGER, OCTETS, PAIR, TAGGED, schema};
 use asn_base::schema::{Schema, TypeId};
 use asn_base::value::Value;
@@ -56,7 +58,9 @@ fn outcome(
     schema: &Schema,
     index: usize,
     value: &Value,
-) -> Result<Vec<u8>, WriteFault> {
+) -> Result<Vec<u8>, WriteFault>
+    requires { IsAccepted schema.now }
+{
     let id = TypeId { index };
     if schema.has(id) {
         write_der(alloc, schema, id, value)
@@ -66,7 +70,9 @@ fn outcome(
 }
 
 /// What is written of a value, in words.
-fn told(alloc: Global, schema: &Schema, number: usize) -> Result<String, AllocError> {
+fn told(alloc: Global, schema: &Schema, number: usize) -> Result<String, AllocError>
+    requires { IsAccepted schema.now }
+{
     let (index, value) = value_of(alloc, number)?;
     match outcome(alloc, schema, index, &value) {
         Ok(octets) => {

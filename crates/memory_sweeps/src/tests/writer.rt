@@ -1,10 +1,16 @@
 //! `write_der`.
 
 ghost use Rattle.asn_base.specs.declared.schema.Presence.TheVariants.{Mandatory};
-ghost use Rattle.std.specs.Prelude.{◌≡◌, IfOk};
+ghost use Rattle.asn_base.specs.Accepted.{IsAccepted};
+ghost use Rattle.asn_base.specs.Accepted.{IsOfFirstStage, IsSimple};
+ghost use Rattle.asn_base.specs.Seen.{component_of, kind_of, types_of};
+ghost use Rattle.asn_base.specs.Types.{a_sequence, Resolved as Resolved'};
+ghost use Rattle.std.specs.Prelude.{◌≡◌, ◌++◌, ◌∷◌, ◌<◌, ◌≤◌, IfOk, IsSomeAnd, List, OnOk, [], false, length, map, slice_get, string_bytes};
 
+use super::taken::TakenSchema;
 use super::{Starved, sweep};
 use asn_base::constraint::Constraint;
+use asn_base::law::{accepted_are_schemas, schemas_grow};
 use asn_base::schema::{Component, Core, Presence, Resolved, Schema, TypeId};
 use asn_base::tag::{Class, Tag};
 use asn_base::value::Value;
@@ -14,7 +20,7 @@ use std::test::Fail;
 
 #[derive(Drop)]
 struct Writer {
-    schema: Schema,
+    schema: TakenSchema,
     value: Value,
     octets: Vec<u8>,
 }
@@ -23,10 +29,10 @@ const PAIR: TypeId = TypeId { index: 2 };
 
 impl Starved for Writer {
     fn answers(&mut self, alloc: Global, _turn: usize) -> Result<bool, Fail> {
-        if !self.schema.has(PAIR) {
+        if !self.schema.schema().has(PAIR) {
             return Err("no such type".into());
         }
-        match write_der(alloc, &self.schema, PAIR, &self.value) {
+        match write_der(alloc, self.schema.schema(), PAIR, &self.value) {
             Ok(octets) if octets.as_slice() == self.octets.as_slice() => Ok(true),
             Ok(_) => Err("other octets".into()),
             Err(WriteFault::Memory) => Ok(false),
@@ -36,7 +42,9 @@ impl Starved for Writer {
 }
 
 fn member(alloc: Global, name: &str, index: usize) -> Result<Component, AllocError>
-    ensures { IfOk result (λ c. (c.ty.index ≡ index) × (c.presence ≡ Mandatory)) }
+    ensures name { IfOk result (λ c. string_bytes c.name ≡ name.now) }
+    ensures ty { IfOk result (λ c. c.ty.index ≡ index) }
+    ensures presence { IfOk result (λ c. c.presence ≡ Mandatory) }
 {
     Ok(Component {
         name: String::from_str(alloc, name)?,
@@ -45,23 +53,55 @@ fn member(alloc: Global, name: &str, index: usize) -> Result<Component, AllocErr
     })
 }
 
+/// The components a INTEGER and b OCTET STRING.
+#[tactic(auto, using(crate::proofs::Taken::pair_taken))]
+fn pair(alloc: Global) -> Result<Vec<Component>, AllocError>
+    ensures taken { IfOk result (λ cs. (s : List Resolved')
+        → IsSomeAnd (slice_get s 0) (λ r. IsSimple r.kind)
+        → IsSomeAnd (slice_get s 1) (λ r. IsSimple r.kind)
+        → IsOfFirstStage s (a_sequence false (map component_of cs.items))) }
+{
+    let a = member(alloc, "a", 0)?;
+    let b = member(alloc, "b", 1)?;
+    Ok(vec![in alloc; a, b]?)
+}
+
+/// Adds a type that today's writer takes behind those that are there.
+fn add(types: &mut Vec<Resolved>, tags: Vec<Tag>, core: Core) -> Result<(), AllocError>
+    requires taken { IsAccepted (types_of types.old.items) }
+    requires tagged { (0 < length tags.items) × (length tags.items ≤ 6) }
+    requires kind { IsOfFirstStage (types_of types.old.items) (kind_of core) }
+    ensures taken { OnOk result (IsAccepted (types_of types.new.items)) }
+    ensures grown { OnOk result (types_of types.new.items
+        ≡ types_of types.old.items ++ (record { tags = tags.items; kind = kind_of core } ∷ [])) }
+{
+    schemas_grow();
+    types.push(Resolved { tags, core })?;
+    Ok(())
+}
+
 // INTEGER, OCTET STRING, [1] EXPLICIT SEQUENCE {a INTEGER, b OCTET STRING}.
-fn schema(alloc: Global) -> Result<Schema, AllocError> {
+fn schema(alloc: Global) -> Result<Schema, AllocError>
+    ensures { IfOk result (λ s. IsAccepted s) }
+{
+    schemas_grow();
+    accepted_are_schemas();
+    let pair = pair(alloc)?;
     let mut types = Vec::new(alloc);
-    types.push(Resolved {
-        tags: vec![in alloc; Tag::of(Class::Universal, 2)]?,
-        core: Core::Integer(Constraint::none()),
-    })?;
-    types.push(Resolved {
-        tags: vec![in alloc; Tag::of(Class::Universal, 4)]?,
-        core: Core::OctetString(Constraint::none()),
-    })?;
-    let pair = vec![in alloc; member(alloc, "a", 0)?, member(alloc, "b", 1)?]?;
+    let number = Core::Integer(Constraint::any_number());
+    add(
+        &mut types,
+        vec![in alloc; Tag::of(Class::Universal, 2)]?,
+        number,
+    )?;
+    let octets = Core::OctetString(Constraint::any_size());
+    add(
+        &mut types,
+        vec![in alloc; Tag::of(Class::Universal, 4)]?,
+        octets,
+    )?;
     let tags = vec![in alloc; Tag::of(Class::Context, 1), Tag::of(Class::Universal, 16)]?;
-    types.push(Resolved {
-        tags,
-        core: Core::Sequence(pair),
-    })?;
+    add(&mut types, tags, Core::Sequence(false, pair))?;
     Ok(Schema::of(types))
 }
 
@@ -76,7 +116,7 @@ fn write_der_with_ever_more_memory(rt: HostRuntime) -> Result<(), Fail> {
     let string = Value::Octets(vec![in alloc; 7; 300]?);
     let members = vec![in alloc; Some(Value::Int(-129)), Some(string)]?;
     let mut writer = Writer {
-        schema: schema(alloc)?,
+        schema: TakenSchema::of(schema(alloc)?),
         value: Value::Fields(members),
         octets,
     };
