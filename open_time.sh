@@ -1,6 +1,6 @@
 #!/usr/bin/env bash
-# Says how long the program takes to open a module of 500, 1000, 2000 and 4000 type assignments and to write one value:
-# the least of five runs each, in milliseconds. The time grows as the text does.
+# Says how long the program takes to open modules of growing size, ordinary ones and those that cost a careless front end
+# more than their length: the least of five runs each, in milliseconds. The time grows as the text does.
 set -euo pipefail
 
 if [[ $# -eq 1 && ($1 == --help || $1 == -h) ]]; then
@@ -13,24 +13,120 @@ if [[ $# -ne 0 ]]; then
 fi
 here=$(dirname "$(readlink -f "${BASH_SOURCE[0]}")")
 "$here/asnc" --help >/dev/null
-folder=$(mktemp -d)
-trap 'rm -rf "$folder"' EXIT
+program=$here/crates/asnc_main/out/asnc_main
+file=$(mktemp)
+trap 'rm -f "$file"' EXIT
 
-for count in 500 1000 2000 4000; do
-  file=$folder/$count.asn
-  {
-    printf '%s\n' "Grown DEFINITIONS ::= BEGIN" "Flag ::= BOOLEAN"
-    for ((number = 1; number < count; number++)); do
-      printf '%s\n' "Record$number ::= SEQUENCE { number INTEGER, name OCTET STRING, flag Flag }"
+# in_module: the lines of standard input, as a module of a text.
+in_module() {
+  printf '%s\n' "M DEFINITIONS ::= BEGIN"
+  cat
+  printf '%s\n' "END"
+}
+
+# records N: N type assignments, each a SEQUENCE of three, and one value.
+records() {
+  awk -v n="$1" 'BEGIN {
+    print "Flag ::= BOOLEAN"
+    for (i = 1; i < n; i++) print "Record" i " ::= SEQUENCE { number INTEGER, name OCTET STRING, flag Flag }"
+    print "v Record1 ::= { number " n ", name \x27" "01\x27H, flag TRUE }" }' | in_module
+}
+
+# tagged_chain N: N types, each with fourteen tags before the next one.
+tagged_chain() {
+  awk -v n="$1" 'BEGIN {
+    for (i = 0; i < n; i++) {
+      printf "A%d ::= ", i
+      for (j = 0; j < 14; j++) printf "[1] "
+      if (i + 1 < n) print "A" i + 1; else print "NULL"
+    } }' | in_module
+}
+
+# referred_values N: a chain of 4,000 references, and N values of its first type.
+referred_values() {
+  awk -v v="$1" 'BEGIN {
+    for (i = 0; i < 3999; i++) print "A" i " ::= A" i + 1
+    print "A3999 ::= BOOLEAN"
+    for (i = 0; i < v; i++) print "v" i " A0 ::= TRUE" }' | in_module
+}
+
+# referred_members N: a chain of 3,700 references, and N members of its first type, 250 in a list.
+referred_members() {
+  awk -v m="$1" 'BEGIN {
+    for (i = 0; i < 3699; i++) print "A" i " ::= A" i + 1
+    print "A3699 ::= BOOLEAN"
+    for (i = 0; i < m; i++) {
+      if (i % 250 == 0) printf "%sL%d ::= SEQUENCE {", (i ? "}\n" : ""), i / 250; else printf ", "
+      printf "c%d A0", i % 250
+    }
+    print "}" }' | in_module
+}
+
+# alike_numbers N: an INTEGER with N named numbers that have the same low 64 bits.
+alike_numbers() {
+  awk -v n="$1" 'function times(digits, carry,   out, k, d) {
+      out = ""
+      for (k = length(digits); k > 0; k--) {
+        d = substr(digits, k, 1) * 1 + substr(carry, length(carry) - (length(digits) - k), 1) * 1 + over
+        over = int(d / 10)
+        out = (d % 10) out
+      }
+      return out
+    }
+    BEGIN {
+      step = "000000000000000000018446744073709551616"
+      sum  = "000000000000000000002611923443488327907"
+      printf "A ::= INTEGER {"
+      for (i = 0; i < n; i++) {
+        shown = sum
+        sub(/^0+/, "", shown)
+        printf "%sn%d(%s)", (i ? ", " : ""), i, shown
+        over = 0
+        sum = times(sum, step)
+      }
+      print "}" }' | in_module
+}
+
+# defaulted_chain N: N lists, each with a DEFAULT of the one before.
+defaulted_chain() {
+  awk -v n="$1" 'BEGIN {
+    print "A0 ::= SEQUENCE {}"
+    for (i = 1; i < n; i++) print "A" i " ::= SEQUENCE {a A" i - 1 " DEFAULT {}}" }' | in_module
+}
+
+# endless N: N thousand assignments of types, and no END.
+endless() {
+  printf '%s\n' "M DEFINITIONS ::= BEGIN"
+  awk -v n="$1" 'BEGIN { for (i = 0; i < n * 1000; i++) print "Type" i " ::= INTEGER" }'
+}
+
+# long_name N: a name of N million letters, where none can stand.
+long_name() {
+  awk -v n="$1" 'BEGIN { printf "M DEFINITIONS ::= BEGIN "; for (i = 0; i < n * 1000; i++) printf "%01000d", 0 }' | tr 0 a
+}
+
+# measure SHAPE SIZE..: the least times of a shape at these sizes, a line each.
+measure() {
+  local shape=$1 size took least began
+  shift
+  for size in "$@"; do
+    "$shape" "$size" >"$file"
+    least=
+    for _ in 1 2 3 4 5; do
+      began=${EPOCHREALTIME/./}
+      "$program" der --type M.Record1 --value M.v "$file" >/dev/null 2>&1 || true
+      took=$((${EPOCHREALTIME/./} - began))
+      [[ -n $least && $least -le $took ]] || least=$took
     done
-    printf '%s\n' "value Record1 ::= { number $count, name '01'H, flag TRUE }" "END"
-  } >"$file"
-  least=
-  for _ in 1 2 3 4 5; do
-    began=${EPOCHREALTIME/./}
-    "$here/asnc" der --type Grown.Record1 --value Grown.value "$file" >/dev/null
-    took=$((${EPOCHREALTIME/./} - began))
-    [[ -n $least && $least -le $took ]] || least=$took
+    printf '%-16s %6d %9d octets %6d.%d ms\n' "$shape" "$size" "$(stat -c %s "$file")" $((least / 1000)) $((least % 1000 / 100))
   done
-  printf '%5d assignments, %7d octets: %d.%d ms\n' "$count" "$(stat -c %s "$file")" $((least / 1000)) $((least % 1000 / 100))
-done
+}
+
+measure records 1000 2000 4000
+measure tagged_chain 1000 2000 4000
+measure referred_values 15000 30000 60000
+measure referred_members 7000 14000 28000
+measure alike_numbers 16000 32000 64000
+measure defaulted_chain 1000 2000 4000
+measure endless 180 360 720
+measure long_name 1 2 4

@@ -77,21 +77,21 @@ prove() {
   verdict=$(sed -n 's/^logic=\([a-z-]*\).*/\1/p' "$log" | tail -n 1)
 }
 
-# swap FILE OLD NEW: puts NEW in the place of OLD, which stands there once.
+# swap FILE OLD NEW: puts NEW in the place of OLD, which stands there once; \n in them stands for a line's end.
 swap() {
   [[ -f $1 ]] || return 1
-  OLD=$2 NEW=$3 awk '
-    BEGIN { old = ENVIRON["OLD"]; new = ENVIRON["NEW"] }
-    {
-      said = ""
-      while ((at = index($0, old)) > 0) {
-        said = said substr($0, 1, at - 1) new
-        $0 = substr($0, at + length(old))
+  OLD=${2//\\n/$'\n'} NEW=${3//\\n/$'\n'} awk '
+    { text = text $0 "\n" }
+    END {
+      old = ENVIRON["OLD"]
+      while ((at = index(text, old)) > 0) {
+        printf "%s", substr(text, 1, at - 1) ENVIRON["NEW"]
+        text = substr(text, at + length(old))
         found++
       }
-      print said $0
-    }
-    END { exit found != 1 }' "$1" >"$1.swapped" && mv "$1.swapped" "$1" && return 0
+      printf "%s", text
+      exit found != 1
+    }' "$1" >"$1.swapped" && mv "$1.swapped" "$1" && return 0
   rm -f "$1.swapped"
   return 1
 }
@@ -118,7 +118,8 @@ places() {
     case $line in
       'file: '*) file=${line#file: } ;;
       'old: '*)
-        number=$(grep -nF -m 1 -e "${line#old: }" "$folder/$file" | cut -d : -f 1) || true
+        line=${line#old: }
+        number=$(grep -nF -m 1 -e "${line%%\\n*}" "$folder/$file" | cut -d : -f 1) || true
         printf '%s %s\n' "$file" "${number:-0}"
         ;;
     esac
