@@ -27,6 +27,7 @@ fn parts(rt: HostRuntime) -> Result<(), Fail> {
     // '1010'B is one octet with four unused bits.
     let bits = BitString::of(vec![in alloc; 160]?, 4);
     let tag = Tag::of(Class::Universal, 2);
+    let told = octets::Fault::Memory.to_string(alloc)?;
     for (part, holds) in [
         ("a tag's class", tag.class == Class::Universal),
         ("a tag's number", tag.number == 2),
@@ -34,6 +35,10 @@ fn parts(rt: HostRuntime) -> Result<(), Fail> {
         ("no least number", none.visible.least.is_none()),
         ("no greatest number", none.visible.greatest.is_none()),
         ("no marker", !none.visible.extensible),
+        (
+            "what a header's want of memory prints",
+            told.as_str() == "1 Memory",
+        ),
         ("octets of bits", bits.octets.as_slice() == [160].as_slice()),
         ("unused bits", bits.unused == 4),
         ("the last type", schema.has(TypeId { index: 5 })),
