@@ -1,43 +1,43 @@
--- The trees of modules, without where they lie in memory. A name is the list of its octets.
-use Rattle.std.specs.Prelude.{ℕ, Option, List, map, option_map, string_bytes}
+-- The trees of modules, without where they lie in memory or in the text. A name is the list of its octets.
+use Rattle.std.specs.Prelude.{Option, List, map, option_map}
 use Rattle.trees.specs.declared.module.TagDefault.{TagDefault}
 use Rattle.trees.specs.declared.module.Assignment.{Assignment}
 use Rattle.trees.specs.declared.module.Assignment.TheVariants as assignments
 use Rattle.trees.specs.declared.module.Module.{Module}
 use Rattle.trees.specs.declared.module.Import.{Import}
-use Rattle.trees.specs.Values.{Tree, tree_of}
+use Rattle.trees.specs.Values.{Name, name_at, Tree, tree_of}
 use Rattle.trees.specs.Types.{TypeTree, type_tree_of}
 
 pub data AssignmentTree : Type 0 where
-  assigns_type : List ℕ → TypeTree → AssignmentTree
-  assigns_value : List ℕ → TypeTree → Tree → AssignmentTree
+  assigns_type : Name → TypeTree → AssignmentTree
+  assigns_value : Name → TypeTree → Tree → AssignmentTree
 
 abbrev pub assignment_of : Assignment → AssignmentTree
-assignment_of (assignments.Type a) = assigns_type (string_bytes a.name) (type_tree_of a.syntax)
-assignment_of (assignments.Value a) = assigns_value (string_bytes a.name) (type_tree_of a.syntax) (tree_of a.value)
+assignment_of (assignments.Type a) = assigns_type (name_at a.name) (type_tree_of a.syntax)
+assignment_of (assignments.Value a) = assigns_value (name_at a.name) (type_tree_of a.syntax) (tree_of a.value)
 
 -- names, and the module that they are imported from
 pub record ImportTree : Type 0 where
-  pub names : List (List ℕ)
-  pub from : List ℕ
+  pub names : List Name
+  pub from : Name
 
 abbrev pub import_of : Import → ImportTree
-import_of i = record { names = map string_bytes i.names.items; from = string_bytes i.module }
+import_of i = record { names = map name_at i.names.items; from = name_at i.module }
 
 pub record ModuleTree : Type 0 where
-  pub name : List ℕ
+  pub name : Name
   pub tag_default : TagDefault
   -- all that are assigned, where no list is given
-  pub exports : Option (List (List ℕ))
+  pub exports : Option (List Name)
   pub imports : List ImportTree
   pub assignments : List AssignmentTree
 
 -- the tree that a module in memory holds
 abbrev pub module_tree_of : Module → ModuleTree
 module_tree_of m = record {
-  name = string_bytes m.name;
+  name = name_at m.name;
   tag_default = m.tag_default;
-  exports = option_map (λ xs. map string_bytes xs.items) m.exports;
+  exports = option_map (λ xs. map name_at xs.items) m.exports;
   imports = map import_of m.imports.items;
   assignments = map assignment_of m.assignments.items;
 }

@@ -1,18 +1,27 @@
--- The trees of types, without where they lie in memory. A name is the list of its octets.
-use Rattle.std.specs.Prelude.{ℕ, Bool, Option, Some, None, List, [], ◌∷◌, map, option_map, string_bytes}
+-- The trees of types, without where they lie in memory or in the text. A name is the list of its octets.
+use Rattle.std.specs.Prelude.{ℕ, ℤ, Bool, Option, Some, None, List, [], ◌∷◌, map, option_map, string_bytes}
+use Rattle.asn_base.specs.declared.strings.StringKind.{StringKind}
+use Rattle.asn_base.specs.declared.strings.StringKind.TheVariants.{Numeric, Printable, Ia5, Visible}
 use Rattle.asn_base.specs.declared.tag.Tag.{Tag}
 use Rattle.trees.specs.declared.types.TypeSyntax.{TypeSyntax}
-use Rattle.trees.specs.declared.types.Member.{Member}
-use Rattle.trees.specs.declared.types.TypeSyntax.TheOpen.{TypeSyntax-F, Boolean, Integer, OctetString, Reference, Sequence, Null, ObjectIdentifier, Utf8String, NumericString, PrintableString, Ia5String, VisibleString, NamedInteger, BitString, Enumerated, Set, Choice, SequenceOf, SetOf, Tagged, Constrained}
+use Rattle.trees.specs.declared.types.TypeSyntax.TheOpen.{TypeSyntax-F}
 use Rattle.trees.specs.declared.types.TypeSyntax.TheFolds.{fold-TypeSyntax}
+use Rattle.trees.specs.declared.types.TypeForm.{TypeForm}
+use Rattle.trees.specs.declared.types.TypeForm.TheVariants as forms
+use Rattle.trees.specs.declared.types.Simple.{Simple}
+use Rattle.trees.specs.declared.types.Simple.TheVariants as simples
+use Rattle.trees.specs.declared.types.ListKind.{ListKind}
+use Rattle.trees.specs.declared.types.ElementsKind.{ElementsKind}
 use Rattle.trees.specs.declared.types.Keyword.{Keyword}
+use Rattle.trees.specs.declared.types.Member.{Member}
 use Rattle.trees.specs.declared.types.NamedNumber.{NamedNumber}
 use Rattle.trees.specs.declared.types.NamedBit.{NamedBit}
 use Rattle.trees.specs.declared.types.EnumeratedItem.{EnumeratedItem}
 use Rattle.trees.specs.declared.types.PresenceSyntax.{PresenceSyntax}
 use Rattle.trees.specs.declared.types.PresenceSyntax.TheVariants as presences
-use Rattle.trees.specs.Values.{Name, Tree, tree_of}
-use Rattle.trees.specs.Constraints.{RangeTree, ConstraintTree, size_of, constraint_of}
+use Rattle.trees.specs.declared.types.Standing.{Standing}
+use Rattle.trees.specs.Values.{Name, name_at, Tree, tree_of}
+use Rattle.trees.specs.Constraints.{ConstraintTree, constraint_of}
 
 -- whether a member may be absent, and its value then
 pub data PresenceTree : Type 0 where
@@ -20,85 +29,126 @@ pub data PresenceTree : Type 0 where
   optional : PresenceTree
   default : Tree → PresenceTree
 
+-- a type that holds no other type
+pub data Plain : Type 0 where
+  a_boolean : Plain
+  -- names with numbers
+  an_integer : List (Name × ℤ) → Plain
+  -- the names of bits with their places
+  a_bit_string : List (Name × ℕ) → Plain
+  an_octet_string : Plain
+  a_null : Plain
+  an_object_identifier : Plain
+  a_relative_oid : Plain
+  -- items, each with its number if one is given: those of the root, and those behind the marker if there is one
+  an_enumerated : (root : List (Name × Option ℤ)) → (additions : Option (List (Name × Option ℤ))) → Plain
+  a_utf8_string : Plain
+  a_restricted_string : StringKind → Plain
+
+-- the universal tag number of one of four string types (X.680, clause 8.6)
+abbrev pub string_number : StringKind → ℕ
+string_number Numeric = 18
+string_number Printable = 19
+string_number Ia5 = 22
+string_number Visible = 26
+
+-- the universal tag number of a type (X.680, clause 8.6)
+abbrev pub universal : Plain → ℕ
+universal a_boolean = 1
+universal (an_integer ns) = 2
+universal (a_bit_string bs) = 3
+universal an_octet_string = 4
+universal a_null = 5
+universal an_object_identifier = 6
+universal (an_enumerated root additions) = 10
+universal a_utf8_string = 12
+universal a_relative_oid = 13
+universal (a_restricted_string k) = string_number k
+
 mutual
   pub data TypeTree : Type 0 where
-    a_boolean : TypeTree
-    an_integer : TypeTree
-    an_octet_string : TypeTree
+    -- what the type is, and the constraints behind it, in order
+    a_type : FormTree → List ConstraintTree → TypeTree
+
+  pub data FormTree : Type 0 where
+    a_simple : Plain → FormTree
     -- the module's name, if one is given, and the type's
-    type_reference : Option (List ℕ) → List ℕ → TypeTree
-    a_sequence : TypeMembers → TypeTree
-    a_null : TypeTree
-    an_object_identifier : TypeTree
-    a_utf8_string : TypeTree
-    a_numeric_string : TypeTree
-    a_printable_string : TypeTree
-    an_ia5_string : TypeTree
-    a_visible_string : TypeTree
-    -- names with numbers: is there a minus, and the number itself
-    a_named_integer : List (List ℕ × (Bool × ℕ)) → TypeTree
-    -- the names of bits with their places
-    a_bit_string : List (List ℕ × ℕ) → TypeTree
-    -- items, each with its number if one is given
-    an_enumerated : List (List ℕ × Option (Bool × ℕ)) → TypeTree
-    a_set : TypeMembers → TypeTree
-    a_choice : TypeMembers → TypeTree
-    -- the sizes, if they are given, and the element
-    a_sequence_of : Option (List RangeTree) → TypeTree → TypeTree
-    a_set_of : Option (List RangeTree) → TypeTree → TypeTree
-    a_tagged : Tag → Keyword → TypeTree → TypeTree
-    a_constrained : TypeTree → List ConstraintTree → TypeTree
+    a_reference : Option (List ℕ) → List ℕ → FormTree
+    -- the kind of the list, whether it has an extension marker, and its members
+    a_list : ListKind → Bool → TypeMembers → FormTree
+    -- the kind, and the element
+    an_elements : ElementsKind → TypeTree → FormTree
+    a_tagged : Tag → Keyword → TypeTree → FormTree
 
   pub data TypeMembers : Type 0 where
     no_member : TypeMembers
-    member_and : List ℕ → TypeTree → PresenceTree → TypeMembers → TypeMembers
+    member_and : List ℕ → TypeTree → PresenceTree → Standing → TypeMembers → TypeMembers
 
-abbrev pub type_members : List (Name × (TypeTree × PresenceTree)) → TypeMembers
+-- a member: its name, its type, whether it may be absent, and where it stands in its list
+pub record MemberTree : Type 0 where
+  pub name : Name
+  pub type : TypeTree
+  pub presence : PresenceTree
+  pub standing : Standing
+
+abbrev pub type_members : List MemberTree → TypeMembers
 type_members [] = no_member
-type_members (m ∷ ms) = member_and m.0 m.1.0 m.1.1 (type_members ms)
+type_members (m ∷ ms) = member_and m.name m.type m.presence m.standing (type_members ms)
 
 abbrev pub presence_of : PresenceSyntax → PresenceTree
 presence_of presences.Mandatory = mandatory
 presence_of presences.Optional = optional
 presence_of (presences.Default v) = default (tree_of v)
 
-abbrev pub number_of : NamedNumber → Name × (Bool × ℕ)
-number_of n = (string_bytes n.name, (n.minus, n.number))
+abbrev pub number_of : NamedNumber → Name × ℤ
+number_of n = (name_at n.name, n.number)
 
 abbrev pub bit_of : NamedBit → Name × ℕ
-bit_of b = (string_bytes b.name, b.place)
+bit_of b = (name_at b.name, b.place)
 
-abbrev pub item_of : EnumeratedItem → Name × Option (Bool × ℕ)
-item_of i = (string_bytes i.name, i.number)
+abbrev pub item_of : EnumeratedItem → Name × Option ℤ
+item_of i = (name_at i.name, i.number)
+
+abbrev pub plain_of : Simple → Plain
+plain_of simples.Boolean = a_boolean
+plain_of (simples.Integer ns) = an_integer (map number_of ns.items)
+plain_of (simples.BitString bs) = a_bit_string (map bit_of bs.items)
+plain_of simples.OctetString = an_octet_string
+plain_of simples.Null = a_null
+plain_of simples.ObjectIdentifier = an_object_identifier
+plain_of simples.RelativeOid = a_relative_oid
+plain_of (simples.Enumerated e) = an_enumerated (map item_of e.root.items) (option_map (λ is. map item_of is.items) e.additions)
+plain_of simples.Utf8String = a_utf8_string
+plain_of (simples.Restricted k) = a_restricted_string k
+
+-- a member whose type is seen as a tree already
+abbrev pub member_layer : Member TypeTree → MemberTree
+member_layer m = record {
+  name = name_at m.name;
+  type = m.syntax;
+  presence = presence_of m.presence;
+  standing = m.standing;
+}
 
 -- one level of a type
+abbrev pub form_layer : TypeForm TypeTree → FormTree
+form_layer (forms.Simple s) = a_simple (plain_of s)
+form_layer (forms.Reference r) = a_reference (option_map string_bytes r.module) (string_bytes r.name)
+form_layer (forms.List k marker ms) = a_list k marker (type_members (map member_layer ms.items))
+form_layer (forms.Elements k t) = an_elements k t.value
+form_layer (forms.Tagged tag word t) = a_tagged tag word t.value
+
 abbrev pub type_layer : TypeSyntax-F TypeTree → TypeTree
-type_layer Boolean = a_boolean
-type_layer Integer = an_integer
-type_layer OctetString = an_octet_string
-type_layer (Reference None x) = type_reference None (string_bytes x)
-type_layer (Reference (Some m) x) = type_reference (Some (string_bytes m)) (string_bytes x)
-type_layer (Sequence ms) = a_sequence (type_members (map (λ m. (string_bytes m.name, (m.syntax, presence_of m.presence))) ms.items))
-type_layer Null = a_null
-type_layer ObjectIdentifier = an_object_identifier
-type_layer Utf8String = a_utf8_string
-type_layer NumericString = a_numeric_string
-type_layer PrintableString = a_printable_string
-type_layer Ia5String = an_ia5_string
-type_layer VisibleString = a_visible_string
-type_layer (NamedInteger ns) = a_named_integer (map number_of ns.items)
-type_layer (BitString bs) = a_bit_string (map bit_of bs.items)
-type_layer (Enumerated is) = an_enumerated (map item_of is.items)
-type_layer (Set ms) = a_set (type_members (map (λ m. (string_bytes m.name, (m.syntax, presence_of m.presence))) ms.items))
-type_layer (Choice ms) = a_choice (type_members (map (λ m. (string_bytes m.name, (m.syntax, presence_of m.presence))) ms.items))
-type_layer (SequenceOf size t) = a_sequence_of (option_map size_of size) t.value
-type_layer (SetOf size t) = a_set_of (option_map size_of size) t.value
-type_layer (Tagged tag word t) = a_tagged tag word t.value
-type_layer (Constrained t cs) = a_constrained t.value (map constraint_of cs.items)
+type_layer t = a_type (form_layer t.form) (map constraint_of t.constraints.items)
 
 -- the tree that a type in memory holds
 abbrev pub type_tree_of : TypeSyntax → TypeTree
 type_tree_of = fold-TypeSyntax TypeTree type_layer
 
-abbrev pub type_member_of : Member TypeSyntax → Name × (TypeTree × PresenceTree)
-type_member_of m = (string_bytes m.name, (type_tree_of m.syntax, presence_of m.presence))
+abbrev pub type_member_of : Member TypeSyntax → MemberTree
+type_member_of m = record {
+  name = name_at m.name;
+  type = type_tree_of m.syntax;
+  presence = presence_of m.presence;
+  standing = m.standing;
+}

@@ -1,16 +1,19 @@
-//! The trees of what is written: values, constraints, types and modules.
+//! The trees of what is written: values, constraints, types and modules, with the places where they are written.
 #![tactic(auto)]
 
 pub mod constraint;
 pub mod module;
+pub mod place;
 pub mod types;
 pub mod value;
 
 pub use constraint::{
-    CharsSyntax, ConstraintSyntax, EndSyntax, RangeSyntax, RangesSyntax, SizeSyntax,
+    CharsSyntax, ConstraintForm, ConstraintSyntax, EndSyntax, RangeSyntax, RangesSyntax,
 };
 pub use module::{Assignment, Import, Module, TagDefault, TypeAssignment, ValueAssignment};
+pub use place::{At, Reference, Spot};
 pub use types::{
-    EnumeratedItem, Keyword, Member, NamedBit, NamedNumber, PresenceSyntax, TypeSyntax,
+    ElementsKind, EnumeratedItem, EnumeratedSyntax, Keyword, ListKind, Member, NamedBit,
+    NamedNumber, PresenceSyntax, Simple, Standing, TypeForm, TypeSyntax,
 };
-pub use value::{Named, ValueSyntax};
+pub use value::{Named, ValueForm, ValueSyntax};

@@ -1,16 +1,17 @@
 //! Trees of modules as they are written.
 
+use crate::place::At;
 use crate::types::TypeSyntax;
 use crate::value::ValueSyntax;
 
 /// A module as it is written (X.680, clause 13.1).
 #[derive(Drop)]
 pub struct Module {
-    pub name: String,
+    pub name: At<String>,
     /// What tags in the module are if nothing else stands behind them.
     pub tag_default: TagDefault,
     /// The names that other modules may import; all that are assigned where none are listed (X.680, clause 13.7).
-    pub exports: Option<Vec<String>>,
+    pub exports: Option<Vec<At<String>>>,
     /// The names from other modules, in the order in which they stand (X.680, clause 13.12).
     pub imports: Vec<Import>,
     /// The assignments, in the order in which they stand.
@@ -18,7 +19,7 @@ pub struct Module {
 }
 
 /// What stands before `TAGS` (X.680, clause 13.2).
-#[derive(Clone, Copy, Debug)]
+#[derive(Clone, Copy)]
 pub enum TagDefault {
     /// `EXPLICIT TAGS`, or nothing.
     Explicit,
@@ -31,8 +32,8 @@ pub enum TagDefault {
 /// Names, one at least, and the module that they are imported from: `a, B FROM Module` (X.680, clause 13.13).
 #[derive(Drop)]
 pub struct Import {
-    pub names: Vec<String>,
-    pub module: String,
+    pub names: Vec<At<String>>,
+    pub module: At<String>,
 }
 
 /// An assignment (X.680, clause 13.1).
@@ -45,14 +46,14 @@ pub enum Assignment {
 /// `Name ::= Type` (X.680, clause 16.1).
 #[derive(Drop)]
 pub struct TypeAssignment {
-    pub name: String,
+    pub name: At<String>,
     pub syntax: TypeSyntax,
 }
 
 /// `name Type ::= value` (X.680, clause 16.2).
 #[derive(Drop)]
 pub struct ValueAssignment {
-    pub name: String,
+    pub name: At<String>,
     pub syntax: TypeSyntax,
     pub value: ValueSyntax,
 }

@@ -1,58 +1,82 @@
 //! Trees of types as they are written.
 
-use crate::constraint::{ConstraintSyntax, SizeSyntax};
+use crate::constraint::ConstraintSyntax;
+use crate::place::{At, Reference};
 use crate::value::ValueSyntax;
+use asn_base::strings::StringKind;
 use asn_base::tag::Tag;
 
-/// A type as it is written (X.680, clause 17.1).
+/// A type as it is written (X.680, clause 17.1), with the constraints behind it, in order (X.680, clause 49.1).
+/// The size of a list type is its only constraint: `SEQUENCE SIZE (1..4) OF` says what a constraint behind the list would say.
+/// A tagged type has no constraints: they belong to the type behind the tag.
 #[derive(Drop)]
-pub enum TypeSyntax {
+pub struct TypeSyntax {
+    /// Where it begins.
+    pub at: usize,
+    pub form: TypeForm<TypeSyntax>,
+    pub constraints: Vec<ConstraintSyntax>,
+}
+
+/// The forms of types. `T` is the type of types in a type.
+#[derive(Drop)]
+pub enum TypeForm<T> {
+    /// A type that holds no other type.
+    Simple(Simple),
+    /// The name of a type.
+    Reference(Reference),
+    /// SEQUENCE, SET or CHOICE, whether it has an extension marker, and its members: those of the root in order and then the
+    /// additions (X.680, clauses 25.1, 27.1 and 29.1).
+    List(ListKind, bool, Vec<Member<T>>),
+    /// SEQUENCE OF or SET OF, and the type of the elements (X.680, clauses 26.1 and 28.1).
+    Elements(ElementsKind, Box<T>),
+    /// A tag, which is not universal, the word behind it and the type (X.680, clause 31.2).
+    Tagged(Tag, Keyword, Box<T>),
+}
+
+/// A type that holds no other type.
+#[derive(Drop)]
+pub enum Simple {
     /// `BOOLEAN`
     Boolean,
-    /// `INTEGER` with no named numbers
-    Integer,
+    /// `INTEGER` with its named numbers, if there are any (X.680, clause 19.1).
+    Integer(Vec<NamedNumber>),
+    /// `BIT STRING` with its named bits, if there are any (X.680, clause 22.1).
+    BitString(Vec<NamedBit>),
     /// `OCTET STRING`
     OctetString,
-    /// A name, behind the name of a module if one is given: `Module.Name` or `Name`.
-    Reference(Option<String>, String),
-    /// `SEQUENCE` with its members, in order.
-    Sequence(Vec<Member<TypeSyntax>>),
     /// `NULL`
     Null,
     /// `OBJECT IDENTIFIER`
     ObjectIdentifier,
+    /// `RELATIVE-OID`
+    RelativeOid,
+    /// `ENUMERATED {..}` (X.680, clause 20.1).
+    Enumerated(EnumeratedSyntax),
     /// `UTF8String`
     Utf8String,
-    /// `NumericString`
-    NumericString,
-    /// `PrintableString`
-    PrintableString,
-    /// `IA5String`
-    Ia5String,
-    /// `VisibleString` or `ISO646String`
-    VisibleString,
-    /// `INTEGER {..}` with its named numbers, one at least (X.680, clause 19.1).
-    NamedInteger(Vec<NamedNumber>),
-    /// `BIT STRING` with its named bits, if there are any (X.680, clause 22.1).
-    BitString(Vec<NamedBit>),
-    /// `ENUMERATED {..}` with its items, one at least (X.680, clause 20.1).
-    Enumerated(Vec<EnumeratedItem>),
-    /// `SET` with its members, in order (X.680, clause 27.1).
-    Set(Vec<Member<TypeSyntax>>),
-    /// `CHOICE` with its alternatives, one at least, each of them mandatory (X.680, clause 29.1).
-    Choice(Vec<Member<TypeSyntax>>),
-    /// `SEQUENCE OF`, with its size if one is given (X.680, clause 26.1).
-    SequenceOf(Option<SizeSyntax>, Box<TypeSyntax>),
-    /// `SET OF`, with its size if one is given (X.680, clause 28.1).
-    SetOf(Option<SizeSyntax>, Box<TypeSyntax>),
-    /// A tag, which is not universal, the word behind it and the type (X.680, clause 31.2).
-    Tagged(Tag, Keyword, Box<TypeSyntax>),
-    /// A type with the constraints behind it, one at least, in order (X.680, clause 49.1).
-    Constrained(Box<TypeSyntax>, Vec<ConstraintSyntax>),
+    /// `NumericString`, `PrintableString`, `IA5String`, and `VisibleString` or `ISO646String`.
+    Restricted(StringKind),
+}
+
+/// The kinds of lists of members.
+#[derive(Clone, Copy, PartialEq, Eq)]
+pub enum ListKind {
+    Sequence,
+    Set,
+    Choice,
+}
+
+/// The kinds of types that have elements.
+#[derive(Clone, Copy, PartialEq, Eq)]
+pub enum ElementsKind {
+    /// `SEQUENCE OF`
+    SequenceOf,
+    /// `SET OF`
+    SetOf,
 }
 
 /// The word behind a tag (X.680, clause 31.2.1).
-#[derive(Clone, Copy, Debug, PartialEq, Eq)]
+#[derive(Clone, Copy, PartialEq, Eq)]
 pub enum Keyword {
     /// Neither word.
     Absent,
@@ -62,38 +86,46 @@ pub enum Keyword {
     Explicit,
 }
 
-/// `name (-1)`: a number's name, whether a minus stands before the number, and the number itself.
-#[derive(Debug, Drop)]
+/// `name (-1)`: a number's name, and the number.
+#[derive(Drop)]
 pub struct NamedNumber {
-    pub name: String,
-    pub minus: bool,
-    pub number: u128,
+    pub name: At<String>,
+    pub number: i128,
 }
 
 /// `name (0)`: a bit's name and its place, counted from 0.
-#[derive(Debug, Drop)]
+#[derive(Drop)]
 pub struct NamedBit {
-    pub name: String,
+    pub name: At<String>,
     pub place: u128,
 }
 
-/// `name` or `name (-1)`: an item's name and, if it is given, whether a minus stands before its number, and the number itself.
-#[derive(Debug, Drop)]
-pub struct EnumeratedItem {
-    pub name: String,
-    pub number: Option<(bool, u128)>,
+/// The items of an enumeration: those of the root, one at least, and those behind the extension marker, if there is one.
+#[derive(Drop)]
+pub struct EnumeratedSyntax {
+    pub root: Vec<EnumeratedItem>,
+    pub additions: Option<Vec<EnumeratedItem>>,
 }
 
-/// A member of a SEQUENCE, a SET or a CHOICE (X.680, clause 25.1): its name, its type and whether it may be absent.
+/// `name` or `name (-1)`: an item's name and its number, if it is given.
+#[derive(Drop)]
+pub struct EnumeratedItem {
+    pub name: At<String>,
+    pub number: Option<i128>,
+}
+
+/// A member of a SEQUENCE, a SET or a CHOICE (X.680, clauses 25.1 and 29.1): its name, its type, whether it may be absent (an
+/// alternative is mandatory), and where it stands in the list.
 #[derive(Drop)]
 pub struct Member<T> {
-    pub name: String,
+    pub name: At<String>,
     pub syntax: T,
     pub presence: PresenceSyntax,
+    pub standing: Standing,
 }
 
 /// What stands behind a member's type (X.680, clause 25.1).
-#[derive(Debug, Drop)]
+#[derive(Drop)]
 pub enum PresenceSyntax {
     /// Nothing.
     Mandatory,
@@ -101,4 +133,13 @@ pub enum PresenceSyntax {
     Optional,
     /// `DEFAULT` and a value.
     Default(ValueSyntax),
+}
+
+/// Where a member stands in its list (X.680, clause 25.1).
+#[derive(Clone, Copy, PartialEq, Eq)]
+pub enum Standing {
+    /// Before the extension marker, or in a list without one.
+    Root,
+    /// Behind the marker; within version brackets, the number of the brackets, counted from 0 in the list.
+    Addition(Option<usize>),
 }
