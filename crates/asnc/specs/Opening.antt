@@ -7,7 +7,7 @@ use Rattle.text.specs.Text as texts
 use Rattle.grammar.specs.Lexeme.{lexemes}
 use Rattle.grammar.specs.Places.{bounded}
 use Rattle.asn_base.specs.Types.{Resolved}
-use Rattle.notation.specs.Given.{IsLexed}
+use Rattle.kernel.specs.Given.{IsLexed}
 use Rattle.notation.specs.Answer as answers
 use Rattle.syntax.specs.Syntax.{module_text}
 use Rattle.trees.specs.Modules.{ModuleTree}

@@ -1,6 +1,6 @@
 //! What rows ask.
 
-ghost use Rattle.notation.specs.Given.{IsLexed};
+ghost use Rattle.kernel.specs.Given.{IsLexed};
 
 use crate::constraints::{put_constraint, put_size};
 use crate::modules::{put_assignments, put_module};

@@ -1,7 +1,7 @@
 -- A grammar: which lexemes are whole, with which tree, and which fronts of lexemes can go on.
 use Rattle.std.specs.Prelude.{◌≡◌, ℕ, List, [], ◌∷◌, ◌++◌, ◌⊎◌, IsTrue, Bool, Option, Some, None}
 use Rattle.text.specs.declared.token.Mark.{Mark as Mark'}
-use Rattle.text.specs.declared.token.Mark.TheVariants.{Comma, OpenBrace, CloseBrace}
+use Rattle.text.specs.declared.token.Mark.TheVariants.{Comma, OpenBrace, CloseBrace, OpenParenthesis, CloseParenthesis}
 use Rattle.text.specs.declared.reserved.Word.{Word as Word'}
 use Rattle.grammar.specs.Lexeme.{Lexeme, Number, Word, Mark}
 
@@ -79,6 +79,10 @@ listed a = (a ∙ many (behind (Mark Comma) a)) ⇒ λ p. p.0 ∷ p.1
 -- a part in braces
 abbrev pub braces : {A : Type 0} → Grammar A → Grammar A
 braces a = (mark OpenBrace ∙ (a ∙ mark CloseBrace)) ⇒ λ p. p.1.0
+
+-- a part in parentheses
+abbrev pub parens : {A : Type 0} → Grammar A → Grammar A
+parens a = (mark OpenParenthesis ∙ (a ∙ mark CloseParenthesis)) ⇒ λ p. p.1.0
 
 -- what can begin and never be whole: what would open one thing too many
 abbrev pub cut_off : {A : Type 0} → Grammar A

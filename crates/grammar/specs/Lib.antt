@@ -12,3 +12,5 @@ pub mod Texts
 pub mod Parts
 pub mod Manies
 pub mod Single
+pub mod Rules
+pub mod Parens

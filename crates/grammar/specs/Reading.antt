@@ -1,6 +1,6 @@
 -- Reading from left to right, with the first fault that is met.
 use Rattle.std.specs.Prelude.{◌≡◌, ℕ, zero, suc, List, [], ◌∷◌, ◌++◌, length, Option, Some, None, Bool, true, false, Result, Ok, Err, if◌then◌else◌}
-use Rattle.text.specs.declared.token.Mark.TheVariants.{Comma, OpenBrace, CloseBrace}
+use Rattle.text.specs.declared.token.Mark.TheVariants.{Comma, OpenBrace, CloseBrace, OpenParenthesis, CloseParenthesis}
 use Rattle.grammar.specs.Lexeme.{Lexeme, Ident, Number, Mark}
 
 pub data Limit : Type 0 where
@@ -37,6 +37,25 @@ with_front front read = read >>= λ x. Ok (front ++ x.0, x.1)
 unfoldable pub closed_at : Reader (Unit {0})
 closed_at (Mark CloseBrace ∷ rest) = Ok (tt, rest)
 closed_at ts = stop ts
+
+unfoldable pub open_at : Reader (Unit {0})
+open_at (Mark OpenParenthesis ∷ rest) = Ok (tt, rest)
+open_at ts = stop ts
+
+abbrev pub is_open : Lexeme → Bool
+is_open (Mark OpenParenthesis) = true
+is_open t = false
+
+unfoldable pub close_at : Reader (Unit {0})
+close_at (Mark CloseParenthesis ∷ rest) = Ok (tt, rest)
+close_at ts = stop ts
+
+unfoldable pub parens_at : {A : Type 0} → Reader A → Reader A
+parens_at read ts = do
+  o ← open_at ts
+  x ← read o.1
+  c ← close_at x.1
+  Ok (x.0, c.1)
 
 unfoldable pub next_comma : List Lexeme → Option (List Lexeme)
 next_comma (Mark Comma ∷ rest) = Some rest

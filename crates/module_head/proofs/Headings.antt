@@ -9,7 +9,7 @@ use Rattle.grammar.specs.Laws.{nowhere, everywhere, then_read, after_read}
 use Rattle.grammar.specs.Lists.{no_lexeme, is_ident, with_comma}
 use Rattle.grammar.specs.Loops.{Shrinks, sound_short}
 use Rattle.grammar.specs.Parts.{IsKind, pick, perhaps}
-use Rattle.notation.specs.Rules.{Rules, either, rule_token, rule_made, rule_seq, rule_behind, rule_lead, rule_pick, rule_listed, loose_optional, rule_read, made, read_again, one_at, one_is}
+use Rattle.grammar.specs.Rules.{Rules, either, rule_token, rule_made, rule_seq, rule_behind, rule_lead, rule_pick, rule_listed, loose_optional, rule_read, made, read_again, one_at, one_is}
 use Rattle.trees.specs.Values.{Name}
 use Rattle.trees.specs.declared.module.TagDefault.{TagDefault}
 use Rattle.trees.specs.declared.module.TagDefault.TheVariants as defaults

@@ -9,8 +9,8 @@ use Rattle.grammar.specs.Numbers.{Past}
 use Rattle.grammar.specs.Reading.{Limit, Integer, Read, Reader}
 use Rattle.grammar.specs.Lists.{no_lexeme}
 use Rattle.grammar.specs.Parts.{perhaps, made_sound, made_finds, same_sound, same_finds}
-use Rattle.notation.specs.ConstraintGrammar.{parens}
-use Rattle.notation.specs.Rules.{Rules, Loose, either, rule_token, rule_seq, rule_behind, rule_tail, rule_lead, rule_pair, loose_optional, rule_tests, made}
+use Rattle.grammar.specs.Grammar.{parens}
+use Rattle.grammar.specs.Rules.{Rules, Loose, either, rule_token, rule_seq, rule_behind, rule_tail, rule_lead, rule_pair, loose_optional, rule_tests, made}
 use Rattle.grammar.specs.Single.{definitions_at, assign_at, begin_at}
 use Rattle.module_head.specs.Heading.{default_or, tag_default, exports_or, export_list, imports_or, imports, import_list, symbols, arc, oid, module_ref, import_from, heading, head_of, head}
 use Rattle.module_head.specs.HeadingReading.{default_words_at, exports_at}

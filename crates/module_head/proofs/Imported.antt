@@ -8,16 +8,16 @@ use Rattle.grammar.specs.Reading.{Limit, Integer, Fault, Read, Reader, ◌>>=◌
 use Rattle.grammar.specs.Laws.{everywhere, nowhere, then_read, after_read}
 use Rattle.grammar.specs.Manies.{Consumes, consumes, is_begun_by, many_more, many_end, many_fail}
 use Rattle.grammar.specs.Places.{small}
-use Rattle.notation.specs.declared.fault.ReadError.{ReadError}
-use Rattle.notation.specs.declared.fault.ReadError.TheVariants as errors
-use Rattle.notation.specs.Given.{Fails}
+use Rattle.kernel.specs.declared.fault.ReadError.{ReadError}
+use Rattle.kernel.specs.declared.fault.ReadError.TheVariants as errors
+use Rattle.kernel.specs.Given.{Fails}
 use Rattle.grammar.specs.Lists.{no_lexeme, is_ident, with_comma}
 use Rattle.grammar.specs.Numbers.{Past}
 use Rattle.grammar.specs.Parts.{pick, perhaps}
-use Rattle.notation.specs.Parens.{rule_parens}
-use Rattle.notation.specs.Rules.{Rules, either, rule_token, rule_made, rule_seq, rule_behind, rule_tail, rule_lead, rule_pair, rule_pick, loose_optional, loose_many, rule_read, rule_tests, is_number, number_at, rule_number, fitting_made, made, read_again, one_at, one_is}
-use Rattle.notation.specs.ConstraintReading.{is_open, parens_at}
-use Rattle.notation.specs.ConstraintGrammar.{parens}
+use Rattle.grammar.specs.Parens.{rule_parens}
+use Rattle.grammar.specs.Rules.{Rules, either, rule_token, rule_made, rule_seq, rule_behind, rule_tail, rule_lead, rule_pair, rule_pick, loose_optional, loose_many, rule_read, rule_tests, is_number, number_at, rule_number, fitting_made, made, read_again, one_at, one_is}
+use Rattle.grammar.specs.Reading.{is_open, parens_at}
+use Rattle.grammar.specs.Grammar.{parens}
 use Rattle.trees.specs.Values.{Name}
 use Rattle.trees.specs.Modules.{ImportTree}
 use Rattle.grammar.specs.Single.{module_name_at}

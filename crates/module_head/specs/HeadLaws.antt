@@ -7,7 +7,7 @@ use Rattle.grammar.specs.Numbers.{Past}
 use Rattle.grammar.specs.Places.{Limits, Within}
 use Rattle.grammar.specs.Reading.{Limit, Integer}
 use Rattle.grammar.specs.Single.{is_typeref}
-use Rattle.notation.specs.Rules.{Rules}
+use Rattle.grammar.specs.Rules.{Rules}
 use Rattle.module_head.specs.Heading.{head}
 use Rattle.module_head.specs.HeadReading.{head_at}
 

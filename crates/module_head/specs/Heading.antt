@@ -5,7 +5,7 @@ use Rattle.text.specs.declared.reserved.Word.TheVariants.{Definitions, Explicit,
 use Rattle.grammar.specs.Lexeme.{TypeRef, Ident, Word, Mark}
 use Rattle.grammar.specs.Grammar.{Grammar, token, mark, word, number_of, ◌∙◌, ◌∣◌, ◌⇒◌, many, optional, behind, listed, braces}
 use Rattle.trees.specs.Values.{Name}
-use Rattle.notation.specs.ConstraintGrammar.{parens}
+use Rattle.grammar.specs.Grammar.{parens}
 use Rattle.trees.specs.declared.module.TagDefault.{TagDefault}
 use Rattle.trees.specs.declared.module.TagDefault.TheVariants as defaults
 use Rattle.trees.specs.Modules.{ImportTree}

@@ -5,8 +5,8 @@ use Rattle.text.specs.declared.reserved.Word.TheVariants.{Imports, From}
 use Rattle.grammar.specs.Lexeme.{Lexeme, TypeRef, Ident, Number, Word, Mark}
 use Rattle.grammar.specs.Reading.{Reader, ◌>>=◌, stop, fitting, closed_at, listed_at, many_at}
 use Rattle.trees.specs.Values.{Name}
-use Rattle.notation.specs.Rules.{number_at}
-use Rattle.notation.specs.ConstraintReading.{parens_at}
+use Rattle.grammar.specs.Rules.{number_at}
+use Rattle.grammar.specs.Reading.{parens_at}
 use Rattle.trees.specs.Modules.{ImportTree}
 use Rattle.module_head.specs.HeadingReading.{semicolon_at, symbol_at}
 

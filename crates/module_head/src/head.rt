@@ -4,7 +4,7 @@ ghost use Rattle.std.specs.Prelude.{IfOk, string_bytes};
 ghost use Rattle.grammar.specs.Lexeme.{lexemes};
 ghost use Rattle.grammar.specs.Places.{small};
 ghost use Rattle.grammar.specs.Single.{definitions_at, assign_at, begin_at};
-ghost use Rattle.notation.specs.Given.{Gives, AreTokens};
+ghost use Rattle.kernel.specs.Given.{Gives, AreTokens};
 ghost use Rattle.module_head.specs.HeadReading.{begun_at, heading_at, head_at, head_tree_of};
 
 use crate::heading::{export_list, tag_default};

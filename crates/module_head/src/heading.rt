@@ -3,14 +3,14 @@
 ghost use Rattle.std.specs.Prelude.{map, option_map, IfOk, string_bytes};
 ghost use Rattle.grammar.specs.Lexeme.{lexemes};
 ghost use Rattle.grammar.specs.Reading.{listed_at};
-ghost use Rattle.notation.specs.Given.{Gives, AreTokens};
+ghost use Rattle.kernel.specs.Given.{Gives, AreTokens};
 ghost use Rattle.grammar.specs.Single.{tags_at};
 ghost use Rattle.module_head.specs.HeadingReading.{tag_word_at, default_words_at, semicolon_at, symbol_at, some_exports_at, all_exports_at, no_exports_at, exported_at, exports_at};
 ghost use Rattle.module_head.specs.HeadReading.{tag_default_at, export_list_at};
 
 use notation::ReadError;
-use notation::decode::name_of;
-use notation::reading::comma;
+use kernel::decode::name_of;
+use kernel::marks::comma;
 use std::alloc::Global;
 use text::reserved::Word;
 use text::{Mark, Token, TokenKind};

@@ -6,24 +6,24 @@ ghost use Rattle.grammar.specs.Lexeme.{lexemes};
 ghost use Rattle.grammar.specs.Reading.{many_at};
 ghost use Rattle.grammar.specs.Manies.{is_begun_by};
 ghost use Rattle.grammar.specs.Places.{small};
-ghost use Rattle.notation.specs.Given.{Gives, IsTokenOf, AreTokens};
-ghost use Rattle.notation.specs.Rules.{number_at};
+ghost use Rattle.kernel.specs.Given.{Gives, IsTokenOf, AreTokens};
+ghost use Rattle.grammar.specs.Rules.{number_at};
 ghost use Rattle.trees.specs.Modules.{import_of};
 ghost use Rattle.module_head.specs.ImportReading.{begins_arc, begins_symbol, arc_number_at, behind_arc_at, arc_at, more_arcs_at, arcs_at, oid_at, behind_module_at, module_ref_at, from_module_at, import_from_at, imported_at, imports_at};
 ghost use Rattle.module_head.specs.HeadReading.{import_list_at};
 
 use crate::heading::{semicolon, symbols};
 use notation::ReadError;
-use notation::constraint_reading::{close, open};
-use notation::decode::{name_of, small_number};
-use notation::reading::closed;
+use kernel::decode::{name_of, small_number};
+use kernel::marks::{close, open};
+use kernel::marks::closed;
 use std::alloc::Global;
 use text::reserved::Word;
 use text::{Mark, Token, TokenKind};
 use trees::Import;
 
 /// Reads a number.
-#[tactic(auto, unfolding(notation::specs::Rules::number_at))]
+#[tactic(auto, unfolding(grammar::specs::Rules::number_at))]
 fn number<'a>(text: &[u8], tokens: &'a [Token]) -> Result<(u128, &'a [Token]), ReadError>
     requires tokens { AreTokens text.now tokens.now }
     ensures read { Gives (λ x. (x.0, lexemes text.now x.1.now)) result (number_at small (lexemes text.now tokens.now)) }
@@ -45,7 +45,7 @@ fn number<'a>(text: &[u8], tokens: &'a [Token]) -> Result<(u128, &'a [Token]), R
 }
 
 /// Reads the number behind a name, in parentheses.
-#[tactic(auto, unfolding(crate::specs::ImportReading::arc_number_at, notation::specs::ConstraintReading::parens_at))]
+#[tactic(auto, unfolding(crate::specs::ImportReading::arc_number_at, grammar::specs::Reading::parens_at))]
 fn arc_number<'a>(text: &[u8], tokens: &'a [Token]) -> Result<&'a [Token], ReadError>
     requires tokens { AreTokens text.now tokens.now }
     ensures read { Gives (λ x. (tt, lexemes text.now x.now)) result (arc_number_at small (lexemes text.now tokens.now)) }

@@ -5,7 +5,7 @@ use Rattle.text.specs.declared.token.Token.{Token}
 use Rattle.text.specs.Items.{IsToken}
 use Rattle.text.specs.Text.{IsText, IsSmall, IsSpanWithin, Holds, holds_none, holds_gap, holds_token}
 use Rattle.grammar.specs.Texts.{from_slice}
-use Rattle.notation.specs.Given.{AreTokens, IsLexed}
+use Rattle.kernel.specs.Given.{AreTokens, IsLexed}
 
 holds_tokens : (x : List ℕ) (i j : ℕ) (ts : List Token) → Holds x i j ts → AllByRecursion (IsToken x) ts
 holds_tokens x i j ts (holds_none e) = tt

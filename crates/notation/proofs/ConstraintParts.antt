@@ -11,12 +11,14 @@ use Rattle.grammar.specs.Loops.{Shrinks, sound_short}
 use Rattle.grammar.specs.Lists.{no_lexeme, is_ident}
 use Rattle.grammar.specs.Numbers.{Past}
 use Rattle.grammar.specs.Parts.{IsKind, pick, perhaps, token_solid}
-use Rattle.notation.specs.Rules.{Rules, Same, either, rule_token, rule_made, rule_seq, rule_behind, rule_tail, rule_pair, rule_pick, loose_optional, loose_many, rule_read, rule_tests, rule_same, is_number, number_at, rule_number, fitting_made, made, read_again, one_at, one_is}
-use Rattle.notation.specs.Parens.{rule_parens}
+use Rattle.grammar.specs.Rules.{Rules, Same, either, rule_token, rule_made, rule_seq, rule_behind, rule_tail, rule_pair, rule_pick, loose_optional, loose_many, rule_read, rule_tests, rule_same, is_number, number_at, rule_number, fitting_made, made, read_again, one_at, one_is}
+use Rattle.grammar.specs.Parens.{rule_parens}
 use Rattle.trees.specs.Values.{Name}
 use Rattle.trees.specs.Constraints.{EndTree, number_end, name_end, RangeTree, only, between, ConstraintTree, values_in, sizes_in, chars_in}
-use Rattle.notation.specs.ConstraintGrammar.{parens, or, by_or, ref, chars, end, range, ranges, size, constraint}
-use Rattle.notation.specs.ConstraintReading.{is_open, is_size, parens_at, is_or, or_then_at, by_or_at, last_chars_at, more_chars_at, chars_at, from_at, minus_at, end_name_at, end_dot_at, end_at, some_end_at, upper_at, behind_min_at, behind_end_at, single_at, range_at, ranges_at, size_at, size_in_at, from_in_at, values_in_at, inside_at, constraint_at}
+use Rattle.notation.specs.ConstraintGrammar.{or, by_or, ref, chars, end, range, ranges, size, constraint}
+use Rattle.grammar.specs.Grammar.{parens}
+use Rattle.notation.specs.ConstraintReading.{is_size, is_or, or_then_at, by_or_at, last_chars_at, more_chars_at, chars_at, from_at, minus_at, end_name_at, end_dot_at, end_at, some_end_at, upper_at, behind_min_at, behind_end_at, single_at, range_at, ranges_at, size_at, size_in_at, from_in_at, values_in_at, inside_at, constraint_at}
+use Rattle.grammar.specs.Reading.{is_open, parens_at}
 
 -- ---- lexemes
 

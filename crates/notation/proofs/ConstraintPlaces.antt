@@ -11,10 +11,12 @@ use Rattle.grammar.specs.Lists.{no_lexeme}
 use Rattle.grammar.specs.Numbers.{Past}
 use Rattle.grammar.specs.Places.{Limits, any, small, bounded, Within, raised}
 use Rattle.grammar.specs.Answers.{joined, joined_first, joined_second, within_all, Reads}
-use Rattle.notation.specs.Rules.{Rules, Ruled}
+use Rattle.grammar.specs.Rules.{Rules, Ruled}
 use Rattle.trees.specs.Constraints.{EndTree, number_end, name_end, only, between, values_in, sizes_in, chars_in}
-use Rattle.notation.specs.ConstraintGrammar.{parens, or, by_or, ref, chars, end, range, ranges, size, constraint, flat}
-use Rattle.notation.specs.ConstraintReading.{is_open, is_size, size_at, constraint_at}
+use Rattle.notation.specs.ConstraintGrammar.{or, by_or, ref, chars, end, range, ranges, size, constraint, flat}
+use Rattle.grammar.specs.Grammar.{parens}
+use Rattle.notation.specs.ConstraintReading.{is_size, size_at, constraint_at}
+use Rattle.grammar.specs.Reading.{is_open}
 use Rattle.notation.proofs.ConstraintParts.{rule_size, rule_constraint}
 
 -- ---- with more numbers there are more constraints

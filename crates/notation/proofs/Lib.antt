@@ -1,4 +1,3 @@
-pub mod Tokens
 pub mod Sounds
 pub mod Finding
 pub mod Values

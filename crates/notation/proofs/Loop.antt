@@ -10,9 +10,9 @@ use Rattle.grammar.specs.Reading.{Beyond, Integer, Read, Reader, ◌>>=◌, with
 use Rattle.grammar.specs.Laws.{nowhere}
 use Rattle.grammar.specs.Lists.{named_sound}
 use Rattle.grammar.specs.Loops.{Shrinks, sound_short, regroup}
-use Rattle.notation.specs.declared.fault.ReadError.{ReadError}
-use Rattle.notation.specs.declared.fault.ReadError.TheVariants as errors
-use Rattle.notation.specs.declared.fault.Limit.TheVariants as limits
+use Rattle.kernel.specs.declared.fault.ReadError.{ReadError}
+use Rattle.kernel.specs.declared.fault.ReadError.TheVariants as errors
+use Rattle.kernel.specs.declared.fault.Limit.TheVariants as limits
 use Rattle.trees.specs.declared.value.ValueSyntax.{ValueSyntax}
 use Rattle.trees.specs.declared.value.ValueSyntax.TheViews.{Fields}
 use Rattle.trees.specs.declared.value.ValueSyntax.TheVariants.{rolls-Fields}
@@ -20,7 +20,7 @@ use Rattle.trees.specs.declared.value.ValueSyntax.TheOpen as opened
 use Rattle.trees.specs.declared.value.ValueSyntax.TheShapes.{former-ValueSyntax-Fields-0-at-2}
 use Rattle.trees.specs.declared.value.ValueSyntax.TheFolds.{fold-roll-ValueSyntax}
 use Rattle.trees.specs.declared.value.Named.{Named}
-use Rattle.notation.specs.Given.{Fails}
+use Rattle.kernel.specs.Given.{Fails}
 use Rattle.trees.specs.Values.{Name, Tree, fields, members, layer, tree_of, member_of}
 use Rattle.notation.specs.Value.{value}
 use Rattle.notation.specs.Reading.{alternative_at, step_at, value_at, next_number, numbers_at}

@@ -5,9 +5,9 @@ use Rattle.text.specs.declared.reserved.Word.TheVariants.{Union}
 use Rattle.grammar.specs.Lexeme.{Lexeme, Word, Mark}
 use Rattle.grammar.specs.Reading.{Fault, Read, Reader, ◌>>=◌, with_front, many_at}
 use Rattle.grammar.specs.Loops.{Shrinks}
-use Rattle.notation.specs.declared.fault.ReadError.{ReadError}
-use Rattle.notation.specs.declared.fault.ReadError.TheVariants as errors
-use Rattle.notation.specs.Given.{Fails}
+use Rattle.kernel.specs.declared.fault.ReadError.{ReadError}
+use Rattle.kernel.specs.declared.fault.ReadError.TheVariants as errors
+use Rattle.kernel.specs.Given.{Fails}
 use Rattle.grammar.specs.Manies.{Consumes, is_begun_by, many_more, many_end, many_fail}
 use Rattle.notation.specs.ConstraintReading.{is_or, next_or, or_then_at, by_or_at}
 

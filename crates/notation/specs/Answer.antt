@@ -1,14 +1,14 @@
 -- What is answered for what stands from a place on.
 use Rattle.std.specs.Prelude.{◌≡◌, ℕ, ⊤, Bool, true, false, List, Option, Some, None, slice_get, if◌then◌else◌}
 use Rattle.text.specs.declared.token.Mark.{Mark as Mark'}
-use Rattle.text.specs.declared.token.Mark.TheVariants.{OpenVersion, CloseVersion, Caret, Less, Exclamation, At, Ampersand, Ellipsis}
+use Rattle.text.specs.declared.token.Mark.TheVariants.{Caret, Less, Exclamation, At, Ampersand, Ellipsis}
 use Rattle.text.specs.declared.reserved.Word.{Word as Word'}
 use Rattle.text.specs.declared.reserved.Word.TheVariants as words
 use Rattle.grammar.specs.Lexeme.{Lexeme, Word, Mark}
 use Rattle.grammar.specs.Places.{Limits, Limited, Ends, PassesLimit}
 use Rattle.notation.specs.declared.fault.SyntaxFault.{SyntaxFault}
 use Rattle.notation.specs.declared.fault.SyntaxFault.TheVariants as faults
-use Rattle.notation.specs.Given.{limit_of}
+use Rattle.kernel.specs.Given.{limit_of}
 
 -- the words of constructs that this compiler leaves out
 abbrev pub is_refused_word : Word' → Bool
@@ -27,7 +27,6 @@ is_refused_word words.T61String = true
 is_refused_word words.GeneralString = true
 is_refused_word words.GraphicString = true
 is_refused_word words.VideotexString = true
-is_refused_word words.RelativeOid = true
 is_refused_word words.Class = true
 is_refused_word words.TypeIdentifier = true
 is_refused_word words.AbstractSyntax = true
@@ -47,8 +46,6 @@ is_refused_word w = false
 
 -- their marks
 abbrev pub is_refused_mark : Mark' → Bool
-is_refused_mark OpenVersion = true
-is_refused_mark CloseVersion = true
 is_refused_mark Caret = true
 is_refused_mark Less = true
 is_refused_mark Exclamation = true

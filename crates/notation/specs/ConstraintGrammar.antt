@@ -1,16 +1,12 @@
 -- The grammar of constraints (X.680, clauses 49 to 51), extension markers apart.
 use Rattle.std.specs.Prelude.{ℕ, Bool, true, false, List, ◌∷◌, Option, Some, None}
-use Rattle.text.specs.declared.token.Mark.TheVariants.{Range, Dot, OpenParenthesis, CloseParenthesis, Bar, Minus}
+use Rattle.text.specs.declared.token.Mark.TheVariants.{Range, Dot, Bar, Minus}
 use Rattle.text.specs.declared.reserved.Word.TheVariants.{From, Size, Union, Min, Max}
 use Rattle.grammar.specs.Lexeme.{TypeRef, Ident, Number, CString, Word, Mark}
-use Rattle.grammar.specs.Grammar.{Grammar, token, mark, word, number_of, ◌∙◌, ◌∣◌, ◌⇒◌, many, optional, behind}
+use Rattle.grammar.specs.Grammar.{Grammar, token, mark, word, number_of, ◌∙◌, ◌∣◌, ◌⇒◌, many, optional, behind, parens}
 use Rattle.grammar.specs.Places.{Limited}
 use Rattle.trees.specs.Values.{Name}
 use Rattle.trees.specs.Constraints.{EndTree, number_end, name_end, RangeTree, only, between, ConstraintTree, values_in, sizes_in, chars_in}
-
--- a part in parentheses
-abbrev pub parens : {A : Type 0} → Grammar A → Grammar A
-parens a = (mark OpenParenthesis ∙ (a ∙ mark CloseParenthesis)) ⇒ λ p. p.1.0
 
 abbrev pub or : Grammar (Unit {0})
 or = mark Bar ∣ word Union

@@ -1,29 +1,10 @@
 -- Reading constraints from left to right.
 use Rattle.std.specs.Prelude.{ℕ, Bool, true, false, List, ◌∷◌, length, Option, Some, None, Ok}
-use Rattle.text.specs.declared.token.Mark.TheVariants.{Range, Dot, OpenParenthesis, CloseParenthesis, Bar, Minus}
+use Rattle.text.specs.declared.token.Mark.TheVariants.{Range, Dot, Bar, Minus}
 use Rattle.text.specs.declared.reserved.Word.TheVariants.{From, Size, Union, Min, Max}
 use Rattle.grammar.specs.Lexeme.{Lexeme, TypeRef, Ident, Number, CString, Word, Mark}
-use Rattle.grammar.specs.Reading.{Reader, ◌>>=◌, stop, fitting, many_at}
+use Rattle.grammar.specs.Reading.{Reader, ◌>>=◌, stop, parens_at, fitting, many_at}
 use Rattle.trees.specs.Constraints.{EndTree, number_end, name_end, RangeTree, only, between, ConstraintTree, values_in, sizes_in, chars_in}
-
-unfoldable pub open_at : Reader (Unit {0})
-open_at (Mark OpenParenthesis ∷ rest) = Ok (tt, rest)
-open_at ts = stop ts
-
-abbrev pub is_open : Lexeme → Bool
-is_open (Mark OpenParenthesis) = true
-is_open t = false
-
-unfoldable pub close_at : Reader (Unit {0})
-close_at (Mark CloseParenthesis ∷ rest) = Ok (tt, rest)
-close_at ts = stop ts
-
-unfoldable pub parens_at : {A : Type 0} → Reader A → Reader A
-parens_at read ts = do
-  o ← open_at ts
-  x ← read o.1
-  c ← close_at x.1
-  Ok (x.0, c.1)
 
 abbrev pub is_or : Lexeme → Bool
 is_or (Mark Bar) = true

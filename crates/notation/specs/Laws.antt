@@ -10,9 +10,9 @@ use Rattle.grammar.specs.Laws.{nowhere, deeper, wider, higher, Sound, Finds}
 use Rattle.grammar.specs.Lists.{IsSolid}
 use Rattle.grammar.specs.Places.{Limits, Limited, Within, any, small, Stops, Ends, PassesLimit}
 use Rattle.grammar.specs.Reading.{Limit, Nesting, Integer, Reader}
-use Rattle.notation.specs.declared.fault.Limit.{Limit as Limit'}
-use Rattle.notation.specs.declared.fault.Limit.TheVariants as limits
-use Rattle.notation.specs.Given.{limit_of}
+use Rattle.kernel.specs.declared.fault.Limit.{Limit as Limit'}
+use Rattle.kernel.specs.declared.fault.Limit.TheVariants as limits
+use Rattle.kernel.specs.Given.{limit_of}
 use Rattle.notation.specs.declared.fault.SyntaxFault.{SyntaxFault}
 use Rattle.notation.specs.declared.fault.SyntaxFault.TheVariants as faults
 use Rattle.notation.specs.Answer.{is_refused_at, unexpected, Stands}

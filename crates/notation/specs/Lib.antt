@@ -4,9 +4,5 @@ pub mod Value
 pub mod ConstraintGrammar
 pub mod Reading
 pub mod ConstraintReading
-pub mod Rules
-pub mod Parens
-pub mod Given
 pub mod Answer
 pub mod Laws
-pub mod Failing

@@ -5,12 +5,13 @@ ghost use Rattle.grammar.specs.Lexeme.{lexemes};
 ghost use Rattle.grammar.specs.Places.{bounded, free, IsRead};
 ghost use Rattle.trees.specs.Values.{Tree, tree_of};
 ghost use Rattle.notation.specs.Value.{values};
-ghost use Rattle.notation.specs.Given.{IsLexed};
+ghost use Rattle.kernel.specs.Given.{IsLexed};
 ghost use Rattle.notation.specs.Answer.{Stands};
 
-use crate::fault::{ReadError, SyntaxFault};
+use crate::fault::SyntaxFault;
 use crate::reading::value;
 use crate::refused::unexpected;
+use kernel::ReadError;
 use std::alloc::Global;
 use text::Token;
 use trees::ValueSyntax;

@@ -5,12 +5,13 @@ ghost use Rattle.grammar.specs.Lexeme.{lexemes};
 ghost use Rattle.grammar.specs.Places.{bounded, free, IsRead};
 ghost use Rattle.trees.specs.Constraints.{ConstraintTree, RangeTree, constraint_of, size_of};
 ghost use Rattle.notation.specs.ConstraintGrammar.{constraint, size, flat};
-ghost use Rattle.notation.specs.Given.{IsLexed};
+ghost use Rattle.kernel.specs.Given.{IsLexed};
 ghost use Rattle.notation.specs.Answer.{Stands};
 
 use crate::constraint_reading::{constraint, size};
-use crate::fault::{ReadError, SyntaxFault};
+use crate::fault::SyntaxFault;
 use crate::refused::unexpected;
+use kernel::ReadError;
 use std::alloc::Global;
 use text::Token;
 use trees::{ConstraintSyntax, SizeSyntax};

@@ -5,53 +5,17 @@ ghost use Rattle.text.specs.declared.token.TokenKind.TheVariants as kinds;
 ghost use Rattle.grammar.specs.Lexeme.{lexemes, chars_between};
 ghost use Rattle.grammar.specs.Places.{small};
 ghost use Rattle.trees.specs.Constraints.{end_of, range_of, ranges_of, size_of, chars_of, constraint_of};
-ghost use Rattle.notation.specs.Given.{Gives, IsTokenOf, AreTokens};
-ghost use Rattle.notation.specs.ConstraintReading.{open_at, close_at, next_or, by_or_at, last_chars_at, more_chars_at, chars_at, from_at, minus_at, end_dot_at, end_at, some_end_at, upper_at, behind_min_at, behind_end_at, single_at, range_at, ranges_at, size_at, size_in_at, from_in_at, values_in_at, inside_at, constraint_at};
+ghost use Rattle.kernel.specs.Given.{Gives, IsTokenOf, AreTokens};
+ghost use Rattle.notation.specs.ConstraintReading.{next_or, by_or_at, last_chars_at, more_chars_at, chars_at, from_at, minus_at, end_dot_at, end_at, some_end_at, upper_at, behind_min_at, behind_end_at, single_at, range_at, ranges_at, size_at, size_in_at, from_in_at, values_in_at, inside_at, constraint_at};
+ghost use Rattle.grammar.specs.Reading.{open_at, close_at};
 
-use crate::decode::{chars_of, name_of, number_of, small_number};
-use crate::fault::ReadError;
+use kernel::ReadError;
+use kernel::decode::{chars_of, name_of, number_of, small_number};
+use kernel::marks::{close, open};
 use std::alloc::Global;
 use text::reserved::Word;
 use text::{Mark, Token, TokenKind};
 use trees::{CharsSyntax, ConstraintSyntax, EndSyntax, RangeSyntax, RangesSyntax, SizeSyntax};
-
-/// The tokens behind an open parenthesis.
-#[tactic(auto, unfolding(crate::specs::ConstraintReading::open_at))]
-pub fn open<'a>(text: &[u8], tokens: &'a [Token]) -> Result<&'a [Token], ReadError>
-    requires tokens { AreTokens text.now tokens.now }
-    ensures read { Gives (λ x. (tt, lexemes text.now x.now)) result (open_at (lexemes text.now tokens.now)) }
-    ensures rest { IfOk result (λ x. AreTokens text.now x.now) }
-{
-    match tokens {
-        [
-            Token {
-                kind: TokenKind::Mark(Mark::OpenParenthesis),
-                ..
-            },
-            rest @ ..,
-        ] => Ok(rest),
-        _ => Err(ReadError::Unexpected(tokens.len())),
-    }
-}
-
-/// The tokens behind a closing parenthesis.
-#[tactic(auto, unfolding(crate::specs::ConstraintReading::close_at))]
-pub fn close<'a>(text: &[u8], tokens: &'a [Token]) -> Result<&'a [Token], ReadError>
-    requires tokens { AreTokens text.now tokens.now }
-    ensures read { Gives (λ x. (tt, lexemes text.now x.now)) result (close_at (lexemes text.now tokens.now)) }
-    ensures rest { IfOk result (λ x. AreTokens text.now x.now) }
-{
-    match tokens {
-        [
-            Token {
-                kind: TokenKind::Mark(Mark::CloseParenthesis),
-                ..
-            },
-            rest @ ..,
-        ] => Ok(rest),
-        _ => Err(ReadError::Unexpected(tokens.len())),
-    }
-}
 
 /// The tokens behind `|` or `UNION`, if one of them is next.
 #[tactic(auto, unfolding(crate::specs::ConstraintReading::next_or))]
@@ -177,7 +141,7 @@ fn all_chars<'a>(
 }
 
 /// Reads `FROM` and the characters behind it.
-#[tactic(auto, unfolding(crate::specs::ConstraintReading::from_at, crate::specs::ConstraintReading::parens_at))]
+#[tactic(auto, unfolding(crate::specs::ConstraintReading::from_at, grammar::specs::Reading::parens_at))]
 fn from<'a>(
     alloc: Global,
     text: &[u8],
@@ -461,7 +425,7 @@ fn ranges<'a>(
 }
 
 /// Reads `SIZE` and the sizes behind it.
-#[tactic(auto, unfolding(crate::specs::ConstraintReading::size_at, crate::specs::ConstraintReading::parens_at))]
+#[tactic(auto, unfolding(crate::specs::ConstraintReading::size_at, grammar::specs::Reading::parens_at))]
 pub fn size<'a>(
     alloc: Global,
     text: &[u8],
@@ -563,7 +527,7 @@ fn inside<'a>(
 }
 
 /// Reads a constraint.
-#[tactic(auto, unfolding(crate::specs::ConstraintReading::constraint_at, crate::specs::ConstraintReading::parens_at))]
+#[tactic(auto, unfolding(crate::specs::ConstraintReading::constraint_at, grammar::specs::Reading::parens_at))]
 pub fn constraint<'a>(
     alloc: Global,
     text: &[u8],

@@ -2,7 +2,7 @@
 
 ghost use Rattle.std.specs.Prelude.{◌≡◌, ◌≤◌, ℕ, Bool, true, List, length};
 ghost use Rattle.text.specs.declared.token.Token.{Token};
-ghost use Rattle.notation.specs.Given.{IsLexed, AreTokens};
+ghost use Rattle.kernel.specs.Given.{IsLexed, AreTokens};
 ghost use Rattle.grammar.specs.Lexeme.{Lexeme};
 ghost use Rattle.grammar.specs.Places.{any, bounded, free};
 ghost use Rattle.notation.specs.Answer.{Stands};
@@ -13,8 +13,9 @@ ghost use Rattle.notation.specs.Value.{values};
 ghost use Rattle.trees.specs.Constraints.{ConstraintTree, RangeTree};
 ghost use Rattle.notation.specs.ConstraintGrammar.{constraint, size, flat};
 ghost use Rattle.notation.specs.Laws.{ValueLaws};
-ghost use Rattle.notation.specs.Rules.{Ruled};
-ghost use Rattle.notation.specs.ConstraintReading.{is_open, is_size, constraint_at, size_at};
+ghost use Rattle.grammar.specs.Rules.{Ruled};
+ghost use Rattle.notation.specs.ConstraintReading.{is_size, constraint_at, size_at};
+ghost use Rattle.grammar.specs.Reading.{is_open};
 ghost use Rattle.grammar.specs.Grows.{Grows};
 
 /// A list of lexemes is one value at most.

@@ -4,7 +4,6 @@
 pub mod answer;
 pub mod constraint_answer;
 pub mod constraint_reading;
-pub mod decode;
 pub mod fault;
 pub mod law;
 pub mod reading;
@@ -12,7 +11,8 @@ pub mod refused;
 
 pub use answer::{MAX_NESTING, value_at};
 pub use constraint_answer::{constraint_at, size_at};
-pub use fault::{Limit, ReadError, SyntaxFault};
+pub use fault::SyntaxFault;
+pub use kernel::{Limit, ReadError};
 pub use trees::{
     CharsSyntax, ConstraintSyntax, EndSyntax, Named, RangeSyntax, RangesSyntax, SizeSyntax,
     ValueSyntax,

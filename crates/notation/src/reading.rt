@@ -7,11 +7,12 @@ ghost use Rattle.grammar.specs.Lexeme.{lexemes, Number};
 ghost use Rattle.grammar.specs.Reading.{with_front, closed_at, next_comma, listed_at, named_at};
 ghost use Rattle.grammar.specs.Places.{small};
 ghost use Rattle.trees.specs.Values.{tree_of, member_of};
-ghost use Rattle.notation.specs.Given.{Gives, IsTokenOf, AreTokens};
+ghost use Rattle.kernel.specs.Given.{Gives, IsTokenOf, AreTokens};
 ghost use Rattle.notation.specs.Reading.{negative_at, qualified_at, next_number, numbers_at, two_numbers_at, by_number_at, items_at, fields_at, braced_at, alternative_at, step_at, value_at};
 
-use crate::decode::{chars_of, digits_of, name_of, number_of, small_number};
-use crate::fault::{Limit, ReadError};
+use kernel::decode::{chars_of, digits_of, name_of, number_of, small_number};
+use kernel::marks::{closed, comma};
+use kernel::{Limit, ReadError};
 use std::alloc::Global;
 use text::reserved::Word;
 use text::{Mark, Token, TokenKind};
@@ -374,44 +375,6 @@ fn members<'a>(
         rest = after;
     }
     Ok((members, rest))
-}
-
-/// The tokens behind a closing brace.
-#[tactic(auto, unfolding(grammar::specs::Reading::closed_at))]
-pub fn closed<'a>(text: &[u8], tokens: &'a [Token]) -> Result<&'a [Token], ReadError>
-    requires tokens { AreTokens text.now tokens.now }
-    ensures read { Gives (λ x. (tt, lexemes text.now x.now)) result (closed_at (lexemes text.now tokens.now)) }
-    ensures rest { IfOk result (λ x. AreTokens text.now x.now) }
-{
-    match tokens {
-        [
-            Token {
-                kind: TokenKind::Mark(Mark::CloseBrace),
-                ..
-            },
-            rest @ ..,
-        ] => Ok(rest),
-        _ => Err(ReadError::Unexpected(tokens.len())),
-    }
-}
-
-/// The tokens behind a comma, if there is one.
-#[tactic(auto, unfolding(grammar::specs::Reading::next_comma))]
-pub fn comma<'a>(text: &[u8], tokens: &'a [Token]) -> Option<&'a [Token]>
-    requires tokens { AreTokens text.now tokens.now }
-    ensures { MatchOption result (next_comma (lexemes text.now tokens.now) ≡ None)
-        (λ x. (next_comma (lexemes text.now tokens.now) ≡ Some (lexemes text.now x.now)) × AreTokens text.now x.now × (length x.now < length tokens.now)) }
-{
-    match tokens {
-        [
-            Token {
-                kind: TokenKind::Mark(Mark::Comma),
-                ..
-            },
-            rest @ ..,
-        ] => Some(rest),
-        _ => None,
-    }
 }
 
 /// The number that comes next, and the tokens behind it, if one comes.

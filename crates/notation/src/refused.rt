@@ -28,7 +28,6 @@ fn is_refused_word(word: Word) -> bool
             | Word::GeneralString
             | Word::GraphicString
             | Word::VideotexString
-            | Word::RelativeOid
             | Word::Class
             | Word::TypeIdentifier
             | Word::AbstractSyntax
@@ -52,14 +51,7 @@ fn is_refused_mark(mark: Mark) -> bool
 {
     matches!(
         mark,
-        Mark::OpenVersion
-            | Mark::CloseVersion
-            | Mark::Caret
-            | Mark::Less
-            | Mark::Exclamation
-            | Mark::At
-            | Mark::Ampersand
-            | Mark::Ellipsis
+        Mark::Caret | Mark::Less | Mark::Exclamation | Mark::At | Mark::Ampersand | Mark::Ellipsis
     )
 }
 

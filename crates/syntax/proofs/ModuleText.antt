@@ -12,7 +12,7 @@ use Rattle.grammar.specs.Manies.{many_sound, many_finds}
 use Rattle.grammar.specs.Places.{Limits, any, small, tag_small, bounded, Within, raised, free}
 use Rattle.grammar.specs.Answers.{joined, joined_first, joined_second, Reads}
 use Rattle.grammar.specs.Parts.{SoundReader, token_sound, token_finds, token_solid, seq_finds, open_finds, open_solid}
-use Rattle.notation.specs.Rules.{Rules, either, no_left, no_right, bor_left, bor_right}
+use Rattle.grammar.specs.Rules.{Rules, either, no_left, no_right, bor_left, bor_right}
 use Rattle.type_syntax.specs.TypeLaws.{Allows}
 use Rattle.type_syntax.specs.TypeReading.{tag_fits}
 use Rattle.trees.specs.Modules.{AssignmentTree, ModuleTree}

@@ -8,9 +8,9 @@ use Rattle.grammar.specs.Laws.{left_of}
 use Rattle.grammar.specs.Places.{small, bounded, Ends}
 use Rattle.grammar.specs.Answers.{whole_is, whole_read}
 use Rattle.grammar.specs.Texts.{rest_fits, left_fits, first, passes, stopped, from_whole}
-use Rattle.notation.specs.declared.fault.Limit.{Limit}
+use Rattle.kernel.specs.declared.fault.Limit.{Limit}
 use Rattle.notation.specs.declared.fault.SyntaxFault.TheVariants as faults
-use Rattle.notation.specs.Given.{limit_of}
+use Rattle.kernel.specs.Given.{limit_of}
 use Rattle.notation.specs.Answer.{Stands}
 use Rattle.trees.specs.Modules.{ModuleTree}
 use Rattle.syntax.specs.Syntax.{module_text}

@@ -6,7 +6,7 @@ ghost use Rattle.grammar.specs.Lexeme.{lexemes};
 ghost use Rattle.grammar.specs.Reading.{many_at};
 ghost use Rattle.grammar.specs.Manies.{is_begun_by};
 ghost use Rattle.grammar.specs.Places.{small};
-ghost use Rattle.notation.specs.Given.{Gives, IsTokenOf, AreTokens};
+ghost use Rattle.kernel.specs.Given.{Gives, IsTokenOf, AreTokens};
 ghost use Rattle.trees.specs.Modules.{assignment_of, module_tree_of};
 ghost use Rattle.grammar.specs.Single.{end_at};
 ghost use Rattle.syntax.specs.Reading.{type_assigned_at, value_assigned_at, begins_assignment, assignment_at, assignments_at};
@@ -14,7 +14,7 @@ ghost use Rattle.syntax.specs.ModuleReading.{module_at};
 
 use module_head::head::{assign, head};
 use notation::ReadError;
-use notation::decode::name_of;
+use kernel::decode::name_of;
 use notation::reading::value;
 use std::alloc::Global;
 use text::reserved::Word;

@@ -3,7 +3,7 @@
 ghost use Rattle.std.specs.Prelude.{◌≡◌, IfOk, IfErr, MatchResult, List};
 ghost use Rattle.grammar.specs.Lexeme.{Lexeme, lexemes};
 ghost use Rattle.grammar.specs.Places.{bounded, free};
-ghost use Rattle.notation.specs.Given.{IsLexed};
+ghost use Rattle.kernel.specs.Given.{IsLexed};
 ghost use Rattle.notation.specs.Answer.{Stands};
 ghost use Rattle.notation.specs.declared.fault.SyntaxFault.{SyntaxFault as SyntaxFault'};
 ghost use Rattle.notation.specs.declared.fault.SyntaxFault.TheVariants as faults;

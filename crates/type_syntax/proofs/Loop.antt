@@ -12,13 +12,15 @@ use Rattle.grammar.specs.Loops.{Shrinks, sound_short, listed_fail, commas_fail}
 use Rattle.grammar.specs.Places.{small, tag_small, bounded}
 use Rattle.grammar.specs.Reading.{Read, Reader, ◌>>=◌, with_front, stop, next_comma, behind_commas_at, listed_at, named_at, many_at}
 use Rattle.grammar.specs.Manies.{Consumes, consumes, is_begun_by, many_fail}
-use Rattle.notation.specs.declared.fault.ReadError.{ReadError}
-use Rattle.notation.specs.declared.fault.ReadError.TheVariants as errors
-use Rattle.notation.specs.Given.{Fails}
+use Rattle.kernel.specs.declared.fault.ReadError.{ReadError}
+use Rattle.kernel.specs.declared.fault.ReadError.TheVariants as errors
+use Rattle.kernel.specs.Given.{Fails}
 use Rattle.trees.specs.Constraints.{RangeTree, ConstraintTree}
-use Rattle.notation.specs.ConstraintGrammar.{parens, constraint}
-use Rattle.notation.specs.ConstraintReading.{parens_at, constraint_at}
-use Rattle.notation.specs.Rules.{number_at, made}
+use Rattle.notation.specs.ConstraintGrammar.{constraint}
+use Rattle.grammar.specs.Grammar.{parens}
+use Rattle.notation.specs.ConstraintReading.{constraint_at}
+use Rattle.grammar.specs.Reading.{parens_at}
+use Rattle.grammar.specs.Rules.{number_at, made}
 use Rattle.trees.specs.Values.{Name, Tree}
 use Rattle.notation.specs.Value.{value}
 use Rattle.notation.specs.Reading.{value_at}

@@ -8,7 +8,7 @@ use Rattle.grammar.specs.Reading.{Limit, Nesting, Read, Reader, stop, opened, na
 use Rattle.grammar.specs.Laws.{more, Sound, Follows, Passes, Stands, Finds, passes_on, then_read, after_read}
 use Rattle.grammar.specs.Lists.{is_ident, seq_first, seq_solid, named_sound, finds_named}
 use Rattle.grammar.specs.Parts.{SoundReader, token_finds, token_solid, cut_off_finds, cut_off_solid, pair_sound, pair_finds, pair_solid, same_sound, same_finds}
-use Rattle.notation.specs.Rules.{Owes, OwesLoosely, Same, rule_token, rule_behind, rule_read, rule_same, made, read_again, taken, one_at, one_is}
+use Rattle.grammar.specs.Rules.{Owes, OwesLoosely, Same, rule_token, rule_behind, rule_read, rule_same, made, read_again, taken, one_at, one_is}
 use Rattle.type_syntax.specs.TypeGrammar.{opens}
 
 -- ---- small rules

@@ -9,10 +9,10 @@ use Rattle.asn_base.specs.declared.tag.Tag.{Tag}
 use Rattle.grammar.specs.Lexeme.{Lexeme, Number}
 use Rattle.grammar.specs.Places.{small}
 use Rattle.grammar.specs.Reading.{Fault, Read, ◌>>=◌}
-use Rattle.notation.specs.declared.fault.ReadError.{ReadError}
-use Rattle.notation.specs.declared.fault.ReadError.TheVariants as errors
-use Rattle.notation.specs.Given.{Fails}
-use Rattle.notation.specs.Rules.{made}
+use Rattle.kernel.specs.declared.fault.ReadError.{ReadError}
+use Rattle.kernel.specs.declared.fault.ReadError.TheVariants as errors
+use Rattle.kernel.specs.Given.{Fails}
+use Rattle.grammar.specs.Rules.{made}
 use Rattle.type_syntax.specs.TypeGrammar.{TagNumber, application_tag, private_tag, context_tag}
 use Rattle.type_syntax.specs.TypeReading.{by_limit, bracket_at, low, low_number_at, low_end_at, tag_number_at, tag_end_at, application_at, private_at, context_at}
 

@@ -4,8 +4,9 @@ use Rattle.std.specs.Prelude.{nat_lt}
 use Rattle.grammar.specs.Lexeme.{Lexeme}
 use Rattle.grammar.specs.Grammar.{Grammar, number_of, ◌∙◌, ◌∣◌, ◌⇒◌, many, optional, behind, listed, braces, cut_off}
 use Rattle.grammar.specs.Grows.{Grows, same_grows, number_grows, seq_grows, made_grows, either_grows, many_grows, behind_grows, listed_grows, braces_grows}
-use Rattle.notation.specs.Rules.{bor}
-use Rattle.notation.specs.ConstraintGrammar.{parens, size, constraint}
+use Rattle.grammar.specs.Rules.{bor}
+use Rattle.notation.specs.ConstraintGrammar.{size, constraint}
+use Rattle.grammar.specs.Grammar.{parens}
 use Rattle.trees.specs.Values.{Tree}
 use Rattle.notation.specs.Value.{value}
 use Rattle.trees.specs.Types.{TypeTree}

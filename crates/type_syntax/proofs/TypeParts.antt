@@ -10,11 +10,11 @@ use Rattle.grammar.specs.Laws.{then_read}
 use Rattle.grammar.specs.Lists.{no_lexeme, is_ident, with_comma}
 use Rattle.grammar.specs.Numbers.{Past}
 use Rattle.grammar.specs.Parts.{pick, perhaps}
-use Rattle.notation.specs.Parens.{rule_parens}
-use Rattle.notation.specs.Rules.{Owes, OwesLoosely, Rules, asked, either, rule_token, rule_made, rule_seq, rule_behind, rule_tail, rule_pick, rule_listed, loose_optional, loose_made, rule_read, is_number, number_at, rule_number, fitting_made, made, read_again, one_at}
+use Rattle.grammar.specs.Parens.{rule_parens}
+use Rattle.grammar.specs.Rules.{Owes, OwesLoosely, Rules, asked, either, rule_token, rule_made, rule_seq, rule_behind, rule_tail, rule_pick, rule_listed, loose_optional, loose_made, rule_read, is_number, number_at, rule_number, fitting_made, made, read_again, one_at}
 use Rattle.trees.specs.Values.{Name}
-use Rattle.notation.specs.ConstraintGrammar.{parens}
-use Rattle.notation.specs.ConstraintReading.{is_open, parens_at}
+use Rattle.grammar.specs.Grammar.{parens}
+use Rattle.grammar.specs.Reading.{is_open, parens_at}
 use Rattle.trees.specs.declared.types.Keyword.{Keyword}
 use Rattle.trees.specs.declared.types.Keyword.TheVariants as keywords
 use Rattle.trees.specs.Types.{TypeTree, an_enumerated, a_named_integer}

@@ -11,12 +11,14 @@ use Rattle.grammar.specs.Lists.{no_lexeme, is_ident, with_comma}
 use Rattle.grammar.specs.Numbers.{Past}
 use Rattle.grammar.specs.Parts.{pick, perhaps}
 use Rattle.notation.specs.Laws.{goes_on}
-use Rattle.notation.specs.Parens.{rule_parens}
-use Rattle.notation.specs.Rules.{Owes, OwesLoosely, Rules, Same, Ruled, asked, either, rule_token, rule_made, rule_seq, rule_behind, rule_tail, rule_lead, rule_pick, rule_listed, loose_optional, loose_many, loose_made, rule_read, rule_tests, rule_same, is_number, made, one_at}
+use Rattle.grammar.specs.Parens.{rule_parens}
+use Rattle.grammar.specs.Rules.{Owes, OwesLoosely, Rules, Same, Ruled, asked, either, rule_token, rule_made, rule_seq, rule_behind, rule_tail, rule_lead, rule_pick, rule_listed, loose_optional, loose_many, loose_made, rule_read, rule_tests, rule_same, is_number, made, one_at}
 use Rattle.trees.specs.Values.{Name, Tree}
 use Rattle.trees.specs.Constraints.{RangeTree, ConstraintTree}
-use Rattle.notation.specs.ConstraintGrammar.{parens, size, constraint}
-use Rattle.notation.specs.ConstraintReading.{is_open, is_size, parens_at, size_at, constraint_at}
+use Rattle.notation.specs.ConstraintGrammar.{size, constraint}
+use Rattle.grammar.specs.Grammar.{parens}
+use Rattle.notation.specs.ConstraintReading.{is_size, size_at, constraint_at}
+use Rattle.grammar.specs.Reading.{is_open, parens_at}
 use Rattle.trees.specs.declared.types.Keyword.{Keyword}
 use Rattle.trees.specs.Types.{PresenceTree, mandatory, optional as may_be_absent, default, TypeTree, an_object_identifier, an_octet_string, a_choice, a_tagged, TypeMembers, type_members}
 use Rattle.type_syntax.specs.TypeGrammar.{opens, members_of, with_members, list_of, present, constrained, sequence_or_set, keyword, presence, member, alternative, members, choice, tag, tagged, one_type, type_with}

@@ -10,7 +10,7 @@ use Rattle.grammar.specs.Laws.{more, Sound, Passes, Stands}
 use Rattle.grammar.specs.Lists.{no_lexeme, head_is}
 use Rattle.grammar.specs.Numbers.{Past}
 use Rattle.grammar.specs.Parts.{SoundReader}
-use Rattle.notation.specs.Rules.{Rules, bor, bor_left, bor_right, is_number}
+use Rattle.grammar.specs.Rules.{Rules, bor, bor_left, bor_right, is_number}
 use Rattle.trees.specs.Types.{TypeTree}
 use Rattle.type_syntax.specs.TypeGrammar.{type_of_word, one_word, TagNumber, tag_number}
 use Rattle.type_syntax.specs.TypeReading.{tag_fits, known, one_word_at, by_limit, tag_number_at}

@@ -10,9 +10,10 @@ use Rattle.grammar.specs.Numbers.{Past}
 use Rattle.grammar.specs.Parts.{SoundReader, cut_off_finds, cut_off_solid}
 use Rattle.grammar.specs.Places.{Limits, any, small, tag_small, bounded, Within}
 use Rattle.notation.specs.Laws.{starts, goes_on, ValueLaws}
-use Rattle.notation.specs.Rules.{Owes, Rules, bor, bor_left}
+use Rattle.grammar.specs.Rules.{Owes, Rules, bor, bor_left}
 use Rattle.notation.specs.ConstraintGrammar.{size, constraint}
-use Rattle.notation.specs.ConstraintReading.{is_open, is_size, size_at, constraint_at}
+use Rattle.notation.specs.ConstraintReading.{is_size, size_at, constraint_at}
+use Rattle.grammar.specs.Reading.{is_open}
 use Rattle.notation.specs.Value.{value}
 use Rattle.notation.specs.Reading.{value_at}
 use Rattle.type_syntax.specs.TypeGrammar.{type}

@@ -2,9 +2,10 @@
 use Rattle.std.specs.Prelude.{◌≡◌, ℕ, Bool, true}
 use Rattle.grammar.specs.Grows.{Grows}
 use Rattle.notation.specs.Laws.{ValueLaws}
-use Rattle.notation.specs.Rules.{Ruled}
+use Rattle.grammar.specs.Rules.{Ruled}
 use Rattle.notation.specs.ConstraintGrammar.{size, constraint}
-use Rattle.notation.specs.ConstraintReading.{is_open, is_size, size_at, constraint_at}
+use Rattle.notation.specs.ConstraintReading.{is_size, size_at, constraint_at}
+use Rattle.grammar.specs.Reading.{is_open}
 
 pub record PartLaws : Type 0 where
   pub values : ValueLaws

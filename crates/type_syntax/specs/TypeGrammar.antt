@@ -10,7 +10,8 @@ use Rattle.grammar.specs.Grammar.{Grammar, token, mark, word, number_of, ◌∙�
 use Rattle.grammar.specs.Places.{Limited}
 use Rattle.trees.specs.Values.{Name, Tree}
 use Rattle.trees.specs.Constraints.{RangeTree, ConstraintTree}
-use Rattle.notation.specs.ConstraintGrammar.{parens, size, constraint}
+use Rattle.notation.specs.ConstraintGrammar.{size, constraint}
+use Rattle.grammar.specs.Grammar.{parens}
 use Rattle.notation.specs.Value.{value}
 use Rattle.trees.specs.declared.types.Keyword.{Keyword}
 use Rattle.trees.specs.declared.types.Keyword.TheVariants as keywords

@@ -7,7 +7,7 @@ use Rattle.grammar.specs.Laws.{nowhere, deeper, wider, higher}
 use Rattle.grammar.specs.Parts.{SoundReader}
 use Rattle.grammar.specs.Places.{Limits, any, small, tag_small, Within}
 use Rattle.notation.specs.Laws.{ValueLaws}
-use Rattle.notation.specs.Rules.{Owes}
+use Rattle.grammar.specs.Rules.{Owes}
 use Rattle.type_syntax.specs.TypeGrammar.{type}
 use Rattle.type_syntax.specs.TypeReading.{tag_fits, type_at}
 

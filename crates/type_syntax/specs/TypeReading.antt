@@ -9,8 +9,9 @@ use Rattle.grammar.specs.Lexeme.{Lexeme, TypeRef, Ident, Number, Word, Mark}
 use Rattle.grammar.specs.Reading.{TagNumber as TagLimit, Beyond, Read, Reader, ◌>>=◌, stop, fitting, opened, closed_at, listed_at, named_at, many_at}
 use Rattle.trees.specs.Values.{Name, Tree}
 use Rattle.trees.specs.Constraints.{RangeTree, ConstraintTree}
-use Rattle.notation.specs.Rules.{bor, number_at}
-use Rattle.notation.specs.ConstraintReading.{is_open, parens_at, size_at, constraint_at}
+use Rattle.grammar.specs.Rules.{bor, number_at}
+use Rattle.notation.specs.ConstraintReading.{size_at, constraint_at}
+use Rattle.grammar.specs.Reading.{is_open, parens_at}
 use Rattle.notation.specs.Reading.{value_at}
 use Rattle.trees.specs.declared.types.Keyword.{Keyword}
 use Rattle.trees.specs.declared.types.Keyword.TheVariants as keywords

@@ -5,13 +5,15 @@ ghost use Rattle.grammar.specs.Lexeme.{lexemes};
 ghost use Rattle.grammar.specs.Manies.{is_begun_by};
 ghost use Rattle.grammar.specs.Places.{small};
 ghost use Rattle.grammar.specs.Reading.{many_at};
-ghost use Rattle.notation.specs.Given.{Gives, AreTokens};
+ghost use Rattle.kernel.specs.Given.{Gives, AreTokens};
 ghost use Rattle.trees.specs.Constraints.{size_of, constraint_of};
-ghost use Rattle.notation.specs.ConstraintReading.{is_open, parens_at, constraint_at};
+ghost use Rattle.notation.specs.ConstraintReading.{constraint_at};
+ghost use Rattle.grammar.specs.Reading.{is_open, parens_at};
 ghost use Rattle.trees.specs.Types.{type_tree_of};
 ghost use Rattle.type_syntax.specs.TypeReading.{constraints_at, with_constraints_at, some_size_at, size_in_parens_at, list_size_at};
 
-use notation::constraint_reading::{close, constraint, open, size};
+use kernel::marks::{close, open};
+use notation::constraint_reading::{constraint, size};
 use notation::{ConstraintSyntax, ReadError, SizeSyntax};
 use std::alloc::Global;
 use text::reserved::Word;
@@ -94,7 +96,7 @@ fn some_size<'a>(
 }
 
 /// Reads a size in parentheses.
-#[tactic(auto, unfolding(crate::specs::TypeReading::size_in_parens_at, notation::specs::ConstraintReading::parens_at))]
+#[tactic(auto, unfolding(crate::specs::TypeReading::size_in_parens_at, grammar::specs::Reading::parens_at))]
 fn size_in_parens<'a>(
     alloc: Global,
     text: &[u8],

@@ -4,15 +4,14 @@ ghost use Rattle.std.specs.Prelude.{map, IfOk};
 ghost use Rattle.grammar.specs.Lexeme.{lexemes};
 ghost use Rattle.grammar.specs.Places.{small};
 ghost use Rattle.grammar.specs.Reading.{listed_at, named_at};
-ghost use Rattle.notation.specs.Given.{Gives, AreTokens};
-ghost use Rattle.notation.specs.ConstraintReading.{parens_at};
-ghost use Rattle.notation.specs.Rules.{number_at};
+ghost use Rattle.kernel.specs.Given.{Gives, AreTokens};
+ghost use Rattle.grammar.specs.Reading.{parens_at};
+ghost use Rattle.grammar.specs.Rules.{number_at};
 ghost use Rattle.trees.specs.Types.{number_of as named_number_of, bit_of, item_of, type_tree_of};
 ghost use Rattle.type_syntax.specs.TypeReading.{negative_at, signed_at, given_at, item_number_at, numbers_in_at, bits_in_at, items_in_at, integer_at, bits_at, bit_string_at, enumerated_at};
 
-use notation::constraint_reading::{close, open};
-use notation::decode::{name_of, number_of, small_number};
-use notation::reading::{closed, comma};
+use kernel::decode::{name_of, number_of, small_number};
+use kernel::marks::{close, closed, comma, open};
 use notation::{Limit, ReadError};
 use std::alloc::Global;
 use text::{Mark, Token, TokenKind};
@@ -67,7 +66,7 @@ fn signed<'a>(text: &[u8], tokens: &'a [Token]) -> Result<((bool, u128), &'a [To
 }
 
 /// Reads a number in parentheses, behind a minus or alone.
-#[tactic(auto, unfolding(notation::specs::ConstraintReading::parens_at))]
+#[tactic(auto, unfolding(grammar::specs::Reading::parens_at))]
 fn given<'a>(text: &[u8], tokens: &'a [Token]) -> Result<((bool, u128), &'a [Token]), ReadError>
     requires tokens { AreTokens text.now tokens.now }
     ensures read { Gives (λ x. (x.0, lexemes text.now x.1.now)) result (parens_at (signed_at small) (lexemes text.now tokens.now)) }
@@ -79,7 +78,7 @@ fn given<'a>(text: &[u8], tokens: &'a [Token]) -> Result<((bool, u128), &'a [Tok
 }
 
 /// Reads a number.
-#[tactic(auto, unfolding(notation::specs::Rules::number_at))]
+#[tactic(auto, unfolding(grammar::specs::Rules::number_at))]
 fn number<'a>(text: &[u8], tokens: &'a [Token]) -> Result<(u128, &'a [Token]), ReadError>
     requires tokens { AreTokens text.now tokens.now }
     ensures read { Gives (λ x. (x.0, lexemes text.now x.1.now)) result (number_at small (lexemes text.now tokens.now)) }
@@ -101,7 +100,7 @@ fn number<'a>(text: &[u8], tokens: &'a [Token]) -> Result<(u128, &'a [Token]), R
 }
 
 /// Reads the place of a bit, in parentheses.
-#[tactic(auto, unfolding(notation::specs::ConstraintReading::parens_at))]
+#[tactic(auto, unfolding(grammar::specs::Reading::parens_at))]
 fn place<'a>(text: &[u8], tokens: &'a [Token]) -> Result<(u128, &'a [Token]), ReadError>
     requires tokens { AreTokens text.now tokens.now }
     ensures read { Gives (λ x. (x.0, lexemes text.now x.1.now)) result (parens_at (number_at small) (lexemes text.now tokens.now)) }

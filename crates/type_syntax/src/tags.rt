@@ -3,11 +3,11 @@
 ghost use Rattle.std.specs.Prelude.{◌<◌, IfOk};
 ghost use Rattle.grammar.specs.Lexeme.{lexemes};
 ghost use Rattle.grammar.specs.Places.{small};
-ghost use Rattle.notation.specs.Given.{Gives, AreTokens};
+ghost use Rattle.kernel.specs.Given.{Gives, AreTokens};
 ghost use Rattle.type_syntax.specs.TypeReading.{keyword_at, bracket_at, low_number_at, low_end_at, application_at, private_at, context_at, tag_at};
 
 use asn_base::tag::{Class, Tag};
-use notation::decode::number_of;
+use kernel::decode::number_of;
 use notation::{Limit, ReadError};
 use text::reserved::Word;
 use text::{Mark, Token, TokenKind};

@@ -5,7 +5,7 @@ use Rattle.std.proofs.lemmas.List.{map_push, length-map}
 use Rattle.grammar.specs.Lexeme.{lexeme_of, lexemes}
 use Rattle.grammar.specs.Loops.{listed_first, commas_more, commas_end}
 use Rattle.module_head.specs.HeadingReading.{symbol_at}
-use Rattle.notation.specs.Failing.{listed_gives_up, commas_give_up}
+use Rattle.kernel.specs.Failing.{listed_gives_up, commas_give_up}
 use Rattle.module_head.proofs.Headings.{symbol_shrinks}
 use Rattle.module_head.proofs.heading.symbols.Goals as goal
 

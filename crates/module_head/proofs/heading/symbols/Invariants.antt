@@ -2,7 +2,7 @@ use Rattle.std.proofs.Common.{◌≡◌, length, map}
 use Rattle.std.specs.Prelude.{string_bytes}
 use Rattle.grammar.specs.Lexeme.{lexemes}
 use Rattle.grammar.specs.Reading.{with_front, behind_commas_at, listed_at}
-use Rattle.notation.specs.Given.{AreTokens}
+use Rattle.kernel.specs.Given.{AreTokens}
 use Rattle.module_head.specs.HeadingReading.{symbol_at}
 use Rattle.module_head.proofs.heading.symbols.Given as goal
 

@@ -5,7 +5,7 @@ use Rattle.grammar.specs.Places.{small, bounded}
 use Rattle.grammar.specs.Texts.{found, rest_fits, left_fits, first, passes, same_found, never_found}
 use Rattle.trees.specs.Values.{tree_of}
 use Rattle.notation.specs.Value.{values}
-use Rattle.notation.specs.Given.{limit_of}
+use Rattle.kernel.specs.Given.{limit_of}
 use Rattle.notation.specs.Reading.{value_at}
 use Rattle.notation.proofs.Places.{value_reads}
 use Rattle.notation.proofs.Answered.{are_tokens, slice_tokens}

@@ -5,10 +5,11 @@ use Rattle.grammar.specs.Places.{small, bounded}
 use Rattle.grammar.specs.Answers.{Reads}
 use Rattle.grammar.specs.Texts.{found, rest_fits, left_fits, first, passes, same_found, never_found}
 use Rattle.notation.specs.Laws.{first_stands}
-use Rattle.notation.specs.Given.{limit_of}
+use Rattle.kernel.specs.Given.{limit_of}
 use Rattle.trees.specs.Constraints.{constraint_of}
 use Rattle.notation.specs.ConstraintGrammar.{constraint, flat}
-use Rattle.notation.specs.ConstraintReading.{is_open, constraint_at}
+use Rattle.notation.specs.ConstraintReading.{constraint_at}
+use Rattle.grammar.specs.Reading.{is_open}
 use Rattle.notation.proofs.ConstraintPlaces.{flat_reads, constraint_ruled, constraint_grows}
 use Rattle.notation.proofs.Answered.{are_tokens, slice_tokens}
 use Rattle.notation.proofs.constraint_answer.constraint_at.Goals as goal

@@ -5,7 +5,7 @@ use Rattle.grammar.specs.Places.{small, bounded}
 use Rattle.grammar.specs.Answers.{Reads}
 use Rattle.grammar.specs.Texts.{found, rest_fits, left_fits, first, passes, same_found, never_found}
 use Rattle.notation.specs.Laws.{first_stands}
-use Rattle.notation.specs.Given.{limit_of}
+use Rattle.kernel.specs.Given.{limit_of}
 use Rattle.trees.specs.Constraints.{size_of}
 use Rattle.notation.specs.ConstraintGrammar.{size, flat}
 use Rattle.notation.specs.ConstraintReading.{is_size, size_at}

@@ -2,7 +2,7 @@ use Rattle.std.proofs.Common.{◌≡◌, length, map}
 use Rattle.grammar.specs.Lexeme.{lexemes}
 use Rattle.grammar.specs.Reading.{with_front, many_at}
 use Rattle.grammar.specs.Places.{small}
-use Rattle.notation.specs.Given.{AreTokens}
+use Rattle.kernel.specs.Given.{AreTokens}
 use Rattle.trees.specs.Constraints.{range_of}
 use Rattle.notation.specs.ConstraintReading.{is_or, or_then_at, by_or_at, range_at}
 use Rattle.notation.proofs.constraint_reading.range_list.Given as goal

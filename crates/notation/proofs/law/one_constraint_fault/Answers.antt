@@ -1,6 +1,7 @@
 use Rattle.grammar.specs.Places.{small, bounded}
 use Rattle.notation.specs.ConstraintGrammar.{constraint, flat}
-use Rattle.notation.specs.ConstraintReading.{is_open, constraint_at}
+use Rattle.notation.specs.ConstraintReading.{constraint_at}
+use Rattle.grammar.specs.Reading.{is_open}
 use Rattle.notation.specs.Laws.{one_stands}
 use Rattle.notation.proofs.ConstraintPlaces.{flat_reads, constraint_ruled, constraint_grows}
 use Rattle.notation.proofs.law.one_constraint_fault.Goals as goal

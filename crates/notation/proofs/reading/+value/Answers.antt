@@ -7,7 +7,7 @@ use Rattle.grammar.specs.Places.{small}
 use Rattle.grammar.specs.Loops.{listed_first, commas_more, commas_end}
 use Rattle.trees.specs.Values.{tree_of, member_of}
 use Rattle.notation.specs.Reading.{value_at, fields_at}
-use Rattle.notation.specs.Failing.{listed_gives_up, commas_give_up}
+use Rattle.kernel.specs.Failing.{listed_gives_up, commas_give_up}
 use Rattle.notation.proofs.Loop.{fields_tree, value_shrinks, member_shrinks}
 use Rattle.notation.proofs.reading.+value.Goals as goal
 

@@ -2,7 +2,7 @@ use Rattle.std.proofs.Common.{◌≡◌, ◌+◌, ◌*◌, length, map}
 use Rattle.grammar.specs.Lexeme.{lexemes}
 use Rattle.grammar.specs.Reading.{with_front, behind_commas_at, listed_at, named_at}
 use Rattle.grammar.specs.Places.{small}
-use Rattle.notation.specs.Given.{AreTokens}
+use Rattle.kernel.specs.Given.{AreTokens}
 use Rattle.trees.specs.Values.{tree_of, member_of}
 use Rattle.notation.specs.Reading.{value_at}
 use Rattle.notation.proofs.reading.+value.Given as goal

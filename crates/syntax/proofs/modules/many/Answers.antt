@@ -7,7 +7,7 @@ use Rattle.grammar.specs.Places.{small}
 use Rattle.trees.specs.Modules.{assignment_of}
 use Rattle.syntax.specs.Reading.{begins_assignment, assignment_at}
 use Rattle.syntax.proofs.Assigning.{assignment_consumes}
-use Rattle.notation.specs.Failing.{many_gives_up}
+use Rattle.kernel.specs.Failing.{many_gives_up}
 use Rattle.syntax.proofs.modules.many.Goals as goal
 
 pub returns-in_err-next-clause-read : goal.returns-in_err-next-clause-read

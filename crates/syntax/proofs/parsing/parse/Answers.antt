@@ -2,7 +2,7 @@ use Rattle.std.proofs.Common.{◌-◌, length, sym, ◌∙◌}
 use Rattle.grammar.specs.Lexeme.{lexemes}
 use Rattle.grammar.specs.Places.{bounded}
 use Rattle.grammar.specs.Reading.{Unexpected, Beyond}
-use Rattle.notation.specs.Given.{limit_of}
+use Rattle.kernel.specs.Given.{limit_of}
 use Rattle.notation.specs.Laws.{first_stands}
 use Rattle.trees.specs.Modules.{module_tree_of}
 use Rattle.syntax.specs.Syntax.{module_text}

@@ -5,8 +5,9 @@ use Rattle.grammar.specs.Lexeme.{lexeme_of, lexemes}
 use Rattle.grammar.specs.Manies.{many_more, many_end}
 use Rattle.grammar.specs.Places.{small}
 use Rattle.trees.specs.Constraints.{constraint_of}
-use Rattle.notation.specs.ConstraintReading.{is_open, constraint_at}
-use Rattle.notation.specs.Failing.{many_gives_up}
+use Rattle.notation.specs.ConstraintReading.{constraint_at}
+use Rattle.grammar.specs.Reading.{is_open}
+use Rattle.kernel.specs.Failing.{many_gives_up}
 use Rattle.type_syntax.proofs.Loop.{constraint_consumes}
 use Rattle.type_syntax.proofs.constrained.constraints.Goals as goal
 

@@ -2,9 +2,10 @@ use Rattle.std.proofs.Common.{◌≡◌, length, map}
 use Rattle.grammar.specs.Lexeme.{lexemes}
 use Rattle.grammar.specs.Reading.{with_front, many_at}
 use Rattle.grammar.specs.Places.{small}
-use Rattle.notation.specs.Given.{AreTokens}
+use Rattle.kernel.specs.Given.{AreTokens}
 use Rattle.trees.specs.Constraints.{constraint_of}
-use Rattle.notation.specs.ConstraintReading.{is_open, constraint_at}
+use Rattle.notation.specs.ConstraintReading.{constraint_at}
+use Rattle.grammar.specs.Reading.{is_open}
 use Rattle.type_syntax.proofs.constrained.constraints.Given as goal
 
 abbrev pub invariant-loop-alloc : goal.invariant-loop-alloc

@@ -7,7 +7,7 @@ use Rattle.grammar.specs.Places.{small}
 use Rattle.grammar.specs.Reading.{named_at}
 use Rattle.trees.specs.Types.{item_of}
 use Rattle.type_syntax.specs.TypeReading.{item_number_at}
-use Rattle.notation.specs.Failing.{listed_gives_up, commas_give_up}
+use Rattle.kernel.specs.Failing.{listed_gives_up, commas_give_up}
 use Rattle.type_syntax.proofs.Loop.{item_shrinks}
 use Rattle.type_syntax.proofs.named.items.Goals as goal
 

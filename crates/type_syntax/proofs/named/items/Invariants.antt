@@ -2,7 +2,7 @@ use Rattle.std.proofs.Common.{◌≡◌, length, map}
 use Rattle.grammar.specs.Lexeme.{lexemes}
 use Rattle.grammar.specs.Places.{small}
 use Rattle.grammar.specs.Reading.{with_front, behind_commas_at, listed_at, named_at}
-use Rattle.notation.specs.Given.{AreTokens}
+use Rattle.kernel.specs.Given.{AreTokens}
 use Rattle.trees.specs.Types.{item_of}
 use Rattle.type_syntax.specs.TypeReading.{item_number_at}
 use Rattle.type_syntax.proofs.named.items.Given as goal

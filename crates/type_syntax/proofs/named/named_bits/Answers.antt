@@ -5,10 +5,10 @@ use Rattle.grammar.specs.Lexeme.{lexeme_of, lexemes}
 use Rattle.grammar.specs.Loops.{listed_first, commas_more, commas_end}
 use Rattle.grammar.specs.Places.{small}
 use Rattle.grammar.specs.Reading.{named_at}
-use Rattle.notation.specs.ConstraintReading.{parens_at}
-use Rattle.notation.specs.Rules.{number_at}
+use Rattle.grammar.specs.Reading.{parens_at}
+use Rattle.grammar.specs.Rules.{number_at}
 use Rattle.trees.specs.Types.{bit_of}
-use Rattle.notation.specs.Failing.{listed_gives_up, commas_give_up}
+use Rattle.kernel.specs.Failing.{listed_gives_up, commas_give_up}
 use Rattle.type_syntax.proofs.Loop.{bit_shrinks}
 use Rattle.type_syntax.proofs.named.named_bits.Goals as goal
 

@@ -5,10 +5,10 @@ use Rattle.grammar.specs.Lexeme.{lexeme_of, lexemes}
 use Rattle.grammar.specs.Loops.{listed_first, commas_more, commas_end}
 use Rattle.grammar.specs.Places.{small}
 use Rattle.grammar.specs.Reading.{named_at}
-use Rattle.notation.specs.ConstraintReading.{parens_at}
+use Rattle.grammar.specs.Reading.{parens_at}
 use Rattle.trees.specs.Types.{number_of}
 use Rattle.type_syntax.specs.TypeReading.{signed_at}
-use Rattle.notation.specs.Failing.{listed_gives_up, commas_give_up}
+use Rattle.kernel.specs.Failing.{listed_gives_up, commas_give_up}
 use Rattle.type_syntax.proofs.Loop.{number_shrinks}
 use Rattle.type_syntax.proofs.named.named_numbers.Goals as goal
 

@@ -2,8 +2,8 @@ use Rattle.std.proofs.Common.{◌≡◌, length, map}
 use Rattle.grammar.specs.Lexeme.{lexemes}
 use Rattle.grammar.specs.Places.{small}
 use Rattle.grammar.specs.Reading.{with_front, behind_commas_at, listed_at, named_at}
-use Rattle.notation.specs.Given.{AreTokens}
-use Rattle.notation.specs.ConstraintReading.{parens_at}
+use Rattle.kernel.specs.Given.{AreTokens}
+use Rattle.grammar.specs.Reading.{parens_at}
 use Rattle.trees.specs.Types.{number_of}
 use Rattle.type_syntax.specs.TypeReading.{signed_at}
 use Rattle.type_syntax.proofs.named.named_numbers.Given as goal

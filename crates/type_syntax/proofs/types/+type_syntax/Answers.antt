@@ -8,7 +8,7 @@ use Rattle.grammar.specs.Places.{small}
 use Rattle.notation.specs.Reading.{value_at}
 use Rattle.trees.specs.Types.{type_member_of}
 use Rattle.type_syntax.specs.TypeReading.{component_at, bare_at, type_at}
-use Rattle.notation.specs.Failing.{listed_gives_up, commas_give_up}
+use Rattle.kernel.specs.Failing.{listed_gives_up, commas_give_up}
 use Rattle.type_syntax.proofs.Loop.{member_shrinks, alternative_shrinks}
 use Rattle.type_syntax.proofs.types.+type_syntax.Goals as goal
 

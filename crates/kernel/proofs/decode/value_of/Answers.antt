@@ -1,7 +1,7 @@
 use Rattle.std.proofs.Common.{arith, ◌+◌}
 use Rattle.std.proofs.lemmas.Str.Parse.{digits_value-take-le}
-use Rattle.notation.proofs.Tokens.{value_more}
-use Rattle.notation.proofs.decode.value_of.Goals as goal
+use Rattle.kernel.proofs.Tokens.{value_more}
+use Rattle.kernel.proofs.decode.value_of.Goals as goal
 
 pub overflow_mul-value : goal.overflow_mul-value
 overflow_mul-value c =

@@ -6,9 +6,9 @@ use Rattle.grammar.specs.Grammar.{Grammar, mark, only as lexeme}
 use Rattle.grammar.specs.Reading.{Limit, Read, Reader, ◌>>=◌}
 use Rattle.grammar.specs.Laws.{then_read, after_read}
 use Rattle.grammar.specs.Lists.{no_lexeme}
-use Rattle.notation.specs.Rules.{Owes, rule_token, rule_seq, rule_pair, rule_read, made, one_at, one_is}
-use Rattle.notation.specs.ConstraintGrammar.{parens}
-use Rattle.notation.specs.ConstraintReading.{is_open, open_at, close_at, parens_at}
+use Rattle.grammar.specs.Rules.{Owes, rule_token, rule_seq, rule_pair, rule_read, made, one_at, one_is}
+use Rattle.grammar.specs.Grammar.{parens}
+use Rattle.grammar.specs.Reading.{is_open, open_at, close_at, parens_at}
 
 open_one : (t : Lexeme) → is_open t ≡ true → t ≡ Mark OpenParenthesis
 open_one (Mark OpenParenthesis) e = refl

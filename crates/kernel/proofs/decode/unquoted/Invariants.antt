@@ -1,6 +1,6 @@
 use Rattle.std.proofs.Common.{◌≡◌, ◌++◌, length}
 use Rattle.grammar.specs.Lexeme.{single_quotes}
-use Rattle.notation.proofs.decode.unquoted.Given as goal
+use Rattle.kernel.proofs.decode.unquoted.Given as goal
 
 abbrev pub invariant-loop-octet : goal.invariant-loop-octet
 invariant-loop-octet l = l.unquoted.items ++ single_quotes l.rest ≡ single_quotes l.fn.octets

@@ -1,8 +1,8 @@
 use Rattle.std.proofs.Common.{sym, ◌∙◌}
 use Rattle.grammar.specs.Lexeme.{digit_of}
-use Rattle.notation.proofs.Tokens.{filter_some, filter_none}
-use Rattle.notation.proofs.decode.digits_among.Goals.{in-Some+in_ok-push, in_default}
-use Rattle.notation.proofs.decode.digits_among.Goals as goal
+use Rattle.kernel.proofs.Tokens.{filter_some, filter_none}
+use Rattle.kernel.proofs.decode.digits_among.Goals.{in-Some+in_ok-push, in_default}
+use Rattle.kernel.proofs.decode.digits_among.Goals as goal
 
 pub loop-octet-preserved : goal.loop-octet-preserved
 loop-octet-preserved c =

@@ -9,7 +9,7 @@ ghost use Rattle.text.specs.Items.{number_value};
 ghost use Rattle.text.specs.Text.{max_number};
 ghost use Rattle.grammar.specs.Lexeme.{digit_of, digits_between, single_quotes, chars_between};
 ghost use Rattle.grammar.specs.Places.{small};
-ghost use Rattle.notation.specs.Given.{IsTokenOf};
+ghost use Rattle.kernel.specs.Given.{IsTokenOf};
 
 use crate::fault::{Limit, ReadError};
 use std::alloc::{AllocError, Global};

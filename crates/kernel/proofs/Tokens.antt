@@ -16,7 +16,7 @@ use Rattle.text.specs.declared.token.TokenKind.{TokenKind}
 use Rattle.text.specs.declared.token.TokenKind.TheVariants as kinds
 use Rattle.text.specs.Octets.{octet_at, stops_number, stops_name, IsFirst}
 use Rattle.text.specs.Items.{IsNumber, IsName, IsOfKind, IsQuoted, quoted_end, quoted_octet, quoted_pair}
-use Rattle.notation.specs.Given.{IsTokenOf}
+use Rattle.kernel.specs.Given.{IsTokenOf}
 
 -- ---- numbers
 

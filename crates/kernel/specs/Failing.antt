@@ -4,9 +4,9 @@ use Rattle.grammar.specs.Lexeme.{Lexeme}
 use Rattle.grammar.specs.Loops.{listed_fail, commas_fail}
 use Rattle.grammar.specs.Manies.{is_begun_by, many_fail}
 use Rattle.grammar.specs.Reading.{Read, Reader, with_front, next_comma, behind_commas_at, listed_at, many_at}
-use Rattle.notation.specs.declared.fault.ReadError.{ReadError}
-use Rattle.notation.specs.declared.fault.ReadError.TheVariants as errors
-use Rattle.notation.specs.Given.{Fails}
+use Rattle.kernel.specs.declared.fault.ReadError.{ReadError}
+use Rattle.kernel.specs.declared.fault.ReadError.TheVariants as errors
+use Rattle.kernel.specs.Given.{Fails}
 
 pub listed_gives_up : {A : Type 0} (read : Reader A) (ts : List Lexeme) (e : ReadError) → Fails e (read ts) → Fails e (listed_at read ts)
 listed_gives_up read ts errors.Memory r = tt

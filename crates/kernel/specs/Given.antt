@@ -5,10 +5,10 @@ use Rattle.text.specs.declared.token.Token.{Token}
 use Rattle.text.specs.Items.{IsToken}
 use Rattle.text.specs.Text.{IsText, IsWithinLimits, IsSmall, IsSpanWithin}
 use Rattle.grammar.specs.Reading.{Fault, Unexpected, Beyond, Limit as Limit', Nesting, Integer, TagNumber}
-use Rattle.notation.specs.declared.fault.Limit.{Limit}
-use Rattle.notation.specs.declared.fault.Limit.TheVariants as limits
-use Rattle.notation.specs.declared.fault.ReadError.{ReadError}
-use Rattle.notation.specs.declared.fault.ReadError.TheVariants as errors
+use Rattle.kernel.specs.declared.fault.Limit.{Limit}
+use Rattle.kernel.specs.declared.fault.Limit.TheVariants as limits
+use Rattle.kernel.specs.declared.fault.ReadError.{ReadError}
+use Rattle.kernel.specs.declared.fault.ReadError.TheVariants as errors
 
 -- a token of a text
 pub record IsTokenOf (x : List ℕ) (t : Token) : Type 0 where

@@ -1,0 +1,85 @@
+//! Marks around and between parts.
+
+ghost use Rattle.std.specs.Prelude.{◌≡◌, ◌<◌, None, Some, IfOk, MatchOption, length};
+ghost use Rattle.grammar.specs.Lexeme.{lexemes};
+ghost use Rattle.grammar.specs.Reading.{closed_at, next_comma, open_at, close_at};
+ghost use Rattle.kernel.specs.Given.{Gives, AreTokens};
+
+use crate::fault::ReadError;
+use text::{Mark, Token, TokenKind};
+
+/// The tokens behind an open parenthesis.
+#[tactic(auto, unfolding(grammar::specs::Reading::open_at))]
+pub fn open<'a>(text: &[u8], tokens: &'a [Token]) -> Result<&'a [Token], ReadError>
+    requires tokens { AreTokens text.now tokens.now }
+    ensures read { Gives (λ x. (tt, lexemes text.now x.now)) result (open_at (lexemes text.now tokens.now)) }
+    ensures rest { IfOk result (λ x. AreTokens text.now x.now) }
+{
+    match tokens {
+        [
+            Token {
+                kind: TokenKind::Mark(Mark::OpenParenthesis),
+                ..
+            },
+            rest @ ..,
+        ] => Ok(rest),
+        _ => Err(ReadError::Unexpected(tokens.len())),
+    }
+}
+
+/// The tokens behind a closing parenthesis.
+#[tactic(auto, unfolding(grammar::specs::Reading::close_at))]
+pub fn close<'a>(text: &[u8], tokens: &'a [Token]) -> Result<&'a [Token], ReadError>
+    requires tokens { AreTokens text.now tokens.now }
+    ensures read { Gives (λ x. (tt, lexemes text.now x.now)) result (close_at (lexemes text.now tokens.now)) }
+    ensures rest { IfOk result (λ x. AreTokens text.now x.now) }
+{
+    match tokens {
+        [
+            Token {
+                kind: TokenKind::Mark(Mark::CloseParenthesis),
+                ..
+            },
+            rest @ ..,
+        ] => Ok(rest),
+        _ => Err(ReadError::Unexpected(tokens.len())),
+    }
+}
+
+/// The tokens behind a closing brace.
+#[tactic(auto, unfolding(grammar::specs::Reading::closed_at))]
+pub fn closed<'a>(text: &[u8], tokens: &'a [Token]) -> Result<&'a [Token], ReadError>
+    requires tokens { AreTokens text.now tokens.now }
+    ensures read { Gives (λ x. (tt, lexemes text.now x.now)) result (closed_at (lexemes text.now tokens.now)) }
+    ensures rest { IfOk result (λ x. AreTokens text.now x.now) }
+{
+    match tokens {
+        [
+            Token {
+                kind: TokenKind::Mark(Mark::CloseBrace),
+                ..
+            },
+            rest @ ..,
+        ] => Ok(rest),
+        _ => Err(ReadError::Unexpected(tokens.len())),
+    }
+}
+
+/// The tokens behind a comma, if there is one.
+#[tactic(auto, unfolding(grammar::specs::Reading::next_comma))]
+pub fn comma<'a>(text: &[u8], tokens: &'a [Token]) -> Option<&'a [Token]>
+    requires tokens { AreTokens text.now tokens.now }
+    ensures { MatchOption result (next_comma (lexemes text.now tokens.now) ≡ None)
+        (λ x. (next_comma (lexemes text.now tokens.now) ≡ Some (lexemes text.now x.now)) × AreTokens text.now x.now × (length x.now < length tokens.now)) }
+{
+    match tokens {
+        [
+            Token {
+                kind: TokenKind::Mark(Mark::Comma),
+                ..
+            },
+            rest @ ..,
+        ] => Some(rest),
+        _ => None,
+    }
+}
