@@ -2,7 +2,7 @@
 
 ghost use Rattle.kernel.specs.Given.{IsLexed};
 
-use crate::constraints::{put_constraint, put_size};
+use crate::constraints::put_constraint;
 use crate::modules::{put_assignments, put_module};
 use crate::pieces::put_octets;
 use crate::tokens::{put_spelling, put_tokens};
@@ -105,7 +105,7 @@ fn put_size_answer(
     }
     match size_at(alloc, text, tokens, place) {
         Ok((size, end)) => {
-            put_size(out, &size)?;
+            put_constraint(out, &size)?;
             write!(out, ", to token {end}")
         }
         Err(fault) => put_fault(out, text, tokens, &fault),

@@ -1,13 +1,13 @@
 //! Constraints as they are read.
 
-use crate::pieces::{put_between, put_number, put_reference, put_text};
-use notation::{CharsSyntax, ConstraintSyntax, EndSyntax, RangeSyntax, RangesSyntax, SizeSyntax};
+use crate::pieces::{put_between, put_reference, put_text};
 use std::alloc::AllocError;
+use trees::{CharsSyntax, ConstraintForm, ConstraintSyntax, EndSyntax, RangeSyntax, RangesSyntax};
 
 fn put_end(out: &mut String, end: &EndSyntax) -> Result<(), AllocError> {
     match end {
-        EndSyntax::Number(minus, number) => put_number(out, *minus, *number),
-        EndSyntax::Reference(module, name) => put_reference(out, module, name.as_str()),
+        EndSyntax::Number(number) => write!(out, "{}", number.it),
+        EndSyntax::Reference(reference) => put_reference(out, reference),
     }
 }
 
@@ -37,6 +37,9 @@ fn put_ranges(out: &mut String, ranges: &RangesSyntax) -> Result<(), AllocError>
         put_range(out, range)?;
         is_first = false;
     }
+    if ranges.marker {
+        out.push_str(", ...")?;
+    }
     Ok(())
 }
 
@@ -44,31 +47,29 @@ fn put_chars(out: &mut String, chars: &[CharsSyntax]) -> Result<(), AllocError> 
     let mut is_first = true;
     for part in chars {
         put_between(out, " | ", is_first)?;
-        put_text(out, &part.first)?;
+        put_text(out, &part.first.it)?;
         if let Some(last) = &part.last {
             out.push_str("..")?;
-            put_text(out, last)?;
+            put_text(out, &last.it)?;
         }
         is_first = false;
     }
     Ok(())
 }
 
-pub fn put_size(out: &mut String, size: &SizeSyntax) -> Result<(), AllocError> {
-    out.push_str("(SIZE ")?;
-    put_ranges(out, &size.sizes)?;
-    out.push(')')
-}
-
 pub fn put_constraint(out: &mut String, constraint: &ConstraintSyntax) -> Result<(), AllocError> {
-    match constraint {
-        ConstraintSyntax::Values(ranges) => {
+    match &constraint.form {
+        ConstraintForm::Values(ranges) => {
             out.push('(')?;
             put_ranges(out, ranges)?;
             out.push(')')
         }
-        ConstraintSyntax::Size(size) => put_size(out, size),
-        ConstraintSyntax::From(chars) => {
+        ConstraintForm::Size(sizes) => {
+            out.push_str("(SIZE ")?;
+            put_ranges(out, sizes)?;
+            out.push(')')
+        }
+        ConstraintForm::From(chars) => {
             out.push_str("(FROM ")?;
             put_chars(out, chars)?;
             out.push(')')

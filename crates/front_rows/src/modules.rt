@@ -4,16 +4,16 @@ use crate::pieces::{put_between, put_names};
 use crate::types::put_type;
 use crate::values::put_value;
 use std::alloc::AllocError;
-use syntax::{Assignment, Import, Module, TagDefault};
+use trees::{Assignment, At, Import, Module, TagDefault};
 
 fn put_assignment(out: &mut String, assignment: &Assignment) -> Result<(), AllocError> {
     match assignment {
         Assignment::Type(assignment) => {
-            write!(out, "{} ::= ", assignment.name)?;
+            write!(out, "{} ::= ", assignment.name.it)?;
             put_type(out, &assignment.syntax)
         }
         Assignment::Value(assignment) => {
-            write!(out, "{} ", assignment.name)?;
+            write!(out, "{} ", assignment.name.it)?;
             put_type(out, &assignment.syntax)?;
             out.push_str(" ::= ")?;
             put_value(out, &assignment.value)
@@ -42,13 +42,13 @@ fn put_imports(out: &mut String, imports: &[Import]) -> Result<(), AllocError> {
     for import in imports {
         put_between(out, " ", is_first)?;
         put_names(out, &import.names)?;
-        write!(out, " FROM {}", import.module)?;
+        write!(out, " FROM {}", import.module.it)?;
         is_first = false;
     }
     Ok(())
 }
 
-fn put_exports(out: &mut String, exports: &Option<Vec<String>>) -> Result<(), AllocError> {
+fn put_exports(out: &mut String, exports: &Option<Vec<At<String>>>) -> Result<(), AllocError> {
     match exports {
         Some(names) => put_names(out, names),
         None => out.push_str("ALL"),
@@ -61,7 +61,7 @@ pub fn put_module(out: &mut String, module: &Module) -> Result<(), AllocError> {
         TagDefault::Implicit => "IMPLICIT",
         TagDefault::Automatic => "AUTOMATIC",
     };
-    write!(out, "{} {tags} TAGS; EXPORTS ", module.name)?;
+    write!(out, "{} {tags} TAGS; EXPORTS ", module.name.it)?;
     put_exports(out, &module.exports)?;
     out.push_str("; IMPORTS ")?;
     put_imports(out, &module.imports)?;

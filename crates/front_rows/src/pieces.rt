@@ -1,6 +1,7 @@
 //! Small parts of what is written.
 
 use std::alloc::AllocError;
+use trees::{At, Reference};
 
 /// Writes octets: printable ones as they are, others as `\xNN`.
 pub fn put_octets(out: &mut String, octets: &[u8]) -> Result<(), AllocError> {
@@ -21,34 +22,23 @@ pub fn put_text(out: &mut String, octets: &[u8]) -> Result<(), AllocError> {
     out.push('`')
 }
 
-pub fn put_number(out: &mut String, minus: bool, number: u128) -> Result<(), AllocError> {
-    if minus {
-        out.push('-')?;
-    }
-    write!(out, "{number}")
-}
-
 /// Writes a name, behind the name of a module if one is given.
-pub fn put_reference(
-    out: &mut String,
-    module: &Option<String>,
-    name: &str,
-) -> Result<(), AllocError> {
-    if let Some(module) = module {
+pub fn put_reference(out: &mut String, reference: &Reference) -> Result<(), AllocError> {
+    if let Some(module) = &reference.module {
         write!(out, "{module}.")?;
     }
-    out.push_str(name)
+    out.push_str(reference.name.as_str())
 }
 
 /// Writes names with commas between them, or that there are none.
-pub fn put_names(out: &mut String, names: &[String]) -> Result<(), AllocError> {
+pub fn put_names(out: &mut String, names: &[At<String>]) -> Result<(), AllocError> {
     if names.is_empty() {
         return out.push_str("none");
     }
     let mut is_first = true;
     for name in names {
         put_between(out, ", ", is_first)?;
-        out.push_str(name.as_str())?;
+        out.push_str(name.it.as_str())?;
         is_first = false;
     }
     Ok(())

@@ -1,20 +1,25 @@
 //! Types as they are read.
 
-use crate::constraints::{put_constraints, put_size};
-use crate::pieces::{put_between, put_number, put_reference};
+use crate::constraints::put_constraints;
+use crate::pieces::{put_between, put_reference};
 use crate::values::put_value;
+use asn_base::strings::StringKind;
 use asn_base::tag::{Class, Tag};
-use notation::SizeSyntax;
 use std::alloc::AllocError;
-use syntax::{EnumeratedItem, Keyword, Member, NamedBit, NamedNumber, PresenceSyntax, TypeSyntax};
+use trees::{
+    ConstraintSyntax, ElementsKind, EnumeratedItem, EnumeratedSyntax, Keyword, ListKind, Member,
+    NamedBit, NamedNumber, PresenceSyntax, Simple, Standing, TypeForm, TypeSyntax,
+};
 
 fn put_named_numbers(out: &mut String, numbers: &[NamedNumber]) -> Result<(), AllocError> {
+    if numbers.is_empty() {
+        return Ok(());
+    }
     out.push('{')?;
     let mut is_first = true;
     for named in numbers {
         put_between(out, ", ", is_first)?;
-        write!(out, "{} ", named.name)?;
-        put_number(out, named.minus, named.number)?;
+        write!(out, "{} {}", named.name.it, named.number)?;
         is_first = false;
     }
     out.push('}')
@@ -28,25 +33,37 @@ fn put_bits(out: &mut String, bits: &[NamedBit]) -> Result<(), AllocError> {
     let mut is_first = true;
     for bit in bits {
         put_between(out, ", ", is_first)?;
-        write!(out, "{} {}", bit.name, bit.place)?;
+        write!(out, "{} {}", bit.name.it, bit.place)?;
         is_first = false;
     }
     out.push('}')
 }
 
-fn put_enumerated(out: &mut String, items: &[EnumeratedItem]) -> Result<(), AllocError> {
+fn put_item_list(out: &mut String, items: &[EnumeratedItem]) -> Result<(), AllocError> {
     out.push('{')?;
     let mut is_first = true;
     for item in items {
         put_between(out, ", ", is_first)?;
-        out.push_str(item.name.as_str())?;
-        if let Some((minus, number)) = item.number {
-            out.push(' ')?;
-            put_number(out, minus, number)?;
+        out.push_str(item.name.it.as_str())?;
+        if let Some(number) = item.number {
+            write!(out, " {number}")?;
         }
         is_first = false;
     }
     out.push('}')
+}
+
+/// Writes the items of the root and, behind the marker, the additions.
+fn put_enumerated(out: &mut String, items: &EnumeratedSyntax) -> Result<(), AllocError> {
+    out.push_str("ENUMERATED")?;
+    put_item_list(out, &items.root)?;
+    match &items.additions {
+        Some(additions) => {
+            out.push_str("...")?;
+            put_item_list(out, additions)
+        }
+        None => Ok(()),
+    }
 }
 
 fn put_tag(out: &mut String, tag: Tag, keyword: Keyword) -> Result<(), AllocError> {
@@ -75,13 +92,23 @@ fn put_presence(out: &mut String, presence: &PresenceSyntax) -> Result<(), Alloc
     }
 }
 
+/// Writes what stands before a member behind the marker: `+`, and the number of its brackets.
+fn put_standing(out: &mut String, standing: Standing) -> Result<(), AllocError> {
+    match standing {
+        Standing::Root => Ok(()),
+        Standing::Addition(None) => out.push_str("+ "),
+        Standing::Addition(Some(brackets)) => write!(out, "+{brackets} "),
+    }
+}
+
 #[cycle(put_type)]
 fn put_members(out: &mut String, members: &[Member<TypeSyntax>]) -> Result<(), AllocError> {
     out.push('{')?;
     let mut is_first = true;
     for member in members {
         put_between(out, ", ", is_first)?;
-        write!(out, "{} ", member.name)?;
+        put_standing(out, member.standing)?;
+        write!(out, "{} ", member.name.it)?;
         put_type(out, &member.syntax)?;
         put_presence(out, &member.presence)?;
         is_first = false;
@@ -89,83 +116,83 @@ fn put_members(out: &mut String, members: &[Member<TypeSyntax>]) -> Result<(), A
     out.push('}')
 }
 
-fn put_size_if(out: &mut String, size: &Option<SizeSyntax>) -> Result<(), AllocError> {
-    match size {
-        Some(size) => {
-            put_size(out, size)?;
-            out.push(' ')
+fn put_simple(out: &mut String, simple: &Simple) -> Result<(), AllocError> {
+    match simple {
+        Simple::Boolean => out.push_str("BOOLEAN"),
+        Simple::Integer(numbers) => {
+            out.push_str("INTEGER")?;
+            put_named_numbers(out, numbers)
         }
-        None => Ok(()),
+        Simple::BitString(bits) => {
+            out.push_str("BIT STRING")?;
+            put_bits(out, bits)
+        }
+        Simple::OctetString => out.push_str("OCTET STRING"),
+        Simple::Null => out.push_str("NULL"),
+        Simple::ObjectIdentifier => out.push_str("OBJECT IDENTIFIER"),
+        Simple::RelativeOid => out.push_str("RELATIVE-OID"),
+        Simple::Enumerated(items) => put_enumerated(out, items),
+        Simple::Utf8String => out.push_str("UTF8String"),
+        Simple::Restricted(StringKind::Numeric) => out.push_str("NumericString"),
+        Simple::Restricted(StringKind::Printable) => out.push_str("PrintableString"),
+        Simple::Restricted(StringKind::Ia5) => out.push_str("IA5String"),
+        Simple::Restricted(StringKind::Visible) => out.push_str("VisibleString"),
     }
 }
 
-/// The word of a type that has no parts.
-fn word_of(syntax: &TypeSyntax) -> &'static str {
-    match syntax {
-        TypeSyntax::Boolean => "BOOLEAN",
-        TypeSyntax::Integer => "INTEGER",
-        TypeSyntax::OctetString => "OCTET STRING",
-        TypeSyntax::Null => "NULL",
-        TypeSyntax::ObjectIdentifier => "OBJECT IDENTIFIER",
-        TypeSyntax::Utf8String => "UTF8String",
-        TypeSyntax::NumericString => "NumericString",
-        TypeSyntax::PrintableString => "PrintableString",
-        TypeSyntax::Ia5String => "IA5String",
-        TypeSyntax::VisibleString => "VisibleString",
-        _ => "",
+fn word_of_list(kind: ListKind) -> &'static str {
+    match kind {
+        ListKind::Sequence => "SEQUENCE",
+        ListKind::Set => "SET",
+        ListKind::Choice => "CHOICE",
+    }
+}
+
+fn word_of_elements(kind: ElementsKind) -> &'static str {
+    match kind {
+        ElementsKind::SequenceOf => "SEQUENCE",
+        ElementsKind::SetOf => "SET",
+    }
+}
+
+/// Writes a type and the constraints behind it; the size of a list type stands before its OF.
+#[cycle(put_type)]
+fn put_form(
+    out: &mut String,
+    form: &TypeForm<TypeSyntax>,
+    size: &[ConstraintSyntax],
+) -> Result<(), AllocError> {
+    match form {
+        TypeForm::Simple(simple) => put_simple(out, simple),
+        TypeForm::Reference(reference) => put_reference(out, reference),
+        TypeForm::List(kind, marker, members) => {
+            out.push_str(word_of_list(*kind))?;
+            if *marker {
+                out.push_str("...")?;
+            }
+            put_members(out, members)
+        }
+        TypeForm::Elements(kind, element) => {
+            out.push_str(word_of_elements(*kind))?;
+            put_constraints(out, size)?;
+            out.push_str(" OF ")?;
+            put_type(out, element)
+        }
+        TypeForm::Tagged(tag, keyword, inner) => {
+            put_tag(out, *tag, *keyword)?;
+            put_type(out, inner)
+        }
     }
 }
 
 #[cycle(put_type)]
 pub fn put_type(out: &mut String, syntax: &TypeSyntax) -> Result<(), AllocError> {
-    match syntax {
-        TypeSyntax::Reference(module, name) => put_reference(out, module, name.as_str()),
-        TypeSyntax::Sequence(members) => {
-            out.push_str("SEQUENCE")?;
-            put_members(out, members)
-        }
-        TypeSyntax::Set(members) => {
-            out.push_str("SET")?;
-            put_members(out, members)
-        }
-        TypeSyntax::Choice(members) => {
-            out.push_str("CHOICE")?;
-            put_members(out, members)
-        }
-        TypeSyntax::NamedInteger(numbers) => {
-            out.push_str("INTEGER")?;
-            put_named_numbers(out, numbers)
-        }
-        TypeSyntax::BitString(bits) => {
-            out.push_str("BIT STRING")?;
-            put_bits(out, bits)
-        }
-        TypeSyntax::Enumerated(items) => {
-            out.push_str("ENUMERATED")?;
-            put_enumerated(out, items)
-        }
-        TypeSyntax::SequenceOf(size, element) => {
-            out.push_str("SEQUENCE ")?;
-            put_size_if(out, size)?;
-            out.push_str("OF ")?;
-            put_type(out, element)
-        }
-        TypeSyntax::SetOf(size, element) => {
-            out.push_str("SET ")?;
-            put_size_if(out, size)?;
-            out.push_str("OF ")?;
-            put_type(out, element)
-        }
-        TypeSyntax::Tagged(tag, keyword, inner) => {
-            put_tag(out, *tag, *keyword)?;
-            put_type(out, inner)
-        }
-        TypeSyntax::Constrained(inner, constraints) => {
-            out.push('<')?;
-            put_type(out, inner)?;
-            put_constraints(out, constraints)?;
-            out.push('>')
-        }
-        other => out.push_str(word_of(other)),
+    let is_behind = !matches!(syntax.form, TypeForm::Elements(_, _));
+    if is_behind && !syntax.constraints.is_empty() {
+        out.push('<')?;
+        put_form(out, &syntax.form, &[])?;
+        put_constraints(out, &syntax.constraints)?;
+        return out.push('>');
     }
+    put_form(out, &syntax.form, &syntax.constraints)
 }

@@ -1,8 +1,8 @@
 //! Values as they are read.
 
-use crate::pieces::{put_between, put_number, put_reference, put_text};
-use notation::{Named, ValueSyntax};
+use crate::pieces::{put_between, put_reference, put_text};
 use std::alloc::AllocError;
+use trees::{Named, ValueForm, ValueSyntax};
 
 fn put_digits(out: &mut String, digits: &[u8], kind: &str) -> Result<(), AllocError> {
     out.push('\'')?;
@@ -41,7 +41,7 @@ fn put_fields(out: &mut String, fields: &[Named<ValueSyntax>]) -> Result<(), All
     let mut is_first = true;
     for field in fields {
         put_between(out, ", ", is_first)?;
-        write!(out, "{} = ", field.name)?;
+        write!(out, "{} = ", field.name.it)?;
         put_value(out, &field.value)?;
         is_first = false;
     }
@@ -50,22 +50,22 @@ fn put_fields(out: &mut String, fields: &[Named<ValueSyntax>]) -> Result<(), All
 
 #[cycle(put_value)]
 pub fn put_value(out: &mut String, value: &ValueSyntax) -> Result<(), AllocError> {
-    match value {
-        ValueSyntax::True => out.push_str("TRUE"),
-        ValueSyntax::False => out.push_str("FALSE"),
-        ValueSyntax::Null => out.push_str("NULL"),
-        ValueSyntax::Number(minus, number) => put_number(out, *minus, *number),
-        ValueSyntax::BinaryString(digits) => put_digits(out, digits, "B"),
-        ValueSyntax::HexString(digits) => put_digits(out, digits, "H"),
-        ValueSyntax::CharacterString(octets) => put_text(out, octets),
-        ValueSyntax::Reference(module, name) => put_reference(out, module, name.as_str()),
-        ValueSyntax::Chosen(name, value) => {
+    match &value.form {
+        ValueForm::True => out.push_str("TRUE"),
+        ValueForm::False => out.push_str("FALSE"),
+        ValueForm::Null => out.push_str("NULL"),
+        ValueForm::Number(number) => write!(out, "{number}"),
+        ValueForm::BinaryString(digits) => put_digits(out, digits, "B"),
+        ValueForm::HexString(digits) => put_digits(out, digits, "H"),
+        ValueForm::CharacterString(octets) => put_text(out, octets),
+        ValueForm::Reference(reference) => put_reference(out, reference),
+        ValueForm::Chosen(name, value) => {
             write!(out, "{name} : ")?;
             put_value(out, value)
         }
-        ValueSyntax::Empty => out.push_str("{}"),
-        ValueSyntax::Numbers(numbers) => put_numbers(out, numbers),
-        ValueSyntax::Items(items) => put_items(out, items),
-        ValueSyntax::Fields(fields) => put_fields(out, fields),
+        ValueForm::Empty => out.push_str("{}"),
+        ValueForm::Numbers(numbers) => put_numbers(out, numbers),
+        ValueForm::Items(items) => put_items(out, items),
+        ValueForm::Fields(fields) => put_fields(out, fields),
     }
 }
