@@ -5,18 +5,19 @@ use crate::printed;
 use crate::refusal::{Refusal, told};
 use crate::requests::asked;
 use asn_base::schema::TypeId;
-use resolve::{Found, Linked, Shape};
+use resolve::{Found, Linked};
 use row_files::Row;
 use std::alloc::{AllocError, Global};
 use tagging::{Form, FormedTag, Tagged, tag, tags_of};
+use type_table::Shape;
 
 /// The type of a list's member.
 fn member_type(linked: &Linked, list: TypeId, name: &str) -> Option<TypeId> {
     let written = linked.types().get(list.index)?;
     match &written.shape {
-        Shape::Members(_, members) => members
+        Shape::Members(_, _, members) => members
             .iter()
-            .find(|m| m.name.as_str() == name)
+            .find(|m| m.name.it.as_str() == name)
             .map(|m| TypeId { index: m.ty }),
         _ => None,
     }

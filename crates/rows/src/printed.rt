@@ -1,9 +1,10 @@
 //! Types and tags in few words.
 
+use asn_base::strings::StringKind;
 use asn_base::tag::{Class, Tag};
-use resolve::{Component, ElementsKind, ListKind, Shape, Simple};
 use std::alloc::{AllocError, Global};
-use syntax::{Keyword, PresenceSyntax};
+use trees::{ElementsKind, Keyword, ListKind, PresenceSyntax, Simple, Standing};
+use type_table::{Component, Shape};
 
 /// A tag as the notation writes it, its class in words but for context.
 pub fn tag(alloc: Global, tag: Tag) -> Result<String, AllocError> {
@@ -25,12 +26,13 @@ fn simple(simple: &Simple) -> &'static str {
         Simple::OctetString => "OCTET STRING",
         Simple::Null => "NULL",
         Simple::ObjectIdentifier => "OBJECT IDENTIFIER",
+        Simple::RelativeOid => "RELATIVE-OID",
         Simple::Enumerated(_) => "ENUMERATED",
         Simple::Utf8String => "UTF8String",
-        Simple::NumericString => "NumericString",
-        Simple::PrintableString => "PrintableString",
-        Simple::Ia5String => "IA5String",
-        Simple::VisibleString => "VisibleString",
+        Simple::Restricted(StringKind::Numeric) => "NumericString",
+        Simple::Restricted(StringKind::Printable) => "PrintableString",
+        Simple::Restricted(StringKind::Ia5) => "IA5String",
+        Simple::Restricted(StringKind::Visible) => "VisibleString",
     }
 }
 
@@ -58,16 +60,31 @@ fn keyword(keyword: Keyword) -> &'static str {
     }
 }
 
-/// A list's kind and its members, each with the number of its type.
-fn members(alloc: Global, kind: ListKind, members: &[Component]) -> Result<String, AllocError> {
+/// What stands before a member behind the marker: `+`, and the number of its brackets.
+fn standing(alloc: Global, standing: Standing) -> Result<String, AllocError> {
+    match standing {
+        Standing::Root => Ok(String::new(alloc)),
+        Standing::Addition(None) => String::from_str(alloc, "+ "),
+        Standing::Addition(Some(brackets)) => format!(in alloc; "+{brackets} "),
+    }
+}
+
+/// A list's kind, whether it has a marker, and its members, each with the number of its type.
+fn members(
+    alloc: Global,
+    kind: ListKind,
+    marker: bool,
+    members: &[Component],
+) -> Result<String, AllocError> {
     let mut text = String::from_str(alloc, list(kind))?;
-    text.push_str(" {")?;
+    text.push_str(if marker { " ... {" } else { " {" })?;
     for (place, member) in members.iter().enumerate() {
         let comma = if place == 0 { "" } else { ", " };
-        let name = member.name.as_str();
+        let standing = standing(alloc, member.standing)?;
+        let name = member.name.it.as_str();
         let ty = member.ty;
         let presence = presence(&member.presence);
-        let part = format!(in alloc; "{comma}{name} {ty}{presence}")?;
+        let part = format!(in alloc; "{comma}{standing}{name} {ty}{presence}")?;
         text.push_str(part.as_str())?;
     }
     text.push('}')?;
@@ -84,10 +101,10 @@ pub fn shape(alloc: Global, shape: &Shape) -> Result<String, AllocError> {
             let word = keyword(*word);
             format!(in alloc; "{tag} {word}{number}")
         }
-        Shape::Members(kind, parts) => members(alloc, *kind, parts.as_slice()),
-        Shape::Elements(ElementsKind::SequenceOf, _, number) => format!(in alloc;
+        Shape::Members(kind, marker, parts) => members(alloc, *kind, *marker, parts.as_slice()),
+        Shape::Elements(ElementsKind::SequenceOf, number) => format!(in alloc;
             "SEQUENCE OF {number}"
         ),
-        Shape::Elements(ElementsKind::SetOf, _, number) => format!(in alloc; "SET OF {number}"),
+        Shape::Elements(ElementsKind::SetOf, number) => format!(in alloc; "SET OF {number}"),
     }
 }
