@@ -4,8 +4,8 @@ use Rattle.text.specs.declared.fault.LexFault.{LexFault}
 use Rattle.text.specs.declared.fault.LexFault.TheVariants as texts
 use Rattle.notation.specs.declared.fault.SyntaxFault.{SyntaxFault}
 use Rattle.notation.specs.declared.fault.SyntaxFault.TheVariants as trees
-use Rattle.resolve.specs.declared.fault.NameFault.{NameFault}
-use Rattle.resolve.specs.declared.fault.NameFault.TheVariants as names
+use Rattle.names.specs.declared.fault.NameFault.{NameFault}
+use Rattle.names.specs.declared.fault.NameFault.TheVariants as names
 use Rattle.first_path.specs.declared.fault.ValueFault.{ValueFault}
 use Rattle.first_path.specs.declared.fault.ValueFault.TheVariants as values
 use Rattle.messages.specs.declared.fault.Fault.{Fault}
@@ -29,22 +29,21 @@ tree_number_of (trees.OutOfProfile p) = 21
 
 abbrev pub name_number_of : NameFault → ℕ
 name_number_of names.Memory = 1
-name_number_of (names.Limit l m x) = 2
-name_number_of (names.Twice m x) = 30
-name_number_of (names.UnknownName m x) = 31
-name_number_of (names.NotExported m x) = 32
-name_number_of (names.Circular m x) = 33
-name_number_of (names.UnknownModule m x) = 34
+name_number_of (names.Limit l s) = 2
+name_number_of (names.Twice s) = 30
+name_number_of (names.UnknownName s) = 31
+name_number_of (names.NotExported s) = 32
+name_number_of (names.Circular s) = 33
+name_number_of (names.UnknownModule s) = 34
 
 abbrev pub value_number_of : ValueFault → ℕ
 value_number_of values.Memory = 1
-value_number_of values.Integer = 2
-value_number_of (values.UnknownName x) = 31
-value_number_of (values.Circular x) = 33
-value_number_of values.NotOfType = 60
-value_number_of (values.UnknownItem x) = 62
-value_number_of (values.Missing x) = 63
-value_number_of (values.Repeated x) = 64
+value_number_of (values.UnknownName s) = 31
+value_number_of (values.Circular s) = 33
+value_number_of (values.NotOfType s) = 60
+value_number_of (values.UnknownItem s) = 62
+value_number_of (values.Missing s) = 63
+value_number_of (values.Repeated s) = 64
 
 abbrev pub number_of : Fault → ℕ
 number_of faults.Memory = 1
@@ -56,7 +55,7 @@ number_of (faults.Help text) = 5
 number_of (faults.Text k f) = text_number_of f
 number_of (faults.Tree k f) = tree_number_of f
 number_of (faults.Name f) = name_number_of f
-number_of (faults.OutOfProfile c m x) = 21
+number_of (faults.OutOfProfile c s) = 21
 number_of (faults.Value f) = value_number_of f
 number_of (faults.NoType name) = 31
 number_of (faults.NoValue name) = 31

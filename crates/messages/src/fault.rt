@@ -5,11 +5,12 @@ ghost use Rattle.messages.specs.Status.{number_of, status_of, text_number_of, tr
 ghost use Rattle.messages.specs.declared.fault.Fault.TheVariants.{Memory};
 
 use first_path::{Construct, ValueFault};
+use names::NameFault;
 use notation::SyntaxFault;
-use resolve::NameFault;
 use std::alloc::{AllocError, AllocFailed};
 use text::LexFault;
 use thiserror::Error;
+use trees::Spot;
 
 /// A refusal: its number and name come first in its text, but for a help that was asked for.
 #[derive(Debug, Drop, Error)]
@@ -41,9 +42,9 @@ pub enum Fault {
     /// The modules' names have no meaning.
     #[error("error {0}")]
     Name(NameFault),
-    /// In this module, in the assignment of this name, a construct stands that is left out; no name where it is the tag default.
-    #[error("error 21 OutOfProfile: {1}.{2}")]
-    OutOfProfile(Construct, String, String),
+    /// A construct that is left out stands here, in the assignment of this name; no name where it is the tag default.
+    #[error("error 21 OutOfProfile: {1}")]
+    OutOfProfile(Construct, Spot),
     /// The notation stands for no value of the type.
     #[error("error {0}")]
     Value(ValueFault),
@@ -89,7 +90,7 @@ pub fn number(fault: &Fault) -> u8
         Fault::Text(_, fault) => text_number(fault),
         Fault::Tree(_, fault) => tree_number(fault),
         Fault::Name(fault) => name_number(fault),
-        Fault::OutOfProfile(_, _, _) => 21,
+        Fault::OutOfProfile(_, _) => 21,
         Fault::Value(fault) => value_number(fault),
         Fault::NoType(_) | Fault::NoValue(_) => 31,
         Fault::TooLong => 71,
@@ -128,12 +129,12 @@ fn name_number(fault: &NameFault) -> u8
 {
     match fault {
         NameFault::Memory => 1,
-        NameFault::Limit(_, _, _) => 2,
-        NameFault::Twice(_, _) => 30,
-        NameFault::UnknownName(_, _) => 31,
-        NameFault::NotExported(_, _) => 32,
-        NameFault::Circular(_, _) => 33,
-        NameFault::UnknownModule(_, _) => 34,
+        NameFault::Limit(_, _) => 2,
+        NameFault::Twice(_) => 30,
+        NameFault::UnknownName(_) => 31,
+        NameFault::NotExported(_) => 32,
+        NameFault::Circular(_) => 33,
+        NameFault::UnknownModule(_) => 34,
     }
 }
 
@@ -142,10 +143,9 @@ fn value_number(fault: &ValueFault) -> u8
 {
     match fault {
         ValueFault::Memory => 1,
-        ValueFault::Integer => 2,
         ValueFault::UnknownName(_) => 31,
         ValueFault::Circular(_) => 33,
-        ValueFault::NotOfType => 60,
+        ValueFault::NotOfType(_) => 60,
         ValueFault::UnknownItem(_) => 62,
         ValueFault::Missing(_) => 63,
         ValueFault::Repeated(_) => 64,

@@ -4,13 +4,16 @@ use crate::characters::{character, open_string};
 use crate::fault::Fault;
 use crate::front::expected;
 use crate::line::{escaped, on_one_line, shown};
-use crate::place::{line_and_column, octet_of, parts, spelling, text_number, tokens_in};
+use crate::place::{
+    line_and_column, octet_of, spelling, spot_of_names, spot_of_value, text_number, tokens_in,
+};
 use crate::request::Job;
 use first_path::{Construct, ValueFault};
+use names::{Limit, NameFault};
 use notation::SyntaxFault;
-use resolve::{Limit, NameFault};
 use std::alloc::{AllocError, Global};
 use text::{LexFault, Token};
+use trees::Spot;
 
 /// A token as it is written.
 fn spelled_at(text: &[u8], token: Token) -> &str {
@@ -71,15 +74,15 @@ fn of_tree(
             String::from_str(alloc, "1 Memory")?,
             String::from_str(alloc, "out of memory")?,
         )),
-        SyntaxFault::Limit(notation::Limit::Nesting, _) => Ok((
+        SyntaxFault::Limit(kernel::Limit::Nesting, _) => Ok((
             String::from_str(alloc, "2 Limit(Nesting)")?,
             String::from_str(alloc, "more than 128 braces are open here")?,
         )),
-        SyntaxFault::Limit(notation::Limit::Integer, _) => Ok((
+        SyntaxFault::Limit(kernel::Limit::Integer, _) => Ok((
             String::from_str(alloc, "2 Limit(Integer)")?,
             String::from_str(alloc, "numbers are at most 2 to the 127 minus 1")?,
         )),
-        SyntaxFault::Limit(notation::Limit::TagNumber, _) => Ok((
+        SyntaxFault::Limit(kernel::Limit::TagNumber, _) => Ok((
             String::from_str(alloc, "2 Limit(TagNumber)")?,
             String::from_str(alloc, "numbers of tags are at most 2 to the 31 minus 1")?,
         )),
@@ -111,10 +114,13 @@ fn of_limit(limit: Limit) -> (&'static str, &'static str) {
             "more than 4096 types are assigned, or more than 65536 are written",
         ),
         Limit::Values => ("2 Limit(Values)", "more than 65536 values are assigned"),
-        Limit::Members => ("2 Limit(Members)", "a list here has more than 256 members"),
+        Limit::Members => (
+            "2 Limit(Members)",
+            "a list has at most 256 members and 64 additions",
+        ),
         Limit::Items => (
             "2 Limit(Items)",
-            "an enumeration here has more than 1024 items",
+            "an enumeration has at most 1024 items and 64 additions",
         ),
         Limit::NamedBit => (
             "2 Limit(NamedBit)",
@@ -124,49 +130,41 @@ fn of_limit(limit: Limit) -> (&'static str, &'static str) {
     }
 }
 
-/// The module and the name that a fault of names tells.
-fn names_in(fault: &NameFault) -> (&str, &str) {
-    match fault {
-        NameFault::Memory => ("", ""),
-        NameFault::Limit(_, module, name) | NameFault::Twice(module, name) => {
-            (module.as_str(), name.as_str())
-        }
-        NameFault::UnknownName(module, name) | NameFault::NotExported(module, name) => {
-            (module.as_str(), name.as_str())
-        }
-        NameFault::Circular(module, name) | NameFault::UnknownModule(module, name) => {
-            (module.as_str(), name.as_str())
-        }
+/// The module and the name that are told.
+fn names_in(spot: Option<&Spot>) -> (&str, &str) {
+    match spot {
+        Some(spot) => (spot.module.as_str(), spot.name.as_str()),
+        None => ("", ""),
     }
 }
 
 fn of_names(alloc: Global, fault: &NameFault) -> Result<(String, String), AllocError> {
-    let (within, told) = names_in(fault);
+    let (within, told) = names_in(spot_of_names(fault));
     let module = shown(alloc, within)?;
     let name = shown(alloc, told)?;
     let (class, words) = match fault {
         NameFault::Memory => ("1 Memory", String::from_str(alloc, "out of memory")?),
-        NameFault::Limit(limit, _, _) => {
+        NameFault::Limit(limit, _) => {
             let (class, words) = of_limit(*limit);
             (class, String::from_str(alloc, words)?)
         }
-        NameFault::Twice(_, _) => (
+        NameFault::Twice(_) => (
             "30 Twice",
             format!(in alloc; "the name {name}, or its number, is given a second time here")?,
         ),
-        NameFault::UnknownName(_, _) => (
+        NameFault::UnknownName(_) => (
             "31 UnknownName",
             format!(in alloc; "{name} has no meaning in the module {module} that it needs here")?,
         ),
-        NameFault::NotExported(_, _) => (
+        NameFault::NotExported(_) => (
             "32 NotExported",
             format!(in alloc; "{name} is not exported by the module that it is imported from")?,
         ),
-        NameFault::Circular(_, _) => (
+        NameFault::Circular(_) => (
             "33 Circular",
             format!(in alloc; "the type {name} comes back to itself")?,
         ),
-        NameFault::UnknownModule(_, _) => (
+        NameFault::UnknownModule(_) => (
             "34 UnknownModule",
             format!(in alloc; "no text is the module {name}, from which names are imported")?,
         ),
@@ -183,6 +181,8 @@ pub fn spelled(construct: Construct) -> &'static str {
         Construct::BitString => "BIT STRING",
         Construct::Null => "NULL",
         Construct::ObjectIdentifier => "OBJECT IDENTIFIER",
+        Construct::RelativeOid => "RELATIVE-OID",
+        Construct::Marker => "an extension marker",
         Construct::Enumerated => "ENUMERATED",
         Construct::Utf8String => "UTF8String",
         Construct::NumericString => "NumericString",
@@ -225,26 +225,13 @@ fn of_construct(
     Ok((told, words))
 }
 
-/// The name that a fault of a value tells.
-fn name_in(fault: &ValueFault) -> &str {
-    match fault {
-        ValueFault::Memory | ValueFault::Integer | ValueFault::NotOfType => "",
-        ValueFault::UnknownName(name) | ValueFault::Circular(name) => name.as_str(),
-        ValueFault::UnknownItem(name) | ValueFault::Missing(name) => name.as_str(),
-        ValueFault::Repeated(name) => name.as_str(),
-    }
-}
-
 fn of_value(alloc: Global, fault: &ValueFault, job: &Job) -> Result<(String, String), AllocError> {
     let ty = shown(alloc, job.ty.as_str())?;
     let value = shown(alloc, job.value.as_str())?;
-    let name = shown(alloc, name_in(fault))?;
+    let (_, told) = names_in(spot_of_value(fault));
+    let name = shown(alloc, told)?;
     let (class, words) = match fault {
         ValueFault::Memory => ("1 Memory", String::from_str(alloc, "out of memory")?),
-        ValueFault::Integer => (
-            "2 Limit(Integer)",
-            String::from_str(alloc, "numbers are from -2^127 to 2^127 - 1")?,
-        ),
         ValueFault::UnknownName(_) => (
             "31 UnknownName",
             format!(in alloc; "{name} is no value of its module")?,
@@ -253,7 +240,7 @@ fn of_value(alloc: Global, fault: &ValueFault, job: &Job) -> Result<(String, Str
             "33 Circular",
             format!(in alloc; "the value {name} comes back to itself")?,
         ),
-        ValueFault::NotOfType => (
+        ValueFault::NotOfType(_) => (
             "60 NotOfType",
             format!(in alloc;
                 "{value} is no value of the type {ty}: it is of another kind, or its components stand in another order"
@@ -292,7 +279,9 @@ fn sentence(
         Fault::Text(_, inner) => of_text(alloc, text, inner),
         Fault::Tree(_, inner) => of_tree(alloc, text, inner),
         Fault::Name(inner) => of_names(alloc, inner),
-        Fault::OutOfProfile(construct, _, name) => of_construct(alloc, *construct, name.as_str()),
+        Fault::OutOfProfile(construct, spot) => {
+            of_construct(alloc, *construct, spot.name.as_str())
+        }
         Fault::Value(inner) => of_value(alloc, inner, job),
         Fault::NoType(name) => {
             let name = shown(alloc, name.as_str())?;
@@ -332,7 +321,7 @@ pub fn report(
     texts: &[Vec<u8>],
     fault: &Fault,
 ) -> Result<String, AllocError> {
-    let Some(number) = text_number(alloc, texts, job, fault)? else {
+    let Some(number) = text_number(alloc, texts, fault)? else {
         let (name, words) = sentence(alloc, job, &[], fault)?;
         let line = format!(in alloc; "error {name}: {words}")?;
         return on_one_line(alloc, line.as_str());
@@ -346,8 +335,7 @@ pub fn report(
         Some(file) => escaped(alloc, file.as_str())?,
         None => String::from_str(alloc, "a text")?,
     };
-    let (_, value) = parts(job.value.as_str());
-    let line = match octet_of(alloc, text, fault, value)? {
+    let line = match octet_of(alloc, text, fault)? {
         Some(octet) => {
             let (line, column) = line_and_column(text, octet);
             format!(in alloc; "error {name}: {file}:{line}:{column}: {words}")?

@@ -1,5 +1,7 @@
 //! Where things are written.
 
+use std::fmt;
+
 /// Something where it is written: `at` is the place of its first octet in the module's text, counted from 0.
 #[derive(Drop)]
 pub struct At<T> {
@@ -9,11 +11,18 @@ pub struct At<T> {
 
 /// Where something is wrong: the name of the module, the name that is told, and the place in the module's text, in octets
 /// counted from 0.
-#[derive(Drop)]
+#[derive(Debug, Drop)]
 pub struct Spot {
     pub module: String,
     pub name: String,
     pub at: usize,
+}
+
+/// As `Module.name`.
+impl fmt::Display for Spot {
+    fn fmt(&self, f: &mut Formatter<'_>) -> fmt::Result {
+        write!(f, "{}.{}", self.module, self.name)
+    }
 }
 
 /// A name, behind the name of a module if one is given: `Module.name` or `name` (X.680, clause 14.6).
