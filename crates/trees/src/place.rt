@@ -20,7 +20,7 @@ pub struct Spot {
 
 /// As `Module.name`.
 impl fmt::Display for Spot {
-    fn fmt(&self, f: &mut Formatter<'_>) -> fmt::Result {
+    fn fmt<W: fmt::Write>(&self, f: &mut fmt::Formatter<W>) -> fmt::Result {
         write!(f, "{}.{}", self.module, self.name)
     }
 }
