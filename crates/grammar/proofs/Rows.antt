@@ -4,9 +4,9 @@ use Rattle.text.specs.declared.token.TokenKind.TheVariants as kinds
 use Rattle.text.specs.declared.token.Mark.TheVariants.{Comma, OpenBrace, CloseBrace}
 use Rattle.text.specs.Octets.{is_hex}
 use Rattle.grammar.specs.Lexeme.{Lexeme, TypeRef, Ident, Number, BString, HString, CString, Mark, digit_of, single_quotes, lexeme_at}
-use Rattle.grammar.specs.Grammar.{Grammar, token, mark, number_of, ◌∙◌, many, listed, braces, optional, cut_off}
-use Rattle.grammar.specs.Places.{Limits, Limited, any, small, bounded, free, between, raised, IsRead, Stops, Ends, PassesLimit}
-use Rattle.grammar.specs.Reading.{Nesting, Integer, TagNumber}
+use Rattle.grammar.specs.Grammar.{token, mark, number_of, ◌∙◌, many, listed, braces, optional, cut_off}
+use Rattle.grammar.specs.Places.{Limits, Limited, any, small, bounded, between, IsRead, Stops, Ends, PassesLimit}
+use Rattle.grammar.specs.Reading.{Nesting, Integer}
 
 -- ---- what tokens say
 

@@ -5,7 +5,7 @@ use Rattle.grammar.specs.Lexeme.{Lexeme}
 use Rattle.grammar.specs.Grammar.{Grammar}
 use Rattle.grammar.specs.Grows.{Grows}
 use Rattle.grammar.specs.Reading.{Limit, Nesting, Integer, TagNumber, Fault, Unexpected, Beyond, Read, Reader}
-use Rattle.grammar.specs.Laws.{nowhere, past, everywhere, more, more_than, left_of, Sound, Passes, Stands, Finds}
+use Rattle.grammar.specs.Laws.{nowhere, past, more, more_than, left_of, Sound, Passes, Stands}
 use Rattle.grammar.specs.Places.{Limits, Within, raised, Limited, free, between, IsRead, Stops, Ends, PassesLimit}
 
 -- the next lexeme, if there is one, can't go on with u

@@ -1,7 +1,8 @@
 -- A grammar: which lexemes are whole, with which tree, and which fronts of lexemes can go on.
-use Rattle.std.specs.Prelude.{◌≡◌, ℕ, List, [], ◌∷◌, ◌++◌, ◌⊎◌, IsTrue, Bool, Option, Some, None}
+use Rattle.std.specs.Prelude.{◌≡◌, ℕ, zero, suc, List, [], ◌∷◌, ◌++◌, ◌⊎◌, IsTrue, Bool, Option, Some, None}
+use Rattle.std.proofs.Common.{inl, inr}
 use Rattle.text.specs.declared.token.Mark.{Mark as Mark'}
-use Rattle.text.specs.declared.token.Mark.TheVariants.{Comma, OpenBrace, CloseBrace, OpenParenthesis, CloseParenthesis}
+use Rattle.text.specs.declared.token.Mark.TheVariants.{Colon, Comma, Ellipsis, OpenBrace, CloseBrace, OpenParenthesis, CloseParenthesis, OpenVersion, CloseVersion}
 use Rattle.text.specs.declared.reserved.Word.{Word as Word'}
 use Rattle.grammar.specs.Lexeme.{Lexeme, Number, Word, Mark}
 
@@ -95,3 +96,30 @@ IsOptional a (Some x) ts = a.Is x ts
 
 abbrev pub optional : {A : Type 0} → Grammar A → Grammar (Option A)
 optional {A} a = record { Is = IsOptional a; CanGoOn = λ ts. (ts ≡ []) ⊎ a.CanGoOn ts }
+
+-- a part that opens one thing, where n more may be open at one place
+abbrev pub opens : {A : Type 0} → ℕ → Grammar A → Grammar A
+opens zero a = cut_off
+opens (suc n) a = a
+
+-- ---- lists with an extension marker
+
+-- the marker, and what stands behind it
+abbrev pub marked : {B : Type 0} → Grammar B → Grammar (List B)
+marked b = behind (Mark Ellipsis) (many (behind (Mark Comma) b))
+
+-- one part or more, and behind them the marker or not: the parts before the marker, and those behind it
+abbrev pub extensible : {A B : Type 0} → Grammar A → Grammar B → Grammar (List A × Option (List B))
+extensible a b = listed a ∙ optional (behind (Mark Comma) (marked b))
+
+-- the same, where the marker may stand at once
+abbrev pub rootless : {A B : Type 0} → Grammar A → Grammar B → Grammar (List A × Option (List B))
+rootless a b = marked b ⇒ (λ ys. ([], Some ys)) ∣ extensible a b
+
+-- The number before the parts in version brackets: it has no meaning. A limit on numbers is a test that it meets.
+abbrev pub version : (ℕ → Bool) → Grammar (Option (ℕ × Unit {0}))
+version fits = optional (number_of fits ∙ mark Colon)
+
+-- a part, or parts in version brackets
+abbrev pub addition : {A : Type 0} → (ℕ → Bool) → Grammar A → Grammar (A ⊎ List A)
+addition fits a = a ⇒ inl ∣ behind (Mark OpenVersion) (version fits ∙ (listed a ∙ mark CloseVersion)) ⇒ (λ p. inr p.1.0)

@@ -1,8 +1,8 @@
 -- A grammar that allows more than another.
-use Rattle.std.proofs.Common.{◌≡◌, ℕ, inl, inr, Bool, true, List, [], ◌∷◌, ◌++◌, refl}
-use Rattle.text.specs.declared.token.Mark.TheVariants.{Comma, OpenBrace, CloseBrace}
-use Rattle.grammar.specs.Lexeme.{Lexeme, Number, Mark}
-use Rattle.grammar.specs.Grammar.{Grammar, number_of, ◌∙◌, ◌∣◌, ◌⇒◌, IsMany, many, only, mark, behind, listed, braces}
+use Rattle.std.proofs.Common.{◌≡◌, ℕ, zero, suc, Option, Some, None, inl, inr, Bool, true, List, [], ◌∷◌}
+use Rattle.text.specs.declared.token.Mark.TheVariants.{Colon, Comma, Ellipsis, OpenBrace, CloseBrace, OpenParenthesis, CloseParenthesis, OpenVersion, CloseVersion}
+use Rattle.grammar.specs.Lexeme.{Lexeme, Mark}
+use Rattle.grammar.specs.Grammar.{Grammar, number_of, ◌∙◌, ◌∣◌, ◌⇒◌, IsMany, many, only, mark, optional, behind, listed, braces, parens, cut_off, opens, marked, extensible, rootless, version, addition}
 
 pub record Grows {A : Type 0} (a b : Grammar A) : Type 0 where
   pub is : (x : A) (u : List Lexeme) → a.Is x u → b.Is x u
@@ -58,3 +58,48 @@ pub braces_grows : {A : Type 0} (a a' : Grammar A) → Grows a a' → Grows (bra
 braces_grows a a' g =
     made_grows (mark OpenBrace ∙ (a ∙ mark CloseBrace)) (mark OpenBrace ∙ (a' ∙ mark CloseBrace)) (λ p. p.1.0)
     (seq_grows (mark OpenBrace) (mark OpenBrace) (a ∙ mark CloseBrace) (a' ∙ mark CloseBrace) (same_grows (mark OpenBrace)) (seq_grows a a' (mark CloseBrace) (mark CloseBrace) g (same_grows (mark CloseBrace))))
+
+pub optional_grows : {A : Type 0} (a a' : Grammar A) → Grows a a' → Grows (optional a) (optional a')
+optional_grows {A} a a' g = record { is = is; on = on }
+  where
+    is : (o : Option A) (u : List Lexeme) → (optional a).Is o u → (optional a').Is o u
+    is None u h = h
+    is (Some x) u h = g.is x u h
+
+    on : (u : List Lexeme) → (optional a).CanGoOn u → (optional a').CanGoOn u
+    on u (inl e) = inl e
+    on u (inr h) = inr (g.on u h)
+
+pub parens_grows : {A : Type 0} (a a' : Grammar A) → Grows a a' → Grows (parens a) (parens a')
+parens_grows a a' g =
+    made_grows (mark OpenParenthesis ∙ (a ∙ mark CloseParenthesis)) (mark OpenParenthesis ∙ (a' ∙ mark CloseParenthesis)) (λ p. p.1.0)
+    (seq_grows (mark OpenParenthesis) (mark OpenParenthesis) (a ∙ mark CloseParenthesis) (a' ∙ mark CloseParenthesis) (same_grows (mark OpenParenthesis)) (seq_grows a a' (mark CloseParenthesis) (mark CloseParenthesis) g (same_grows (mark CloseParenthesis))))
+
+pub opens_grows : {A : Type 0} (n : ℕ) (a a' : Grammar A) → Grows a a' → Grows (opens n a) (opens n a')
+opens_grows zero a a' g = same_grows cut_off
+opens_grows (suc n) a a' g = g
+
+-- ---- lists with an extension marker
+
+pub marked_grows : {B : Type 0} (b b' : Grammar B) → Grows b b' → Grows (marked b) (marked b')
+marked_grows b b' g = behind_grows (Mark Ellipsis) (many (behind (Mark Comma) b)) (many (behind (Mark Comma) b')) (many_grows (behind (Mark Comma) b) (behind (Mark Comma) b') (behind_grows (Mark Comma) b b' g))
+
+pub extensible_grows : {A B : Type 0} (a a' : Grammar A) (b b' : Grammar B) → Grows a a' → Grows b b' → Grows (extensible a b) (extensible a' b')
+extensible_grows a a' b b' ga gb =
+    seq_grows (listed a) (listed a') (optional (behind (Mark Comma) (marked b))) (optional (behind (Mark Comma) (marked b'))) (listed_grows a a' ga)
+    (optional_grows (behind (Mark Comma) (marked b)) (behind (Mark Comma) (marked b')) (behind_grows (Mark Comma) (marked b) (marked b') (marked_grows b b' gb)))
+
+pub rootless_grows : {A B : Type 0} (a a' : Grammar A) (b b' : Grammar B) → Grows a a' → Grows b b' → Grows (rootless a b) (rootless a' b')
+rootless_grows {A} a a' b b' ga gb = either_grows (marked b ⇒ (λ ys. ([], Some ys))) (marked b' ⇒ (λ ys. ([], Some ys))) (extensible a b) (extensible a' b') (made_grows (marked b) (marked b') (λ ys. ([], Some ys)) (marked_grows b b' gb)) (extensible_grows a a' b b' ga gb)
+
+pub version_grows : (fits fits' : ℕ → Bool) → ((n : ℕ) → fits n ≡ true → fits' n ≡ true) → Grows (version fits) (version fits')
+version_grows fits fits' grows = optional_grows (number_of fits ∙ mark Colon) (number_of fits' ∙ mark Colon) (seq_grows (number_of fits) (number_of fits') (mark Colon) (mark Colon) (number_grows fits fits' grows) (same_grows (mark Colon)))
+
+pub addition_grows : {A : Type 0} (fits fits' : ℕ → Bool) → ((n : ℕ) → fits n ≡ true → fits' n ≡ true) → (a a' : Grammar A) → Grows a a' → Grows (addition fits a) (addition fits' a')
+addition_grows fits fits' grows a a' g =
+    either_grows (a ⇒ inl) (a' ⇒ inl) (behind (Mark OpenVersion) (version fits ∙ (listed a ∙ mark CloseVersion)) ⇒ (λ p. inr p.1.0)) (behind (Mark OpenVersion) (version fits' ∙ (listed a' ∙ mark CloseVersion)) ⇒ (λ p. inr p.1.0))
+    (made_grows a a' inl g)
+    (made_grows (behind (Mark OpenVersion) (version fits ∙ (listed a ∙ mark CloseVersion))) (behind (Mark OpenVersion) (version fits' ∙ (listed a' ∙ mark CloseVersion))) (λ p. inr p.1.0)
+    (behind_grows (Mark OpenVersion) (version fits ∙ (listed a ∙ mark CloseVersion)) (version fits' ∙ (listed a' ∙ mark CloseVersion))
+    (seq_grows (version fits) (version fits') (listed a ∙ mark CloseVersion) (listed a' ∙ mark CloseVersion) (version_grows fits fits' grows)
+    (seq_grows (listed a) (listed a') (mark CloseVersion) (mark CloseVersion) (listed_grows a a' g) (same_grows (mark CloseVersion))))))

@@ -3,7 +3,7 @@ use Rattle.std.proofs.Common.{◌≡◌, ℕ, zero, suc, ◌≤◌, ◌⊎◌, i
 use Rattle.std.proofs.lemmas.List.{append-nil}
 use Rattle.text.specs.declared.token.Mark.TheVariants.{Comma}
 use Rattle.grammar.specs.Lexeme.{Lexeme, Mark}
-use Rattle.grammar.specs.Grammar.{Grammar, ◌∙◌, ◌⇒◌, only, IsMany, many, behind}
+use Rattle.grammar.specs.Grammar.{Grammar, ◌∙◌, ◌⇒◌, IsMany, many, behind}
 use Rattle.grammar.specs.Reading.{Limit, Nesting, Integer, TagNumber, Fault, Unexpected, Beyond, Read, Reader, ◌>>=◌, behind_commas_at}
 
 -- The number of lexemes from the fault on.

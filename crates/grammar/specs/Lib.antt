@@ -14,3 +14,7 @@ pub mod Manies
 pub mod Single
 pub mod Rules
 pub mod Parens
+pub mod Openings
+pub mod Extension
+pub mod ExtensionFront
+pub mod Extensions

@@ -3,8 +3,8 @@ use Rattle.std.proofs.Common.{◌≡◌, ℕ, ◌≤◌, ◌⊎◌, inl, inr, Bo
 use Rattle.std.proofs.lemmas.List.{append-nil}
 use Rattle.text.specs.declared.token.Mark.TheVariants.{Comma, OpenBrace, CloseBrace}
 use Rattle.grammar.specs.Lexeme.{Lexeme, Ident, Mark}
-use Rattle.grammar.specs.Grammar.{Grammar, token, mark, only, ◌∙◌, ◌∣◌, ◌⇒◌, IsMany, many, behind, listed, braces}
-use Rattle.grammar.specs.Reading.{Limit, Unexpected, Beyond, Read, Reader, ◌>>=◌, stop, closed_at, behind_commas_at, listed_at, named_at}
+use Rattle.grammar.specs.Grammar.{Grammar, token, mark, ◌∙◌, ◌∣◌, ◌⇒◌, many, behind, listed, braces}
+use Rattle.grammar.specs.Reading.{Limit, Read, Reader, ◌>>=◌, stop, closed_at, behind_commas_at, listed_at, named_at}
 use Rattle.grammar.specs.Laws.{Sound, Follows, Passes, Stands, Finds, then_read, seq_sound, commas_sound, passes_on, passes_made, seq_front, seq_whole, seq_part, is_comma, begins, follows_many, commas_front, commas_whole}
 
 -- ---- what is read is so

@@ -1,8 +1,8 @@
 -- Numbers under a limit.
-use Rattle.std.proofs.Common.{◌≡◌, ℕ, zero, suc, ◌≤◌, inl, inr, Bool, true, false, List, [], ◌∷◌, ◌++◌, length, Ok, Err, refl, sym, ap, subst, append_assoc, arith, length-append, ◌∙◌ as ◌⋆◌}
+use Rattle.std.proofs.Common.{◌≡◌, ℕ, zero, suc, ◌≤◌, inl, inr, Bool, true, false, List, [], ◌∷◌, ◌++◌, length, Err, refl, sym, ap, append_assoc, arith, ◌∙◌ as ◌⋆◌}
 use Rattle.grammar.specs.Lexeme.{Lexeme, Number}
 use Rattle.grammar.specs.Grammar.{Grammar}
-use Rattle.grammar.specs.Reading.{Limit, Integer, Fault, Unexpected, Beyond, Read, fitting}
+use Rattle.grammar.specs.Reading.{Limit, Integer, Beyond, Read, fitting}
 use Rattle.grammar.specs.Laws.{more, Sound, Passes, Stands, passes_on}
 
 -- what is asked where a limit's fault stands behind the lexeme that passes it

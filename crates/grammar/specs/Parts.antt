@@ -1,10 +1,9 @@
 -- Laws of whole productions, made of those of their parts.
-use Rattle.std.proofs.Common.{◌≡◌, ℕ, zero, suc, ◌≤◌, ◌⊎◌, inl, inr, Bool, true, false, List, [], ◌∷◌, ◌++◌, length, Option, Some, None, Ok, Err, refl, sym, ap, subst, ◌∙◌ as ◌⋆◌, append_assoc, arith, length-append}
-use Rattle.std.proofs.lemmas.List.{append-nil}
+use Rattle.std.proofs.Common.{◌≡◌, ℕ, ◌≤◌, inl, inr, Bool, true, false, List, [], ◌∷◌, ◌++◌, length, Option, Some, None, Ok, Err, refl, sym, ap, subst, ◌∙◌ as ◌⋆◌, arith}
 use Rattle.grammar.specs.Lexeme.{Lexeme}
-use Rattle.grammar.specs.Grammar.{Grammar, token, ◌∙◌, ◌∣◌, ◌⇒◌, IsMany, many, IsOptional, optional, cut_off}
-use Rattle.grammar.specs.Reading.{Limit, Unexpected, Beyond, Read, Reader, ◌>>=◌, stop, goes_on_if, many_at}
-use Rattle.grammar.specs.Laws.{Sound, Follows, Passes, Stands, Finds, then_read, seq_sound, passes_on, passes_made, stands_made, seq_front, seq_whole, seq_part}
+use Rattle.grammar.specs.Grammar.{Grammar, token, ◌∙◌, ◌∣◌, ◌⇒◌, optional, cut_off}
+use Rattle.grammar.specs.Reading.{Limit, Read, Reader, ◌>>=◌, stop}
+use Rattle.grammar.specs.Laws.{Sound, Follows, Passes, Stands, Finds, then_read, passes_made, stands_made, seq_front, seq_whole, seq_part}
 use Rattle.grammar.specs.Lists.{IsSolid, head_is, seq_first, seq_solid, no_lexeme, left_sound, right_sound}
 
 abbrev pub SoundReader : {A : Type 0} → (Limit → ℕ) → Grammar A → Reader A → Type 0

@@ -1,6 +1,7 @@
 -- Reading from left to right, with the first fault that is met.
-use Rattle.std.specs.Prelude.{◌≡◌, ℕ, zero, suc, List, [], ◌∷◌, ◌++◌, length, Option, Some, None, Bool, true, false, Result, Ok, Err, if◌then◌else◌}
-use Rattle.text.specs.declared.token.Mark.TheVariants.{Comma, OpenBrace, CloseBrace, OpenParenthesis, CloseParenthesis}
+use Rattle.std.specs.Prelude.{◌⊎◌, ℕ, zero, suc, List, [], ◌∷◌, ◌++◌, length, Option, Some, None, Bool, true, false, Result, Ok, Err}
+use Rattle.std.proofs.Common.{inl, inr}
+use Rattle.text.specs.declared.token.Mark.TheVariants.{Colon, Comma, Ellipsis, OpenBrace, CloseBrace, OpenParenthesis, CloseParenthesis, OpenVersion, CloseVersion}
 use Rattle.grammar.specs.Lexeme.{Lexeme, Ident, Number, Mark}
 
 pub data Limit : Type 0 where
@@ -100,3 +101,71 @@ goes_on_if false ts read = Ok ([], ts)
 unfoldable pub many_at : {A : Type 0} → (Lexeme → Bool) → Reader A → ℕ → Reader (List A)
 many_at begins read (suc k) (t ∷ ts) = goes_on_if (begins t) (t ∷ ts) (read (t ∷ ts) >>= λ x. many_at begins read k x.1 >>= λ xs. Ok (x.0 ∷ xs.0, xs.1))
 many_at begins read k ts = Ok ([], ts)
+
+-- a part in braces, where n more things may be open
+unfoldable pub inside_at : {A : Type 0} → Reader A → Reader A
+inside_at read ts = read ts >>= λ x. closed_at x.1 >>= λ c. Ok (x.0, c.1)
+
+unfoldable pub braces_at : {A : Type 0} → ℕ → Reader A → Reader A
+braces_at n read (Mark OpenBrace ∷ rest) = opened n (Mark OpenBrace ∷ rest) (inside_at read rest)
+braces_at n read ts = stop ts
+
+-- ---- lists with an extension marker
+
+-- the parts before the marker, and those behind it, if it is there
+abbrev pub Extensible : Type 0 → Type 0 → Type 0
+Extensible A B = List A × Option (List B)
+
+unfoldable pub next_marker : List Lexeme → Option (List Lexeme)
+next_marker (Mark Ellipsis ∷ rest) = Some rest
+next_marker ts = None
+
+-- behind the marker
+unfoldable pub additions_at : {A B : Type 0} → Reader B → Reader (Extensible A B)
+additions_at read ts = behind_commas_at read (length ts) ts >>= λ ys. Ok (([], Some ys.0), ys.1)
+
+abbrev pub put : {A B : Type 0} → A → Read (Extensible A B) → Read (Extensible A B)
+put x r = r >>= λ e. Ok ((x ∷ e.0.0, e.0.1), e.1)
+
+-- the marker, or a part and what more reads
+abbrev pub or_marker : {A B : Type 0} → Reader A → Reader B → Reader (Extensible A B) → Option (List Lexeme) → Reader (Extensible A B)
+or_marker ra rb more (Some rest) ts = additions_at rb rest
+or_marker ra rb more None ts = ra ts >>= λ x. put x.0 (more x.1)
+
+-- What stands behind the next commas; no more than k of them are passed.
+unfoldable pub more_at : {A B : Type 0} → Reader A → Reader B → ℕ → Reader (Extensible A B)
+more_at ra rb (suc k) (Mark Comma ∷ rest) = or_marker ra rb (more_at ra rb k) (next_marker rest) rest
+more_at ra rb k ts = Ok (([], None), ts)
+
+unfoldable pub extensible_at : {A B : Type 0} → Reader A → Reader B → Reader (Extensible A B)
+extensible_at ra rb ts = ra ts >>= λ x. put x.0 (more_at ra rb (length x.1) x.1)
+
+unfoldable pub rootless_at : {A B : Type 0} → Reader A → Reader B → Reader (Extensible A B)
+rootless_at ra rb ts = or_marker ra rb (λ us. more_at ra rb (length us) us) (next_marker ts) ts
+
+-- what is read behind a root that is read already
+abbrev pub with_root : {A B : Type 0} → List A → Read (Extensible A B) → Read (Extensible A B)
+with_root front r = r >>= λ e. Ok ((front ++ e.0.0, e.0.1), e.1)
+
+-- ---- version brackets
+
+unfoldable pub colon_at : Reader (Unit {0})
+colon_at (Mark Colon ∷ rest) = Ok (tt, rest)
+colon_at ts = stop ts
+
+unfoldable pub close_version_at : Reader (Unit {0})
+close_version_at (Mark CloseVersion ∷ rest) = Ok (tt, rest)
+close_version_at ts = stop ts
+
+-- the number of the brackets, if it is given
+unfoldable pub version_at : (ℕ → Bool) → Reader (Unit {0})
+version_at fits (Number n ∷ rest) = fitting (fits n) (Number n ∷ rest) (colon_at rest)
+version_at fits ts = Ok (tt, ts)
+
+-- behind the opening brackets
+unfoldable pub version_parts_at : {A : Type 0} → (ℕ → Bool) → Reader A → Reader (A ⊎ List A)
+version_parts_at fits read ts = version_at fits ts >>= λ v. listed_at read v.1 >>= λ xs. close_version_at xs.1 >>= λ c. Ok (inr xs.0, c.1)
+
+unfoldable pub addition_at : {A : Type 0} → (ℕ → Bool) → Reader A → Reader (A ⊎ List A)
+addition_at fits read (Mark OpenVersion ∷ rest) = version_parts_at fits read rest
+addition_at fits read ts = read ts >>= λ x. Ok (inl x.0, x.1)

@@ -1,5 +1,5 @@
 -- What a reader answers for the tokens of a text.
-use Rattle.std.proofs.Common.{◌≡◌, ℕ, Bool, ◌-◌, ◌≤◌, List, length, take, drop, map, Ok, Err, sym, ap, subst, ◌∙◌ as ◌⋆◌, arith, length-drop}
+use Rattle.std.proofs.Common.{◌≡◌, ℕ, ◌-◌, ◌≤◌, List, length, take, drop, Ok, Err, sym, ap, subst, ◌∙◌ as ◌⋆◌, arith, length-drop}
 use Rattle.std.proofs.lemmas.List.{take_all, drop-map, length-map}
 use Rattle.text.specs.declared.token.Token.{Token}
 use Rattle.grammar.specs.Lexeme.{Lexeme, lexeme_of, lexemes}

@@ -1,5 +1,4 @@
 pub mod Typing
-pub mod Openings
 pub mod TypeWords
 pub mod TypeLexemes
 pub mod TypeParts

@@ -24,7 +24,7 @@ use Rattle.type_syntax.specs.TypeReading.{tag_fits, string_at, type_in_at, ref_a
 use Rattle.grammar.specs.Single.{is_closed, closed_is, is_typeref, typeref_is}
 use Rattle.type_syntax.proofs.TypeLexemes.{is_bit_word, is_integer_word, is_string_word, is_enumerated_word, is_sequence_word, is_set_word, is_implicit_word, is_explicit_word, is_application_word, is_private_word, is_dot, is_minus, rule_bit_word, rule_integer_word, rule_string_word, rule_enumerated_word, rule_sequence_word, rule_set_word, rule_implicit_word, rule_explicit_word, rule_application_word, rule_private_word, rule_dot, rule_minus, digits_at, rule_digits, rule_bracket}
 use Rattle.type_syntax.proofs.TypeWords.{TagRule, rule_tag_number}
-use Rattle.type_syntax.proofs.Openings.{loosely, loose_read, rule_named, made_made, opened_made, rule_both, opened_by, is_lbrace, inside, rule_braces}
+use Rattle.grammar.specs.Openings.{loosely, loose_read, rule_named, made_made, opened_made, rule_both, opened_by, is_lbrace, inside, rule_braces}
 
 -- ---- lists as far as a brace
 

@@ -28,7 +28,7 @@ use Rattle.grammar.specs.Single.{is_closed, closed_is, is_typeref}
 use Rattle.type_syntax.proofs.TypeLexemes.{is_object_word, is_octet_word, is_bit_word, is_integer_word, is_enumerated_word, is_choice_word, is_sequence_word, is_set_word, is_of_word, of_word_one, is_optional_word, is_default_word, is_open_bracket, open_bracket_one, is_application_word, is_private_word, is_dot, rule_object_word, rule_octet_word, rule_choice_word, rule_optional_word, rule_default_word, rule_string, rule_identifier}
 use Rattle.type_syntax.proofs.TypeWords.{is_type_word, rule_one_word, TagRule}
 use Rattle.type_syntax.proofs.TypeParts.{close_apart, rule_list_in, which_read, rule_which, is_keyword, loose_keyword, ref_read, ref_same, rule_ref, integer_read, integer_same, rule_integer, bits_read, bits_same, rule_bit_string, items_read, items_same, rule_enumerated, rule_tag}
-use Rattle.type_syntax.proofs.Openings.{loosely, loose_read, rule_both, rule_named, after_made, after_some, opened_made, IsOpenable, opened_by, is_lbrace, inside, rule_opens, rule_braces}
+use Rattle.grammar.specs.Openings.{loosely, loose_read, rule_both, rule_named, after_made, after_some, opened_made, IsOpenable, opened_by, is_lbrace, inside, rule_opens, rule_braces}
 
 -- ---- what a type begins with, and what goes on with it
 

@@ -1,15 +1,15 @@
--- What is owed where something is opened, and small rules that types need.
+-- What is owed where something is opened, and small rules.
 use Rattle.std.proofs.Common.{◌≡◌, ℕ, zero, suc, ◌+◌, ◌≤◌, inl, inr, Bool, true, false, List, [], ◌∷◌, ◌++◌, length, Option, Some, Ok, Err, refl, sym, ap, subst, ◌∙◌ as ◌⋆◌, arith}
 use Rattle.text.specs.declared.token.Mark.TheVariants.{OpenBrace, CloseBrace}
 use Rattle.grammar.specs.Lexeme.{Lexeme, Ident, Mark}
-use Rattle.grammar.specs.Grammar.{Grammar, token, mark, only, ◌∙◌, ◌⇒◌, behind, braces, cut_off}
+use Rattle.grammar.specs.Grammar.{Grammar, token, mark, only, ◌∙◌, ◌⇒◌, behind, braces, cut_off, opens}
 use Rattle.grammar.specs.Grows.{same_grows}
-use Rattle.grammar.specs.Reading.{Limit, Nesting, Read, Reader, stop, opened, named_at}
+use Rattle.grammar.specs.Reading.{Limit, Nesting, Read, Reader, stop, closed_at, opened, inside_at, braces_at, named_at}
 use Rattle.grammar.specs.Laws.{more, Sound, Follows, Passes, Stands, Finds, passes_on, then_read, after_read}
-use Rattle.grammar.specs.Lists.{is_ident, seq_first, seq_solid, named_sound, finds_named}
+use Rattle.grammar.specs.Single.{is_closed, closed_is}
+use Rattle.grammar.specs.Lists.{no_lexeme, is_ident, seq_first, seq_solid, named_sound, finds_named}
 use Rattle.grammar.specs.Parts.{SoundReader, token_finds, token_solid, cut_off_finds, cut_off_solid, pair_sound, pair_finds, pair_solid, same_sound, same_finds}
-use Rattle.grammar.specs.Rules.{Owes, OwesLoosely, Same, rule_token, rule_behind, rule_read, rule_same, made, read_again, taken, one_at, one_is}
-use Rattle.type_syntax.specs.TypeGrammar.{opens}
+use Rattle.grammar.specs.Rules.{Owes, OwesLoosely, Same, either, rule_token, rule_seq, rule_lead, rule_behind, rule_read, rule_same, made, read_again, taken, one_at, one_is}
 
 -- ---- small rules
 
@@ -191,3 +191,33 @@ pub rule_braces : {A : Type 0} {s f : Type 0} {over : Limit → ℕ} {within : L
     → (IsOpenable n → Owes s f over within (inside a) starts ends read) → Owes s f over within (opens m (braces a)) is_lbrace ends (opened_by is_lbrace n read)
 rule_braces a n m fit deep part k =
     rule_same (opens m (braces a)) (opens_same m (behind (Mark OpenBrace) (inside a)) (braces a) (braces_same a)) (rule_opens (Mark OpenBrace) is_lbrace refl lbrace_one (inside a) n m fit deep part k)
+
+inside_same : {A : Type 0} (read : Reader A) (ts : List Lexeme) → then_read (λ (p : A × Unit {0}). p.0) read closed_at ts ≡ inside_at read ts
+unfolding inside_at
+inside_same read ts = refl
+
+braces_read : {A : Type 0} (n : ℕ) (read : Reader A) (ts : List Lexeme) → opened_by is_lbrace n (inside_at read) ts ≡ braces_at n read ts
+unfolding braces_at
+braces_read n read [] = refl
+braces_read n read (Mark OpenBrace ∷ ts) = refl
+braces_read n read (t ∷ ts) = refl
+
+closed_one : (t : Lexeme) → is_closed t ≡ true → t ≡ Mark CloseBrace
+closed_one (Mark CloseBrace) e = refl
+closed_one t e = absurd cc
+
+close_apart : (ends : Lexeme → Bool) → ends (Mark CloseBrace) ≡ false → (t : Lexeme) → is_closed t ≡ true → ends t ≡ false
+close_apart ends e t h = subst (λ (t : Lexeme). ends t ≡ false) (sym (closed_one t h)) e
+
+-- what is not empty, as far as the closing brace
+pub rule_inside : {A : Type 0} {s f : Type 0} {over : Limit → ℕ} {within : Limit → Type 0} {a : Grammar A} {starts ends : Lexeme → Bool} {read : Reader A} → Owes s f over within a starts ends read → ends (Mark CloseBrace) ≡ false → Owes s f over within (inside a) starts no_lexeme (inside_at read)
+rule_inside {A} {s} {f} {over} {within} {a} {starts} {ends} {read} k e = rule_read (inside_at read) (inside_same read) (rule_seq (λ p. p.0) k (rule_token closed_is) (close_apart ends e))
+
+-- what may be empty, as far as the closing brace
+pub rule_inside_loose : {A : Type 0} {s f : Type 0} {over : Limit → ℕ} {within : Limit → Type 0} {a : Grammar A} {starts ends : Lexeme → Bool} {read : Reader A} → OwesLoosely s f over within a starts ends read → ends (Mark CloseBrace) ≡ false → Owes s f over within (inside a) (either starts is_closed) no_lexeme (inside_at read)
+rule_inside_loose {A} {s} {f} {over} {within} {a} {starts} {ends} {read} k e = rule_read (inside_at read) (inside_same read) (rule_lead (λ p. p.0) k (rule_token closed_is) (close_apart ends e))
+
+-- in braces: n more things may be open for the reader, and m for the grammar
+pub rule_in_braces : {A : Type 0} {s f : Type 0} {over : Limit → ℕ} {within : Limit → Type 0} (a : Grammar A) {starts : Lexeme → Bool} (read : Reader A) (n m : ℕ) → (s → m ≡ over Nesting + n) → (f → within Nesting → m ≤ n) → (f → (x : A) (u : List Lexeme) → (inside a).Is x u → (inside a).CanGoOn u)
+    → (IsOpenable n → Owes s f over within (inside a) starts no_lexeme (inside_at read)) → Owes s f over within (opens m (braces a)) is_lbrace no_lexeme (braces_at n read)
+rule_in_braces {A} {s} {f} {over} {within} a {starts} read n m fit deep part k = rule_read (braces_at n read) (braces_read n read) (rule_braces a n m fit deep part k)
