@@ -4,9 +4,9 @@ use Rattle.std.specs.Prelude.{IfSome, MatchOption}
 use Rattle.std.specs.Borrow.{Bor}
 use Rattle.std.proofs.lemmas.Str.Pattern.{IsSplitOnceResult, split_parts, split_after}
 use Rattle.trees.specs.Values.{Name}
-use Rattle.resolve.specs.declared.names.Assigned.{Assigned}
-use Rattle.resolve.specs.declared.names.Assigned.TheVariants as assigned
-use Rattle.resolve.specs.Names.{Meaning}
+use Rattle.names.specs.declared.scope.Assigned.{Assigned}
+use Rattle.names.specs.declared.scope.Assigned.TheVariants as assigned
+use Rattle.names.specs.Names.{Meaning}
 use Rattle.resolve.specs.Program.{Program, IsThere}
 use Rattle.asnc.specs.Named.{IsQualified, IsNamed}
 

@@ -11,8 +11,8 @@ use Rattle.asn_base.specs.Types.{Resolved}
 use Rattle.syntax.specs.Syntax.{module_text}
 use Rattle.trees.specs.declared.module.Module.{Module}
 use Rattle.trees.specs.Modules.{ModuleTree, module_tree_of}
-use Rattle.resolve.specs.declared.fault.NameFault.{NameFault}
-use Rattle.resolve.specs.declared.fault.NameFault.TheVariants as names
+use Rattle.names.specs.declared.fault.NameFault.{NameFault}
+use Rattle.names.specs.declared.fault.NameFault.TheVariants as names
 use Rattle.resolve.specs.Links.{Links, IsLinkFault}
 use Rattle.resolve.specs.Program.{Program}
 use Rattle.messages.specs.declared.fault.Fault.{Fault}

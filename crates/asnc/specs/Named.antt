@@ -1,9 +1,9 @@
 -- What a text of the form Module.Name names in a program (X.680, 14.1).
 use Rattle.std.specs.Prelude.{◌≡◌, ℕ, ◌<◌, List, ◌++◌, ◌∷◌, length, get_or}
 use Rattle.trees.specs.Values.{Name}
-use Rattle.resolve.specs.declared.names.Assigned.{Assigned}
-use Rattle.resolve.specs.declared.names.Assigned.TheVariants as assigned
-use Rattle.resolve.specs.Names.{Meaning}
+use Rattle.names.specs.declared.scope.Assigned.{Assigned}
+use Rattle.names.specs.declared.scope.Assigned.TheVariants as assigned
+use Rattle.names.specs.Names.{Meaning}
 use Rattle.resolve.specs.Program.{Program}
 
 -- a module's name, in which no dot stands, a dot, and a name

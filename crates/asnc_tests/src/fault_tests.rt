@@ -2,7 +2,7 @@
 
 use asnc::{Construct, Fault, Given, Job, ValueFault, Verb, number, report, status};
 use notation::SyntaxFault;
-use resolve::{Limit, NameFault};
+use names::{Limit, NameFault};
 use std::alloc::{AllocError, Global};
 use std::test::*;
 use text::LexFault;

@@ -3,9 +3,9 @@ use Rattle.std.proofs.Common.{◌≡◌, ◌⊎◌, ◌↔◌, inl, inr, ℕ, ze
 use Rattle.std.specs.Prelude.{slice_get, Result, Ok, Err, IfOk, IfErr, MatchResult}
 use Rattle.std.proofs.lemmas.Option.{slice_get_within}
 use Rattle.trees.specs.Values.{Name, Tree, reference}
-use Rattle.resolve.specs.declared.names.Assigned.{Assigned}
-use Rattle.resolve.specs.declared.names.Assigned.TheVariants as assigned
-use Rattle.resolve.specs.Names.{Module, Meaning, Refers, bare, within, across}
+use Rattle.names.specs.declared.scope.Assigned.{Assigned}
+use Rattle.names.specs.declared.scope.Assigned.TheVariants as assigned
+use Rattle.names.specs.Names.{Module, Meaning, Refers, bare, within, across}
 use Rattle.resolve.specs.Program.{Program, IsThere, IsWhole}
 use Rattle.first_path.specs.Walks.{onward, walk, EndsAt, ComesBack, Reaches, IsWithin}
 use Rattle.first_path.specs.Notations.{IsOwn, IsValueAt, IsLast, own, referred, IsValueLast, MeansValue, RefersTo, listed, AreReferred}

@@ -10,7 +10,7 @@ use Rattle.asn_base.specs.Seen.{component_of}
 use Rattle.trees.specs.Values.{Name, member_of}
 use Rattle.trees.specs.declared.value.Named.{Named}
 use Rattle.trees.specs.declared.value.ValueSyntax.{ValueSyntax}
-use Rattle.resolve.specs.Modules.{StandsIn, StandsTwice, AreDistinct}
+use Rattle.names.specs.Modules.{StandsIn, StandsTwice, AreDistinct}
 use Rattle.first_path.specs.Wrong.{component_names, field_names, AreIn}
 use Rattle.first_path.proofs.Lists.{seen_here}
 

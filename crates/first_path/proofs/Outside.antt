@@ -7,11 +7,11 @@ use Rattle.trees.specs.declared.value.ValueSyntax.{ValueSyntax}
 use Rattle.trees.specs.declared.value.ValueSyntax.TheVariants as values
 use Rattle.trees.specs.declared.value.ValueSyntax.TheOpen as open_
 use Rattle.trees.specs.declared.value.ValueSyntax.TheFolds.{fold-roll-ValueSyntax}
-use Rattle.resolve.specs.Modules.{StandsIn}
-use Rattle.resolve.specs.declared.table.ListKind.TheVariants.{Sequence}
-use Rattle.resolve.specs.declared.table.ElementsKind.{ElementsKind}
-use Rattle.resolve.specs.Table.{Part, Plain, Kind, simple, elements, Type'}
-use Rattle.resolve.specs.Table as tables
+use Rattle.names.specs.Modules.{StandsIn}
+use Rattle.type_table.specs.declared.table.ListKind.TheVariants.{Sequence}
+use Rattle.type_table.specs.declared.table.ElementsKind.{ElementsKind}
+use Rattle.type_table.specs.Table.{Part, Plain, Kind, simple, elements, Type'}
+use Rattle.type_table.specs.Table as tables
 use Rattle.trees.specs.Types.{mandatory}
 use Rattle.first_path.specs.declared.fault.Construct.{Construct}
 use Rattle.first_path.specs.declared.fault.Construct.TheVariants as constructs

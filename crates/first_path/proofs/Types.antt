@@ -16,16 +16,16 @@ use Rattle.asn_base.specs.declared.schema.Core.TheVariants as cores
 use Rattle.asn_base.specs.declared.schema.Resolved.{Resolved as Resolved'}
 use Rattle.trees.specs.declared.types.NamedNumber.{NamedNumber}
 use Rattle.trees.specs.Types.{number_of}
-use Rattle.resolve.specs.declared.table.Simple.{Simple}
-use Rattle.resolve.specs.declared.table.Simple.TheVariants as simples
-use Rattle.resolve.specs.declared.table.Shape.{Shape}
-use Rattle.resolve.specs.declared.table.Shape.TheVariants as shapes
-use Rattle.resolve.specs.declared.table.ListKind.{ListKind}
-use Rattle.resolve.specs.declared.table.ListKind.TheVariants as lists
-use Rattle.resolve.specs.Seen.{kind_of, plain_of}
-use Rattle.resolve.specs.Modules as twice
-use Rattle.resolve.specs.Sound.{AreSound, IsSoundKind}
-use Rattle.resolve.specs.Table.{an_integer, Part, Kind, simple, reference, tagged, members, elements, Type', behind, behind_of, IsLinked}
+use Rattle.type_table.specs.declared.table.Simple.{Simple}
+use Rattle.type_table.specs.declared.table.Simple.TheVariants as simples
+use Rattle.type_table.specs.declared.table.Shape.{Shape}
+use Rattle.type_table.specs.declared.table.Shape.TheVariants as shapes
+use Rattle.type_table.specs.declared.table.ListKind.{ListKind}
+use Rattle.type_table.specs.declared.table.ListKind.TheVariants as lists
+use Rattle.type_table.specs.Seen.{kind_of, plain_of}
+use Rattle.names.specs.Modules as twice
+use Rattle.type_table.specs.Lists.{AreSound, IsSoundKind}
+use Rattle.type_table.specs.Table.{an_integer, Part, Kind, simple, reference, tagged, members, elements, Type', behind, behind_of, IsLinked}
 use Rattle.first_path.specs.FirstPath.{IsBasic, Unfolds, IsFirstMember, IsFirstKind, IsFirstType, PartsInside}
 use Rattle.first_path.specs.Resolving.{IsComponent, IsKind, boolean, integer, octet_string, sequence, IsUniversal, IsTypeOf, AreTypes}
 use Rattle.first_path.proofs.Lists.{all_at, all_by_index, get_push, some_below}

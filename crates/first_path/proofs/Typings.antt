@@ -1,7 +1,6 @@
 -- Notations and their values.
-use Rattle.std.proofs.Common.{◌≡◌, inl, inr, ℕ, zero, suc, ◌+◌, ◌<◌, ◌≤◌, List, [], ◌∷◌, ◌++◌, length, map, take, Option, Some, None, refl, sym, ap, ◌∙◌, option_map, string_bytes, subst, get_or}
+use Rattle.std.proofs.Common.{◌≡◌, inl, inr, ℕ, zero, suc, ◌+◌, ◌<◌, ◌≤◌, List, [], ◌∷◌, ◌++◌, length, map, take, Option, Some, None, refl, sym, ap, ◌∙◌, option_map, string_bytes, subst, get_or, Bool, true, false, not}
 use Rattle.std.specs.Prelude.{slice_get, bytes_eq, Result, Ok, Err, IfOk, IfErr, Vec}
-use Rattle.std.proofs.Common.{Bool, true, false, not}
 use Rattle.std.specs.Global.{Global}
 use Rattle.asn_base.specs.declared.schema.Resolved.{Resolved as Resolved'}
 use Rattle.asn_base.specs.declared.schema.Core.TheVariants as cores

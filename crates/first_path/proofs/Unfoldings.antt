@@ -1,12 +1,11 @@
 -- Types behind their references, and what this compiler takes of them.
-use Rattle.std.proofs.Common.{◌≡◌, ℕ, zero, suc, ◌<◌, List, [], ◌∷◌, length, Option, Some, None, refl, sym, ap, ◌∙◌, subst}
-use Rattle.std.proofs.Common.{Bool, true, false}
+use Rattle.std.proofs.Common.{◌≡◌, ℕ, zero, suc, ◌<◌, List, [], ◌∷◌, length, Option, Some, None, refl, sym, ap, ◌∙◌, subst, Bool, true, false}
 use Rattle.std.specs.Prelude.{slice_get, slice_index_or, MatchOption}
 use Rattle.trees.specs.Values.{Name}
 use Rattle.std.proofs.lemmas.Option.{slice_get_within}
 use Rattle.trees.specs.Types.{mandatory}
-use Rattle.resolve.specs.Table as table
-use Rattle.resolve.specs.Table.{Part, Kind, simple, reference, tagged, members, elements, Type', next, IsCore, IsCircular, IsLinked}
+use Rattle.type_table.specs.Table as table
+use Rattle.type_table.specs.Table.{Part, Kind, simple, reference, tagged, members, elements, Type', next, IsCore, IsCircular, IsLinked}
 use Rattle.asn_base.specs.Names.{is_identifier, IsIdentifier}
 use Rattle.first_path.specs.Walks.{onward, walk, EndsAt}
 use Rattle.first_path.specs.FirstPath.{IsBasic, Unfolds, IsFirstMember, IsFirstKind, IsFirstType, PartsInside}

@@ -6,8 +6,8 @@ use Rattle.trees.specs.Values as trees
 use Rattle.trees.specs.Values.{Name, Tree, Members, no_member, member_and}
 use Rattle.trees.specs.declared.module.TagDefault.TheVariants.{Explicit}
 use Rattle.trees.specs.Types.{mandatory}
-use Rattle.resolve.specs.declared.table.ListKind.TheVariants.{Sequence}
-use Rattle.resolve.specs.Table.{a_boolean, an_integer, an_octet_string, Part, Kind, simple, reference, members, Type', IsCore}
+use Rattle.type_table.specs.declared.table.ListKind.TheVariants.{Sequence}
+use Rattle.type_table.specs.Table.{a_boolean, an_integer, an_octet_string, Part, Kind, simple, reference, members, Type', IsCore}
 use Rattle.resolve.specs.Program.{Program}
 
 -- BOOLEAN, INTEGER with no named numbers, and OCTET STRING

@@ -6,16 +6,16 @@ use Rattle.trees.specs.Values.{Name, Tree, Members}
 use Rattle.trees.specs.declared.module.TagDefault.{TagDefault}
 use Rattle.trees.specs.declared.module.TagDefault.TheVariants as defaults
 use Rattle.trees.specs.Types.{mandatory, optional, default}
-use Rattle.resolve.specs.declared.table.ListKind.{ListKind}
-use Rattle.resolve.specs.declared.table.ListKind.TheVariants as lists
-use Rattle.resolve.specs.declared.table.ElementsKind.{ElementsKind}
-use Rattle.resolve.specs.declared.table.ElementsKind.TheVariants as several
-use Rattle.resolve.specs.declared.table.Header.{Header}
-use Rattle.resolve.specs.Modules.{StandsIn}
+use Rattle.type_table.specs.declared.table.ListKind.{ListKind}
+use Rattle.type_table.specs.declared.table.ListKind.TheVariants as lists
+use Rattle.type_table.specs.declared.table.ElementsKind.{ElementsKind}
+use Rattle.type_table.specs.declared.table.ElementsKind.TheVariants as several
+use Rattle.names.specs.declared.sources.Header.{Header}
+use Rattle.names.specs.Modules.{StandsIn}
 use Rattle.resolve.specs.Program.{Program}
 use Rattle.resolve.specs.Sound.{IsAssignment}
 use Rattle.resolve.specs.SoundFaults.{IsTypeIn, IsValueIn}
-use Rattle.resolve.specs.Table.{Plain, a_boolean, an_integer, a_bit_string, an_octet_string, a_null, an_object_identifier, an_enumerated, a_utf8_string, a_numeric_string, a_printable_string, an_ia5_string, a_visible_string, Part, Kind, simple, reference, tagged, members, elements, Type'}
+use Rattle.type_table.specs.Table.{Plain, a_boolean, an_integer, a_bit_string, an_octet_string, a_null, an_object_identifier, an_enumerated, a_utf8_string, a_numeric_string, a_printable_string, an_ia5_string, a_visible_string, Part, Kind, simple, reference, tagged, members, elements, Type'}
 use Rattle.first_path.specs.declared.fault.Construct.{Construct}
 use Rattle.first_path.specs.declared.fault.Construct.TheVariants as constructs
 use Rattle.first_path.specs.declared.fault.ProgramFault.{ProgramFault}

@@ -1,5 +1,5 @@
 -- The value that a notation stands for under a type (X.680, 13.2, 17, 18.3, 19.9, 23.3 and 25.18).
-use Rattle.std.specs.Prelude.{◌≡◌, ◌↔◌, ⊤, ℕ, zero, suc, ◌+◌, ◌*◌, ◌<◌, ℤ, pos, negsuc, Bool, true, false, List, [], ◌∷◌, ◌++◌, length, take, drop, replicate, Option, Some, None, slice_get, slice_index}
+use Rattle.std.specs.Prelude.{◌≡◌, ◌↔◌, ⊤, ℕ, zero, suc, ◌+◌, ◌*◌, ◌<◌, ℤ, pos, negsuc, Bool, true, false, List, [], ◌∷◌, ◌++◌, length, take, drop, replicate, Option, Some, None, slice_get, slice_index, ◌⊎◌, string_bytes}
 use Rattle.std.specs.Int.Digits.{number_from_digits, AllBelowBase}
 use Rattle.asn_base.specs.declared.tag.Tag.{Tag}
 use Rattle.asn_base.specs.Abstract.{AbstractValue, boolean, integer, octets, fields, Row, end, present}
@@ -7,11 +7,11 @@ use Rattle.asn_base.specs.Types.{Kind, a_boolean, an_integer, an_octet_string, a
 use Rattle.asn_base.specs.Typed.{IsWithinLimit}
 use Rattle.trees.specs.Values.{Name, Tree, yes, no, null, number, binary, hex, chars, reference, chosen, nothing, numbers, items, Members, no_member, member_and}
 use Rattle.trees.specs.Values as trees
-use Rattle.resolve.specs.declared.names.Assigned.TheVariants as assigned
-use Rattle.resolve.specs.Names.{Refers}
-use Rattle.resolve.specs.Program.{Program, Value}
+use Rattle.names.specs.declared.scope.Assigned.TheVariants as assigned
+use Rattle.names.specs.Names.{Refers}
+use Rattle.resolve.specs.Program.{Program}
+use Rattle.names.specs.Sources.{Value}
 use Rattle.resolve.specs.Sound.{IsAssignment}
-use Rattle.std.specs.Prelude.{◌⊎◌, string_bytes}
 use Rattle.first_path.specs.declared.fault.ValueFault.{ValueFault}
 use Rattle.first_path.specs.declared.fault.ValueFault.TheVariants as faults
 

@@ -5,8 +5,8 @@ use Rattle.asn_base.specs.declared.tag.Tag.{Tag}
 use Rattle.asn_base.specs.declared.tag.Class.TheVariants as classes
 use Rattle.asn_base.specs.Types.{Component, Resolved, mandatory}
 use Rattle.asn_base.specs.Types as kinds
-use Rattle.resolve.specs.declared.table.ListKind.TheVariants.{Sequence}
-use Rattle.resolve.specs.Table.{a_boolean, an_integer, an_octet_string, Part, Kind, simple, members, Type'}
+use Rattle.type_table.specs.declared.table.ListKind.TheVariants.{Sequence}
+use Rattle.type_table.specs.Table.{a_boolean, an_integer, an_octet_string, Part, Kind, simple, members, Type'}
 use Rattle.first_path.specs.FirstPath.{Unfolds}
 
 -- a member, as it is written, and as a component: its type has the same number (X.680, 25)

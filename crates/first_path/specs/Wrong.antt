@@ -6,8 +6,9 @@ use Rattle.asn_base.specs.Abstract.{AbstractValue}
 use Rattle.asn_base.specs.Types.{Kind, a_boolean, an_integer, an_octet_string, a_sequence, Component, Resolved, Is}
 use Rattle.asn_base.specs.Typed.{IsWithinLimit}
 use Rattle.trees.specs.Values.{Name, Tree, reference}
-use Rattle.resolve.specs.Modules.{StandsIn, StandsTwice, AreDistinct}
-use Rattle.resolve.specs.Program.{Program, Value}
+use Rattle.names.specs.Modules.{StandsIn, StandsTwice, AreDistinct}
+use Rattle.resolve.specs.Program.{Program}
+use Rattle.names.specs.Sources.{Value}
 use Rattle.resolve.specs.Sound.{IsAssignment}
 use Rattle.first_path.specs.declared.fault.ValueFault.{ValueFault}
 use Rattle.first_path.specs.declared.fault.ValueFault.TheVariants as faults

@@ -2,27 +2,26 @@
 
 ghost use Rattle.std.specs.Prelude.{◌≡◌, ◌<◌, ⊤, ℕ, MatchOption, MatchResult, IfErr, IfSome, OnOk, length, map, Some, slice_get};
 ghost use Rattle.std.specs.List.{AllByRecursion};
-ghost use Rattle.trees.specs.Values.{members, member_of, tree_of};
-ghost use Rattle.resolve.specs.Program.{Value};
-ghost use Rattle.resolve.specs.Seen.{header_of, kind_of, part_of, plain_of, type_of, types_of, value_of};
-ghost use Rattle.resolve.specs.Table.{IsLinked, Type', simple, members as list_of};
-ghost use Rattle.resolve.specs.declared.table.ListKind.TheVariants as lists;
+ghost use Rattle.trees.specs.Values.{members, member_of, tree_of, Name, Tree};
+ghost use Rattle.names.specs.Sources.{Value, header_of, value_of};
+ghost use Rattle.type_table.specs.Seen.{kind_of, part_of, plain_of, type_of, types_of};
+ghost use Rattle.type_table.specs.Table.{IsLinked, Type', simple, members as list_of, Part};
+ghost use Rattle.type_table.specs.declared.table.ListKind.TheVariants as lists;
 ghost use Rattle.trees.specs.declared.module.TagDefault.{TagDefault as TagDefault'};
 ghost use Rattle.trees.specs.declared.module.TagDefault.TheVariants as defaults;
-ghost use Rattle.trees.specs.Values.{Name};
 ghost use Rattle.first_path.specs.FirstPath.{IsBasic, IsFirstMember, IsFirstKind, IsFirstType, IsFirstNotation, AreFirstFields, IsFirstPath, PartsInside};
 ghost use Rattle.first_path.specs.LeftOut as out;
 ghost use Rattle.first_path.specs.LeftOut.{plain_construct, core_construct, tags_construct, IsPartOut, IsKindOut, IsTypeOut, IsNotationOut, IsOutsideFault, TellsAssignment, TellsModule};
-ghost use Rattle.resolve.specs.Modules.{StandsIn};
-ghost use Rattle.resolve.specs.Table.{Part};
-ghost use Rattle.trees.specs.Values.{Tree};
+ghost use Rattle.names.specs.Modules.{StandsIn};
 
 use crate::fault::{Construct, ProgramFault};
 use crate::program::{assigned, header_at, type_at, value_at};
 use crate::resolving::unfolded;
 use asn_base::name::is_identifier;
-use resolve::table::Header;
-use resolve::{Component, ElementsKind, Linked, ListKind, Shape, Simple, ValueAt, Written};
+use names::Header;
+use type_table::{Component, ElementsKind, ListKind, Shape, Simple, Written};
+use resolve::Linked;
+use names::ValueAt;
 use std::alloc::Global;
 use trees::{Named, PresenceSyntax, TagDefault, ValueSyntax};
 

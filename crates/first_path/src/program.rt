@@ -2,12 +2,15 @@
 
 ghost use Rattle.std.specs.Prelude.{◌≡◌, ◌<◌, ◌↔◌, ℕ, length, Some, slice_get, IfSome};
 ghost use Rattle.trees.specs.Values.{tree_of};
-ghost use Rattle.resolve.specs.Seen.{assignment_of, header_of, type_of, value_of};
+ghost use Rattle.names.specs.Sources.{assignment_of, header_of, value_of};
+ghost use Rattle.type_table.specs.Seen.{type_of};
 ghost use Rattle.resolve.specs.Sound.{IsAssignment};
 ghost use Rattle.first_path.specs.Notations.{IsValueAt, MeansValue, RefersTo};
 
-use resolve::table::Header;
-use resolve::{Assigned, Assignment, Linked, ValueAt, Written};
+use names::Header;
+use names::{Assigned, Assignment, ValueAt};
+use resolve::Linked;
+use type_table::Written;
 use trees::ValueSyntax;
 
 /// A module by its number.

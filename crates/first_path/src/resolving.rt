@@ -4,18 +4,18 @@ ghost use Rattle.std.specs.Prelude.{◌≡◌, ◌<◌, ℕ, IfOk, MatchOption, 
 ghost use Rattle.std.specs.List.{AllByRecursion, AllZip};
 ghost use Rattle.asn_base.specs.Accepted.{IsAccepted};
 ghost use Rattle.asn_base.specs.Seen.{component_of, resolved_of, types_of as resolved_types_of, kind_of as core_kind_of};
-ghost use Rattle.resolve.specs.Seen.{kind_of, part_of, type_of, types_of};
-ghost use Rattle.resolve.specs.Sound.{AreSound};
-ghost use Rattle.resolve.specs.Table.{IsLinked, Part as Part', members};
-ghost use Rattle.resolve.specs.declared.table.ListKind.TheVariants as lists;
+ghost use Rattle.type_table.specs.Seen.{kind_of, part_of, type_of, types_of};
+ghost use Rattle.type_table.specs.Lists.{AreSound};
+ghost use Rattle.type_table.specs.Table.{IsLinked, Part as Part', members};
+ghost use Rattle.type_table.specs.declared.table.ListKind.TheVariants as lists;
 ghost use Rattle.first_path.specs.FirstPath.{IsBasic, IsFirstType, Unfolds};
 ghost use Rattle.first_path.specs.Resolving.{AreTypes, IsComponent, IsKind, IsTypeOf, IsUniversal};
 
 use asn_base::constraint::Constraint;
 use asn_base::schema::{Component, Core, Presence, Resolved, TypeId};
 use asn_base::tag::{Class, Tag};
-use resolve::unfolding::{core_of, not_both};
-use resolve::{Component as Part, ListKind, Shape, Simple, Written};
+use type_table::unfolding::{core_of, not_both};
+use type_table::{Component as Part, ListKind, Shape, Simple, Written};
 use std::alloc::{AllocError, Global};
 
 /// What a type is behind its references and tags.

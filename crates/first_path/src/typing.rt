@@ -1,15 +1,13 @@
 //! The value that a notation stands for under a type.
 
-ghost use Rattle.std.specs.Prelude.{◌≡◌, ◌<◌, ℕ, length, slice_get, Some, IsSomeAnd};
-ghost use Rattle.std.specs.Prelude.{map, IfOk, IfErr, MatchOption, option_map, IfSome, true, false, bytes_eq, string_bytes};
+ghost use Rattle.std.specs.Prelude.{◌≡◌, ◌<◌, ℕ, length, slice_get, Some, IsSomeAnd, map, IfOk, IfErr, MatchOption, option_map, IfSome, true, false, bytes_eq, string_bytes};
 ghost use Rattle.asn_base.specs.Abstract.{abstract, row_of_options};
 ghost use Rattle.asn_base.specs.Types.{a_boolean, an_integer, an_octet_string, Constraint as Constraint'};
 ghost use Rattle.asn_base.specs.Typed.{IsWithinLimit};
-ghost use Rattle.trees.specs.Values.{tree_of, member_of};
+ghost use Rattle.trees.specs.Values.{tree_of, member_of, Name};
 ghost use Rattle.first_path.specs.Notations.{IsLeaf, Notation, Fields, Lacks, signed};
 ghost use Rattle.first_path.specs.Wrong.{component_names, field_names, AreIn, IsDisorder, IsKindFault, IsWrong, AreWrong};
-ghost use Rattle.resolve.specs.Modules.{StandsIn, StandsTwice, AreDistinct};
-ghost use Rattle.trees.specs.Values.{Name};
+ghost use Rattle.names.specs.Modules.{StandsIn, StandsTwice, AreDistinct};
 ghost use Rattle.std.specs.List.{AllByRecursion, list_any};
 ghost use Rattle.asn_base.specs.Accepted.{IsAccepted, IsAcceptedType, IsSimpleMember, IsSimple};
 ghost use Rattle.asn_base.specs.Seen.{component_of, kind_of, resolved_of};

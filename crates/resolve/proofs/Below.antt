@@ -2,9 +2,11 @@
 use Rattle.std.proofs.Common.{◌≡◌, ℕ, ◌<◌, List, Some, subst, sym, ◌∙◌}
 use Rattle.std.specs.Prelude.{slice_get}
 use Rattle.trees.specs.Values.{Name}
-use Rattle.resolve.specs.Program.{Program, Value}
-use Rattle.resolve.specs.Sound.{qualified, qualified_in, IsAssignment, IsSoundKind, MeanValues}
-use Rattle.resolve.specs.Table.{Type'}
+use Rattle.resolve.specs.Program.{Program}
+use Rattle.names.specs.Sources.{Value}
+use Rattle.resolve.specs.Sound.{qualified, qualified_in, IsAssignment, MeanValues}
+use Rattle.type_table.specs.Lists.{IsSoundKind}
+use Rattle.type_table.specs.Table.{Type'}
 use Rattle.resolve.proofs.Exclusion.{one_module}
 
 -- the names in type k stand for values

@@ -3,21 +3,23 @@ use Rattle.std.proofs.Common.{◌≡◌, ℕ, zero, suc, ◌<◌, List, [], ◌�
 use Rattle.std.specs.Prelude.{◌⊎◌, slice_get}
 use Rattle.trees.specs.Values.{Name}
 use Rattle.trees.specs.declared.module.TagDefault.{TagDefault}
-use Rattle.resolve.specs.declared.fault.NameFault.{NameFault}
-use Rattle.resolve.specs.declared.fault.NameFault.TheVariants as faults
-use Rattle.resolve.specs.declared.fault.Limit.TheVariants as limits
-use Rattle.resolve.specs.declared.names.Assigned.TheVariants as assigned
-use Rattle.resolve.specs.declared.table.Assignment.{Assignment}
-use Rattle.resolve.specs.declared.table.Header.{Header}
-use Rattle.resolve.specs.Names.{Module, Refers}
-use Rattle.resolve.specs.Modules.{StandsIn, StandsTwice}
-use Rattle.resolve.specs.Program.{Program, Value}
-use Rattle.resolve.specs.Seen.{assignment_of, header_of}
-use Rattle.resolve.specs.Sound.{qualified, qualified_in, IsSoundPlain, IsSoundKind, IsAssignment, IsSound}
-use Rattle.resolve.specs.SoundFaults.{IsTwicePlain, IsTwiceIn, IsNumberTwice, HasManyMembers, HasManyItems, HasFarBit, HasGreatNumber, IsTypeIn, IsValueIn, IsSoundFault}
-use Rattle.resolve.specs.Soundness.{IsKindFault, IsUnknownIn, program}
-use Rattle.resolve.specs.Table.{Plain, an_integer, a_bit_string, an_enumerated, Kind, simple, members, Type'}
-use Rattle.resolve.proofs.Sources.{assignment_at, header_at}
+use Rattle.names.specs.declared.fault.NameFault.{NameFault}
+use Rattle.names.specs.declared.fault.NameFault.TheVariants as faults
+use Rattle.names.specs.declared.fault.Limit.TheVariants as limits
+use Rattle.names.specs.declared.scope.Assigned.TheVariants as assigned
+use Rattle.names.specs.declared.sources.Assignment.{Assignment}
+use Rattle.names.specs.declared.sources.Header.{Header}
+use Rattle.names.specs.Names.{Module, Refers}
+use Rattle.names.specs.Modules.{StandsIn, StandsTwice}
+use Rattle.resolve.specs.Program.{Program}
+use Rattle.names.specs.Sources.{Value, assignment_of, header_of}
+use Rattle.resolve.specs.Sound.{qualified, qualified_in, IsAssignment, IsSound}
+use Rattle.type_table.specs.Lists.{IsSoundPlain, IsSoundKind}
+use Rattle.type_table.specs.ListFaults.{IsTwicePlain, IsTwiceIn, IsNumberTwice, HasManyMembers, HasManyItems, HasFarBit, HasGreatNumber, IsKindFault}
+use Rattle.resolve.specs.SoundFaults.{IsTypeIn, IsValueIn, IsSoundFault}
+use Rattle.resolve.specs.Soundness.{IsUnknownIn, program}
+use Rattle.type_table.specs.Table.{Plain, an_integer, a_bit_string, an_enumerated, Kind, simple, members, Type'}
+use Rattle.names.specs.Given.{assignment_at, header_at}
 
 -- ---- where an assignment stands
 

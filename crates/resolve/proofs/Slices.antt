@@ -4,21 +4,22 @@ use Rattle.std.specs.Prelude.{slice_get}
 use Rattle.std.proofs.lemmas.List.{length-map}
 use Rattle.trees.specs.Values.{Name}
 use Rattle.trees.specs.declared.module.TagDefault.{TagDefault}
-use Rattle.resolve.specs.declared.fault.NameFault.{NameFault}
-use Rattle.resolve.specs.declared.fault.NameFault.TheVariants as faults
-use Rattle.resolve.specs.declared.fault.Limit.TheVariants as limits
-use Rattle.resolve.specs.declared.table.Assignment.{Assignment}
-use Rattle.resolve.specs.declared.table.Header.{Header}
-use Rattle.resolve.specs.declared.table.ValueAt.{ValueAt}
-use Rattle.resolve.specs.declared.table.Written.{Written}
-use Rattle.resolve.specs.Faults.{IsTypesLimit, IsTableFault}
-use Rattle.resolve.specs.Names.{Module}
-use Rattle.resolve.specs.Numbering.{Source, all_parts}
+use Rattle.names.specs.declared.fault.NameFault.{NameFault}
+use Rattle.names.specs.declared.fault.NameFault.TheVariants as faults
+use Rattle.names.specs.declared.fault.Limit.TheVariants as limits
+use Rattle.names.specs.declared.sources.Assignment.{Assignment}
+use Rattle.names.specs.declared.sources.Header.{Header}
+use Rattle.names.specs.declared.sources.ValueAt.{ValueAt}
+use Rattle.type_table.specs.declared.table.Written.{Written}
+use Rattle.type_table.specs.Faults.{IsTypesLimit, IsTableFault}
+use Rattle.names.specs.Names.{Module}
+use Rattle.names.specs.Sources.{Source, header_of, assignment_of, value_of}
+use Rattle.type_table.specs.Numbering.{all_parts}
 use Rattle.resolve.specs.Program.{Program, IsWhole}
-use Rattle.resolve.specs.Seen.{type_of, types_of, header_of, assignment_of, value_of}
+use Rattle.type_table.specs.Seen.{type_of, types_of}
 use Rattle.resolve.specs.Soundness.{program}
-use Rattle.resolve.specs.Table.{Type', IsClosed, HasMembers, HasElements}
-use Rattle.resolve.proofs.Distinct.{left, stands_map}
+use Rattle.type_table.specs.Table.{Type', IsClosed, HasMembers, HasElements}
+use Rattle.names.specs.Distinct.{left, stands_map}
 
 module _ (p : Program) (w : IsWhole p) (ns : List (Name × Module)) (hs : List Header) (gs : List Assignment) (ts : List Written) (vs : List ValueAt)
     (en : ns ≡ p.modules) (eh : map header_of hs ≡ p.headers) (eg : map assignment_of gs ≡ p.assignments) (et : types_of ts ≡ p.types) (ev : map value_of vs ≡ p.values) where

@@ -2,7 +2,7 @@
 use Rattle.std.proofs.Common.{◌≡◌, ℕ, zero, suc, List, [], ◌∷◌, ◌++◌, map, Option, Some, None, refl, sym, subst, ap, ◌∙◌, append_assoc, option_map, string_bytes}
 use Rattle.std.specs.Prelude.{slice_get, Vec, Box, String, Result, MatchResult}
 use Rattle.std.specs.Global.{Global}
-use Rattle.trees.specs.Constraints.{name_end, RangeTree, only, between, ConstraintTree, values_in, sizes_in, chars_in}
+use Rattle.trees.specs.Constraints.{name_end, RangeTree, only, between, ConstraintTree, values_in, sizes_in, chars_in, size_of}
 use Rattle.trees.specs.Values.{Name, Tree, reference, chosen, trees, members, member_of, tree_of, layer}
 use Rattle.trees.specs.Values as notations
 use Rattle.trees.specs.declared.value.Named.{Named}
@@ -11,20 +11,19 @@ use Rattle.trees.specs.declared.value.ValueSyntax.TheVariants as values
 use Rattle.trees.specs.declared.value.ValueSyntax.TheOpen as layers
 use Rattle.trees.specs.declared.value.ValueSyntax.TheShapes.{former-ValueSyntax-Fields-0-at-2}
 use Rattle.trees.specs.declared.value.ValueSyntax.TheFolds.{fold-roll-ValueSyntax}
-use Rattle.trees.specs.Constraints.{size_of}
 use Rattle.trees.specs.declared.constraint.SizeSyntax.{SizeSyntax}
-use Rattle.resolve.specs.declared.table.ElementsKind.{ElementsKind}
-use Rattle.resolve.specs.declared.table.Shape.{Shape}
-use Rattle.resolve.specs.declared.table.Shape.TheVariants as shapes
-use Rattle.resolve.specs.Seen.{kind_of}
-use Rattle.resolve.specs.declared.fault.NameFault.{NameFault}
-use Rattle.resolve.specs.declared.fault.NameFault.TheVariants as faults
-use Rattle.resolve.specs.declared.names.Assigned.TheVariants as assigned
-use Rattle.resolve.specs.Names.{Module, Refers}
-use Rattle.resolve.specs.Modules.{StandsIn}
+use Rattle.type_table.specs.declared.table.ElementsKind.{ElementsKind}
+use Rattle.type_table.specs.declared.table.Shape.{Shape}
+use Rattle.type_table.specs.declared.table.Shape.TheVariants as shapes
+use Rattle.type_table.specs.Seen.{kind_of}
+use Rattle.names.specs.declared.fault.NameFault.{NameFault}
+use Rattle.names.specs.declared.fault.NameFault.TheVariants as faults
+use Rattle.names.specs.declared.scope.Assigned.TheVariants as assigned
+use Rattle.names.specs.Names.{Module, Refers}
+use Rattle.names.specs.Modules.{StandsIn}
 use Rattle.resolve.specs.Sound.{qualified, qualified_each, qualified_fields, qualified_end, qualified_bound, qualified_ranges, qualified_constraints, qualified_kind, MeanValues}
 use Rattle.resolve.specs.Soundness.{behind_module, qualified_range, qualified_constraint, qualified_size, IsUnknownIn}
-use Rattle.resolve.proofs.Halfway.{front}
+use Rattle.names.specs.Distinct.{left as front}
 
 -- ---- two lists one behind the other
 

@@ -3,10 +3,11 @@ use Rattle.std.specs.Prelude.{◌≡◌, ℕ, Option, Some, None, slice_get}
 use Rattle.trees.specs.Values.{Name, tree_of}
 use Rattle.resolve.specs.declared.linked.Found.{Found}
 use Rattle.resolve.specs.declared.linked.Found.TheVariants.{TypeNamed, ValueNamed}
-use Rattle.resolve.specs.declared.names.Assigned.{Assigned}
-use Rattle.resolve.specs.declared.names.Assigned.TheVariants as assigned
-use Rattle.resolve.specs.Names.{Meaning}
-use Rattle.resolve.specs.Program.{Program, Value}
+use Rattle.names.specs.declared.scope.Assigned.{Assigned}
+use Rattle.names.specs.declared.scope.Assigned.TheVariants as assigned
+use Rattle.names.specs.Names.{Meaning}
+use Rattle.resolve.specs.Program.{Program}
+use Rattle.names.specs.Sources.{Value}
 
 abbrev pub Finds : Program → Name → Name → Option Found → Type 0
 Finds p M x None = (a : Assigned) → Meaning p.modules M x a → ⊥

@@ -1,17 +1,12 @@
 -- What linked modules are seen as: their names, and their types and values by number.
 use Rattle.std.specs.Prelude.{◌≡◌, ◌<◌, ℕ, Some, List, slice_get, length}
-use Rattle.trees.specs.Values.{Name, Tree}
+use Rattle.trees.specs.Values.{Name}
 use Rattle.trees.specs.declared.module.TagDefault.{TagDefault}
-use Rattle.resolve.specs.declared.names.Assigned.{Assigned}
-use Rattle.resolve.specs.declared.names.Assigned.TheVariants as assigned
-use Rattle.resolve.specs.Names.{Module, Meaning}
-use Rattle.resolve.specs.Table.{Type', IsLinked}
-
--- a value assignment: its number, its type's number, and the value as it is written
-pub record Value : Type 0 where
-  pub assignment : ℕ
-  pub ty : ℕ
-  pub notation : Tree
+use Rattle.names.specs.declared.scope.Assigned.{Assigned}
+use Rattle.names.specs.declared.scope.Assigned.TheVariants as assigned
+use Rattle.names.specs.Names.{Module, Meaning}
+use Rattle.type_table.specs.Table.{Type', IsLinked}
+use Rattle.names.specs.Sources.{Value}
 
 pub record Program : Type 0 where
   pub modules : List (Name × Module)
@@ -26,11 +21,6 @@ pub record Program : Type 0 where
 abbrev pub IsThere : Program → Assigned → Type 0
 IsThere p (assigned.Type i) = i < length p.types
 IsThere p (assigned.Value i) = i < length p.values
-
--- there are so many types and values that what a name is assigned is there
-abbrev pub IsGiven : (types values : ℕ) → Assigned → Type 0
-IsGiven n m (assigned.Type i) = i < n
-IsGiven n m (assigned.Value i) = i < m
 
 -- what a linked program keeps
 pub record IsWhole (p : Program) : Type 0 where

@@ -1,54 +1,17 @@
--- What the lists in written types, and the names in notations, have to keep (X.680, clauses 14.6, 19.5, 20.3, 22.4, 25.7, 27.3 and 29.3).
-use Rattle.std.specs.Prelude.{◌≡◌, ◌≤◌, ℕ, zero, suc, Bool, true, false, ℤ, pos, negsuc, List, [], ◌∷◌, ◌++◌, Option, Some, None, map, length, slice_get}
-use Rattle.asn_base.specs.declared.tag.Tag.{Tag}
-use Rattle.asn_base.specs.Typed.{IsWithinLimit}
+-- What the names in notations have to keep, and sound programs (X.680, clause 14.6).
+use Rattle.std.specs.Prelude.{◌≡◌, ℕ, List, [], ◌∷◌, ◌++◌, Option, Some, None, slice_get}
 use Rattle.trees.specs.Values as trees
 use Rattle.trees.specs.Values.{Name, Tree, Trees, no_tree, tree_and, Members, no_member, member_and}
 use Rattle.trees.specs.Constraints.{EndTree, name_end, RangeTree, only, between, ConstraintTree, values_in, sizes_in, chars_in}
-use Rattle.trees.specs.declared.types.Keyword.{Keyword}
 use Rattle.trees.specs.declared.module.TagDefault.{TagDefault}
 use Rattle.trees.specs.Types.{PresenceTree, default}
-use Rattle.resolve.specs.declared.names.Assigned.TheVariants as assigned
-use Rattle.resolve.specs.declared.table.ListKind.{ListKind}
-use Rattle.resolve.specs.declared.table.ElementsKind.{ElementsKind}
-use Rattle.resolve.specs.Names.{Module, Refers}
-use Rattle.resolve.specs.Modules.{AreDistinct}
-use Rattle.resolve.specs.Program.{Program, Value}
-use Rattle.resolve.specs.Table.{Plain, an_integer, a_bit_string, an_enumerated, Part, Kind, simple, reference, tagged, members, elements, Type'}
-
--- ---- lists
-
--- a number with its sign
-abbrev pub signed : Bool × ℕ → ℤ
-signed (false, n) = pos n
-signed (true, zero) = pos 0
-signed (true, suc n) = negsuc n
-
--- the numbers that are written behind items; the others get numbers that no item has
-abbrev pub given_numbers : List (Name × Option (Bool × ℕ)) → List ℤ
-given_numbers [] = []
-given_numbers ((x, None) ∷ is) = given_numbers is
-given_numbers ((x, Some n) ∷ is) = signed n ∷ given_numbers is
-
-abbrev pub AreWithinLimit : List ℤ → Type 0
-AreWithinLimit zs = (i : ℕ) (z : ℤ) → slice_get zs i ≡ Some z → IsWithinLimit z
-
--- the names of a list are distinct, and so are its numbers; no limit is passed
-abbrev pub IsSoundPlain : Plain → Type 0
-IsSoundPlain (an_integer ns) = AreDistinct (map (λ n. n.0) ns) × AreDistinct (map (λ n. signed n.1) ns) × AreWithinLimit (map (λ n. signed n.1) ns)
-IsSoundPlain (a_bit_string bs) = AreDistinct (map (λ b. b.0) bs) × AreDistinct (map (λ b. b.1) bs) × ((i : ℕ) (b : Name × ℕ) → slice_get bs i ≡ Some b → b.1 ≤ 65535)
-IsSoundPlain (an_enumerated is) = AreDistinct (map (λ i. i.0) is) × AreDistinct (given_numbers is) × AreWithinLimit (given_numbers is) × (length is ≤ 1024)
-IsSoundPlain k = Unit {0}
-
-abbrev pub IsSoundKind : Kind → Type 0
-IsSoundKind (simple s) = IsSoundPlain s
-IsSoundKind (members l cs) = AreDistinct (map (λ (c : Part). c.name) cs) × (length cs ≤ 256)
-IsSoundKind k = Unit {0}
-
-abbrev pub AreSound : List Type' → Type 0
-AreSound ts = (i : ℕ) (t : Type') → slice_get ts i ≡ Some t → IsSoundKind t.kind
-
--- ---- names behind modules' names
+use Rattle.names.specs.declared.scope.Assigned.TheVariants as assigned
+use Rattle.names.specs.Names.{Module, Refers}
+use Rattle.resolve.specs.Program.{Program}
+use Rattle.names.specs.Sources.{Value}
+use Rattle.type_table.specs.Table.{Part, Kind, reference, members, elements, Type'}
+use Rattle.type_table.specs.Lists.{AreSound}
+use Rattle.type_table.specs.Circles.{NoDefaultCircles}
 
 -- the names that stand behind a module's name in a value
 abbrev mutual
@@ -118,37 +81,6 @@ pub record IsAssignment (p : Program) (assignment : ℕ) (M x : Name) : Type 0 w
 pub record HaveValues (p : Program) : Type 0 where
   pub types : (i : ℕ) (t : Type') (M x : Name) → slice_get p.types i ≡ Some t → IsAssignment p t.assignment M x → MeanValues p.modules M (qualified_in t)
   pub values : (i : ℕ) (v : Value) (M x : Name) → slice_get p.values i ≡ Some v → IsAssignment p v.assignment M x → MeanValues p.modules M (qualified v.notation)
-
--- ---- defaults
-
--- type k stands directly in a type, or is the one that a reference there stands for
-pub data IsPart (k : ℕ) : Kind → Type 0 where
-  referred : IsPart k (reference k)
-  behind_tag : {g : Tag} {w : Keyword} → IsPart k (tagged g w k)
-  member : {l : ListKind} {cs : List Part} (n : ℕ) (c : Part) → slice_get cs n ≡ Some c → c.ty ≡ k → IsPart k (members l cs)
-  element : {e : ElementsKind} {s : Option (List RangeTree)} → IsPart k (elements e s k)
-
--- type j is type i, or stands in it at any depth, through references too
-pub data Reaches (ts : List Type') : ℕ → ℕ → Type 0 where
-  itself : {i : ℕ} → Reaches ts i i
-  onward : {i j : ℕ} (k : ℕ) (t : Type') → slice_get ts i ≡ Some t → IsPart k t.kind → Reaches ts k j → Reaches ts i j
-
--- a component with a DEFAULT has a type that leads back to the list, type i, that holds it: what the default is would depend on itself
-pub record IsDefaultCircle (ts : List Type') (i : ℕ) : Type 0 where
-  pub written : Type'
-  pub there : slice_get ts i ≡ Some written
-  pub list : ListKind
-  pub components : List Part
-  pub is : written.kind ≡ members list components
-  pub number : ℕ
-  pub component : Part
-  pub held : slice_get components number ≡ Some component
-  pub notation : Tree
-  pub defaulted : component.presence ≡ default notation
-  pub back : Reaches ts component.ty i
-
-abbrev pub NoDefaultCircles : List Type' → Type 0
-NoDefaultCircles ts = (i : ℕ) → IsDefaultCircle ts i → ⊥
 
 -- lists and names in types and values are as they have to be
 pub record IsSound (p : Program) : Type 0 where

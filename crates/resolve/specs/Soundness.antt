@@ -1,57 +1,17 @@
--- What the checks of one list, of one type and of one name answer.
-use Rattle.std.specs.Prelude.{◌≡◌, ◌<◌, ◌++◌, ℕ, ℤ, Bool, List, [], ◌∷◌, Option, Some, None, map, slice_get, string_bytes, String}
-use Rattle.std.specs.Global.{Global}
-use Rattle.asn_base.specs.Typed.{IsWithinLimit}
+-- What the checks of one type and of one name answer.
+use Rattle.std.specs.Prelude.{◌≡◌, ◌++◌, ℕ, List, [], ◌∷◌, Option, Some, None, slice_get, string_bytes}
 use Rattle.trees.specs.Values.{Name}
 use Rattle.trees.specs.Constraints.{RangeTree, only, between, ConstraintTree, values_in, sizes_in, chars_in}
 use Rattle.trees.specs.declared.module.TagDefault.{TagDefault}
-use Rattle.resolve.specs.declared.fault.NameFault.{NameFault}
-use Rattle.resolve.specs.declared.fault.NameFault.TheVariants as faults
-use Rattle.resolve.specs.declared.fault.Limit.TheVariants as limits
-use Rattle.resolve.specs.declared.names.Assigned.TheVariants as assigned
-use Rattle.resolve.specs.Names.{Module, Refers}
-use Rattle.resolve.specs.Modules.{StandsIn}
-use Rattle.resolve.specs.Program.{Program, Value}
-use Rattle.resolve.specs.Sound.{signed, qualified, qualified_end, qualified_bound, qualified_ranges, qualified_in, IsAssignment, MeanValues}
-use Rattle.resolve.specs.SoundFaults.{IsTwiceIn, HasManyMembers, HasManyItems, HasFarBit, HasGreatNumber}
-use Rattle.resolve.specs.Table.{Kind, Type'}
-
--- names without where they lie in memory
-abbrev pub texts : List (String Global) → List Name
-texts = map string_bytes
-
--- memory ran out, or number z of name x is among these numbers, or it passes the limit of INTEGER in assignment a of module M
-abbrev pub IsNumberFault : Name → Name → Name → ℤ → List ℤ → NameFault → Type 0
-IsNumberFault M a x z zs faults.Memory = Unit {0}
-IsNumberFault M a x z zs (faults.Twice m y) = (string_bytes m ≡ M) × (string_bytes y ≡ x) × StandsIn zs z
-IsNumberFault M a x z zs (faults.Limit limits.Integer m y) = (string_bytes m ≡ M) × (string_bytes y ≡ a) × (IsWithinLimit z → ⊥)
-IsNumberFault M a x z zs e = ⊥
-
--- the number of an item goes behind others, if one is given: it is none of them and within the limit
-abbrev pub AddsGiven : List ℤ → Option (Bool × ℕ) → List ℤ → Type 0
-AddsGiven old None new = new ≡ old
-AddsGiven old (Some n) new = (new ≡ old ++ signed n ∷ []) × (StandsIn old (signed n) → ⊥) × IsWithinLimit (signed n)
-
-abbrev pub IsItemFault : Name → Name → Name → Option (Bool × ℕ) → List ℤ → NameFault → Type 0
-IsItemFault M a x None zs e = ⊥
-IsItemFault M a x (Some n) zs e = IsNumberFault M a x (signed n) zs e
-
--- memory ran out, or place n of the bit of name x is among these places, or it is too great in assignment a of module M
-abbrev pub IsPlaceFault : Name → Name → Name → ℕ → List ℕ → NameFault → Type 0
-IsPlaceFault M a x n ns faults.Memory = Unit {0}
-IsPlaceFault M a x n ns (faults.Twice m y) = (string_bytes m ≡ M) × (string_bytes y ≡ x) × StandsIn ns n
-IsPlaceFault M a x n ns (faults.Limit limits.NamedBit m y) = (string_bytes m ≡ M) × (string_bytes y ≡ a) × (65535 < n)
-IsPlaceFault M a x n ns e = ⊥
-
--- why the list of a type is not as it has to be, in assignment a of module M
-abbrev pub IsKindFault : Name → Name → Kind → NameFault → Type 0
-IsKindFault M a k faults.Memory = Unit {0}
-IsKindFault M a k (faults.Twice m y) = (string_bytes m ≡ M) × IsTwiceIn k (string_bytes y)
-IsKindFault M a k (faults.Limit limits.Members m y) = (string_bytes m ≡ M) × (string_bytes y ≡ a) × HasManyMembers k
-IsKindFault M a k (faults.Limit limits.Items m y) = (string_bytes m ≡ M) × (string_bytes y ≡ a) × HasManyItems k
-IsKindFault M a k (faults.Limit limits.NamedBit m y) = (string_bytes m ≡ M) × (string_bytes y ≡ a) × HasFarBit k
-IsKindFault M a k (faults.Limit limits.Integer m y) = (string_bytes m ≡ M) × (string_bytes y ≡ a) × HasGreatNumber k
-IsKindFault M a k e = ⊥
+use Rattle.names.specs.declared.fault.NameFault.{NameFault}
+use Rattle.names.specs.declared.fault.NameFault.TheVariants as faults
+use Rattle.names.specs.declared.scope.Assigned.TheVariants as assigned
+use Rattle.names.specs.Names.{Module, Refers}
+use Rattle.names.specs.Modules.{StandsIn}
+use Rattle.resolve.specs.Program.{Program}
+use Rattle.names.specs.Sources.{Value}
+use Rattle.resolve.specs.Sound.{qualified, qualified_end, qualified_bound, qualified_ranges, qualified_in, IsAssignment, MeanValues}
+use Rattle.type_table.specs.Table.{Type'}
 
 -- the names at the ends of a range
 abbrev pub qualified_range : RangeTree → List (Name × Name)

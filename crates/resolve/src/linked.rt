@@ -1,34 +1,34 @@
 //! Linked modules.
 
-ghost use Rattle.std.specs.Prelude.{ℕ, ◌≡◌, ◌↔◌, Some, map};
+ghost use Rattle.std.specs.Prelude.{ℕ, ◌≡◌, ◌↔◌, Some, map, ◌<◌, ◌≤◌, IfOk, IfErr, OnOk, slice_get, length, string_bytes, option_map};
 ghost use Rattle.resolve.specs.Found.{Finds};
 ghost use Rattle.trees.specs.Values.{Name};
-ghost use Rattle.resolve.specs.Seen.{types_of, value_of, assignment_of, header_of, sources_of};
-ghost use Rattle.std.specs.Prelude.{◌<◌, ◌≤◌, IfOk, IfErr, OnOk, slice_get, length, string_bytes, option_map};
-ghost use Rattle.resolve.specs.declared.names.Assigned.{Assigned};
-ghost use Rattle.resolve.specs.declared.table.Assignment.{Assignment};
-ghost use Rattle.resolve.specs.declared.table.ValueAt.{ValueAt};
-ghost use Rattle.resolve.specs.Names.{Meaning, Refers};
-ghost use Rattle.resolve.specs.Numbering.{AllAssigned, HaveNoPlace, AreNumbered};
-ghost use Rattle.resolve.specs.Faults.{IsTableFault};
-ghost use Rattle.resolve.specs.Program.{IsGiven, IsWhole};
-ghost use Rattle.resolve.specs.Sound.{IsSound};
+ghost use Rattle.type_table.specs.Seen.{types_of};
+ghost use Rattle.names.specs.Sources.{value_of, assignment_of, header_of, sources_of, AllAssigned, HaveNoPlace};
+ghost use Rattle.names.specs.declared.scope.Assigned.{Assigned};
+ghost use Rattle.names.specs.declared.sources.Assignment.{Assignment};
+ghost use Rattle.names.specs.declared.sources.ValueAt.{ValueAt};
+ghost use Rattle.names.specs.Names.{Meaning, Refers};
+ghost use Rattle.type_table.specs.Numbering.{AreNumbered};
+ghost use Rattle.type_table.specs.Faults.{IsTableFault};
+ghost use Rattle.names.specs.Gathered.{IsGiven};
+ghost use Rattle.resolve.specs.Program.{IsWhole};
+ghost use Rattle.resolve.specs.Sound.{IsSound, IsAssignment};
 ghost use Rattle.resolve.specs.SoundFaults.{IsSoundFault};
-ghost use Rattle.resolve.specs.Sound.{IsAssignment};
-ghost use Rattle.resolve.specs.Table.{Type', IsCore, IsLinked};
+ghost use Rattle.type_table.specs.Table.{Type', IsCore, IsLinked};
 
-use crate::circles::no_default_circles;
-use crate::fault::NameFault;
-use crate::names::{Assigned, Names};
-use crate::number::{Source, number_all};
+use crate::defaults::no_default_circles;
 use crate::sound::{sound_lists, sound_names};
-use crate::table::{Assignment, Header, ValueAt, Written};
-use crate::unfolding::unfold_all;
 use asn_base::schema::TypeId;
+use names::{Assigned, Assignment, Header, NameFault, Names, Source, ValueAt};
 use std::alloc::Global;
 use std::collections::VecDeque;
 use std::marker::Model;
 use trees::ValueSyntax;
+use type_table::Written;
+use type_table::law::{numbered_linked, numbered_there};
+use type_table::number::number_all;
+use type_table::unfolding::unfold_all;
 
 /// What a name stands for.
 #[derive(Debug, Drop)]
@@ -68,12 +68,13 @@ impl Model for Linked {
     ghost Value = { Program };
 
     ghost use Rattle.std.specs.Prelude.{map};
-    ghost use Rattle.resolve.specs.Seen.{types_of, value_of, assignment_of, header_of, sources_of};
+    ghost use Rattle.type_table.specs.Seen.{types_of};
+    ghost use Rattle.names.specs.Sources.{value_of, assignment_of, header_of, sources_of};
 
     ghost view = { λ l. record { modules = l.names; headers = map header_of l.headers.items; assignments = map assignment_of l.assignments.items; types = types_of l.types.items; values = map value_of l.values.items } };
 
     ghost use Rattle.resolve.specs.Program.{IsWhole};
-    ghost use Rattle.resolve.specs.Cores.{AreCores};
+    ghost use Rattle.type_table.specs.Cores.{AreCores};
 
     ghost invariant = { λ l. IsWhole (record { modules = l.names; headers = map header_of l.headers.items; assignments = map assignment_of l.assignments.items; types = types_of l.types.items; values = map value_of l.values.items }) × AreCores (types_of l.types.items) l.cores.items };
 }
@@ -187,6 +188,8 @@ impl Linked {
         ensures few { IfOk result (λ l. length l.types ≤ 65536) }
         ensures fault { IfErr result (IsTableFault names (map header_of headers.items) (map assignment_of assignments.items) (sources_of roots.items)) }
     {
+        numbered_there();
+        numbered_linked();
         let types = match number_all(alloc, &names, &headers, &assignments, roots) {
             Ok(types) => types,
             Err(fault) => return Err(fault),

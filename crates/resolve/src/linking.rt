@@ -2,18 +2,17 @@
 
 ghost use Rattle.std.specs.Prelude.{map, IfOk, IfErr};
 ghost use Rattle.trees.specs.Modules.{module_tree_of};
-ghost use Rattle.resolve.specs.Gathered.{IsReady, IsAssembled, IsAssemblyFault};
+ghost use Rattle.names.specs.Gathered.{IsReady};
+ghost use Rattle.resolve.specs.Assembled.{IsAssembled, IsAssemblyFault};
 ghost use Rattle.resolve.specs.Links.{Links, IsLinkFault};
 
-use crate::fault::NameFault;
-use crate::gather::{Gathered, Tables, gather};
-use crate::limits::within_limits;
 use crate::linked::Linked;
-use crate::names::Names;
-use crate::number::too_many;
-use crate::standing::all_stand;
+use names::gather::{Gathered, Tables, gather};
+use names::law::{ready, stood};
+use names::{NameFault, Names, all_stand, within_limits};
 use std::alloc::Global;
 use trees::Module;
+use type_table::number::too_many;
 
 /// The program of what is gathered.
 fn assemble(alloc: Global, gathered: Gathered) -> Result<Linked, NameFault>
@@ -61,6 +60,8 @@ pub fn link(alloc: Global, modules: Vec<Module>) -> Result<Linked, NameFault>
     ensures linked { IfOk result (Links (map module_tree_of modules.items)) }
     ensures fault { IfErr result (IsLinkFault (map module_tree_of modules.items)) }
 {
+    ready();
+    stood();
     match within_limits(alloc, &modules) {
         Ok(()) => {}
         Err(fault) => return Err(fault),

@@ -4,19 +4,18 @@ ghost use Rattle.std.specs.Prelude.{ℕ, ◌≡◌, true, false, MatchResult, ma
 ghost use Rattle.trees.specs.Constraints.{end_of, range_of, ranges_of, size_of, constraint_of};
 ghost use Rattle.trees.specs.Values.{tree_of, member_of, trees, members as named_trees};
 ghost use Rattle.trees.specs.Types.{presence_of};
-ghost use Rattle.resolve.specs.declared.names.Assigned.TheVariants as assigned;
-ghost use Rattle.resolve.specs.Names.{Refers};
-ghost use Rattle.resolve.specs.Seen.{part_of, kind_of, type_of};
+ghost use Rattle.names.specs.declared.scope.Assigned.TheVariants as assigned;
+ghost use Rattle.names.specs.Names.{Refers};
+ghost use Rattle.type_table.specs.Seen.{part_of, kind_of, type_of};
 ghost use Rattle.resolve.specs.Sound.{qualified, qualified_each, qualified_fields, qualified_end, qualified_bound, qualified_ranges, qualified_constraints, qualified_default, qualified_members, qualified_kind, qualified_in, MeanValues};
 ghost use Rattle.resolve.specs.Soundness.{behind_module, qualified_range, qualified_constraint, qualified_size, IsUnknownIn};
 
-use crate::fault::NameFault;
-use crate::names::{Assigned, Names};
-use crate::table::{Component, Shape, Written};
+use names::{Assigned, NameFault, Names};
 use std::alloc::Global;
 use trees::{
     ConstraintSyntax, EndSyntax, Named, PresenceSyntax, RangeSyntax, SizeSyntax, ValueSyntax,
 };
+use type_table::{Component, Shape, Written};
 
 /// Whether a name, behind the name of a module, stands for a value.
 fn is_value(names: &Names, within: &str, owner: &Option<String>, name: &str) -> bool

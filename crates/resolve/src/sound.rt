@@ -1,26 +1,27 @@
 //! What the lists in written types, and the names in notations, have to keep.
 
 ghost use Rattle.std.specs.Prelude.{ℕ, ◌≡◌, ◌<◌, Some, List, IfOk, IfErr, map, slice_get, length};
-ghost use Rattle.resolve.specs.declared.fault.NameFault.{NameFault as NameFault'};
-ghost use Rattle.resolve.specs.declared.fault.NameFault.TheVariants as faults;
-ghost use Rattle.resolve.specs.declared.table.Assignment.{Assignment};
-ghost use Rattle.resolve.specs.declared.table.ValueAt.{ValueAt};
-ghost use Rattle.resolve.specs.declared.table.Written.{Written};
+ghost use Rattle.names.specs.declared.fault.NameFault.{NameFault as NameFault'};
+ghost use Rattle.names.specs.declared.fault.NameFault.TheVariants as faults;
+ghost use Rattle.names.specs.declared.sources.Assignment.{Assignment};
+ghost use Rattle.names.specs.declared.sources.ValueAt.{ValueAt};
+ghost use Rattle.type_table.specs.declared.table.Written.{Written};
 ghost use Rattle.trees.specs.Values.{Name};
-ghost use Rattle.resolve.specs.Names.{Module};
-ghost use Rattle.resolve.specs.Program.{Program, Value};
-ghost use Rattle.resolve.specs.Seen.{types_of, header_of, assignment_of, value_of};
-ghost use Rattle.resolve.specs.Sound.{AreSound, HaveValues, IsSound};
-ghost use Rattle.resolve.specs.Table.{Type'};
+ghost use Rattle.names.specs.Names.{Module};
+ghost use Rattle.resolve.specs.Program.{Program};
+ghost use Rattle.names.specs.Sources.{Value, header_of, assignment_of, value_of};
+ghost use Rattle.type_table.specs.Seen.{types_of};
+ghost use Rattle.type_table.specs.Lists.{AreSound};
+ghost use Rattle.resolve.specs.Sound.{HaveValues, IsSound};
+ghost use Rattle.type_table.specs.Table.{Type'};
 ghost use Rattle.resolve.specs.SoundFaults.{IsSoundFault};
 ghost use Rattle.resolve.specs.Soundness.{program, TypesMean, ValuesMean};
 
-use crate::fault::NameFault;
-use crate::lists::sound_shape;
-use crate::names::Names;
 use crate::qualified::{names_in_type, names_in_value};
-use crate::table::{Assignment, Header, ValueAt, Written};
+use names::{Assignment, Header, NameFault, Names, ValueAt};
 use std::alloc::Global;
+use type_table::Written;
+use type_table::lists::sound_shape;
 
 /// The lists in all types: names and numbers are distinct, and no limit is passed.
 pub(crate) fn sound_lists(

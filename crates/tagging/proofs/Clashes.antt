@@ -12,9 +12,9 @@ use Rattle.std.proofs.lemmas.Option.{slice_get-map, slice_get_read, slice_get_wi
 use Rattle.asn_base.specs.declared.tag.Class.{Class}
 use Rattle.asn_base.specs.declared.tag.Class.TheVariants.{Universal, Application, Context, Private}
 use Rattle.tagging.specs.Tags.{Label}
-use Rattle.resolve.specs.declared.table.ListKind.{ListKind}
-use Rattle.resolve.specs.declared.table.ListKind.TheVariants.{Sequence, Set, Choice}
-use Rattle.resolve.specs.Table.{Part, Type'}
+use Rattle.type_table.specs.declared.table.ListKind.{ListKind}
+use Rattle.type_table.specs.declared.table.ListKind.TheVariants.{Sequence, Set, Choice}
+use Rattle.type_table.specs.Table.{Part, Type'}
 use Rattle.tagging.specs.First.{may_be_absent, Together, Distinct}
 use Rattle.tagging.specs.Heads.{AreFirst}
 use Rattle.tagging.specs.Lists.{Collected, none, one, tag_lists, Reaches, IsClear, Upto, class_number, key_of, key_cmp, IsIn, HasKey, IsHeld, IsMet}

@@ -1,19 +1,17 @@
 -- The outermost tags of members, and the tags that can stand first.
 use Rattle.std.proofs.Common.{◌≡◌, ◌⊎◌, inl, inr, ℕ, zero, suc, ◌+◌, ◌-◌, ◌<◌, Bool, true, false, List, [], ◌∷◌, ◌++◌, length, Option, Some, None, refl, sym, ap, ◌∙◌, arith, subst}
-use Rattle.std.specs.Prelude.{slice_get, slice_index_or, Contains, All, MatchResult, Result, Ok, Err, Vec}
+use Rattle.std.specs.Prelude.{slice_get, slice_index_or, Contains, All, MatchResult, Result, Ok, Err, Vec, is_none, is_some, not}
 use Rattle.std.specs.Global.{Global}
 use Rattle.std.proofs.lemmas.Bool.{cases_lt}
 use Rattle.trees.specs.declared.module.TagDefault.{TagDefault}
-use Rattle.resolve.specs.Table.{Part}
-use Rattle.resolve.specs.declared.table.ListKind.{ListKind}
-use Rattle.resolve.specs.declared.table.ListKind.TheVariants.{Sequence, Set, Choice}
-use Rattle.resolve.specs.Table.{Type', Kind, simple, reference, tagged, members, elements, behind as behind_kind, behind_of, next, onward, walk, Is, IsCore, IsLinked}
+use Rattle.type_table.specs.Table.{Part, Type', Kind, simple, reference, tagged, members, elements, behind as behind_kind, behind_of, next, onward, walk, Is, IsCore, IsLinked}
+use Rattle.type_table.specs.declared.table.ListKind.{ListKind}
+use Rattle.type_table.specs.declared.table.ListKind.TheVariants.{Sequence, Set, Choice}
 use Rattle.tagging.proofs.Walks.{stops}
 use Rattle.tagging.specs.declared.path.Form.{Form}
 use Rattle.tagging.specs.declared.path.FormedTag.{FormedTag}
 use Rattle.tagging.specs.Tags.{Label, label, Path, path_of, context_tag, outermost, automatic, Written, core, behind, own, Tags, as_written, numbered}
 use Rattle.tagging.specs.Step.{Outermost, form_before, Adds}
-use Rattle.std.specs.Prelude.{is_none, is_some, not}
 use Rattle.trees.specs.declared.types.Keyword.TheVariants.{Absent}
 use Rattle.trees.specs.declared.module.TagDefault.TheVariants.{Automatic}
 use Rattle.tagging.specs.First.{First, outermost as outermost_tag, alternative}

@@ -1,21 +1,20 @@
 -- Each type has one list of tags.
 use Rattle.std.proofs.Common.{◌≡◌, ℕ, zero, suc, ◌+◌, ◌-◌, ◌<◌, List, [], ◌∷◌, length, Option, Some, None, refl, sym, ap, ◌∙◌, arith, subst, ◌++◌, append_assoc}
 use Rattle.std.proofs.lemmas.List.{length-append, length-map, map-append}
-use Rattle.std.specs.Prelude.{slice_get}
+use Rattle.std.specs.Prelude.{slice_get, is_none}
 use Rattle.asn_base.specs.declared.tag.Tag.{Tag}
 use Rattle.trees.specs.declared.types.Keyword.{Keyword}
 use Rattle.trees.specs.declared.module.TagDefault.{TagDefault}
-use Rattle.resolve.specs.declared.table.ListKind.TheVariants.{Sequence, Set, Choice}
-use Rattle.resolve.specs.declared.table.ElementsKind.{ElementsKind}
-use Rattle.resolve.specs.declared.table.ElementsKind.TheVariants.{SequenceOf, SetOf}
-use Rattle.resolve.specs.Table.{Plain, a_boolean, an_integer, a_bit_string, an_octet_string, a_null, an_object_identifier, an_enumerated, a_utf8_string, a_numeric_string, a_printable_string, an_ia5_string, a_visible_string, universal, Type', Kind, simple, reference, tagged, members, elements, behind as behind_kind, behind_of, next, onward, walk, Is, IsCore, IsClosed, IsLinked}
+use Rattle.type_table.specs.declared.table.ListKind.TheVariants.{Sequence, Set, Choice}
+use Rattle.type_table.specs.declared.table.ElementsKind.{ElementsKind}
+use Rattle.type_table.specs.declared.table.ElementsKind.TheVariants.{SequenceOf, SetOf}
+use Rattle.type_table.specs.Table.{Plain, a_boolean, an_integer, a_bit_string, an_octet_string, a_null, an_object_identifier, an_enumerated, a_utf8_string, a_numeric_string, a_printable_string, an_ia5_string, a_visible_string, universal, Type', Kind, simple, reference, tagged, members, elements, behind as behind_kind, behind_of, next, onward, walk, Is, IsCore, IsClosed, IsLinked}
 use Rattle.tagging.specs.declared.path.FormedTag.{FormedTag}
 use Rattle.tagging.specs.declared.path.Step.{Step}
 use Rattle.tagging.specs.declared.path.Step.TheVariants.{Ends, Behind, Inside}
 use Rattle.tagging.specs.Tags.{Label, label, Path, path_of, elements_number, outermost, own, form_of, Written, core, behind, inside, TagCount, none_written, as_behind, one_more}
 use Rattle.tagging.proofs.Walks.{stops}
 use Rattle.tagging.specs.Step.{step_of, form_before, Outermost, Adds, ending}
-use Rattle.std.specs.Prelude.{is_none}
 use Rattle.trees.specs.declared.types.Keyword.TheVariants.{Absent, Implicit as ImplicitWord, Explicit as ExplicitWord}
 use Rattle.trees.specs.declared.module.TagDefault.TheVariants.{Explicit as ExplicitTags, Implicit as ImplicitTags, Automatic}
 

@@ -8,9 +8,9 @@ use Rattle.trees.specs.declared.types.Keyword.TheVariants as word
 use Rattle.trees.specs.declared.module.TagDefault.{TagDefault}
 use Rattle.trees.specs.declared.module.TagDefault.TheVariants as tags
 use Rattle.trees.specs.Types.{PresenceTree, mandatory, optional}
-use Rattle.resolve.specs.declared.table.ListKind.TheVariants.{Sequence, Set, Choice}
-use Rattle.resolve.specs.declared.table.ElementsKind.TheVariants.{SequenceOf, SetOf}
-use Rattle.resolve.specs.Table.{a_boolean, an_integer, a_bit_string, an_octet_string, a_null, an_object_identifier, an_enumerated, a_utf8_string, a_numeric_string, a_printable_string, an_ia5_string, a_visible_string, Part, Type', Kind, simple, reference, tagged, members, elements, Is}
+use Rattle.type_table.specs.declared.table.ListKind.TheVariants.{Sequence, Set, Choice}
+use Rattle.type_table.specs.declared.table.ElementsKind.TheVariants.{SequenceOf, SetOf}
+use Rattle.type_table.specs.Table.{a_boolean, an_integer, a_bit_string, an_octet_string, a_null, an_object_identifier, an_enumerated, a_utf8_string, a_numeric_string, a_printable_string, an_ia5_string, a_visible_string, Part, Type', Kind, simple, reference, tagged, members, elements, Is}
 use Rattle.tagging.specs.declared.path.Form.TheVariants.{Implicit, Explicit}
 use Rattle.tagging.specs.Tags.{own, core, behind, inside, Tags, as_written, numbered, none_written, one_more, automatic}
 use Rattle.tagging.specs.First.{may_be_absent, outermost, alternative, Together}

@@ -4,12 +4,13 @@ use Rattle.std.specs.Prelude.{slice_get, Contains}
 use Rattle.std.proofs.lemmas.Option.{slice_get-map, slice_get_read}
 use Rattle.std.proofs.lemmas.List.{length-map, take-map, take_more, map-append}
 use Rattle.std.specs.List.{list_any}
-use Rattle.resolve.specs.declared.table.Written.{Written}
-use Rattle.resolve.specs.Seen.{type_of, types_of, kind_of, place_of, part_of, assignment_of, header_of}
-use Rattle.resolve.specs.declared.table.Assignment.{Assignment}
-use Rattle.resolve.specs.declared.table.Header.{Header}
-use Rattle.resolve.specs.declared.table.Component.{Component}
-use Rattle.resolve.specs.Table.{behind, behind_of, next, Is}
+use Rattle.type_table.specs.declared.table.Written.{Written}
+use Rattle.type_table.specs.Seen.{type_of, types_of, kind_of, part_of}
+use Rattle.names.specs.Sources.{place_of, assignment_of, header_of}
+use Rattle.names.specs.declared.sources.Assignment.{Assignment}
+use Rattle.names.specs.declared.sources.Header.{Header}
+use Rattle.type_table.specs.declared.table.Component.{Component}
+use Rattle.type_table.specs.Table.{behind, behind_of, next, Is}
 
 pub type_at : (ws : List Written) (i : ℕ) (w : Written) → i < length ws → w ≡ get_or ws i w → slice_get (types_of ws) i ≡ Some (type_of w)
 type_at ws i w l e = slice_get-map type_of ws i ∙ ap (option_map type_of) (slice_get_read ws (length ws) i w refl l e)

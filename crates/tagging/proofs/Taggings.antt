@@ -5,9 +5,9 @@ use Rattle.asn_base.specs.declared.tag.Tag.{Tag}
 use Rattle.trees.specs.declared.types.Keyword.{Keyword}
 use Rattle.trees.specs.declared.types.Keyword.TheVariants.{Absent, Implicit, Explicit}
 use Rattle.trees.specs.declared.module.TagDefault.{TagDefault}
-use Rattle.resolve.specs.declared.table.ListKind.{ListKind}
-use Rattle.resolve.specs.declared.table.ListKind.TheVariants.{Sequence, Set, Choice}
-use Rattle.resolve.specs.Table.{Part, Type', Kind, tagged, members, behind_of, Is, IsLinked}
+use Rattle.type_table.specs.declared.table.ListKind.{ListKind}
+use Rattle.type_table.specs.declared.table.ListKind.TheVariants.{Sequence, Set, Choice}
+use Rattle.type_table.specs.Table.{Part, Type', Kind, tagged, members, behind_of, Is, IsLinked}
 use Rattle.tagging.specs.declared.check.Rule.{Rule}
 use Rattle.tagging.specs.declared.check.Rule.TheVariants.{Tags as TagsRule, TagNumber, TagClash, ImplicitChoice, UntaggedChoice}
 use Rattle.tagging.specs.Tags.{Label, Path, outermost, own, Tags, as_written, numbered, Written, core, behind, inside, TagCount, none_written, as_behind, one_more, automatic, automatic_of}

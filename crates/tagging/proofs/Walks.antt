@@ -1,6 +1,6 @@
 -- Walks through references and tags add up.
 use Rattle.std.proofs.Common.{◌≡◌, ℕ, zero, suc, ◌+◌, List, Option, Some, None, refl, ap, ◌∙◌, arith}
-use Rattle.resolve.specs.Table.{Type', next, onward, walk}
+use Rattle.type_table.specs.Table.{Type', next, onward, walk}
 
 walk_on : (ts : List Type') (a b j : ℕ) (o : Option ℕ) → ((k : ℕ) → walk ts a k ≡ Some j → walk ts (a + b) k ≡ walk ts b j) → onward o (λ k. walk ts a k) ≡ Some j → onward o (λ k. walk ts (a + b) k) ≡ walk ts b j
 walk_on ts a b j None go e = absurd cc

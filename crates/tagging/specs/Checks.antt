@@ -3,7 +3,7 @@ use Rattle.std.specs.Prelude.{◌≡◌, ℕ, ◌<◌, ◌≤◌, List, [], Opti
 use Rattle.trees.specs.declared.types.Keyword.{Keyword}
 use Rattle.trees.specs.declared.types.Keyword.TheVariants.{Implicit}
 use Rattle.trees.specs.declared.module.TagDefault.{TagDefault}
-use Rattle.resolve.specs.Table.{Type', Kind, tagged, members, Is}
+use Rattle.type_table.specs.Table.{Type', Kind, tagged, members, Is}
 use Rattle.tagging.specs.declared.check.Fault.{Fault}
 use Rattle.tagging.specs.declared.check.Fault.TheVariants.{Memory, At}
 use Rattle.tagging.specs.Tags.{Written, TagCount, automatic}

@@ -2,7 +2,7 @@
 -- number and its name; ts: the written types. Names are lists of octets.
 use Rattle.std.specs.Prelude.{◌≡◌, ℕ, List, Some, slice_get, string_bytes}
 use Rattle.trees.specs.declared.module.TagDefault.{TagDefault}
-use Rattle.resolve.specs.Table.{Type'}
+use Rattle.type_table.specs.Table.{Type'}
 use Rattle.tagging.specs.declared.fault.TagFault.{TagFault}
 use Rattle.tagging.specs.declared.fault.TagFault.TheVariants.{Memory, Limit, TagClash, ImplicitChoice, UntaggedChoice}
 use Rattle.tagging.specs.declared.fault.Limit.TheVariants.{Tags, TagNumber}

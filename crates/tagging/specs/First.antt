@@ -1,10 +1,10 @@
 -- The tags that can stand outermost, and which types of a list have to differ in them.
 use Rattle.std.specs.Prelude.{◌≡◌, ℕ, ◌<◌, ◌≤◌, Bool, true, false, List, [], ◌∷◌, Option, Some, slice_get}
 use Rattle.trees.specs.declared.module.TagDefault.{TagDefault}
-use Rattle.resolve.specs.declared.table.ListKind.{ListKind}
-use Rattle.resolve.specs.declared.table.ListKind.TheVariants.{Sequence, Set, Choice}
+use Rattle.type_table.specs.declared.table.ListKind.{ListKind}
+use Rattle.type_table.specs.declared.table.ListKind.TheVariants.{Sequence, Set, Choice}
 use Rattle.trees.specs.Types.{PresenceTree, mandatory, optional, default}
-use Rattle.resolve.specs.Table.{Part, Type', members, Is, IsCore}
+use Rattle.type_table.specs.Table.{Part, Type', members, Is, IsCore}
 use Rattle.tagging.specs.declared.path.Form.{Form}
 use Rattle.tagging.specs.Tags.{Path, Label, Tags}
 

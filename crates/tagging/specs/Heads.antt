@@ -1,6 +1,6 @@
 -- The outermost tag of a type, and those of a list's members.
 use Rattle.std.specs.Prelude.{◌≡◌, ℕ, List, [], ◌∷◌, Option, Some, None, slice_get, Contains}
-use Rattle.resolve.specs.Table.{Part, Type', Kind, members}
+use Rattle.type_table.specs.Table.{Part, Type', Kind, members}
 use Rattle.tagging.specs.declared.first.FrontFault.{FrontFault}
 use Rattle.tagging.specs.declared.first.FrontFault.TheVariants.{Memory, Untagged}
 use Rattle.tagging.specs.Tags.{Label, Path, outermost, Tags}

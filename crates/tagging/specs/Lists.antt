@@ -7,9 +7,9 @@ use Rattle.std.specs.Ordering.{is_eq, nat_cmp, ordering_then}
 use Rattle.asn_base.specs.declared.tag.Class.{Class}
 use Rattle.asn_base.specs.declared.tag.Class.TheVariants.{Universal, Application, Context, Private}
 use Rattle.tagging.specs.Tags.{Label}
-use Rattle.resolve.specs.declared.table.ListKind.{ListKind}
-use Rattle.resolve.specs.declared.table.ListKind.TheVariants.{Sequence, Set, Choice}
-use Rattle.resolve.specs.Table.{Part, Type'}
+use Rattle.type_table.specs.declared.table.ListKind.{ListKind}
+use Rattle.type_table.specs.declared.table.ListKind.TheVariants.{Sequence, Set, Choice}
+use Rattle.type_table.specs.Table.{Part, Type'}
 use Rattle.tagging.specs.First.{may_be_absent, Apart, Together}
 use Rattle.tagging.specs.Heads.{AreFirst}
 

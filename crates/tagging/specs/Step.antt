@@ -1,7 +1,7 @@
 -- One step of the way through references and tags.
 use Rattle.std.specs.Prelude.{◌≡◌, ℕ, Bool, true, false, List, [], ◌∷◌, ◌++◌, Option, Some, None}
-use Rattle.resolve.specs.declared.table.ListKind.TheVariants.{Sequence, Set, Choice}
-use Rattle.resolve.specs.Table.{universal, Type', Kind, simple, reference, tagged, members, elements}
+use Rattle.type_table.specs.declared.table.ListKind.TheVariants.{Sequence, Set, Choice}
+use Rattle.type_table.specs.Table.{universal, Type', Kind, simple, reference, tagged, members, elements}
 use Rattle.tagging.specs.declared.path.Step.{Step}
 use Rattle.tagging.specs.declared.path.Step.TheVariants.{Ends, Behind, Inside}
 use Rattle.trees.specs.declared.types.Keyword.{Keyword}

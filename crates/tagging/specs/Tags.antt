@@ -8,10 +8,10 @@ use Rattle.trees.specs.declared.types.Keyword.{Keyword}
 use Rattle.trees.specs.declared.types.Keyword.TheVariants.{Absent, Implicit as ImplicitWord, Explicit as ExplicitWord}
 use Rattle.trees.specs.declared.module.TagDefault.{TagDefault}
 use Rattle.trees.specs.declared.module.TagDefault.TheVariants.{Explicit as ExplicitTags, Automatic}
-use Rattle.resolve.specs.declared.table.ElementsKind.{ElementsKind}
-use Rattle.resolve.specs.declared.table.ElementsKind.TheVariants.{SequenceOf, SetOf}
-use Rattle.resolve.specs.declared.table.ListKind.TheVariants.{Sequence, Set, Choice}
-use Rattle.resolve.specs.Table.{universal, Type', Kind, simple, reference, tagged, members, elements, Is}
+use Rattle.type_table.specs.declared.table.ElementsKind.{ElementsKind}
+use Rattle.type_table.specs.declared.table.ElementsKind.TheVariants.{SequenceOf, SetOf}
+use Rattle.type_table.specs.declared.table.ListKind.TheVariants.{Sequence, Set, Choice}
+use Rattle.type_table.specs.Table.{universal, Type', Kind, simple, reference, tagged, members, elements, Is}
 use Rattle.tagging.specs.declared.path.FormedTag.{FormedTag}
 use Rattle.tagging.specs.declared.path.Form.{Form}
 use Rattle.tagging.specs.declared.path.Form.TheVariants.{Implicit, Explicit}

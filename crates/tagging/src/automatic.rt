@@ -2,15 +2,15 @@
 
 ghost use Rattle.std.specs.Prelude.{ℕ, ◌≡◌, ◌<◌, ◌≤◌, not, length, List, IfOk, IsOk, slice_get};
 ghost use Rattle.std.specs.List.{list_any};
-ghost use Rattle.resolve.specs.declared.table.Component.{Component};
-ghost use Rattle.resolve.specs.Table.{IsLinked};
-ghost use Rattle.resolve.specs.Seen.{kind_of, types_of};
+ghost use Rattle.type_table.specs.declared.table.Component.{Component};
+ghost use Rattle.type_table.specs.Table.{IsLinked};
+ghost use Rattle.type_table.specs.Seen.{kind_of, types_of};
 ghost use Rattle.tagging.specs.Tags.{Path, is_tagged, bears_tag, automatic_kind, is_automatic, automatic, label, path_of, AreNumbered, Tags};
 ghost use Rattle.tagging.specs.Heads.{Head};
 
 use crate::path::{FormedTag, Label, TagPath, form_with, with_written, written_outermost};
 use asn_base::tag::{Class, Tag};
-use resolve::{Component, Shape, Written};
+use type_table::{Component, Shape, Written};
 use smallvec::SmallVec;
 use std::alloc::{AllocError, Global};
 use trees::{Keyword, TagDefault};

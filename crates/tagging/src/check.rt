@@ -2,8 +2,9 @@
 
 ghost use Rattle.std.specs.Prelude.{ℕ, ◌≡◌, ◌<◌, ◌≤◌, length, map, List, MatchResult, All, Option, Some, []};
 ghost use Rattle.trees.specs.declared.module.TagDefault.{TagDefault};
-ghost use Rattle.resolve.specs.Seen.{types_of, kind_of, part_of, place_of};
-ghost use Rattle.resolve.specs.Table.{Type', IsLinked, Is, tagged, members};
+ghost use Rattle.type_table.specs.Seen.{types_of, kind_of, part_of};
+ghost use Rattle.names.specs.Sources.{place_of};
+ghost use Rattle.type_table.specs.Table.{Type', IsLinked, Is, tagged, members};
 ghost use Rattle.asn_base.specs.declared.tag.Tag.{Tag};
 ghost use Rattle.tagging.specs.Tags.{automatic, TagCount};
 ghost use Rattle.tagging.specs.First.{Distinct};
@@ -16,7 +17,7 @@ use crate::automatic::automatic_number;
 use crate::first::{FrontFault, first_tags, fronts, member_type};
 use crate::lists::clash;
 use crate::path::{Label, count_of, written_outermost};
-use resolve::{Component, ListKind, Shape, Written};
+use type_table::{Component, ListKind, Shape, Written};
 use std::alloc::Global;
 use trees::Keyword;
 

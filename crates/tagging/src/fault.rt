@@ -2,7 +2,7 @@
 
 ghost use Rattle.std.specs.Prelude.{ℕ, List, string_bytes};
 ghost use Rattle.trees.specs.declared.module.TagDefault.{TagDefault};
-ghost use Rattle.resolve.specs.Table.{Type'};
+ghost use Rattle.type_table.specs.Table.{Type'};
 ghost use Rattle.tagging.specs.Tagged.{Breaks};
 ghost use Rattle.tagging.specs.Faults.{Stands, StandsIn};
 

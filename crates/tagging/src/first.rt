@@ -1,15 +1,15 @@
 //! The tags that can stand first.
 
 ghost use Rattle.std.specs.Prelude.{ℕ, ◌≡◌, ◌<◌, ◌↔◌, IsTrue, length, map, List, MatchResult, MatchOption, All, Contains, [], ◌∷◌};
-ghost use Rattle.resolve.specs.Table.{IsLinked};
-ghost use Rattle.resolve.specs.Seen.{kind_of, part_of, types_of};
+ghost use Rattle.type_table.specs.Table.{IsLinked};
+ghost use Rattle.type_table.specs.Seen.{kind_of, part_of, types_of};
 ghost use Rattle.tagging.specs.declared.first.FrontFault.TheVariants.{Memory};
 ghost use Rattle.tagging.specs.Heads.{Fronts, AreFirst, IsFrontFault, IsFirstFault, members_of};
 
 use crate::automatic::head;
 use crate::path::{Label, core};
 use asn_base::tag::Class;
-use resolve::{Component, Shape, Written};
+use type_table::{Component, Shape, Written};
 use std::alloc::Global;
 
 /// Why members have no outermost tags: want of memory, or this member is an untagged CHOICE.

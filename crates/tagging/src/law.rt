@@ -2,7 +2,7 @@
 
 ghost use Rattle.std.specs.Prelude.{ℕ, ◌≡◌, ◌<◌, length, List};
 ghost use Rattle.trees.specs.declared.module.TagDefault.{TagDefault};
-ghost use Rattle.resolve.specs.Table.{Type', IsLinked};
+ghost use Rattle.type_table.specs.Table.{Type', IsLinked};
 ghost use Rattle.tagging.specs.Tags.{Path, Tags};
 ghost use Rattle.tagging.specs.Tagged.{IsTagged, HaveOneFirst};
 ghost use Rattle.tagging.specs.Faults.{Stands};

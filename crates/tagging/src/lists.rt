@@ -1,8 +1,8 @@
 //! Lists whose members' tags differ.
 
 ghost use Rattle.std.specs.Prelude.{ℕ, ◌≡◌, ◌⊎◌, ◌<◌, ◌↔◌, IsTrue, IfOk, OnOk, length, map, List, MatchOption};
-ghost use Rattle.resolve.specs.Seen.{part_of};
-ghost use Rattle.resolve.specs.Table.{Type'};
+ghost use Rattle.type_table.specs.Seen.{part_of};
+ghost use Rattle.type_table.specs.Table.{Type'};
 ghost use Rattle.tagging.specs.First.{Distinct};
 ghost use Rattle.tagging.specs.Lists.{Collected, tag_lists, Reaches, key_of, IsIn, HasKey, IsHeld, IsMet};
 ghost use Rattle.tagging.specs.Tagged.{Clash};
@@ -10,7 +10,7 @@ ghost use Rattle.tagging.specs.Tags.{Label as Tag};
 
 use crate::path::Label;
 use asn_base::tag::Class;
-use resolve::{Component, ListKind};
+use type_table::{Component, ListKind};
 use std::alloc::{AllocError, Global};
 use std::collections::BTreeSet;
 use trees::PresenceSyntax;

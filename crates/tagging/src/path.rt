@@ -1,14 +1,14 @@
 //! The tags that a type's notation has.
 
 ghost use Rattle.std.specs.Prelude.{ℕ, ◌≡◌, ◌<◌, ◌≤◌, ◌+◌, ◌++◌, ◌∷◌, [], Some, length, List, IfOk, IsOk, Option, is_none};
-ghost use Rattle.resolve.specs.Table.{IsLinked, IsCore, universal};
-ghost use Rattle.resolve.specs.Seen.{kind_of, plain_of, types_of};
+ghost use Rattle.type_table.specs.Table.{IsLinked, IsCore, universal};
+ghost use Rattle.type_table.specs.Seen.{kind_of, plain_of, types_of};
 ghost use Rattle.tagging.specs.Step.{step_of, form_before, Outermost, Adds, ending};
 ghost use Rattle.tagging.specs.Tags.{TagCount, label, outermost, path_of, Written as HasWritten};
 
 use asn_base::tag::{Class, Tag};
-use resolve::unfolding::next;
-use resolve::{ElementsKind, ListKind, Shape, Simple, Written};
+use type_table::unfolding::next;
+use type_table::{ElementsKind, ListKind, Shape, Simple, Written};
 use smallvec::SmallVec;
 use std::alloc::AllocError;
 use trees::{Keyword, TagDefault};

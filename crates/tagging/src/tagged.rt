@@ -2,8 +2,9 @@
 
 ghost use Rattle.std.specs.Prelude.{ℕ, IsTrue, ◌↔◌, ◌≡◌, ◌<◌, ◌≤◌, length, map, slice_get, List, Contains, Some, IfOk, IsOk, MatchResult};
 ghost use Rattle.trees.specs.declared.module.TagDefault.{TagDefault};
-ghost use Rattle.resolve.specs.Seen.{type_of, types_of, header_of, assignment_of};
-ghost use Rattle.resolve.specs.Table.{Type'};
+ghost use Rattle.type_table.specs.Seen.{type_of, types_of};
+ghost use Rattle.names.specs.Sources.{header_of, assignment_of};
+ghost use Rattle.type_table.specs.Table.{Type'};
 ghost use Rattle.tagging.specs.Tags.{Path, path_of, Tags};
 ghost use Rattle.tagging.specs.Tagged.{Breaks, IsTagged, HaveOneFirst};
 ghost use Rattle.tagging.specs.Faults.{Stands, StandsIn};
@@ -13,8 +14,10 @@ use crate::check::{Fault, Rule, check};
 use crate::fault::{TagFault, fault_at};
 use crate::path::TagPath;
 use asn_base::schema::TypeId;
-use resolve::table::Header;
-use resolve::{Assignment, Linked, Written};
+use names::Header;
+use names::Assignment;
+use resolve::Linked;
+use type_table::Written;
 use std::alloc::{AllocError, Global};
 use std::marker::Model;
 

@@ -2,7 +2,8 @@
 
 use super::{Starved, TURNS, sweep};
 use asn_base::schema::TypeId;
-use resolve::{Linked, NameFault, link};
+use resolve::{Linked, link};
+use names::NameFault;
 use std::alloc::Global;
 use std::test::Fail;
 use syntax::{Module, parse};

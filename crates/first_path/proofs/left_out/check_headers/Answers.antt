@@ -1,6 +1,6 @@
 use Rattle.std.proofs.Common.{◌≡◌, Some, sym, subst}
-use Rattle.resolve.specs.Seen.{header_of}
-use Rattle.resolve.specs.declared.table.Header.{Header}
+use Rattle.names.specs.Sources.{header_of}
+use Rattle.names.specs.declared.sources.Header.{Header}
 use Rattle.trees.specs.declared.module.TagDefault.TheVariants.{Explicit}
 use Rattle.first_path.specs.LeftOut.{tags_construct}
 use Rattle.first_path.proofs.Lists.{seen_here}

@@ -1,7 +1,7 @@
 use Rattle.std.proofs.Common.{◌≡◌, map, take}
 use Rattle.std.specs.List.{AllByRecursion}
 use Rattle.trees.specs.Values.{Name}
-use Rattle.resolve.specs.Seen.{header_of}
+use Rattle.names.specs.Sources.{header_of}
 use Rattle.trees.specs.declared.module.TagDefault.{TagDefault}
 use Rattle.trees.specs.declared.module.TagDefault.TheVariants.{Explicit}
 use Rattle.first_path.proofs.left_out.check_headers.Given as goal

@@ -1,4 +1,4 @@
-use Rattle.resolve.specs.Seen.{type_of, types_of}
+use Rattle.type_table.specs.Seen.{type_of, types_of}
 use Rattle.first_path.proofs.Lists.{seen_here}
 use Rattle.first_path.proofs.Unfoldings.{parts_inside}
 use Rattle.first_path.proofs.left_out.check_types.Goals as goal

@@ -1,6 +1,6 @@
 use Rattle.std.proofs.Common.{map, take}
 use Rattle.std.specs.List.{AllByRecursion}
-use Rattle.resolve.specs.Seen.{type_of, types_of}
+use Rattle.type_table.specs.Seen.{type_of, types_of}
 use Rattle.first_path.specs.FirstPath.{IsFirstType}
 use Rattle.first_path.proofs.left_out.check_types.Given as goal
 

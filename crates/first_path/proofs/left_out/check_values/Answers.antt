@@ -1,7 +1,7 @@
 use Rattle.std.proofs.Common.{sym, subst}
 use Rattle.trees.specs.Values.{tree_of}
-use Rattle.resolve.specs.Seen.{value_of}
-use Rattle.resolve.specs.declared.table.ValueAt.{ValueAt}
+use Rattle.names.specs.Sources.{value_of}
+use Rattle.names.specs.declared.sources.ValueAt.{ValueAt}
 use Rattle.first_path.specs.FirstPath.{IsFirstNotation}
 use Rattle.first_path.specs.LeftOut.{IsNotationOut}
 use Rattle.first_path.proofs.Lists.{seen_here}

@@ -1,7 +1,6 @@
 use Rattle.std.proofs.Common.{map, take}
 use Rattle.std.specs.List.{AllByRecursion}
-use Rattle.resolve.specs.Program.{Value}
-use Rattle.resolve.specs.Seen.{value_of}
+use Rattle.names.specs.Sources.{Value, value_of}
 use Rattle.first_path.specs.FirstPath.{IsFirstNotation}
 use Rattle.first_path.proofs.left_out.check_values.Given as goal
 

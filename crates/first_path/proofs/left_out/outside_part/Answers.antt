@@ -1,6 +1,6 @@
 use Rattle.std.proofs.Common.{ap}
 use Rattle.trees.specs.Types.{presence_of}
-use Rattle.resolve.specs.Seen.{part_of, type_of, types_of}
+use Rattle.type_table.specs.Seen.{part_of, type_of, types_of}
 use Rattle.trees.specs.Values.{tree_of}
 use Rattle.first_path.specs.LeftOut.{no_identifier, may_be_absent, has_default}
 use Rattle.first_path.proofs.Outside.{part_out}

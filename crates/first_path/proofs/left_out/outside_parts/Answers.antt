@@ -1,6 +1,6 @@
 use Rattle.std.proofs.Common.{map, arith}
 use Rattle.std.proofs.lemmas.List.{length-map}
-use Rattle.resolve.specs.Seen.{part_of, type_of, types_of}
+use Rattle.type_table.specs.Seen.{part_of, type_of, types_of}
 use Rattle.first_path.specs.FirstPath.{IsFirstMember}
 use Rattle.first_path.proofs.Lists.{all_at, seen_here}
 use Rattle.first_path.proofs.left_out.outside_parts.Goals as goal

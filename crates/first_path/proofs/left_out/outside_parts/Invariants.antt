@@ -1,6 +1,6 @@
 use Rattle.std.proofs.Common.{map, take}
 use Rattle.std.specs.List.{AllByRecursion}
-use Rattle.resolve.specs.Seen.{part_of, types_of}
+use Rattle.type_table.specs.Seen.{part_of, types_of}
 use Rattle.first_path.specs.FirstPath.{IsFirstMember}
 use Rattle.first_path.proofs.left_out.outside_parts.Given as goal
 

@@ -1,6 +1,6 @@
 use Rattle.std.proofs.Common.{map, sym, ap, ◌∙◌, subst}
-use Rattle.resolve.specs.Seen.{kind_of, part_of, plain_of, types_of}
-use Rattle.resolve.specs.Table.{members}
+use Rattle.type_table.specs.Seen.{kind_of, part_of, plain_of, types_of}
+use Rattle.type_table.specs.Table.{members}
 use Rattle.first_path.specs.declared.fault.Construct.TheVariants as constructs
 use Rattle.first_path.specs.LeftOut.{IsKindOut, tag, set, choice}
 use Rattle.first_path.proofs.Outside.{simple_out, member_out, elements_out}

@@ -1,7 +1,7 @@
 use Rattle.std.proofs.Common.{◌≡◌, rules, length, sym, ap, ◌∙◌}
 use Rattle.std.proofs.lemmas.List.{length-map}
 use Rattle.trees.specs.Constraints.{constraint_of}
-use Rattle.resolve.specs.Seen.{type_of, types_of}
+use Rattle.type_table.specs.Seen.{type_of, types_of}
 use Rattle.first_path.specs.LeftOut.{constraint}
 use Rattle.first_path.proofs.Outside.{kind_out}
 use Rattle.first_path.proofs.left_out.outside_type.Goals as goal

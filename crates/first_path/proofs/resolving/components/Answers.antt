@@ -1,6 +1,6 @@
 use Rattle.std.proofs.Common.{refl, rules}
 use Rattle.asn_base.specs.Seen.{component_of}
-use Rattle.resolve.specs.Seen.{part_of}
+use Rattle.type_table.specs.Seen.{part_of}
 use Rattle.first_path.specs.Resolving.{IsComponent}
 use Rattle.first_path.proofs.Lists.{zip_more}
 use Rattle.first_path.proofs.resolving.components.Goals as goal

@@ -1,7 +1,7 @@
 use Rattle.std.proofs.Common.{map, take}
 use Rattle.std.specs.List.{AllZip}
 use Rattle.asn_base.specs.Seen.{component_of}
-use Rattle.resolve.specs.Seen.{part_of}
+use Rattle.type_table.specs.Seen.{part_of}
 use Rattle.first_path.specs.Resolving.{IsComponent}
 use Rattle.first_path.proofs.resolving.components.Given as goal
 

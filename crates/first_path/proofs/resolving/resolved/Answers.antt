@@ -1,7 +1,7 @@
 use Rattle.std.proofs.Common.{false, sym, subst}
 use Rattle.asn_base.specs.Seen.{kind_of as core_kind_of}
 use Rattle.asn_base.specs.declared.schema.Core.TheVariants as cores
-use Rattle.resolve.specs.Seen.{type_of, types_of}
+use Rattle.type_table.specs.Seen.{type_of, types_of}
 use Rattle.first_path.specs.Resolving.{IsKind, sequence}
 use Rattle.first_path.proofs.Types.{type_ok}
 use Rattle.first_path.proofs.resolving.resolved.Goals as goal

@@ -1,7 +1,7 @@
 use Rattle.std.proofs.Common.{arith}
 use Rattle.std.proofs.lemmas.List.{length-map}
 use Rattle.asn_base.specs.Seen.{types_of as resolved_types_of}
-use Rattle.resolve.specs.Seen.{type_of, types_of}
+use Rattle.type_table.specs.Seen.{type_of, types_of}
 use Rattle.first_path.proofs.Types.{front_more, front_all, all_accepted}
 use Rattle.first_path.proofs.resolving.table_types.Goals as goal
 

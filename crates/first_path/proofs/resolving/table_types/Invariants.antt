@@ -1,5 +1,5 @@
 use Rattle.asn_base.specs.Seen.{types_of as resolved_types_of}
-use Rattle.resolve.specs.Seen.{types_of}
+use Rattle.type_table.specs.Seen.{types_of}
 use Rattle.first_path.proofs.Types.{AreFront}
 use Rattle.first_path.proofs.resolving.table_types.Given as goal
 

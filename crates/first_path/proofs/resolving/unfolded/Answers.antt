@@ -1,6 +1,6 @@
 use Rattle.std.proofs.Common.{◌<◌, length, arith}
 use Rattle.std.proofs.lemmas.List.{length-map}
-use Rattle.resolve.specs.Seen.{type_of, types_of}
+use Rattle.type_table.specs.Seen.{type_of, types_of}
 use Rattle.first_path.proofs.Lists.{seen_here}
 use Rattle.first_path.proofs.Unfoldings.{core_inside, no_circle}
 use Rattle.first_path.proofs.resolving.unfolded.Goals as goal

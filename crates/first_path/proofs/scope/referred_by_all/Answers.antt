@@ -1,6 +1,6 @@
 use Rattle.std.proofs.Common.{length, ap, arith}
 use Rattle.std.proofs.lemmas.List.{length-map}
-use Rattle.resolve.specs.Seen.{value_of}
+use Rattle.names.specs.Sources.{value_of}
 use Rattle.first_path.proofs.Leading.{first_more, first_all}
 use Rattle.first_path.proofs.scope.referred_by_all.Goals as goal
 

@@ -1,6 +1,6 @@
 use Rattle.std.proofs.Common.{map, sym, ◌∙◌, arith, subst}
 use Rattle.trees.specs.Values.{member_of}
-use Rattle.resolve.specs.Modules.{StandsIn}
+use Rattle.names.specs.Modules.{StandsIn}
 use Rattle.first_path.specs.Wrong.{field_names}
 use Rattle.first_path.proofs.Names.{in_none, in_more, in_all, component_named, no_field, is_field, some_name, component_count}
 use Rattle.first_path.proofs.typing.missing_component.Goals as goal

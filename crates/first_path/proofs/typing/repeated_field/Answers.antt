@@ -1,6 +1,6 @@
 use Rattle.std.proofs.Common.{map, sym, ◌∙◌, arith, subst}
 use Rattle.trees.specs.Values.{member_of}
-use Rattle.resolve.specs.Modules.{StandsTwice}
+use Rattle.names.specs.Modules.{StandsTwice}
 use Rattle.first_path.specs.Wrong.{field_names}
 use Rattle.first_path.proofs.Names.{once_none, once_more, once_all, field_named, twice, new_at, some_name, field_count}
 use Rattle.first_path.proofs.typing.repeated_field.Goals as goal

@@ -1,6 +1,6 @@
 use Rattle.std.proofs.Common.{map, sym, ◌∙◌, arith, subst}
 use Rattle.asn_base.specs.Seen.{component_of}
-use Rattle.resolve.specs.Modules.{StandsIn}
+use Rattle.names.specs.Modules.{StandsIn}
 use Rattle.first_path.specs.Wrong.{component_names}
 use Rattle.first_path.proofs.Names.{in_none, in_more, in_all, field_named, no_component, is_component, some_name, field_count}
 use Rattle.first_path.proofs.typing.unknown_field.Goals as goal

@@ -1,11 +1,10 @@
 use Rattle.std.proofs.Common.{◌<◌, inl, length, map, refl, arith, string_bytes}
 use Rattle.std.proofs.lemmas.Option.{slice_get_read}
-use Rattle.resolve.specs.Scopes.{seen, module_of}
-use Rattle.resolve.specs.Seen.{header_of, assignment_of, source_of, sources_of}
-use Rattle.resolve.proofs.Distinct.{stands_map}
-use Rattle.resolve.proofs.Queue.{at_all}
+use Rattle.names.specs.Scopes.{seen, module_of}
+use Rattle.names.specs.Sources.{header_of, assignment_of, source_of, sources_of}
+use Rattle.names.specs.Distinct.{stands_map, at_all}
 use Rattle.resolve.proofs.Slices.{more_roots}
-use Rattle.resolve.proofs.Sources.{assignment_at, header_at}
+use Rattle.names.specs.Given.{assignment_at, header_at}
 use Rattle.resolve.proofs.linking.assemble.Goals as goal
 
 pub index-assignment-requires : goal.index-assignment-requires

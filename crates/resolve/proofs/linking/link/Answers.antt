@@ -1,18 +1,17 @@
 use Rattle.std.proofs.Common.{map, subst}
-use Rattle.resolve.specs.Gathered.{IsNamingFault}
-use Rattle.resolve.specs.Modules.{AreFew}
+use Rattle.names.specs.Gathered.{IsNamingFault}
+use Rattle.names.specs.Modules.{AreFew}
 use Rattle.trees.specs.Modules.{module_tree_of}
-use Rattle.resolve.proofs.Ready.{ready, are_linked, naming_link, assembly_link}
-use Rattle.resolve.proofs.Standings.{are_named, standing_fault}
+use Rattle.resolve.proofs.Ready.{are_linked, naming_link, assembly_link}
 use Rattle.resolve.proofs.linking.link.Goals as goal
 
 pub returns-in-Err-all_stand-clause-fault : goal.returns-in-Err-all_stand-clause-fault
 returns-in-Err-all_stand-clause-fault c =
     let ms = map module_tree_of c.args.modules.items in
-    naming_link ms c.in-Err-all_stand.fault (standing_fault ms c.in-Ok-gather.gathered c.in-Err-all_stand.fault c.in-Ok-gather.ensures.ok c.in-Err-all_stand.ensures.fault)
+    naming_link ms c.in-Err-all_stand.fault (c.stood.ensures.fault ms c.in-Ok-gather.gathered c.in-Err-all_stand.fault c.in-Ok-gather.ensures.ok c.in-Err-all_stand.ensures.fault)
 
 pub assemble-requires : goal.assemble-requires
-assemble-requires c = record { ready = ready (map module_tree_of c.args.modules.items) c.in-Ok-gather.gathered c.in-Ok-gather.ensures.ok }
+assemble-requires c = record { ready = c.ready.ensures (map module_tree_of c.args.modules.items) c.in-Ok-gather.gathered c.in-Ok-gather.ensures.ok }
 
 pub returns-in-Err-clause-fault : goal.returns-in-Err-clause-fault
 returns-in-Err-clause-fault c = naming_link (map module_tree_of c.args.modules.items) c.in-Err.fault (subst (λ l. IsNamingFault (map module_tree_of l) c.in-Err.fault) c.deref.ensures.value c.in-Err.ensures.fault)
@@ -24,7 +23,7 @@ pub returns-in-Ok-assemble-clause-linked : goal.returns-in-Ok-assemble-clause-li
 returns-in-Ok-assemble-clause-linked c =
     let ms = map module_tree_of c.args.modules.items in
     let g = c.in-Ok-gather.gathered in
-    are_linked ms g c.in-Ok-assemble.linked (subst (λ l. AreFew (map module_tree_of l)) c.deref.ensures.value c.in-Ok.ensures.ok) (are_named ms g c.in-Ok-gather.ensures.ok c.in-Ok-all_stand.ensures.ok) c.in-Ok-gather.ensures.ok c.in-Ok-assemble.ensures.assembled
+    are_linked ms g c.in-Ok-assemble.linked (subst (λ l. AreFew (map module_tree_of l)) c.deref.ensures.value c.in-Ok.ensures.ok) (c.stood.ensures.named ms g c.in-Ok-gather.ensures.ok c.in-Ok-all_stand.ensures.ok) c.in-Ok-gather.ensures.ok c.in-Ok-assemble.ensures.assembled
 
 pub returns-in-Err-assemble-clause-fault : goal.returns-in-Err-assemble-clause-fault
 returns-in-Err-assemble-clause-fault c =

@@ -3,7 +3,7 @@ use Rattle.std.proofs.lemmas.Result.{err_from_is_err_and}
 use Rattle.trees.specs.Values.{tree_of, member_of, trees, members}
 use Rattle.resolve.specs.Sound.{qualified, qualified_each, qualified_fields}
 use Rattle.resolve.specs.Soundness.{behind_module}
-use Rattle.resolve.proofs.Halfway.{drop_at, none_left}
+use Rattle.names.specs.Distinct.{drop_at, none_left}
 use Rattle.resolve.proofs.Sounds.{left_start, left_step, left_fault, left_end, Answers, fields_names, items_names, chosen_names, reference_names}
 use Rattle.resolve.proofs.qualified.+values.Goals as goal
 

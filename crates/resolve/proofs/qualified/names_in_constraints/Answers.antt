@@ -3,7 +3,7 @@ use Rattle.std.proofs.lemmas.Result.{err_from_is_err_and}
 use Rattle.trees.specs.Constraints.{constraint_of}
 use Rattle.resolve.specs.Sound.{qualified_constraints}
 use Rattle.resolve.specs.Soundness.{qualified_constraint}
-use Rattle.resolve.proofs.Halfway.{drop_at, none_left}
+use Rattle.names.specs.Distinct.{drop_at, none_left}
 use Rattle.resolve.proofs.Sounds.{left_start, left_step, left_fault, left_end, constraint_front}
 use Rattle.resolve.proofs.qualified.names_in_constraints.Goals as goal
 

@@ -1,9 +1,9 @@
 use Rattle.std.proofs.Common.{◌≡◌, ◌+◌, ◌++◌, ◌<◌, ◌≤◌, length, map, drop, ap, arith}
 use Rattle.std.proofs.lemmas.Result.{err_from_is_err_and}
 use Rattle.trees.specs.Types.{presence_of}
-use Rattle.resolve.specs.Seen.{part_of}
+use Rattle.type_table.specs.Seen.{part_of}
 use Rattle.resolve.specs.Sound.{qualified_default, qualified_members}
-use Rattle.resolve.proofs.Halfway.{drop_at, none_left}
+use Rattle.names.specs.Distinct.{drop_at, none_left}
 use Rattle.resolve.proofs.Sounds.{left_start, left_step, left_fault, left_end}
 use Rattle.resolve.proofs.qualified.names_in_members.Goals as goal
 

@@ -1,5 +1,5 @@
 use Rattle.std.proofs.Common.{map, drop}
-use Rattle.resolve.specs.Seen.{part_of}
+use Rattle.type_table.specs.Seen.{part_of}
 use Rattle.resolve.specs.Sound.{qualified_members}
 use Rattle.resolve.proofs.Sounds.{Left}
 use Rattle.resolve.proofs.qualified.names_in_members.Given as goal

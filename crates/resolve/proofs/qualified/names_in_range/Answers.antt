@@ -1,9 +1,8 @@
 use Rattle.std.proofs.Common.{sym, subst, ap, option_map}
 use Rattle.std.proofs.lemmas.Result.{err_from_is_err_and}
 use Rattle.trees.specs.Constraints.{end_of, range_of}
-use Rattle.resolve.specs.Sound.{qualified_bound}
+use Rattle.resolve.specs.Sound.{qualified_bound, MeanValues}
 use Rattle.resolve.specs.Soundness.{qualified_range, IsUnknownIn}
-use Rattle.resolve.specs.Sound.{MeanValues}
 use Rattle.resolve.proofs.Sounds.{Answers, mean_both, unknown_front, unknown_behind}
 use Rattle.resolve.proofs.qualified.names_in_range.Goals as goal
 

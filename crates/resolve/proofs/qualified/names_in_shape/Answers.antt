@@ -1,5 +1,5 @@
 use Rattle.std.proofs.Common.{map, sym, subst, ap, ◌∙◌}
-use Rattle.resolve.specs.Seen.{kind_of, part_of}
+use Rattle.type_table.specs.Seen.{kind_of, part_of}
 use Rattle.resolve.specs.Sound.{qualified_kind, qualified_members}
 use Rattle.resolve.proofs.Sounds.{Answers, elements_names}
 use Rattle.resolve.proofs.qualified.names_in_shape.Goals as goal

@@ -1,10 +1,9 @@
 use Rattle.std.proofs.Common.{map, subst}
 use Rattle.std.proofs.lemmas.Result.{err_from_is_err_and}
 use Rattle.trees.specs.Constraints.{constraint_of}
-use Rattle.resolve.specs.Seen.{type_of}
-use Rattle.resolve.specs.Sound.{qualified_constraints, qualified_kind}
+use Rattle.type_table.specs.Seen.{type_of}
+use Rattle.resolve.specs.Sound.{qualified_constraints, qualified_kind, MeanValues}
 use Rattle.resolve.specs.Soundness.{IsUnknownIn}
-use Rattle.resolve.specs.Sound.{MeanValues}
 use Rattle.resolve.proofs.Sounds.{mean_both, unknown_front, unknown_behind}
 use Rattle.resolve.proofs.qualified.names_in_type.Goals as goal
 

@@ -1,10 +1,11 @@
 use Rattle.std.proofs.Common.{◌<◌, length, map, refl, subst, arith, below_more, string_bytes}
 use Rattle.std.proofs.lemmas.Option.{slice_get_within, slice_get_read}
 use Rattle.std.proofs.lemmas.Result.{err_from_is_err_and}
-use Rattle.resolve.specs.Seen.{types_of, type_of, header_of, assignment_of}
+use Rattle.type_table.specs.Seen.{types_of, type_of}
+use Rattle.names.specs.Sources.{header_of, assignment_of}
 use Rattle.resolve.specs.Sound.{qualified_in, MeanValues}
 use Rattle.resolve.specs.Soundness.{program, IsUnknownIn}
-use Rattle.resolve.proofs.Tables.{type_at, as_long}
+use Rattle.type_table.specs.Tables.{type_at, as_long}
 use Rattle.resolve.proofs.Exclusion.{assignment_is, type_fault}
 use Rattle.resolve.proofs.Below.{TypeMeans, type_means}
 use Rattle.resolve.proofs.sound.names_in_types.Goals as goal

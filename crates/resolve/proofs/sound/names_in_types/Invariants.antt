@@ -1,6 +1,6 @@
 use Rattle.std.proofs.Common.{List, map}
-use Rattle.resolve.specs.Program.{Value}
-use Rattle.resolve.specs.Seen.{types_of, header_of, assignment_of}
+use Rattle.names.specs.Sources.{Value, header_of, assignment_of}
+use Rattle.type_table.specs.Seen.{types_of}
 use Rattle.resolve.specs.Soundness.{program}
 use Rattle.resolve.proofs.Below.{TypesBelow}
 use Rattle.resolve.proofs.sound.names_in_types.Given as goal

@@ -3,10 +3,10 @@ use Rattle.std.proofs.lemmas.List.{length-map}
 use Rattle.std.proofs.lemmas.Option.{slice_get_within, slice_get_read}
 use Rattle.std.proofs.lemmas.Result.{err_from_is_err_and}
 use Rattle.trees.specs.Values.{tree_of}
-use Rattle.resolve.specs.Seen.{value_of, header_of, assignment_of}
+use Rattle.names.specs.Sources.{value_of, header_of, assignment_of}
 use Rattle.resolve.specs.Sound.{qualified, MeanValues}
 use Rattle.resolve.specs.Soundness.{program, IsUnknownIn}
-use Rattle.resolve.proofs.Halfway.{item_at}
+use Rattle.names.specs.Distinct.{item_at}
 use Rattle.resolve.proofs.Exclusion.{assignment_is, value_fault}
 use Rattle.resolve.proofs.Below.{ValueMeans, value_means}
 use Rattle.resolve.proofs.sound.names_in_values.Goals as goal

@@ -1,7 +1,7 @@
 use Rattle.std.proofs.Common.{List, map}
-use Rattle.resolve.specs.Seen.{header_of, assignment_of, value_of}
+use Rattle.names.specs.Sources.{header_of, assignment_of, value_of}
 use Rattle.resolve.specs.Soundness.{program}
-use Rattle.resolve.specs.Table.{Type'}
+use Rattle.type_table.specs.Table.{Type'}
 use Rattle.resolve.proofs.Below.{ValuesBelow}
 use Rattle.resolve.proofs.sound.names_in_values.Given as goal
 

@@ -1,9 +1,11 @@
 use Rattle.std.proofs.Common.{◌<◌, length, map, refl, subst, arith, below_more, string_bytes}
 use Rattle.std.proofs.lemmas.Option.{slice_get_within, slice_get_read}
 use Rattle.std.proofs.lemmas.Result.{err_from_is_err_and}
-use Rattle.resolve.specs.Seen.{types_of, type_of, kind_of, header_of, assignment_of}
-use Rattle.resolve.specs.Soundness.{program, IsKindFault}
-use Rattle.resolve.proofs.Tables.{type_at, as_long}
+use Rattle.type_table.specs.Seen.{types_of, type_of, kind_of}
+use Rattle.names.specs.Sources.{header_of, assignment_of}
+use Rattle.resolve.specs.Soundness.{program}
+use Rattle.type_table.specs.ListFaults.{IsKindFault}
+use Rattle.type_table.specs.Tables.{type_at, as_long}
 use Rattle.resolve.proofs.Exclusion.{assignment_is, kind_fault}
 use Rattle.resolve.proofs.Below.{SoundAt, sound_at}
 use Rattle.resolve.proofs.sound.sound_lists.Goals as goal

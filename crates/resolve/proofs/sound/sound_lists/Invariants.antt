@@ -1,8 +1,8 @@
 use Rattle.std.proofs.Common.{◌≡◌, ℕ, ◌<◌, Some}
 use Rattle.std.specs.Prelude.{slice_get}
-use Rattle.resolve.specs.Seen.{types_of}
-use Rattle.resolve.specs.Sound.{IsSoundKind}
-use Rattle.resolve.specs.Table.{Type'}
+use Rattle.type_table.specs.Seen.{types_of}
+use Rattle.type_table.specs.Lists.{IsSoundKind}
+use Rattle.type_table.specs.Table.{Type'}
 use Rattle.resolve.proofs.sound.sound_lists.Given as goal
 
 abbrev pub invariant-loop-written : goal.invariant-loop-written

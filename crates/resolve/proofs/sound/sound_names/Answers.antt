@@ -1,6 +1,7 @@
 use Rattle.std.proofs.Common.{map}
 use Rattle.std.proofs.lemmas.Result.{err_from_is_err_and}
-use Rattle.resolve.specs.Seen.{types_of, value_of}
+use Rattle.type_table.specs.Seen.{types_of}
+use Rattle.names.specs.Sources.{value_of}
 use Rattle.resolve.proofs.sound.sound_names.Goals as goal
 
 pub returns-in_err-names_in_types-clause-fault : goal.returns-in_err-names_in_types-clause-fault

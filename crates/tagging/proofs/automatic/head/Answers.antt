@@ -1,6 +1,5 @@
-use Rattle.std.proofs.Common.{sym}
-use Rattle.std.proofs.Common.{arith}
-use Rattle.resolve.specs.Seen.{types_of}
+use Rattle.std.proofs.Common.{sym, arith}
+use Rattle.type_table.specs.Seen.{types_of}
 use Rattle.tagging.proofs.Tables.{as_long}
 use Rattle.tagging.proofs.Fronts.{head_written, head_numbered}
 use Rattle.tagging.proofs.automatic.head.Goals as goal

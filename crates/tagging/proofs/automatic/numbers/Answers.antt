@@ -1,7 +1,7 @@
 use Rattle.std.specs.Prelude.{not, slice_get}
 use Rattle.std.proofs.Common.{ap, sym, ◌∙◌}
 use Rattle.std.specs.List.{list_any}
-use Rattle.resolve.specs.Seen.{part_of, types_of}
+use Rattle.type_table.specs.Seen.{part_of, types_of}
 use Rattle.tagging.specs.Tags.{bears_tag}
 use Rattle.tagging.proofs.Tables.{any_seen}
 use Rattle.tagging.proofs.automatic.numbers.Goals as goal

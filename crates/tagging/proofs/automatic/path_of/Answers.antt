@@ -1,6 +1,6 @@
 use Rattle.std.proofs.Common.{◌∷◌, [], sym, ap, ◌∙◌}
 use Rattle.std.proofs.lemmas.Result.{IfOk-weaker}
-use Rattle.resolve.specs.Seen.{types_of}
+use Rattle.type_table.specs.Seen.{types_of}
 use Rattle.trees.specs.declared.types.Keyword.TheVariants.{Absent}
 use Rattle.trees.specs.declared.module.TagDefault.TheVariants.{Automatic}
 use Rattle.tagging.specs.Step.{form_before}

@@ -1,6 +1,5 @@
 use Rattle.std.specs.Prelude.{map}
-use Rattle.resolve.specs.Seen.{part_of}
-use Rattle.resolve.specs.Seen.{types_of}
+use Rattle.type_table.specs.Seen.{part_of, types_of}
 use Rattle.tagging.proofs.Taggings.{bear, not_sequence}
 use Rattle.tagging.proofs.Fronts.{front_untagged}
 use Rattle.tagging.proofs.check.bear_tags.Goals as goal

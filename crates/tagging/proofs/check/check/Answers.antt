@@ -1,5 +1,5 @@
 use Rattle.std.proofs.Common.{below_more, arith}
-use Rattle.resolve.specs.Seen.{types_of}
+use Rattle.type_table.specs.Seen.{types_of}
 use Rattle.tagging.proofs.Tables.{as_long}
 use Rattle.tagging.proofs.Taggings.{all_good}
 use Rattle.tagging.proofs.check.check.Goals as goal

@@ -1,5 +1,5 @@
 use Rattle.std.proofs.Common.{ℕ, ◌<◌}
-use Rattle.resolve.specs.Seen.{types_of}
+use Rattle.type_table.specs.Seen.{types_of}
 use Rattle.tagging.specs.Checks.{IsGood}
 use Rattle.tagging.proofs.check.check.Given as goal
 

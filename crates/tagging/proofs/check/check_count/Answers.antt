@@ -1,5 +1,5 @@
 use Rattle.std.proofs.Common.{◌≡◌, arith}
-use Rattle.resolve.specs.Seen.{types_of}
+use Rattle.type_table.specs.Seen.{types_of}
 use Rattle.tagging.proofs.Taggings.{count_unique}
 use Rattle.tagging.proofs.check.check_count.Goals as goal
 

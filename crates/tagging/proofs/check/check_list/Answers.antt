@@ -1,8 +1,7 @@
 use Rattle.std.specs.Prelude.{map}
-use Rattle.resolve.specs.Seen.{part_of}
+use Rattle.type_table.specs.Seen.{part_of, types_of}
 use Rattle.std.proofs.Common.{length, ap, sym, ◌∙◌}
 use Rattle.std.proofs.lemmas.List.{length-map}
-use Rattle.resolve.specs.Seen.{types_of}
 use Rattle.tagging.specs.Lists.{tag_lists}
 use Rattle.tagging.proofs.Tables.{parts_long}
 use Rattle.tagging.proofs.Taggings.{collected_long}

@@ -1,4 +1,4 @@
-use Rattle.resolve.specs.Seen.{types_of}
+use Rattle.type_table.specs.Seen.{types_of}
 use Rattle.tagging.proofs.Taggings.{has_tag, untagged, implicit_at, suits_tag}
 use Rattle.tagging.proofs.check.check_tag.Goals as goal
 

@@ -1,7 +1,8 @@
 use Rattle.std.proofs.Common.{◌<◌, length, sym, subst, arith}
 use Rattle.std.specs.Prelude.{All, map}
-use Rattle.resolve.specs.Seen.{types_of, kind_of, place_of, part_of}
-use Rattle.resolve.specs.Table.{Is, tagged, members}
+use Rattle.type_table.specs.Seen.{types_of, kind_of, part_of}
+use Rattle.names.specs.Sources.{place_of}
+use Rattle.type_table.specs.Table.{Is, tagged, members}
 use Rattle.tagging.proofs.Tables.{as_long}
 use Rattle.tagging.proofs.Taggings.{inside_table}
 use Rattle.tagging.proofs.check.check_written.Goals as goal

@@ -1,7 +1,7 @@
 use Rattle.std.proofs.Common.{◌<◌, length, sym, subst}
 use Rattle.std.specs.Prelude.{map}
 use Rattle.std.proofs.lemmas.List.{map-append}
-use Rattle.resolve.specs.Seen.{types_of, part_of}
+use Rattle.type_table.specs.Seen.{types_of, part_of}
 use Rattle.tagging.specs.Heads.{AreFirst}
 use Rattle.tagging.specs.Lists.{none}
 use Rattle.tagging.proofs.Tables.{part_at, part_more}

@@ -1,5 +1,5 @@
 use Rattle.std.proofs.Common.{take, map}
-use Rattle.resolve.specs.Seen.{part_of, types_of}
+use Rattle.type_table.specs.Seen.{part_of, types_of}
 use Rattle.tagging.specs.Lists.{Collected, tag_lists}
 use Rattle.tagging.proofs.check.collect.Given as goal
 

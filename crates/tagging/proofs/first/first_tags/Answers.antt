@@ -1,7 +1,8 @@
 use Rattle.std.proofs.Common.{◌<◌, length, sym, subst, arith}
 use Rattle.std.specs.Prelude.{All, MatchResult, map}
-use Rattle.resolve.specs.Seen.{types_of, kind_of, place_of, part_of}
-use Rattle.resolve.specs.Table.{Is}
+use Rattle.type_table.specs.Seen.{types_of, kind_of, part_of}
+use Rattle.names.specs.Sources.{place_of}
+use Rattle.type_table.specs.Table.{Is}
 use Rattle.tagging.proofs.Tables.{is_here, as_long}
 use Rattle.tagging.specs.Heads.{Fronts, IsFrontFault}
 use Rattle.tagging.proofs.Fronts.{choice_answer, single_answer, parts_of}

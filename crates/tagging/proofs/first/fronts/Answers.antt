@@ -1,6 +1,6 @@
 use Rattle.std.proofs.Common.{Some, ◌<◌, length, sym, subst}
 use Rattle.std.specs.Prelude.{map}
-use Rattle.resolve.specs.Seen.{types_of, part_of}
+use Rattle.type_table.specs.Seen.{types_of, part_of}
 use Rattle.tagging.specs.Heads.{none, Head}
 use Rattle.tagging.proofs.Tables.{part_at, part_more}
 use Rattle.tagging.proofs.Fronts.{fronts_push, within_all}

@@ -1,5 +1,5 @@
 use Rattle.std.proofs.Common.{take, map}
-use Rattle.resolve.specs.Seen.{part_of, types_of}
+use Rattle.type_table.specs.Seen.{part_of, types_of}
 use Rattle.tagging.specs.Heads.{Fronts}
 use Rattle.tagging.proofs.first.fronts.Given as goal
 

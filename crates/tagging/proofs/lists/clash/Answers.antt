@@ -1,6 +1,6 @@
 use Rattle.std.proofs.Common.{◌≡◌, ◌≤◌, length, Some, sym, ap, ◌∙◌, arith}
 use Rattle.std.specs.Prelude.{map, slice_get}
-use Rattle.resolve.specs.Seen.{part_of}
+use Rattle.type_table.specs.Seen.{part_of}
 use Rattle.tagging.specs.Lists.{tag_lists}
 use Rattle.tagging.proofs.Tables.{parts_long}
 use Rattle.tagging.proofs.Clashes.{list_at, holds_next, clear_next, clash_met, distinct_all}

@@ -1,6 +1,6 @@
 use Rattle.std.proofs.Common.{◌-◌, sym, ◌∙◌, arith}
 use Rattle.std.specs.Prelude.{map}
-use Rattle.resolve.specs.Seen.{part_of}
+use Rattle.type_table.specs.Seen.{part_of}
 use Rattle.tagging.proofs.Tables.{part_at}
 use Rattle.tagging.proofs.Clashes.{absent_before, absent_there}
 use Rattle.tagging.proofs.lists.reaches.Goals as goal

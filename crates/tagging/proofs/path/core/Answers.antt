@@ -1,6 +1,6 @@
 use Rattle.std.proofs.Common.{◌≡◌, length, Some, sym, ap, ◌∙◌, arith}
-use Rattle.resolve.specs.Seen.{types_of}
-use Rattle.resolve.specs.Table.{walk, next}
+use Rattle.type_table.specs.Seen.{types_of}
+use Rattle.type_table.specs.Table.{walk, next}
 use Rattle.tagging.proofs.Tables.{next_at, as_long}
 use Rattle.tagging.proofs.Walks.{one_more}
 use Rattle.tagging.proofs.Paths.{never_long, core_here}

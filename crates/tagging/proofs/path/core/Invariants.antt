@@ -1,6 +1,6 @@
 use Rattle.std.proofs.Common.{◌≡◌, ◌<◌, length, Some}
-use Rattle.resolve.specs.Seen.{types_of}
-use Rattle.resolve.specs.Table.{walk}
+use Rattle.type_table.specs.Seen.{types_of}
+use Rattle.type_table.specs.Table.{walk}
 use Rattle.tagging.proofs.path.core.Given as goal
 
 abbrev pub invariant-loop-walked : goal.invariant-loop-walked

@@ -1,6 +1,7 @@
 use Rattle.std.proofs.Common.{◌≡◌, suc, ◌+◌, length, sym, ap, ◌∙◌, arith}
-use Rattle.resolve.specs.Seen.{types_of, kind_of, place_of}
-use Rattle.resolve.specs.Table.{walk, Is}
+use Rattle.type_table.specs.Seen.{types_of, kind_of}
+use Rattle.names.specs.Sources.{place_of}
+use Rattle.type_table.specs.Table.{walk, Is}
 use Rattle.tagging.proofs.Tables.{is_here, as_long}
 use Rattle.tagging.proofs.Walks.{one_more}
 use Rattle.tagging.proofs.Paths.{count_end, count_behind, count_inside, count_to, next_behind, next_inside, never_long}

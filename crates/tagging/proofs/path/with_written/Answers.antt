@@ -1,7 +1,8 @@
 use Rattle.std.proofs.Common.{◌≡◌, ◌<◌, ◌∷◌, [], ◌++◌, length, Some, None, refl, sym, ap, ◌∙◌, arith, subst, append-nil}
 use Rattle.std.proofs.lemmas.List.{length-append}
-use Rattle.resolve.specs.Seen.{types_of, kind_of, place_of}
-use Rattle.resolve.specs.Table.{walk, Is}
+use Rattle.type_table.specs.Seen.{types_of, kind_of}
+use Rattle.names.specs.Sources.{place_of}
+use Rattle.type_table.specs.Table.{walk, Is}
 use Rattle.tagging.proofs.Tables.{is_here, as_long}
 use Rattle.tagging.proofs.Walks.{one_more}
 use Rattle.tagging.specs.Tags.{Path, label, path_of, Written}

@@ -1,6 +1,6 @@
 use Rattle.std.proofs.Common.{◌≡◌, ◌<◌, ◌≤◌, ◌++◌, length, Some}
-use Rattle.resolve.specs.Seen.{types_of}
-use Rattle.resolve.specs.Table.{walk}
+use Rattle.type_table.specs.Seen.{types_of}
+use Rattle.type_table.specs.Table.{walk}
 use Rattle.tagging.specs.Tags.{Path, path_of, Written}
 use Rattle.tagging.specs.Step.{Adds}
 use Rattle.tagging.proofs.path.with_written.Given as goal

@@ -1,6 +1,7 @@
 use Rattle.std.proofs.Common.{◌≡◌, length, Some, sym, ap, ◌∙◌, arith}
-use Rattle.resolve.specs.Seen.{types_of, kind_of, place_of}
-use Rattle.resolve.specs.Table.{walk, Is}
+use Rattle.type_table.specs.Seen.{types_of, kind_of}
+use Rattle.names.specs.Sources.{place_of}
+use Rattle.type_table.specs.Table.{walk, Is}
 use Rattle.tagging.proofs.Tables.{is_here, as_long}
 use Rattle.tagging.proofs.Walks.{one_more}
 use Rattle.tagging.proofs.Paths.{ends_here, inside_here, from_behind, next_behind, never_long}

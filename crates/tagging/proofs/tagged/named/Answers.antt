@@ -1,6 +1,7 @@
 use Rattle.std.proofs.Common.{◌<◌, length, sym, ap, ◌∙◌, arith, subst}
 use Rattle.std.specs.Prelude.{map, slice_get}
-use Rattle.resolve.specs.Seen.{type_of, types_of, assignment_of, header_of}
+use Rattle.type_table.specs.Seen.{type_of, types_of}
+use Rattle.names.specs.Sources.{assignment_of, header_of}
 use Rattle.tagging.proofs.Tables.{type_at, contains_at, as_long}
 use Rattle.tagging.proofs.Taggings.{breaks_there}
 use Rattle.tagging.proofs.tagged.named.Goals as goal

@@ -1,6 +1,6 @@
 use Rattle.std.proofs.Common.{◌≡◌, ◌<◌, length, sym, ap, ◌∙◌, subst}
 use Rattle.std.proofs.lemmas.List.{length-map}
-use Rattle.resolve.specs.Seen.{header_of}
+use Rattle.names.specs.Sources.{header_of}
 use Rattle.tagging.proofs.Tables.{contained_at}
 use Rattle.tagging.proofs.tagged.tag.Goals as goal
 

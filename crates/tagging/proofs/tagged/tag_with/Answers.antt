@@ -1,7 +1,7 @@
 use Rattle.std.proofs.Common.{◌≡◌, ◌<◌, length, sym, ap, ◌∙◌, subst}
 use Rattle.std.specs.Prelude.{Contains, map}
 use Rattle.std.proofs.lemmas.List.{length-map}
-use Rattle.resolve.specs.Seen.{assignment_of}
+use Rattle.names.specs.Sources.{assignment_of}
 use Rattle.tagging.proofs.tagged.tag_with.Goals as goal
 
 pub named-requires-clause-typed : goal.named-requires-clause-typed

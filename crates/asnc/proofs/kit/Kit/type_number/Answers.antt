@@ -1,5 +1,5 @@
 use Rattle.std.proofs.Common.{◌≡◌, ◌↔◌, Some, sym, ap, ◌∙◌, subst}
-use Rattle.resolve.specs.declared.names.Assigned.{Assigned}
+use Rattle.names.specs.declared.scope.Assigned.{Assigned}
 use Rattle.asnc.specs.Named.{IsNamed}
 use Rattle.asnc.proofs.Dots.{no_type}
 use Rattle.asnc.proofs.kit.Kit.type_number.Goals as goal

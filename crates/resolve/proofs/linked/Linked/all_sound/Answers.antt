@@ -1,6 +1,8 @@
-use Rattle.resolve.specs.Seen.{value_of}
+use Rattle.names.specs.Sources.{value_of}
 use Rattle.std.proofs.Common.{map, refl, sym, subst, ap}
-use Rattle.resolve.specs.Sound.{NoDefaultCircles, AreSound, HaveValues}
+use Rattle.type_table.specs.Circles.{NoDefaultCircles}
+use Rattle.type_table.specs.Lists.{AreSound}
+use Rattle.resolve.specs.Sound.{HaveValues}
 use Rattle.resolve.specs.SoundFaults.{IsSoundFault}
 use Rattle.resolve.proofs.Slices.{typed_as, typed_at, valued_at, placed_at, closed_at, parts_at, inner_at, same_program}
 use Rattle.resolve.proofs.linked.Linked.all_sound.Goals as goal

@@ -1,6 +1,6 @@
 use Rattle.std.proofs.Common.{◌<◌, length, refl, arith}
 use Rattle.std.proofs.lemmas.Option.{slice_get_read}
-use Rattle.resolve.specs.Seen.{types_of}
+use Rattle.type_table.specs.Seen.{types_of}
 use Rattle.resolve.proofs.linked.Linked.core.Goals as goal
 
 pub returns-clause-there : goal.returns-clause-there

@@ -2,9 +2,9 @@ use Rattle.std.proofs.Common.{subst, ap, ◌∙◌, length, arith, refl}
 use Rattle.std.proofs.lemmas.List.{length-map}
 use Rattle.std.specs.Prelude.{option_map}
 use Rattle.std.proofs.lemmas.Option.{slice_get-map, slice_get_read}
-use Rattle.resolve.specs.declared.names.Assigned.TheVariants as assigned
-use Rattle.resolve.specs.Names.{Meaning}
-use Rattle.resolve.specs.Seen.{value_of}
+use Rattle.names.specs.declared.scope.Assigned.TheVariants as assigned
+use Rattle.names.specs.Names.{Meaning}
+use Rattle.names.specs.Sources.{value_of}
 use Rattle.resolve.proofs.linked.Linked.find.Goals as goal
 
 pub index-requires : goal.index-requires

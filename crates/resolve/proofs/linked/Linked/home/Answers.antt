@@ -1,10 +1,11 @@
 use Rattle.std.proofs.Common.{◌≡◌, ◌<◌, length, map, Some, refl, sym, ap, ◌∙◌, arith, string_bytes}
 use Rattle.std.specs.Prelude.{slice_get}
 use Rattle.std.proofs.lemmas.List.{length-map}
-use Rattle.resolve.specs.Seen.{type_of, types_of, assignment_of, header_of}
-use Rattle.resolve.specs.Table.{Type'}
-use Rattle.resolve.proofs.Sources.{assignment_at, header_at}
-use Rattle.resolve.proofs.Tables.{type_at, as_long}
+use Rattle.type_table.specs.Seen.{type_of, types_of}
+use Rattle.names.specs.Sources.{assignment_of, header_of}
+use Rattle.type_table.specs.Table.{Type'}
+use Rattle.names.specs.Given.{assignment_at, header_at}
+use Rattle.type_table.specs.Tables.{type_at, as_long}
 use Rattle.resolve.proofs.linked.Linked.home.Goals as goal
 
 pub index-assignment-requires : goal.index-assignment-requires

@@ -1,0 +1,214 @@
+-- Assignments, imports and modules that are gathered one behind the other.
+use Rattle.std.proofs.Common.{◌≡◌, inl, inr, ℕ, ◌+◌, ◌++◌, List, [], ◌∷◌, Some, None, length, map, refl, sym, subst, ap, ◌∙◌, append_assoc, length-append, arith, string_bytes}
+use Rattle.std.proofs.lemmas.List.{length-map, map-append}
+use Rattle.trees.specs.Values.{Name}
+use Rattle.trees.specs.Modules.{AssignmentTree, ImportTree, ModuleTree}
+use Rattle.names.specs.declared.fault.NameFault.{NameFault}
+use Rattle.names.specs.declared.fault.NameFault.TheVariants as faults
+use Rattle.names.specs.declared.gather.Gathered.{Gathered}
+use Rattle.names.specs.declared.gather.Tables.{Tables}
+use Rattle.names.specs.declared.scope.Assigned.{Assigned}
+use Rattle.names.specs.Faults.{IsTwice, IsTaken, IsRepeated}
+use Rattle.names.specs.Gathered.{names_of, Adds, HasGathered, IsNamingFault}
+use Rattle.names.specs.Gathering.{name_of, named_from, roots_from, values_from, owned_by, imports_of}
+use Rattle.names.specs.Modules.{StandsIn, StandsTwice, AreDistinct, names_in, value_count, all_assignments, scopes_from, owned_from}
+use Rattle.names.specs.Names.{Module, under}
+use Rattle.names.specs.Scopes.{seen, module_of}
+use Rattle.names.specs.Sources.{assignment_of, header_of, sources_of, value_of}
+use Rattle.names.proofs.Behind.{named_behind, roots_behind, values_behind, names_named, length_values, length_owned, length_all_owned, all_behind, scopes_behind, owned_behind, names_scopes}
+use Rattle.names.specs.Distinct.{right, stands_either, stands_one, twice_left, twice_across, distinct_none, distinct_more, under_none, name_under}
+
+pub append_nil : {X : Type 0} (xs : List X) → xs ++ [] ≡ xs
+append_nil [] = refl
+append_nil (x ∷ xs) = ap (λ l. x ∷ l) (append_nil xs)
+
+-- ---- assignments
+
+-- assignments of module k that are added so far, and those that wait
+pub record ArePlaced (k : ℕ) (all rest : List AssignmentTree) (old now : Tables) (names : List (Name × Assigned)) : Type 0 where
+  pub done : List AssignmentTree
+  pub splits : done ++ rest ≡ all
+  pub named : names ≡ named_from (length old.assignments.items) (length old.values.items) done
+  pub distinct : AreDistinct (map name_of done)
+  pub adds : Adds k done old now
+
+pub placed_start : (k : ℕ) (all : List AssignmentTree) (old : Tables) (names : List (Name × Assigned)) → names ≡ [] → ArePlaced k all all old old names
+placed_start k all old names e = record {
+  done = [];
+  splits = refl;
+  named = e;
+  distinct = distinct_none;
+  adds = record { owned = sym (append_nil (map assignment_of old.assignments.items)); roots = sym (append_nil (sources_of old.roots.items)); values = sym (append_nil (map value_of old.values.items)) };
+}
+
+more_owned : (k : ℕ) (gs : List AssignmentTree) (old now : Tables) → Adds k gs old now → length now.assignments.items ≡ length old.assignments.items + length gs
+more_owned k gs old now a =
+    sym (length-map now.assignments.items assignment_of) ∙ ap length a.owned ∙ length-append (map assignment_of old.assignments.items) (owned_by k gs) ∙ ap (λ z. z + length (owned_by k gs)) (length-map old.assignments.items assignment_of) ∙ ap (λ z. length old.assignments.items + z) (length_owned k gs)
+
+more_values : (k : ℕ) (gs : List AssignmentTree) (old now : Tables) → Adds k gs old now → length now.values.items ≡ length old.values.items + value_count gs
+more_values k gs old now a =
+    sym (length-map now.values.items value_of) ∙ ap length a.values ∙ length-append (map value_of old.values.items) (values_from (length old.assignments.items) gs) ∙ ap (λ z. z + length (values_from (length old.assignments.items) gs)) (length-map old.values.items value_of) ∙ ap (λ z. length old.values.items + z) (length_values (length old.assignments.items) gs)
+
+adds_more : (k : ℕ) (gs ks : List AssignmentTree) (old now new : Tables) → Adds k gs old now → Adds k ks now new → Adds k (gs ++ ks) old new
+adds_more k gs ks old now new a b =
+    let n = length old.assignments.items in
+    let la = more_owned k gs old now a in
+    record {
+      owned = b.owned ∙ ap (λ z. z ++ owned_by k ks) a.owned ∙ append_assoc (map assignment_of old.assignments.items) (owned_by k gs) (owned_by k ks) ∙ ap (λ z. map assignment_of old.assignments.items ++ z) (sym (map-append (λ g. (k, name_of g)) gs ks));
+      roots = b.roots ∙ ap (λ z. sources_of now.roots.items ++ roots_from z ks) la ∙ ap (λ z. z ++ roots_from (n + length gs) ks) a.roots ∙ append_assoc (sources_of old.roots.items) (roots_from n gs) (roots_from (n + length gs) ks) ∙ ap (λ z. sources_of old.roots.items ++ z) (sym (roots_behind n gs ks));
+      values = b.values ∙ ap (λ z. map value_of now.values.items ++ values_from z ks) la ∙ ap (λ z. z ++ values_from (n + length gs) ks) a.values ∙ append_assoc (map value_of old.values.items) (values_from n gs) (values_from (n + length gs) ks) ∙ ap (λ z. map value_of old.values.items ++ z) (sym (values_behind n gs ks));
+    }
+
+pub placed_step : (k : ℕ) (all rest : List AssignmentTree) (g : AssignmentTree) (old now new : Tables) (names names' : List (Name × Assigned)) → ArePlaced k all (g ∷ rest) old now names →
+    names' ≡ names ++ named_from (length now.assignments.items) (length now.values.items) (g ∷ []) → under (name_of g) names ≡ None → Adds k (g ∷ []) now new → ArePlaced k all rest old new names'
+placed_step k all rest g old now new names names' p e u b =
+    let n = length old.assignments.items in
+    let v = length old.values.items in
+    let la = more_owned k p.done old now p.adds in
+    let lv = more_values k p.done old now p.adds in
+    let same : names_of names ≡ map name_of p.done = ap names_of p.named ∙ names_named n v p.done in
+    record {
+      done = p.done ++ g ∷ [];
+      splits = append_assoc p.done (g ∷ []) rest ∙ p.splits;
+      named = e ∙ ap (λ z. names ++ named_from z (length now.values.items) (g ∷ [])) la ∙ ap (λ z. names ++ named_from (n + length p.done) z (g ∷ [])) lv ∙ ap (λ z. z ++ named_from (n + length p.done) (v + value_count p.done) (g ∷ [])) p.named ∙ sym (named_behind n v p.done (g ∷ []));
+      distinct = subst AreDistinct (sym (map-append name_of p.done (g ∷ []))) (distinct_more (map name_of p.done) (name_of g) p.distinct (λ s. under_none (name_of g) names u (subst (λ l. StandsIn l (name_of g)) (sym same) s)));
+      adds = adds_more k p.done (g ∷ []) old now new p.adds b;
+    }
+
+pub placed_end : (k : ℕ) (all : List AssignmentTree) (old now : Tables) (names : List (Name × Assigned)) → ArePlaced k all [] old now names →
+    (names ≡ named_from (length old.assignments.items) (length old.values.items) all) × AreDistinct (map name_of all) × Adds k all old now
+placed_end k all old now names p =
+    let e : p.done ≡ all = sym (append_nil p.done) ∙ p.splits in
+    (p.named ∙ ap (named_from (length old.assignments.items) (length old.values.items)) e, subst (λ l. AreDistinct (map name_of l)) e p.distinct, subst (λ l. Adds k l old now) e p.adds)
+
+-- a name that is taken stands twice among all
+pub taken_twice : (M x : Name) (xs ys all : List Name) (e : NameFault) → xs ++ x ∷ ys ≡ all → IsTaken M x xs e → IsRepeated M all e
+taken_twice M x xs ys all faults.Memory q t = tt
+taken_twice M x xs ys all (faults.Twice m y) q t = (t.0, subst (λ z. StandsTwice all z) (sym t.1) (subst (λ l. StandsTwice l x) q (twice_across xs (x ∷ ys) x t.2 (0, refl))))
+taken_twice M x xs ys all (faults.UnknownName m y) q t = absurd t
+taken_twice M x xs ys all (faults.Limit l m y) q t = absurd t
+taken_twice M x xs ys all (faults.NotExported m y) q t = absurd t
+taken_twice M x xs ys all (faults.Circular m y) q t = absurd t
+taken_twice M x xs ys all (faults.UnknownModule m y) q t = absurd t
+
+twice_taken : {X : Type 0} (M x : Name) (es : List (Name × X)) (e : NameFault) → IsTwice M x es e → IsTaken M x (names_of es) e
+twice_taken M x es faults.Memory t = tt
+twice_taken M x es (faults.Twice m y) t = (t.0, t.1, name_under x es t.2 t.3)
+twice_taken M x es (faults.UnknownName m y) t = absurd t
+twice_taken M x es (faults.Limit l m y) t = absurd t
+twice_taken M x es (faults.NotExported m y) t = absurd t
+twice_taken M x es (faults.Circular m y) t = absurd t
+twice_taken M x es (faults.UnknownModule m y) t = absurd t
+
+pub placed_fault : (k : ℕ) (all rest : List AssignmentTree) (g : AssignmentTree) (old now : Tables) (names : List (Name × Assigned)) (M : Name) (e : NameFault) → ArePlaced k all (g ∷ rest) old now names → IsTwice M (name_of g) names e → IsRepeated M (map name_of all) e
+placed_fault k all rest g old now names M e p t =
+    let same : names_of names ≡ map name_of p.done = ap names_of p.named ∙ names_named (length old.assignments.items) (length old.values.items) p.done in
+    taken_twice M (name_of g) (map name_of p.done) (map name_of rest) (map name_of all) e (sym (map-append name_of p.done (g ∷ rest)) ∙ ap (map name_of) p.splits) (subst (λ l. IsTaken M (name_of g) l e) same (twice_taken M (name_of g) names e t))
+
+-- ---- imports
+
+pub import_distinct : (as' : List (Name × Assigned)) (is is' : List (Name × Name)) (x N : Name) → AreDistinct (names_of as' ++ names_of is) → under x as' ≡ None → under x is ≡ None → is' ≡ is ++ (x, N) ∷ [] → AreDistinct (names_of as' ++ names_of is')
+import_distinct as' is is' x N d u w e =
+    let same : (names_of as' ++ names_of is) ++ x ∷ [] ≡ names_of as' ++ names_of is' = append_assoc (names_of as') (names_of is) (x ∷ []) ∙ ap (λ l. names_of as' ++ l) (sym (ap names_of e ∙ map-append (λ (p : Name × Name). p.0) is ((x, N) ∷ []))) in
+    subst AreDistinct same (distinct_more (names_of as' ++ names_of is) x d (λ s. elim (stands_either (names_of as') (names_of is) x s) [
+      | inl a ↦ under_none x as' u a
+      | inr b ↦ under_none x is w b
+    ]))
+
+pub import_sum : {X : Type 0} (is is' rest all : List X) (i : X) → is ++ i ∷ rest ≡ all → is' ≡ is ++ i ∷ [] → is' ++ rest ≡ all
+import_sum is is' rest all i q e = ap (λ l. l ++ rest) e ∙ append_assoc is (i ∷ []) rest ∙ q
+
+pub import_fault : (M x N : Name) (xs : List Name) (is rest all : List (Name × Name)) (e : NameFault) → is ++ (x, N) ∷ rest ≡ all → IsTaken M x (xs ++ names_of is) e → IsRepeated M (xs ++ names_of all) e
+import_fault M x N xs is rest all e q t =
+    taken_twice M x (xs ++ names_of is) (names_of rest) (xs ++ names_of all) e (append_assoc xs (names_of is) (x ∷ names_of rest) ∙ ap (λ l. xs ++ l) (sym (map-append (λ (p : Name × Name). p.0) is ((x, N) ∷ rest)) ∙ ap names_of q)) t
+
+pub imports_sum : {X : Type 0} (is is' one rest all : List X) → is ++ (one ++ rest) ≡ all → is' ≡ is ++ one → is' ++ rest ≡ all
+imports_sum is is' one rest all q e = ap (λ l. l ++ rest) e ∙ append_assoc is one rest ∙ q
+
+pub repeated_more : (M : Name) (xs ys all : List Name) (e : NameFault) → xs ++ ys ≡ all → IsRepeated M xs e → IsRepeated M all e
+repeated_more M xs ys all faults.Memory q t = tt
+repeated_more M xs ys all (faults.Twice m y) q t = (t.0, subst (λ l. StandsTwice l (string_bytes y)) q (twice_left xs ys (string_bytes y) t.1))
+repeated_more M xs ys all (faults.UnknownName m y) q t = absurd t
+repeated_more M xs ys all (faults.Limit l m y) q t = absurd t
+repeated_more M xs ys all (faults.NotExported m y) q t = absurd t
+repeated_more M xs ys all (faults.Circular m y) q t = absurd t
+repeated_more M xs ys all (faults.UnknownModule m y) q t = absurd t
+
+pub imports_fault : (M : Name) (xs : List Name) (is one rest all : List (Name × Name)) (e : NameFault) → is ++ (one ++ rest) ≡ all → IsRepeated M (xs ++ names_of (is ++ one)) e → IsRepeated M (xs ++ names_of all) e
+imports_fault M xs is one rest all e q t =
+    repeated_more M (xs ++ names_of (is ++ one)) (names_of rest) (xs ++ names_of all) e (append_assoc xs (names_of (is ++ one)) (names_of rest) ∙ ap (λ l. xs ++ l) (sym (map-append (λ (p : Name × Name). p.0) (is ++ one) rest) ∙ ap names_of (append_assoc is one rest ∙ q))) t
+
+-- ---- modules
+
+stands_last : {X : Type 0} (P : X → Type 0) (xs : List X) (x : X) → ((y : X) → StandsIn xs y → P y) → P x → (y : X) → StandsIn (xs ++ x ∷ []) y → P y
+stands_last P xs x f p y s =
+    elim (stands_either xs (x ∷ []) y s) [
+      | inl a ↦ f y a
+      | inr b ↦ subst P (stands_one x y b) p
+    ]
+
+pub gathered_more : (ms : List ModuleTree) (t : ModuleTree) (g g' : Gathered) → HasGathered ms g → under t.name (seen module_of g.modules.entries) ≡ None →
+    seen module_of g'.modules.entries ≡ seen module_of g.modules.entries ++ (t.name, record { assigned = named_from (length g.tables.assignments.items) (length g.tables.values.items) t.assignments; imports = imports_of t.imports; exports = t.exports }) ∷ [] →
+    map header_of g'.headers.items ≡ map header_of g.headers.items ++ (t.name, t.tag_default) ∷ [] →
+    Adds (length g.headers.items) t.assignments g.tables g'.tables → AreDistinct (names_in t) → HasGathered (ms ++ t ∷ []) g'
+gathered_more ms t g g' h u s d a n =
+    let gs = all_assignments ms in
+    let lh : length g.headers.items ≡ length ms = sym (length-map g.headers.items header_of) ∙ ap length h.headers ∙ length-map ms (λ m. (m.name, m.tag_default)) in
+    let lg : length g.tables.assignments.items ≡ length gs = sym (length-map g.tables.assignments.items assignment_of) ∙ ap length h.assignments ∙ length_all_owned 0 ms in
+    let lv : length g.tables.values.items ≡ value_count gs = sym (length-map g.tables.values.items value_of) ∙ ap length h.values ∙ length_values 0 gs in
+    let zg : length gs ≡ 0 + length gs = omega arith in
+    let zv : value_count gs ≡ 0 + value_count gs = omega arith in
+    let zh : length ms ≡ 0 + length ms = omega arith in
+    let all : all_assignments (ms ++ t ∷ []) ≡ gs ++ t.assignments = all_behind ms (t ∷ []) ∙ ap (λ l. gs ++ l) (append_nil t.assignments) in
+    let same : names_of (seen module_of g.modules.entries) ≡ map (λ m. m.name) ms = ap names_of h.scopes ∙ names_scopes 0 0 ms in
+    record {
+      scopes = s ∙ ap (λ z. seen module_of g.modules.entries ++ scopes_from z (length g.tables.values.items) (t ∷ [])) (lg ∙ zg) ∙ ap (λ z. seen module_of g.modules.entries ++ scopes_from (0 + length gs) z (t ∷ [])) (lv ∙ zv) ∙ ap (λ z. z ++ scopes_from (0 + length gs) (0 + value_count gs) (t ∷ [])) h.scopes ∙ sym (scopes_behind 0 0 ms (t ∷ []));
+      headers = d ∙ ap (λ z. z ++ (t.name, t.tag_default) ∷ []) h.headers ∙ sym (map-append (λ m. (m.name, m.tag_default)) ms (t ∷ []));
+      assignments = a.owned ∙ ap (λ z. map assignment_of g.tables.assignments.items ++ owned_by z t.assignments) (lh ∙ zh) ∙ ap (λ z. z ++ owned_by (0 + length ms) t.assignments) h.assignments ∙ ap (λ z. owned_from 0 ms ++ z) (sym (append_nil (owned_by (0 + length ms) t.assignments))) ∙ sym (owned_behind 0 ms (t ∷ []));
+      roots = a.roots ∙ ap (λ z. sources_of g.tables.roots.items ++ roots_from z t.assignments) (lg ∙ zg) ∙ ap (λ z. z ++ roots_from (0 + length gs) t.assignments) h.roots ∙ sym (roots_behind 0 gs t.assignments) ∙ ap (roots_from 0) (sym all);
+      values = a.values ∙ ap (λ z. map value_of g.tables.values.items ++ values_from z t.assignments) (lg ∙ zg) ∙ ap (λ z. z ++ values_from (0 + length gs) t.assignments) h.values ∙ sym (values_behind 0 gs t.assignments) ∙ ap (values_from 0) (sym all);
+      distinct = subst AreDistinct (sym (map-append (λ m. m.name) ms (t ∷ []))) (distinct_more (map (λ m. m.name) ms) t.name h.distinct (λ z. under_none t.name (seen module_of g.modules.entries) u (subst (λ l. StandsIn l t.name) (sym same) z)));
+      apart = stands_last (λ m. AreDistinct (names_in m)) ms t h.apart n;
+    }
+
+-- the name of a module is that of one before it
+pub module_twice : (ms rest : List ModuleTree) (t : ModuleTree) (g : Gathered) (m : Module) → HasGathered ms g → under t.name (seen module_of g.modules.entries) ≡ Some m → StandsTwice (map (λ m. m.name) (ms ++ t ∷ rest)) t.name
+module_twice ms rest t g m h u =
+    let same : names_of (seen module_of g.modules.entries) ≡ map (λ m. m.name) ms = ap names_of h.scopes ∙ names_scopes 0 0 ms in
+    let s = subst (λ l. StandsIn l t.name) same (name_under t.name (seen module_of g.modules.entries) m u) in
+    subst (λ l. StandsTwice l t.name) (sym (map-append (λ m. m.name) ms (t ∷ rest))) (twice_across (map (λ m. m.name) ms) (t.name ∷ map (λ m. m.name) rest) t.name s (0, refl))
+
+pub scope_fault : (ms rest : List ModuleTree) (t : ModuleTree) (M : Name) (e : NameFault) → M ≡ t.name → IsRepeated M (names_in t) e → IsNamingFault (ms ++ t ∷ rest) e
+scope_fault ms rest t M faults.Memory q r = tt
+scope_fault ms rest t M (faults.Twice m y) q r =
+    inr (record { number = length ms + 0; tree = t; there = right ms (t ∷ rest) 0; named = sym q ∙ sym r.0; twice = r.1 })
+scope_fault ms rest t M (faults.UnknownName m y) q r = absurd r
+scope_fault ms rest t M (faults.Limit l m y) q r = absurd r
+scope_fault ms rest t M (faults.NotExported m y) q r = absurd r
+scope_fault ms rest t M (faults.Circular m y) q r = absurd r
+scope_fault ms rest t M (faults.UnknownModule m y) q r = absurd r
+
+-- modules that are gathered so far, and those that wait
+pub record ArePartly (all rest : List ModuleTree) (g : Gathered) : Type 0 where
+  pub done : List ModuleTree
+  pub splits : done ++ rest ≡ all
+  pub gathered : HasGathered done g
+
+pub partly_step : (all rest : List ModuleTree) (t : ModuleTree) (g g' : Gathered) → ArePartly all (t ∷ rest) g → ((ms : List ModuleTree) → HasGathered ms g → HasGathered (ms ++ t ∷ []) g') → ArePartly all rest g'
+partly_step all rest t g g' p f = record { done = p.done ++ t ∷ []; splits = append_assoc p.done (t ∷ []) rest ∙ p.splits; gathered = f p.done p.gathered }
+
+pub partly_end : (all : List ModuleTree) (g : Gathered) → ArePartly all [] g → HasGathered all g
+partly_end all g p = subst (λ l. HasGathered l g) (sym (append_nil p.done) ∙ p.splits) p.gathered
+
+pub partly_fault : (all rest : List ModuleTree) (t : ModuleTree) (g : Gathered) (e : NameFault) → ArePartly all (t ∷ rest) g → ((ms rest : List ModuleTree) → HasGathered ms g → IsNamingFault (ms ++ t ∷ rest) e) → IsNamingFault all e
+partly_fault all rest t g e p f = subst (λ l. IsNamingFault l e) p.splits (f p.done rest p.gathered)
+
+pub imports_step : (is is' all : List (Name × Name)) (i : ImportTree) (rest : List ImportTree) (xs : List Name) (N : Name) → is ++ imports_of (i ∷ rest) ≡ all → xs ≡ i.names → N ≡ i.from → is' ≡ is ++ map (λ x. (x, N)) xs → is' ++ imports_of rest ≡ all
+imports_step is is' all i rest xs N q p r e =
+    let same : map (λ (x : Name). (x, N)) xs ≡ map (λ (x : Name). (x, i.from)) i.names = ap (λ (z : Name). map (λ (x : Name). (x, z)) xs) r ∙ ap (map (λ (x : Name). (x, i.from))) p in
+    imports_sum is is' (map (λ (x : Name). (x, i.from)) i.names) (imports_of rest) all q (e ∙ ap (λ l. is ++ l) same)
+
+pub imports_stop : (M : Name) (xs : List Name) (is all : List (Name × Name)) (i : ImportTree) (rest : List ImportTree) (ys : List Name) (N : Name) (e : NameFault) → is ++ imports_of (i ∷ rest) ≡ all → ys ≡ i.names → N ≡ i.from → IsRepeated M (xs ++ names_of (is ++ map (λ x. (x, N)) ys)) e → IsRepeated M (xs ++ names_of all) e
+imports_stop M xs is all i rest ys N e q p r f =
+    let same : map (λ (x : Name). (x, N)) ys ≡ map (λ (x : Name). (x, i.from)) i.names = ap (λ (z : Name). map (λ (x : Name). (x, z)) ys) r ∙ ap (map (λ (x : Name). (x, i.from))) p in
+    imports_fault M xs is (map (λ (x : Name). (x, i.from)) i.names) (imports_of rest) all e q (subst (λ l. IsRepeated M (xs ++ names_of (is ++ l)) e) same f)

@@ -1,0 +1,34 @@
+use Rattle.std.proofs.Common.{rules, arith, ◌≡◌, ◌++◌, ◌∷◌, [], inl, length, map, option_map, Some, None, refl, sym, subst, ap, ◌∙◌, string_bytes}
+use Rattle.std.proofs.lemmas.List.{map-append}
+use Rattle.trees.specs.Modules.{module_tree_of}
+use Rattle.names.specs.Gathered.{Adds}
+use Rattle.names.specs.Names.{under}
+use Rattle.names.specs.Scopes.{seen, module_of}
+use Rattle.names.specs.Sources.{header_of}
+use Rattle.names.proofs.Entries.{inserted}
+use Rattle.names.proofs.Gatherings.{gathered_more, module_twice, scope_fault}
+use Rattle.names.proofs.gather.add_module.Goals as goal
+
+pub returns-in-Some-clause-fault : goal.returns-in-Some-clause-fault
+returns-in-Some-clause-fault c = λ ms rest h.
+    let t = module_tree_of c.args.given in
+    let ss = seen module_of c.args.gathered.now.modules.entries in
+    let u : under t.name ss ≡ Some (module_of c.in-Some.field-0.now) = ap (λ z. under z ss) (sym c.as_str.ensures.value) ∙ sym c.scope_of.ensures ∙ ap (option_map (λ s. module_of s.now)) c.in-Some.is in
+    let name : string_bytes c.in_ok-from_str-in-Some.field-0 ≡ string_bytes c.args.given.name = search rules in
+    inl (name, module_twice ms rest t c.args.gathered.now (module_of c.in-Some.field-0.now) h u)
+
+pub returns-in_ok-insert-in-Ok-clause-ok : goal.returns-in_ok-insert-in-Ok-clause-ok
+returns-in_ok-insert-in-Ok-clause-ok c = λ ms h.
+    let t = module_tree_of c.args.given in
+    let g = c.args.gathered.now in
+    let ss = seen module_of g.modules.entries in
+    let u : under t.name ss ≡ None = ap (λ z. under z ss) (sym c.as_str.ensures.value) ∙ sym c.scope_of.ensures ∙ ap (option_map (λ s. module_of s.now)) c.in-None.is in
+    let n : c.len-number.result ≡ length g.headers.items = omega arith in
+    let name : string_bytes c.in_ok-from_str-in-Ok.field-0 ≡ string_bytes c.args.given.name = search rules in
+    let s = inserted module_of g.modules c.args.given.name c.in-Ok.scope t.name c.insert.new.self.entries refl u c.in_ok-insert-in-Ok.ensures.entries ∙ ap (λ z. ss ++ (t.name, z) ∷ []) c.in-Ok.ensures.scope in
+    let d = ap (map header_of) c.in_ok-push-in-Ok.ensures.items ∙ map-append header_of g.headers.items (_ ∷ []) ∙ ap (λ z. map header_of g.headers.items ++ (z, t.tag_default) ∷ []) name in
+    gathered_more ms t g (record { modules = c.insert.new.self; headers = c.push.new.self; tables = c.scope_from.new.tables }) h u s d (subst (λ k. Adds k t.assignments g.tables c.scope_from.new.tables) n c.in-Ok.ensures.adds) c.in-Ok.ensures.distinct
+
+pub returns-in-Err-clause-fault : goal.returns-in-Err-clause-fault
+returns-in-Err-clause-fault c = λ ms rest h.
+    scope_fault ms rest (module_tree_of c.args.given) c.as_str-2.result.now c.in-Err.fault c.as_str-2.ensures.value c.in-Err.ensures.fault

@@ -1,0 +1,32 @@
+use Rattle.std.proofs.Common.{◌≡◌, ◌++◌, length, map, refl, sym, subst, ap, ◌∙◌}
+use Rattle.trees.specs.Modules.{assignment_of as given_of, import_of}
+use Rattle.names.specs.Faults.{IsRepeated}
+use Rattle.names.specs.Gathered.{names_of}
+use Rattle.names.specs.Gathering.{name_of, imports_of}
+use Rattle.names.specs.Modules.{AreDistinct}
+use Rattle.names.specs.Scopes.{seen}
+use Rattle.names.proofs.Behind.{names_named}
+use Rattle.names.proofs.Gatherings.{repeated_more}
+use Rattle.names.proofs.gather.scope_from.Goals as goal
+
+pub returns-in-Err-clause-fault : goal.returns-in-Err-clause-fault
+returns-in-Err-clause-fault c =
+    repeated_more c.args.within.now (map name_of (map given_of c.args.assignments.items)) (names_of (imports_of (map import_of c.args.given.items))) _ c.in-Err.fault refl c.in-Err.ensures.fault
+
+pub import_all-requires-clause-distinct : goal.import_all-requires-clause-distinct
+import_all-requires-clause-distinct c =
+    let gs = map given_of c.args.assignments.items in
+    let same : names_of (seen (λ a. a) c.add_all.new.assigned.entries) ≡ map name_of gs = ap names_of c.in-Ok.ensures.named ∙ names_named (length c.args.tables.now.assignments.items) (length c.args.tables.now.values.items) gs in
+    subst AreDistinct (sym same) c.in-Ok.ensures.distinct
+
+pub returns-in-Err-import_all-clause-fault : goal.returns-in-Err-import_all-clause-fault
+returns-in-Err-import_all-clause-fault c =
+    let gs = map given_of c.args.assignments.items in
+    let same : names_of (seen (λ a. a) c.add_all.new.assigned.entries) ≡ map name_of gs = ap names_of c.in-Ok.ensures.named ∙ names_named (length c.args.tables.now.assignments.items) (length c.args.tables.now.values.items) gs in
+    subst (λ l. IsRepeated c.args.within.now (l ++ names_of (imports_of (map import_of c.args.given.items))) c.in-Err-import_all.fault) same c.in-Err-import_all.ensures.fault
+
+pub returns-in-Ok-exports_of-clause-distinct : goal.returns-in-Ok-exports_of-clause-distinct
+returns-in-Ok-exports_of-clause-distinct c =
+    let gs = map given_of c.args.assignments.items in
+    let same : names_of (seen (λ a. a) c.add_all.new.assigned.entries) ≡ map name_of gs = ap names_of c.in-Ok.ensures.named ∙ names_named (length c.args.tables.now.assignments.items) (length c.args.tables.now.values.items) gs in
+    subst (λ l. AreDistinct (l ++ names_of (imports_of (map import_of c.args.given.items)))) same c.in-Ok-import_all.ensures.distinct

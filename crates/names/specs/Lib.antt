@@ -1,0 +1,12 @@
+pub mod Names
+pub mod Sources
+pub mod Listed
+pub mod Scopes
+pub mod Finding
+pub mod Gathering
+pub mod Modules
+pub mod Faults
+pub mod Gathered
+pub mod Distinct
+pub mod Given
+pub mod Meanings

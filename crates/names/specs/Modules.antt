@@ -1,0 +1,104 @@
+-- Modules as they are written: the names that they give, export and import (X.680, clauses 13.1 to 13.16).
+use Rattle.std.specs.Prelude.{◌≡◌, ◌<◌, ◌≤◌, ℕ, suc, ◌+◌, List, [], ◌∷◌, ◌++◌, Option, Some, None, map, length, slice_get}
+use Rattle.trees.specs.declared.module.TagDefault.{TagDefault}
+use Rattle.trees.specs.Values.{Name}
+use Rattle.trees.specs.Modules.{AssignmentTree, assigns_type, assigns_value, ModuleTree}
+use Rattle.names.specs.Gathering.{name_of, imports_of, named_from, roots_from, values_from, owned_by}
+use Rattle.names.specs.Sources.{Source, Value}
+use Rattle.names.specs.Names.{Module}
+
+-- x stands in the list
+abbrev pub StandsIn : {A : Type 0} → List A → A → Type 0
+StandsIn xs x = (i : ℕ) × (slice_get xs i ≡ Some x)
+
+-- x stands at two places of the list
+pub record StandsTwice {A : Type 0} (xs : List A) (x : A) : Type 0 where
+  pub first : ℕ
+  pub second : ℕ
+  pub apart : first < second
+  pub here : slice_get xs first ≡ Some x
+  pub there : slice_get xs second ≡ Some x
+
+abbrev pub AreDistinct : {A : Type 0} → List A → Type 0
+AreDistinct {A} xs = (x : A) → StandsTwice xs x → ⊥
+
+-- the names that a module assigns
+abbrev pub assigned_names : ModuleTree → List Name
+assigned_names m = map name_of m.assignments
+
+-- the names that it imports
+abbrev pub imported_names : ModuleTree → List Name
+imported_names m = map (λ p. p.0) (imports_of m.imports)
+
+-- all names that have a meaning in it
+abbrev pub names_in : ModuleTree → List Name
+names_in m = assigned_names m ++ imported_names m
+
+-- other modules may import the name, where a module has these exports
+abbrev pub IsExported : Option (List Name) → Name → Type 0
+IsExported None x = Unit {0}
+IsExported (Some xs) x = StandsIn xs x
+
+-- the module imports name x from module N
+abbrev pub Imports : ModuleTree → Name → Name → Type 0
+Imports m N x = StandsIn (imports_of m.imports) (x, N)
+
+-- one of the modules has this name, assigns x and exports it
+pub record Offers (ms : List ModuleTree) (N x : Name) : Type 0 where
+  pub tree : ModuleTree
+  pub there : StandsIn ms tree
+  pub named : tree.name ≡ N
+  pub assigns : StandsIn (assigned_names tree) x
+  pub exported : IsExported tree.exports x
+
+-- each name has one meaning at most, and what is exported or imported has one
+pub record AreNamed (ms : List ModuleTree) : Type 0 where
+  pub modules : AreDistinct (map (λ m. m.name) ms)
+  pub names : (m : ModuleTree) → StandsIn ms m → AreDistinct (names_in m)
+  pub exports : (m : ModuleTree) (xs : List Name) (x : Name) → StandsIn ms m → m.exports ≡ Some xs → StandsIn xs x → StandsIn (assigned_names m) x
+  pub imports : (m : ModuleTree) (N x : Name) → StandsIn ms m → Imports m N x → Offers ms N x
+
+abbrev pub type_count : List AssignmentTree → ℕ
+type_count [] = 0
+type_count (assigns_type x t ∷ gs) = suc (type_count gs)
+type_count (assigns_value x t v ∷ gs) = type_count gs
+
+abbrev pub value_count : List AssignmentTree → ℕ
+value_count [] = 0
+value_count (assigns_type x t ∷ gs) = value_count gs
+value_count (assigns_value x t v ∷ gs) = suc (value_count gs)
+
+-- the assignments of all modules, in order
+abbrev pub all_assignments : List ModuleTree → List AssignmentTree
+all_assignments [] = []
+all_assignments (m ∷ ms) = m.assignments ++ all_assignments ms
+
+-- limits of this compiler
+pub record AreFew (ms : List ModuleTree) : Type 0 where
+  pub modules : length ms ≤ 256
+  pub types : type_count (all_assignments ms) ≤ 4096
+  pub values : value_count (all_assignments ms) ≤ 65536
+
+-- ---- the tables of modules
+
+-- the names of modules, where the first assignment has number n and the first value number v
+abbrev pub scopes_from : ℕ → ℕ → List ModuleTree → List (Name × Module)
+scopes_from n v [] = []
+scopes_from n v (m ∷ ms) =
+    (m.name, record { assigned = named_from n v m.assignments; imports = imports_of m.imports; exports = m.exports })
+    ∷ scopes_from (n + length m.assignments) (v + value_count m.assignments) ms
+
+abbrev pub headers_of : List ModuleTree → List (Name × TagDefault)
+headers_of = map (λ m. (m.name, m.tag_default))
+
+-- the assignments with their modules' numbers, the first of which is k
+abbrev pub owned_from : ℕ → List ModuleTree → List (ℕ × Name)
+owned_from k [] = []
+owned_from k (m ∷ ms) = owned_by k m.assignments ++ owned_from (suc k) ms
+
+-- the types of the assignments
+abbrev pub roots_of : List ModuleTree → List Source
+roots_of ms = roots_from 0 (all_assignments ms)
+
+abbrev pub values_of : List ModuleTree → List Value
+values_of ms = values_from 0 (all_assignments ms)

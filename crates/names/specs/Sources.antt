@@ -1,0 +1,51 @@
+-- What modules give: types that are still to be numbered, and values, without where they lie in memory.
+use Rattle.std.specs.Prelude.{◌≡◌, ◌<◌, ℕ, List, Option, Some, None, map, string_bytes}
+use Rattle.std.specs.List.{AllByRecursion}
+use Rattle.trees.specs.Values.{Name, Tree, tree_of}
+use Rattle.trees.specs.declared.module.TagDefault.{TagDefault}
+use Rattle.trees.specs.Types.{TypeTree, type_tree_of}
+use Rattle.names.specs.declared.sources.Place.{Place}
+use Rattle.names.specs.declared.sources.Assignment.{Assignment}
+use Rattle.names.specs.declared.sources.Header.{Header}
+use Rattle.names.specs.declared.sources.ValueAt.{ValueAt}
+use Rattle.names.specs.declared.sources.Source.{Source as SourceAt}
+
+-- a type as it is written, the number of the assignment that it stands in, and its list and number where it is a member
+pub record Source : Type 0 where
+  pub tree : TypeTree
+  pub assignment : ℕ
+  pub place : Option (ℕ × ℕ)
+
+-- these types stand in the first n assignments
+abbrev pub AllAssigned : ℕ → List Source → Type 0
+AllAssigned n ss = AllByRecursion (λ s. s.assignment < n) ss
+
+-- none of these types is a member
+abbrev pub HaveNoPlace : List Source → Type 0
+HaveNoPlace ss = AllByRecursion (λ s. s.place ≡ None) ss
+
+-- a value assignment: its number, its type's number, and the value as it is written
+pub record Value : Type 0 where
+  pub assignment : ℕ
+  pub ty : ℕ
+  pub notation : Tree
+
+abbrev pub place_of : Option Place → Option (ℕ × ℕ)
+place_of None = None
+place_of (Some p) = Some (p.list, p.number)
+
+abbrev pub source_of : SourceAt → Source
+source_of s = record { tree = type_tree_of s.syntax; assignment = s.assignment; place = place_of s.place }
+
+abbrev pub sources_of : List SourceAt → List Source
+sources_of = map source_of
+
+abbrev pub value_of : ValueAt → Value
+value_of v = record { assignment = v.assignment; ty = v.ty; notation = tree_of v.syntax }
+
+-- an assignment's module and name
+abbrev pub assignment_of : Assignment → ℕ × Name
+assignment_of a = (a.module, string_bytes a.name)
+
+abbrev pub header_of : Header → Name × TagDefault
+header_of h = (string_bytes h.name, h.default)

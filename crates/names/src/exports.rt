@@ -1,0 +1,71 @@
+//! What a module exports.
+
+ghost use Rattle.std.specs.Prelude.{◌≡◌, ◌↔◌, true, [], IfOk, IfErr, OnOk, map, string_bytes};
+ghost use Rattle.names.specs.Listed.{IsTableOf};
+ghost use Rattle.names.specs.Modules.{StandsIn};
+ghost use Rattle.names.specs.declared.fault.NameFault.TheVariants as faults;
+
+use crate::fault::NameFault;
+use indexmap::IndexSet;
+use std::alloc::Global;
+use std::marker::Model;
+
+/// The names that a module exports, in order, with a table to look them up in.
+#[derive(Drop)]
+pub struct Exports {
+    names: Vec<String>,
+    table: IndexSet<String>,
+}
+
+impl Model for Exports {
+    ghost use Rattle.std.specs.Prelude.{List, map, string_bytes};
+    ghost use Rattle.trees.specs.Values.{Name};
+
+    ghost Value = { List Name };
+
+    ghost view = { λ e. map string_bytes e.names.items };
+
+    ghost use Rattle.names.specs.Listed.{IsTableOf};
+
+    ghost invariant = { λ e. IsTableOf e.names.items e.table };
+}
+
+/// Puts names into a table.
+fn fill(alloc: Global, names: &[String], table: &mut IndexSet<String>) -> Result<(), NameFault>
+    requires empty { table.old.keys ≡ [] }
+    ensures ok { OnOk result (IsTableOf names.now table.new) }
+    ensures fault { IfErr result (λ e. e ≡ faults.Memory) }
+{
+    for name in names {
+        table.insert(String::from_str(alloc, name.as_str())?)?;
+    }
+    Ok(())
+}
+
+impl Exports {
+    /// These names, with their table.
+    pub fn of(alloc: Global, names: Vec<String>) -> Result<Exports, NameFault>
+        ensures ok { IfOk result (λ e. e ≡ map string_bytes names.items) }
+        ensures fault { IfErr result (λ e. e ≡ faults.Memory) }
+    {
+        let mut table = IndexSet::new(alloc);
+        match fill(alloc, &names, &mut table) {
+            Ok(()) => Ok(Exports { names, table }),
+            Err(fault) => Err(fault),
+        }
+    }
+
+    /// Is this one of the names?
+    pub fn has(&self, name: &str) -> bool
+        ensures { result ≡ true ↔ StandsIn self.now name.now }
+    {
+        self.table.contains(name)
+    }
+
+    /// The names, in order.
+    pub fn names(&self) -> &[String]
+        ensures { map string_bytes result.now ≡ self.now }
+    {
+        &self.names
+    }
+}

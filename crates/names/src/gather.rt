@@ -1,0 +1,414 @@
+//! What modules give: their names, and the types and values of their assignments, numbered in order.
+
+ghost use Rattle.std.specs.Prelude.{◌≡◌, ◌++◌, ◌∷◌, [], IfOk, IfErr, OnOk, length, map, option_map, None, List, string_bytes};
+ghost use Rattle.trees.specs.Values.{tree_of};
+ghost use Rattle.trees.specs.Types.{type_tree_of};
+ghost use Rattle.trees.specs.Modules.{AssignmentTree, ModuleTree, assigns_type, assigns_value, assignment_of as given_of, import_of, module_tree_of};
+ghost use Rattle.names.specs.declared.fault.NameFault.TheVariants as faults;
+ghost use Rattle.names.specs.Scopes.{seen, module_of};
+ghost use Rattle.names.specs.Names.{under};
+ghost use Rattle.names.specs.Sources.{assignment_of, value_of, sources_of};
+ghost use Rattle.names.specs.Faults.{IsTwice, IsTaken, IsRepeated};
+ghost use Rattle.names.specs.Gathering.{name_of, named_from, imports_of};
+ghost use Rattle.names.specs.Gathered.{names_of, Adds, HasGathered, IsNamingFault};
+ghost use Rattle.names.specs.Modules.{AreDistinct};
+
+use crate::exports::Exports;
+use crate::fault::NameFault;
+use crate::scope::{Assigned, Scope, scope_of};
+use crate::sources::{Assignment, Header, Source, ValueAt};
+use indexmap::IndexMap;
+use std::alloc::Global;
+use std::collections::VecDeque;
+use trees::{Assignment as Given, Import, Module, TypeAssignment, TypeSyntax, ValueAssignment};
+
+/// The assignments of modules, with their types and values.
+#[derive(Drop)]
+pub struct Tables {
+    pub assignments: Vec<Assignment>,
+    pub roots: VecDeque<Source>,
+    pub values: Vec<ValueAt>,
+}
+
+/// What modules give.
+#[derive(Drop)]
+pub struct Gathered {
+    pub modules: IndexMap<String, Scope>,
+    pub headers: Vec<Header>,
+    pub tables: Tables,
+}
+
+/// What a name is assigned.
+#[tactic(auto, using(crate::specs::Meanings::under_seen))]
+fn meaning_in(assigned: &IndexMap<String, Assigned>, name: &str) -> Option<Assigned>
+    ensures { result ≡ under name.now (seen (λ a. a) assigned.now.entries) }
+{
+    assigned.get(name).copied()
+}
+
+/// Gives a name its meaning, or refuses to give it a second one.
+fn name_once(
+    alloc: Global,
+    within: &str,
+    name: &str,
+    meaning: Assigned,
+    assigned: &mut IndexMap<String, Assigned>,
+) -> Result<(), NameFault>
+    ensures ok { OnOk result (seen (λ a. a) assigned.new.entries ≡ seen (λ a. a) assigned.old.entries ++ (name.now, meaning) ∷ []) }
+    ensures fresh { OnOk result (under name.now (seen (λ a. a) assigned.old.entries) ≡ None) }
+    ensures fault { IfErr result (IsTwice within.now name.now (seen (λ a. a) assigned.old.entries)) }
+{
+    match meaning_in(assigned, name) {
+        Some(_) => Err(NameFault::Twice(
+            String::from_str(alloc, within)?,
+            String::from_str(alloc, name)?,
+        )),
+        None => {
+            assigned.insert(String::from_str(alloc, name)?, meaning)?;
+            Ok(())
+        }
+    }
+}
+
+/// Adds an assignment, with its type, behind the others.
+fn place(
+    owner: usize,
+    name: String,
+    syntax: TypeSyntax,
+    tables: &mut Tables,
+) -> Result<(), NameFault>
+    ensures owned { OnOk result (map assignment_of tables.new.assignments.items ≡ map assignment_of tables.old.assignments.items ++ (owner, string_bytes name) ∷ []) }
+    ensures roots { OnOk result (sources_of tables.new.roots.items ≡ sources_of tables.old.roots.items ++ record { tree = type_tree_of syntax; assignment = length tables.old.assignments.items; place = None } ∷ []) }
+    ensures values { tables.new.values.items ≡ tables.old.values.items }
+    ensures fault { IfErr result (λ e. e ≡ faults.Memory) }
+{
+    let assignment = tables.assignments.len();
+    tables.roots.push_back(Source {
+        syntax,
+        assignment,
+        place: None,
+    })?;
+    tables.assignments.push(Assignment {
+        module: owner,
+        name,
+    })?;
+    Ok(())
+}
+
+/// Adds the assignment of a type to the names and tables.
+fn add_type(
+    alloc: Global,
+    owner: usize,
+    within: &str,
+    given: TypeAssignment,
+    assigned: &mut IndexMap<String, Assigned>,
+    tables: &mut Tables,
+) -> Result<(), NameFault>
+    ensures named { OnOk result (seen (λ a. a) assigned.new.entries ≡ seen (λ a. a) assigned.old.entries ++ named_from (length tables.old.assignments.items) (length tables.old.values.items) (assigns_type (string_bytes given.name) (type_tree_of given.syntax) ∷ [])) }
+    ensures fresh { OnOk result (under (string_bytes given.name) (seen (λ a. a) assigned.old.entries) ≡ None) }
+    ensures adds { OnOk result (Adds owner (assigns_type (string_bytes given.name) (type_tree_of given.syntax) ∷ []) tables.old tables.new) }
+    ensures fault { IfErr result (IsTwice within.now (string_bytes given.name) (seen (λ a. a) assigned.old.entries)) }
+{
+    let TypeAssignment { name, syntax } = given;
+    let meaning = Assigned::Type(tables.assignments.len());
+    match name_once(alloc, within, name.as_str(), meaning, assigned) {
+        Ok(()) => {}
+        Err(fault) => return Err(fault),
+    }
+    place(owner, name, syntax, tables)?;
+    Ok(())
+}
+
+/// Adds the assignment of a value to the names and tables.
+fn add_value(
+    alloc: Global,
+    owner: usize,
+    within: &str,
+    given: ValueAssignment,
+    assigned: &mut IndexMap<String, Assigned>,
+    tables: &mut Tables,
+) -> Result<(), NameFault>
+    ensures named { OnOk result (seen (λ a. a) assigned.new.entries ≡ seen (λ a. a) assigned.old.entries ++ named_from (length tables.old.assignments.items) (length tables.old.values.items) (assigns_value (string_bytes given.name) (type_tree_of given.syntax) (tree_of given.value) ∷ [])) }
+    ensures fresh { OnOk result (under (string_bytes given.name) (seen (λ a. a) assigned.old.entries) ≡ None) }
+    ensures adds { OnOk result (Adds owner (assigns_value (string_bytes given.name) (type_tree_of given.syntax) (tree_of given.value) ∷ []) tables.old tables.new) }
+    ensures fault { IfErr result (IsTwice within.now (string_bytes given.name) (seen (λ a. a) assigned.old.entries)) }
+{
+    let ValueAssignment {
+        name,
+        syntax,
+        value,
+    } = given;
+    let meaning = Assigned::Value(tables.values.len());
+    match name_once(alloc, within, name.as_str(), meaning, assigned) {
+        Ok(()) => {}
+        Err(fault) => return Err(fault),
+    }
+    let number = tables.assignments.len();
+    tables.values.push(ValueAt {
+        assignment: number,
+        ty: number,
+        syntax: value,
+    })?;
+    place(owner, name, syntax, tables)?;
+    Ok(())
+}
+
+/// Adds an assignment to the names and tables.
+fn add(
+    alloc: Global,
+    owner: usize,
+    within: &str,
+    given: Given,
+    assigned: &mut IndexMap<String, Assigned>,
+    tables: &mut Tables,
+) -> Result<(), NameFault>
+    ensures named { OnOk result (seen (λ a. a) assigned.new.entries ≡ seen (λ a. a) assigned.old.entries ++ named_from (length tables.old.assignments.items) (length tables.old.values.items) (given_of given ∷ [])) }
+    ensures fresh { OnOk result (under (name_of (given_of given)) (seen (λ a. a) assigned.old.entries) ≡ None) }
+    ensures adds { OnOk result (Adds owner (given_of given ∷ []) tables.old tables.new) }
+    ensures fault { IfErr result (IsTwice within.now (name_of (given_of given)) (seen (λ a. a) assigned.old.entries)) }
+{
+    match given {
+        Given::Type(ty) => match add_type(alloc, owner, within, ty, assigned, tables) {
+            Ok(()) => Ok(()),
+            Err(fault) => Err(fault),
+        },
+        Given::Value(value) => match add_value(alloc, owner, within, value, assigned, tables) {
+            Ok(()) => Ok(()),
+            Err(fault) => Err(fault),
+        },
+    }
+}
+
+/// Adds the assignments of a module.
+fn add_all(
+    alloc: Global,
+    owner: usize,
+    within: &str,
+    givens: Vec<Given>,
+    assigned: &mut IndexMap<String, Assigned>,
+    tables: &mut Tables,
+) -> Result<(), NameFault>
+    requires empty { assigned.old.entries ≡ [] }
+    ensures named { OnOk result (seen (λ a. a) assigned.new.entries ≡ named_from (length tables.old.assignments.items) (length tables.old.values.items) (map given_of givens.items)) }
+    ensures distinct { OnOk result (AreDistinct (map name_of (map given_of givens.items))) }
+    ensures adds { OnOk result (Adds owner (map given_of givens.items) tables.old tables.new) }
+    ensures fault { IfErr result (IsRepeated within.now (map name_of (map given_of givens.items))) }
+{
+    for given in givens {
+        match add(alloc, owner, within, given, assigned, tables) {
+            Ok(()) => {}
+            Err(fault) => return Err(fault),
+        }
+    }
+    Ok(())
+}
+
+/// The module that a name is imported from.
+#[tactic(auto, using(crate::specs::Meanings::under_seen))]
+fn origin_in<'a>(imports: &'a IndexMap<String, String>, name: &str) -> Option<&'a String>
+    ensures { option_map (λ t. string_bytes t.now) result ≡ under name.now (seen string_bytes imports.now.entries) }
+{
+    imports.get(name)
+}
+
+/// Imports a name from a module, or refuses to give it a second meaning.
+fn import_once(
+    alloc: Global,
+    within: &str,
+    name: String,
+    from: &str,
+    assigned: &IndexMap<String, Assigned>,
+    imports: &mut IndexMap<String, String>,
+) -> Result<(), NameFault>
+    ensures ok { OnOk result (seen string_bytes imports.new.entries ≡ seen string_bytes imports.old.entries ++ (string_bytes name, from.now) ∷ []) }
+    ensures unassigned { OnOk result (under (string_bytes name) (seen (λ a. a) assigned.now.entries) ≡ None) }
+    ensures fresh { OnOk result (under (string_bytes name) (seen string_bytes imports.old.entries) ≡ None) }
+    ensures fault { IfErr result (IsTaken within.now (string_bytes name) (names_of (seen (λ a. a) assigned.now.entries) ++ names_of (seen string_bytes imports.old.entries))) }
+{
+    match meaning_in(assigned, name.as_str()) {
+        Some(_) => return Err(NameFault::Twice(String::from_str(alloc, within)?, name)),
+        None => {}
+    }
+    match origin_in(imports, name.as_str()) {
+        Some(_) => Err(NameFault::Twice(String::from_str(alloc, within)?, name)),
+        None => {
+            imports.insert(name, String::from_str(alloc, from)?)?;
+            Ok(())
+        }
+    }
+}
+
+/// Imports names from one module.
+fn import_names(
+    alloc: Global,
+    within: &str,
+    names: Vec<String>,
+    from: &str,
+    assigned: &IndexMap<String, Assigned>,
+    imports: &mut IndexMap<String, String>,
+) -> Result<(), NameFault>
+    requires distinct { AreDistinct (names_of (seen (λ a. a) assigned.now.entries) ++ names_of (seen string_bytes imports.old.entries)) }
+    ensures ok { OnOk result (seen string_bytes imports.new.entries ≡ seen string_bytes imports.old.entries ++ map (λ x. (x, from.now)) (map string_bytes names.items)) }
+    ensures distinct { OnOk result (AreDistinct (names_of (seen (λ a. a) assigned.now.entries) ++ names_of (seen string_bytes imports.new.entries))) }
+    ensures fault { IfErr result (IsRepeated within.now (names_of (seen (λ a. a) assigned.now.entries) ++ names_of (seen string_bytes imports.old.entries ++ map (λ x. (x, from.now)) (map string_bytes names.items)))) }
+{
+    for name in names {
+        match import_once(alloc, within, name, from, assigned, imports) {
+            Ok(()) => {}
+            Err(fault) => return Err(fault),
+        }
+    }
+    Ok(())
+}
+
+/// Imports names from modules, in order.
+fn import_all(
+    alloc: Global,
+    within: &str,
+    given: Vec<Import>,
+    assigned: &IndexMap<String, Assigned>,
+    imports: &mut IndexMap<String, String>,
+) -> Result<(), NameFault>
+    requires distinct { AreDistinct (names_of (seen (λ a. a) assigned.now.entries)) }
+    requires empty { imports.old.entries ≡ [] }
+    ensures ok { OnOk result (seen string_bytes imports.new.entries ≡ imports_of (map import_of given.items)) }
+    ensures distinct { OnOk result (AreDistinct (names_of (seen (λ a. a) assigned.now.entries) ++ names_of (imports_of (map import_of given.items)))) }
+    ensures fault { IfErr result (IsRepeated within.now (names_of (seen (λ a. a) assigned.now.entries) ++ names_of (imports_of (map import_of given.items)))) }
+{
+    for Import {
+        names,
+        module: from,
+    } in given {
+        match import_names(alloc, within, names, from.as_str(), assigned, imports) {
+            Ok(()) => {}
+            Err(fault) => return Err(fault),
+        }
+    }
+    Ok(())
+}
+
+/// The exports of a module, ready for look-ups.
+fn exports_of(alloc: Global, given: Option<Vec<String>>) -> Result<Option<Exports>, NameFault>
+    ensures ok { IfOk result (λ e. e ≡ option_map (λ xs. map string_bytes xs.items) given) }
+    ensures fault { IfErr result (λ e. e ≡ faults.Memory) }
+{
+    match given {
+        None => Ok(None),
+        Some(names) => match Exports::of(alloc, names) {
+            Ok(exports) => Ok(Some(exports)),
+            Err(fault) => Err(fault),
+        },
+    }
+}
+
+/// The names of a module, whose types and values go behind the others.
+fn scope_from(
+    alloc: Global,
+    owner: usize,
+    within: &str,
+    exports: Option<Vec<String>>,
+    given: Vec<Import>,
+    assignments: Vec<Given>,
+    tables: &mut Tables,
+) -> Result<Scope, NameFault>
+    ensures scope { IfOk result (λ s. module_of s ≡ record { assigned = named_from (length tables.old.assignments.items) (length tables.old.values.items) (map given_of assignments.items); imports = imports_of (map import_of given.items); exports = option_map (λ xs. map string_bytes xs.items) exports }) }
+    ensures distinct { OnOk result (AreDistinct (map name_of (map given_of assignments.items) ++ names_of (imports_of (map import_of given.items)))) }
+    ensures adds { OnOk result (Adds owner (map given_of assignments.items) tables.old tables.new) }
+    ensures fault { IfErr result (IsRepeated within.now (map name_of (map given_of assignments.items) ++ names_of (imports_of (map import_of given.items)))) }
+{
+    let mut assigned = IndexMap::new(alloc);
+    match add_all(alloc, owner, within, assignments, &mut assigned, tables) {
+        Ok(()) => {}
+        Err(fault) => return Err(fault),
+    }
+    let mut imports = IndexMap::new(alloc);
+    match import_all(alloc, within, given, &assigned, &mut imports) {
+        Ok(()) => {}
+        Err(fault) => return Err(fault),
+    }
+    match exports_of(alloc, exports) {
+        Ok(exports) => Ok(Scope {
+            assigned,
+            imports,
+            exports,
+        }),
+        Err(fault) => Err(fault),
+    }
+}
+
+/// Adds a module behind the others.
+fn add_module(alloc: Global, given: Module, gathered: &mut Gathered) -> Result<(), NameFault>
+    ensures ok { OnOk result ((ms : List ModuleTree) → HasGathered ms gathered.old → HasGathered (ms ++ module_tree_of given ∷ []) gathered.new) }
+    ensures fault { IfErr result (λ e. (ms rest : List ModuleTree) → HasGathered ms gathered.old → IsNamingFault (ms ++ module_tree_of given ∷ rest) e) }
+{
+    let Module {
+        name,
+        tag_default,
+        exports,
+        imports,
+        assignments,
+    } = given;
+    match scope_of(&gathered.modules, name.as_str()) {
+        Some(_) => return Err(NameFault::Twice(String::from_str(alloc, name.as_str())?, name)),
+        None => {}
+    }
+    let number = gathered.headers.len();
+    match scope_from(
+        alloc,
+        number,
+        name.as_str(),
+        exports,
+        imports,
+        assignments,
+        &mut gathered.tables,
+    ) {
+        Ok(scope) => {
+            gathered.headers.push(Header {
+                name: String::from_str(alloc, name.as_str())?,
+                default: tag_default,
+            })?;
+            gathered.modules.insert(name, scope)?;
+            Ok(())
+        }
+        Err(fault) => Err(fault),
+    }
+}
+
+/// Adds modules, in order.
+fn add_modules(
+    alloc: Global,
+    modules: Vec<Module>,
+    gathered: &mut Gathered,
+) -> Result<(), NameFault>
+    requires { HasGathered [] gathered.old }
+    ensures ok { OnOk result (HasGathered (map module_tree_of modules.items) gathered.new) }
+    ensures fault { IfErr result (IsNamingFault (map module_tree_of modules.items)) }
+{
+    for given in modules {
+        match add_module(alloc, given, gathered) {
+            Ok(()) => {}
+            Err(fault) => return Err(fault),
+        }
+    }
+    Ok(())
+}
+
+/// What these modules give.
+pub fn gather(alloc: Global, modules: Vec<Module>) -> Result<Gathered, NameFault>
+    ensures ok { IfOk result (HasGathered (map module_tree_of modules.items)) }
+    ensures fault { IfErr result (IsNamingFault (map module_tree_of modules.items)) }
+{
+    let mut gathered = Gathered {
+        modules: IndexMap::new(alloc),
+        headers: Vec::new(alloc),
+        tables: Tables {
+            assignments: Vec::new(alloc),
+            roots: VecDeque::new(alloc),
+            values: Vec::new(alloc),
+        },
+    };
+    match add_modules(alloc, modules, &mut gathered) {
+        Ok(()) => Ok(gathered),
+        Err(fault) => Err(fault),
+    }
+}

@@ -1,0 +1,17 @@
+//! What the names of modules stand for: their assignments, imports and exports.
+#![tactic(auto)]
+
+mod exports;
+pub mod fault;
+pub mod gather;
+pub mod law;
+pub mod limits;
+pub mod scope;
+pub mod sources;
+pub mod standing;
+
+pub use fault::{Limit, NameFault};
+pub use limits::within_limits;
+pub use scope::{Assigned, Names, Scope};
+pub use sources::{Assignment, Header, Place, Source, ValueAt};
+pub use standing::all_stand;

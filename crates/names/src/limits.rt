@@ -1,0 +1,99 @@
+//! How many modules, types and values there may be.
+
+ghost use Rattle.std.specs.Prelude.{◌≡◌, ◌≤◌, ◌+◌, IfErr, OnOk, map};
+ghost use Rattle.trees.specs.Modules.{assignment_of as given_of, module_tree_of};
+ghost use Rattle.names.specs.Modules.{AreFew, type_count, value_count, all_assignments};
+ghost use Rattle.names.specs.Gathered.{IsPastCount, IsNamingFault};
+
+use crate::fault::{Limit, NameFault};
+use std::alloc::Global;
+use trees::{Assignment, Module};
+
+/// How many types and values are assigned.
+#[derive(Drop)]
+pub struct Counts {
+    pub types: usize,
+    pub values: usize,
+}
+
+/// Counts the assignments of a module.
+fn count(
+    alloc: Global,
+    within: &str,
+    givens: &[Assignment],
+    counts: &mut Counts,
+) -> Result<(), NameFault>
+    requires types { counts.old.types ≤ 4096 }
+    requires values { counts.old.values ≤ 65536 }
+    ensures counted_types { OnOk result (counts.new.types ≡ counts.old.types + type_count (map given_of givens.now)) }
+    ensures counted_values { OnOk result (counts.new.values ≡ counts.old.values + value_count (map given_of givens.now)) }
+    ensures types { OnOk result (counts.new.types ≤ 4096) }
+    ensures values { OnOk result (counts.new.values ≤ 65536) }
+    ensures fault { IfErr result (IsPastCount counts.old.types counts.old.values within.now (map given_of givens.now)) }
+{
+    for given in givens {
+        match given {
+            Assignment::Type(assigned) => {
+                if counts.types == 4096 {
+                    return Err(NameFault::Limit(
+                        Limit::Types,
+                        String::from_str(alloc, within)?,
+                        String::from_str(alloc, assigned.name.as_str())?,
+                    ));
+                }
+                counts.types += 1;
+            }
+            Assignment::Value(assigned) => {
+                if counts.values == 65536 {
+                    return Err(NameFault::Limit(
+                        Limit::Values,
+                        String::from_str(alloc, within)?,
+                        String::from_str(alloc, assigned.name.as_str())?,
+                    ));
+                }
+                counts.values += 1;
+            }
+        }
+    }
+    Ok(())
+}
+
+/// Counts the assignments of modules.
+fn count_all(alloc: Global, modules: &[Module], counts: &mut Counts) -> Result<(), NameFault>
+    requires types { counts.old.types ≡ 0 }
+    requires values { counts.old.values ≡ 0 }
+    ensures types { OnOk result (type_count (all_assignments (map module_tree_of modules.now)) ≤ 4096) }
+    ensures values { OnOk result (value_count (all_assignments (map module_tree_of modules.now)) ≤ 65536) }
+    ensures fault { IfErr result (IsNamingFault (map module_tree_of modules.now)) }
+{
+    for given in modules {
+        match count(alloc, given.name.as_str(), &given.assignments, counts) {
+            Ok(()) => {}
+            Err(fault) => return Err(fault),
+        }
+    }
+    Ok(())
+}
+
+/// Are there at most 256 modules, 4,096 type assignments and 65,536 value assignments?
+pub fn within_limits(alloc: Global, modules: &[Module]) -> Result<(), NameFault>
+    ensures ok { OnOk result (AreFew (map module_tree_of modules.now)) }
+    ensures fault { IfErr result (IsNamingFault (map module_tree_of modules.now)) }
+{
+    if modules.len() > 256 {
+        let name = modules[256].name.as_str();
+        return Err(NameFault::Limit(
+            Limit::Modules,
+            String::from_str(alloc, name)?,
+            String::from_str(alloc, name)?,
+        ));
+    }
+    let mut counts = Counts {
+        types: 0,
+        values: 0,
+    };
+    match count_all(alloc, modules, &mut counts) {
+        Ok(()) => Ok(()),
+        Err(fault) => Err(fault),
+    }
+}

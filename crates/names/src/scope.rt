@@ -1,0 +1,147 @@
+//! Tables of names.
+
+ghost use Rattle.std.specs.Prelude.{ℕ, ◌≡◌, ◌↔◌, Some, option_map, string_bytes};
+ghost use Rattle.names.specs.declared.scope.Assigned.{Assigned};
+ghost use Rattle.names.specs.Names.{Meaning, Refers, IsApart, under};
+ghost use Rattle.names.specs.Scopes.{seen, module_of};
+ghost use Rattle.names.specs.Finding.{found, assigned_in, imported_in};
+
+use crate::exports::Exports;
+use indexmap::IndexMap;
+use std::marker::Model;
+
+/// What a name is assigned: a type or a value, by its number in the table of types or of values.
+#[derive(Clone, Copy, Debug, PartialEq, Eq)]
+pub enum Assigned {
+    Type(usize),
+    Value(usize),
+}
+
+/// A module's names: its assignments, its imports with their modules, and the names that it exports (all that it assigns where it lists none).
+#[derive(Drop)]
+pub struct Scope {
+    pub assigned: IndexMap<String, Assigned>,
+    pub imports: IndexMap<String, String>,
+    pub exports: Option<Exports>,
+}
+
+/// The names of all modules.
+#[derive(Drop)]
+pub struct Names {
+    modules: IndexMap<String, Scope>,
+}
+
+impl Model for Names {
+    ghost use Rattle.std.specs.Prelude.{List};
+    ghost use Rattle.trees.specs.Values.{Name};
+    ghost use Rattle.names.specs.Names.{Module};
+
+    ghost Value = { List (Name × Module) };
+
+    ghost use Rattle.names.specs.Scopes.{seen, module_of};
+
+    ghost view = { λ n. seen module_of n.modules.entries };
+
+    ghost use Rattle.names.specs.Names.{IsApart};
+
+    ghost invariant = { λ n. IsApart (seen module_of n.modules.entries) };
+}
+
+impl Names {
+    /// The names of these modules. No module imports a name that it assigns.
+    pub fn of(modules: IndexMap<String, Scope>) -> Names
+        requires { IsApart (seen module_of modules.entries) }
+        ensures { result ≡ seen module_of modules.entries }
+    {
+        Names { modules }
+    }
+
+    /// What a name stands for in a module.
+    #[tactic(auto, using(crate::specs::Meanings::found_meaning, crate::specs::Meanings::meaning_found))]
+    pub fn find(&self, within: &str, name: &str) -> Option<Assigned>
+        ensures { (a : Assigned) → (result ≡ Some a ↔ Meaning self.now within.now name.now a) }
+    {
+        find_among(&self.modules, within, name)
+    }
+
+    /// What a name, behind the name of a module if one is given, stands for in a module. `M.x` may stand in M itself, or where
+    /// x is imported from M.
+    #[tactic(auto, using(crate::specs::Meanings::refers_bare, crate::specs::Meanings::refers_within, crate::specs::Meanings::refers_across, crate::specs::Meanings::refers_not))]
+    pub fn refers(&self, within: &str, owner: &Option<String>, name: &str) -> Option<Assigned>
+        ensures { (a : Assigned) → (result ≡ Some a ↔ Refers self.now within.now (option_map string_bytes owner.now) name.now a) }
+    {
+        match owner {
+            None => self.find(within, name),
+            Some(module) => {
+                if module.as_str() == within {
+                    self.find(within, name)
+                } else {
+                    match imported_by(&self.modules, within, name) {
+                        None => None,
+                        Some(from) => {
+                            if from.as_str() == module.as_str() {
+                                self.find(within, name)
+                            } else {
+                                None
+                            }
+                        }
+                    }
+                }
+            }
+        }
+    }
+}
+
+#[tactic(auto, using(crate::specs::Meanings::under_seen))]
+pub(crate) fn scope_of<'a>(modules: &'a IndexMap<String, Scope>, name: &str) -> Option<&'a Scope>
+    ensures { option_map (λ s. module_of s.now) result ≡ under name.now (seen module_of modules.now.entries) }
+{
+    modules.get(name)
+}
+
+#[tactic(auto, using(crate::specs::Meanings::under_seen))]
+pub(crate) fn assigned_to(scope: &Scope, name: &str) -> Option<Assigned>
+    ensures { result ≡ under name.now (module_of scope.now).assigned }
+{
+    scope.assigned.get(name).copied()
+}
+
+#[tactic(auto, using(crate::specs::Meanings::under_seen))]
+fn imported<'a>(scope: &'a Scope, name: &str) -> Option<&'a String>
+    ensures { option_map (λ t. string_bytes t.now) result ≡ under name.now (module_of scope.now).imports }
+{
+    scope.imports.get(name)
+}
+
+#[tactic(auto, unfolding(crate::specs::Finding::found))]
+fn find_among(modules: &IndexMap<String, Scope>, within: &str, name: &str) -> Option<Assigned>
+    ensures { result ≡ found (seen module_of modules.now.entries) within.now name.now }
+{
+    match scope_of(modules, within) {
+        None => None,
+        Some(scope) => match assigned_to(scope, name) {
+            Some(ty) => Some(ty),
+            None => match imported(scope, name) {
+                None => None,
+                Some(from) => match scope_of(modules, from.as_str()) {
+                    None => None,
+                    Some(other) => assigned_to(other, name),
+                },
+            },
+        },
+    }
+}
+
+/// The module that a name is imported from.
+fn imported_by<'a>(
+    modules: &'a IndexMap<String, Scope>,
+    within: &str,
+    name: &str,
+) -> Option<&'a String>
+    ensures { option_map (λ t. string_bytes t.now) result ≡ imported_in name.now (under within.now (seen module_of modules.now.entries)) }
+{
+    match scope_of(modules, within) {
+        None => None,
+        Some(scope) => imported(scope, name),
+    }
+}

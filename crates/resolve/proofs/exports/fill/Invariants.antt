@@ -1,6 +1,0 @@
-use Rattle.std.proofs.Common.{take}
-use Rattle.resolve.specs.Listed.{IsTableOf}
-use Rattle.resolve.proofs.exports.fill.Given as goal
-
-abbrev pub invariant-loop-name : goal.invariant-loop-name
-invariant-loop-name l = IsTableOf (take l.name-index l.names) l.table

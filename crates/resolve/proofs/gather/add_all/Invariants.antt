@@ -1,8 +1,0 @@
-use Rattle.std.proofs.Common.{map}
-use Rattle.trees.specs.Modules.{assignment_of as given_of}
-use Rattle.resolve.specs.Scopes.{seen}
-use Rattle.resolve.proofs.Gatherings.{ArePlaced}
-use Rattle.resolve.proofs.gather.add_all.Given as goal
-
-abbrev pub invariant-loop-given : goal.invariant-loop-given
-invariant-loop-given l = ArePlaced l.owner (map given_of l.fn.givens.items) (map given_of l.given-iterator.rest.items) l.fn.tables l.tables (seen (λ a. a) l.assigned.entries)

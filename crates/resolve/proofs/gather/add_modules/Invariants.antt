@@ -1,7 +1,0 @@
-use Rattle.std.proofs.Common.{map}
-use Rattle.trees.specs.Modules.{module_tree_of}
-use Rattle.resolve.proofs.Gatherings.{ArePartly}
-use Rattle.resolve.proofs.gather.add_modules.Given as goal
-
-abbrev pub invariant-loop-given : goal.invariant-loop-given
-invariant-loop-given l = ArePartly (map module_tree_of l.fn.modules.items) (map module_tree_of l.given-iterator.rest.items) l.gathered

@@ -1,7 +1,0 @@
-use Rattle.std.proofs.Common.{rules, sym, ◌∙◌}
-use Rattle.resolve.proofs.Entries.{inserted}
-use Rattle.resolve.proofs.gather.name_once.Goals as goal
-
-pub returns-in_ok-insert-in-None-clause-ok : goal.returns-in_ok-insert-in-None-clause-ok
-returns-in_ok-insert-in-None-clause-ok c =
-    inserted (λ a. a) c.args.assigned.now c.in_ok-from_str-in-None.field-0 c.args.meaning c.args.name.now c.insert.new.self.entries (search rules) (sym c.meaning_in.ensures ∙ c.in-None.is) c.in_ok-insert-in-None.ensures.entries

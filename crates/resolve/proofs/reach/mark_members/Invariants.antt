@@ -1,8 +1,0 @@
-use Rattle.std.proofs.Common.{map}
-use Rattle.resolve.specs.Seen.{part_of}
-use Rattle.resolve.specs.Reach.{Marks}
-use Rattle.resolve.proofs.Marking.{IsMemberBelow}
-use Rattle.resolve.proofs.reach.mark_members.Given as goal
-
-abbrev pub invariant-loop-component : goal.invariant-loop-component
-invariant-loop-component l = Marks l.search (λ j. IsMemberBelow (map part_of l.components) l.component-index j) l.fn.marks l.marks l.fn.waiting.items l.waiting.items

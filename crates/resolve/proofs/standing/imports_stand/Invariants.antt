@@ -1,9 +1,0 @@
-use Rattle.std.proofs.Common.{◌≡◌, ℕ, ◌<◌, Some, string_bytes}
-use Rattle.std.specs.Prelude.{slice_get}
-use Rattle.trees.specs.Values.{Name}
-use Rattle.resolve.specs.Gathered.{IsOffered}
-use Rattle.resolve.specs.Scopes.{seen, module_of}
-use Rattle.resolve.proofs.standing.imports_stand.Given as goal
-
-abbrev pub invariant-loop-i : goal.invariant-loop-i
-invariant-loop-i l = (k : ℕ) (i : Name × Name) → k < l.i → slice_get (seen string_bytes l.imports.entries) k ≡ Some i → IsOffered (seen module_of l.modules.entries) i.1 i.0

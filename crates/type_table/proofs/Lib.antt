@@ -1,0 +1,15 @@
+pub mod Circling
+pub mod Halfway
+pub mod Knowing
+pub mod ListFaults
+pub mod Marking
+pub mod Numbered
+pub mod Occurring
+pub mod Once
+pub mod PartKinds
+pub mod Queue
+pub mod Rising
+pub mod Sets
+pub mod Sources
+pub mod Trees
+pub mod Walks

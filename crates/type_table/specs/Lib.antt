@@ -1,0 +1,12 @@
+pub mod Table
+pub mod Cores
+pub mod Seen
+pub mod Numbering
+pub mod Faults
+pub mod Lists
+pub mod ListFaults
+pub mod Sets
+pub mod Circles
+pub mod Reach
+pub mod Ranks
+pub mod Tables

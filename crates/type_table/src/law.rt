@@ -1,0 +1,35 @@
+//! Laws of the table of written types. A caller calls a law to know it; it takes no memory and no time.
+
+ghost use Rattle.std.specs.Prelude.{◌≡◌, ◌≤◌, ◌<◌, ℕ, List, Option, Some, length, slice_get};
+ghost use Rattle.trees.specs.Values.{Name};
+ghost use Rattle.trees.specs.declared.module.TagDefault.{TagDefault as Default};
+ghost use Rattle.names.specs.declared.fault.NameFault.TheVariants as faults;
+ghost use Rattle.names.specs.declared.fault.NameFault.{NameFault};
+ghost use Rattle.names.specs.declared.scope.Assigned.TheVariants as assigned;
+ghost use Rattle.names.specs.Names.{Module, IsApart, Refers};
+ghost use Rattle.names.specs.Sources.{HaveNoPlace, Source};
+ghost use Rattle.type_table.specs.Faults.{IsTableFault};
+ghost use Rattle.type_table.specs.Numbering.{AreNumbered};
+ghost use Rattle.type_table.specs.Table.{Type', AllUnfold, IsClosed, IsLinked};
+
+/// The types of given names, headers, assignments and their types have one table.
+pub fn one_table()
+    ensures { (ms : List (Name × Module)) (hs : List (Name × Default)) (gs : List (ℕ × Name)) (roots : List Source) (ts us : List Type') → IsApart ms → AreNumbered ms hs gs roots ts → AreNumbered ms hs gs roots us → ts ≡ us }
+{}
+
+/// Where a fault of the types stands, other than want of memory, there is no table that unfolds and passes no limit.
+pub fn table_faults_exclude()
+    ensures { (ms : List (Name × Module)) (hs : List (Name × Default)) (gs : List (ℕ × Name)) (roots : List Source) (ts : List Type') → AreNumbered ms hs gs roots ts → IsApart ms → length ts ≤ 65536 → AllUnfold ts → (e : NameFault) → (e ≡ faults.Memory → ⊥) → IsTableFault ms hs gs roots e → ⊥ }
+{}
+
+/// Types that are numbered: those of the assignments are among them, and each stands in an assignment.
+pub fn numbered_there()
+    ensures roots { (ms : List (Name × Module)) (hs : List (Name × Default)) (gs : List (ℕ × Name)) (roots : List Source) (ts : List Type') → AreNumbered ms hs gs roots ts → length roots ≤ length ts }
+    ensures assigned { (ms : List (Name × Module)) (hs : List (Name × Default)) (gs : List (ℕ × Name)) (roots : List Source) (ts : List Type') → AreNumbered ms hs gs roots ts → (i : ℕ) (t : Type') → slice_get ts i ≡ Some t → t.assignment < length gs }
+{}
+
+/// Types that are numbered, whose references stand for types of the table, keep what a table of linked types keeps once they unfold.
+pub fn numbered_linked()
+    ensures closed { (ms : List (Name × Module)) (hs : List (Name × Default)) (gs : List (ℕ × Name)) (roots : List Source) (ts : List Type') → AreNumbered ms hs gs roots ts → ((M x : Name) (N : Option Name) (j : ℕ) → Refers ms M N x (assigned.Type j) → j < length ts) → IsClosed ts }
+    ensures linked { (ms : List (Name × Module)) (hs : List (Name × Default)) (gs : List (ℕ × Name)) (roots : List Source) (ts : List Type') → AreNumbered ms hs gs roots ts → ((M x : Name) (N : Option Name) (j : ℕ) → Refers ms M N x (assigned.Type j) → j < length ts) → HaveNoPlace roots → AllUnfold ts → IsLinked ts }
+{}

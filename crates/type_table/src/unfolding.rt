@@ -1,0 +1,105 @@
+//! Unfolding of references and tags.
+
+ghost use Rattle.std.specs.Prelude.{◌≡◌, ℕ, ◌<◌, length, Ok, Err, List, MatchResult};
+ghost use Rattle.type_table.specs.Seen.{type_of, types_of};
+ghost use Rattle.type_table.specs.Table.{behind, IsClosed, IsCircular, IsCore, Type'};
+ghost use Rattle.type_table.specs.Cores.{IsKnown, AreKnown, AreUnknown, AreCores};
+
+use crate::table::{Shape, Written};
+
+/// The type behind the reference or tag that this type is.
+pub fn next(written: &Written) -> Option<usize>
+    ensures { result ≡ behind (type_of written.now).kind }
+{
+    match &written.shape {
+        Shape::Reference(j) => Some(*j),
+        Shape::Tagged(_, _, j) => Some(*j),
+        _ => None,
+    }
+}
+
+/// The core of a type, or a type that comes back to itself.
+pub fn core_of(types: &[Written], start: usize) -> Result<usize, usize>
+    requires closed { IsClosed (types_of types.now) }
+    requires there { start < length types.now }
+    ensures { MatchResult result (λ c. IsCore (types_of types.now) start c) (λ i. (i < length types.now) × IsCircular (types_of types.now) i) }
+{
+    let mut at = start;
+    for step in 0..types.len() {
+        match next(&types[at]) {
+            None => return Ok(at),
+            Some(j) => at = j,
+        }
+    }
+    Err(at)
+}
+
+/// The core of a type, or a type that comes back to itself. The walk ends where it comes to a type whose core is known.
+fn core_by(types: &[Written], cores: &[usize], start: usize) -> Result<usize, usize>
+    requires closed { IsClosed (types_of types.now) }
+    requires long { length cores.now ≡ length types.now }
+    requires known { AreKnown (types_of types.now) cores.now }
+    requires there { start < length types.now }
+    ensures { MatchResult result (λ c. (c < length types.now) × IsCore (types_of types.now) start c) (λ i. (i < length types.now) × IsCircular (types_of types.now) i) }
+{
+    let mut at = start;
+    for step in 0..types.len() {
+        let known = cores[at];
+        if known < types.len() {
+            return Ok(known);
+        }
+        match next(&types[at]) {
+            None => return Ok(at),
+            Some(j) => at = j,
+        }
+    }
+    Err(at)
+}
+
+/// Notes the core of a type for it and for all behind it, up to one whose core is known.
+fn note(types: &[Written], cores: &mut [usize], start: usize, core: usize)
+    requires long { length cores.old ≡ length types.now }
+    requires known { AreKnown (types_of types.now) cores.old }
+    requires there { start < length types.now }
+    requires within { core < length types.now }
+    requires core { IsCore (types_of types.now) start core }
+    requires closed { IsClosed (types_of types.now) }
+    ensures known { AreKnown (types_of types.now) cores.new }
+    ensures kept { (i : ℕ) → IsKnown (length types.now) cores.old i → IsKnown (length types.now) cores.new i }
+    ensures noted { IsKnown (length types.now) cores.new start }
+{
+    cores[start] = core;
+    let mut at = start;
+    for step in 0..types.len() {
+        match next(&types[at]) {
+            None => return,
+            Some(j) => at = j,
+        }
+        if cores[at] < types.len() {
+            return;
+        }
+        cores[at] = core;
+    }
+}
+
+/// Finds the core of each type, or a type that comes back to itself. No type is passed more than three times, so the time
+/// grows with the table alone, however its references are chained.
+pub fn unfold_all(types: &[Written], cores: &mut [usize]) -> Result<(), usize>
+    requires closed { IsClosed (types_of types.now) }
+    requires long { length cores.old ≡ length types.now }
+    requires unknown { AreUnknown (length types.now) cores.old }
+    ensures { MatchResult result (λ _. AreCores (types_of types.now) cores.new) (λ i. (i < length types.now) × IsCircular (types_of types.now) i) }
+{
+    for i in 0..types.len() {
+        match core_by(types, cores, i) {
+            Ok(core) => note(types, cores, i, core),
+            Err(circular) => return Err(circular),
+        }
+    }
+    Ok(())
+}
+
+/// A type that unfolds to a core doesn't come back to itself.
+pub fn not_both()
+    ensures { (ts : List Type') (i c : ℕ) → IsCore ts i c → IsCircular ts i → ⊥ }
+{}
