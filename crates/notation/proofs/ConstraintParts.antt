@@ -1,7 +1,8 @@
 -- The readers of constraints, and what their productions are owed.
 use Rattle.std.proofs.Common.{◌≡◌, ℕ, inl, inr, Bool, true, false, List, [], ◌∷◌, ◌++◌, Option, Some, None, Ok, Err, refl, sym, ap, subst, ◌∙◌ as ◌⋆◌}
+use Rattle.std.specs.Prelude.{is_some}
 use Rattle.std.proofs.lemmas.List.{append-nil}
-use Rattle.text.specs.declared.token.Mark.TheVariants.{Range, Dot, Bar, Minus}
+use Rattle.text.specs.declared.token.Mark.TheVariants.{Range, Dot, Bar, Minus, Comma, Ellipsis}
 use Rattle.text.specs.declared.reserved.Word.TheVariants.{From, Size, Union, Min, Max}
 use Rattle.grammar.specs.Lexeme.{Lexeme, TypeRef, Ident, Number, CString, Word, Mark}
 use Rattle.grammar.specs.Grammar.{Grammar, token, word, only as lexeme, ◌∙◌, ◌∣◌, ◌⇒◌, optional, behind}
@@ -11,14 +12,15 @@ use Rattle.grammar.specs.Loops.{Shrinks, sound_short}
 use Rattle.grammar.specs.Lists.{no_lexeme, is_ident}
 use Rattle.grammar.specs.Numbers.{Past}
 use Rattle.grammar.specs.Parts.{IsKind, pick, perhaps, token_solid}
-use Rattle.grammar.specs.Rules.{Rules, Same, either, rule_token, rule_made, rule_seq, rule_behind, rule_tail, rule_pair, rule_pick, loose_optional, loose_many, rule_read, rule_tests, rule_same, is_number, number_at, rule_number, fitting_made, made, read_again, one_at, one_is}
+use Rattle.grammar.specs.Rules.{Rules, Same, either, rule_token, rule_made, rule_seq, rule_behind, rule_tail, rule_pair, rule_pick, Loose, loose_optional, loose_many, loose_made, rule_read, rule_tests, rule_same, is_number, number_at, rule_number, fitting_made, made, read_again, one_at, one_is}
 use Rattle.grammar.specs.Parens.{rule_parens}
 use Rattle.trees.specs.Values.{Name}
-use Rattle.trees.specs.Constraints.{EndTree, number_end, name_end, RangeTree, only, between, ConstraintTree, values_in, sizes_in, chars_in}
-use Rattle.notation.specs.ConstraintGrammar.{or, by_or, ref, chars, end, range, ranges, size, constraint}
+use Rattle.trees.specs.Constraints.{EndTree, name_end, RangeTree, only, between, RangesTree, ConstraintTree, values_in, sizes_in, chars_in}
+use Rattle.notation.specs.ConstraintGrammar.{positive_end, negative_end, marker, marked, or, by_or, ref, chars, end, range, ranges, size, constraint}
 use Rattle.grammar.specs.Grammar.{parens}
-use Rattle.notation.specs.ConstraintReading.{is_size, is_or, or_then_at, by_or_at, last_chars_at, more_chars_at, chars_at, from_at, minus_at, end_name_at, end_dot_at, end_at, some_end_at, upper_at, behind_min_at, behind_end_at, single_at, range_at, ranges_at, size_at, size_in_at, from_in_at, values_in_at, inside_at, constraint_at}
+use Rattle.notation.specs.ConstraintReading.{is_size, is_or, or_then_at, by_or_at, last_chars_at, more_chars_at, chars_at, from_at, minus_at, ellipsis_at, marker_at, named_end, end_at, some_end_at, upper_at, behind_min_at, behind_end_at, single_at, range_at, ranges_at, size_at, from_in_at, values_in_at, inside_at, constraint_at}
 use Rattle.grammar.specs.Reading.{is_open, parens_at}
+use Rattle.notation.specs.Reading.{ref_name_at, ref_dot_at}
 
 -- ---- lexemes
 
@@ -162,6 +164,34 @@ text_is = record { yes = λ x. refl; one = one; nil = refl; hit = λ x ts. refl;
     miss (CString x) ts e = absurd cc
     miss s ts e = refl
 
+abbrev pub is_comma : Lexeme → Bool
+is_comma (Mark Comma) = true
+is_comma t = false
+
+comma_one : (t : Lexeme) → is_comma t ≡ true → t ≡ Mark Comma
+comma_one (Mark Comma) e = refl
+comma_one t e = absurd cc
+
+abbrev pub is_ellipsis : Lexeme → Bool
+is_ellipsis (Mark Ellipsis) = true
+is_ellipsis t = false
+
+ellipsis_one : (t : Lexeme) → is_ellipsis t ≡ true → t ≡ Mark Ellipsis
+ellipsis_one (Mark Ellipsis) e = refl
+ellipsis_one t e = absurd cc
+
+-- what stands behind a comma, if one stands here
+abbrev dots_read : Reader (Unit {0})
+dots_read = then_read (λ (p : Unit {0} × Unit {0}). p.1) (one_at is_comma) (one_at is_ellipsis)
+
+marker_same : (ts : List Lexeme) → made is_some (perhaps is_comma dots_read ts) ≡ marker_at ts
+unfolding marker_at ellipsis_at
+marker_same [] = refl
+marker_same (Mark Comma ∷ []) = refl
+marker_same (Mark Comma ∷ Mark Ellipsis ∷ ts) = refl
+marker_same (Mark Comma ∷ t ∷ ts) = refl
+marker_same (t ∷ ts) = refl
+
 or_is : (t : Lexeme) → either is_bar is_union t ≡ true → is_or t ≡ true
 or_is (Mark Bar) e = refl
 or_is (Word Union) e = refl
@@ -224,6 +254,13 @@ module _ {over : Limit → ℕ} {within : Limit → Type 0} where
   pub rule_by_or : {A : Type 0} {a : Grammar A} {starts ends : Lexeme → Bool} {read : Reader A} → Rules over within a starts ends read → ((t : Lexeme) → is_or t ≡ true → ends t ≡ false) → Rules over within (by_or a) starts (either ends (either is_or ends)) (by_or_at read)
   unfolding by_or_at
   rule_by_or k apart = rule_tail (λ p. p.0 ∷ p.1) k (loose_many (or_then_rule k) apart) apart
+
+  -- ---- the marker
+
+  loose_marker : Loose over within marker is_comma (either is_comma no_lexeme) (λ ts. made is_some (perhaps is_comma dots_read ts))
+  loose_marker =
+      loose_made is_some
+      (loose_optional (rule_behind (rule_token (one_is (Mark Comma) is_comma refl comma_one)) (rule_token (one_is (Mark Ellipsis) is_ellipsis refl ellipsis_one))))
 
   -- ---- characters
 
@@ -288,8 +325,8 @@ module _ (over : Limit → ℕ) (within : Limit → Type 0) (fits fits' : ℕ �
 
   abbrev end_read : Reader EndTree
   end_read =
-      pick is_number (λ ts. number_at fits ts >>= λ n. Ok (number_end false n.0, n.1))
-      (pick is_minus (λ ts. then_read (λ (p : Unit {0} × ℕ). p.1) (one_at is_minus) digits_at ts >>= λ n. Ok (number_end true n.0, n.1)) (λ ts. ref_read ts >>= λ p. Ok (name_end p.0.0 p.0.1, p.1)))
+      pick is_number (λ ts. number_at fits ts >>= λ n. Ok (positive_end n.0, n.1))
+      (pick is_minus (λ ts. then_read (λ (p : Unit {0} × ℕ). p.1) (one_at is_minus) digits_at ts >>= λ n. Ok (negative_end n.0, n.1)) (λ ts. ref_read ts >>= λ p. Ok (name_end p.0.0 p.0.1, p.1)))
 
   ref_no_minus : (t : Lexeme) → either is_ident is_typeref t ≡ true → is_minus t ≡ false
   ref_no_minus (Ident x) e = refl
@@ -314,13 +351,13 @@ module _ (over : Limit → ℕ) (within : Limit → Type 0) (fits fits' : ℕ �
   minus_same (t ∷ ts) = refl
 
   dot_same : (m : List ℕ) (ts : List Lexeme) → end_read (TypeRef m ∷ Mark Dot ∷ ts) ≡ end_at fits (TypeRef m ∷ Mark Dot ∷ ts)
-  unfolding typeref_at name_at end_at end_dot_at end_name_at
+  unfolding typeref_at name_at end_at ref_dot_at ref_name_at
   dot_same m [] = refl
   dot_same m (Ident x ∷ ts) = refl
   dot_same m (t ∷ ts) = refl
 
   typeref_same : (m : List ℕ) (ts : List Lexeme) → end_read (TypeRef m ∷ ts) ≡ end_at fits (TypeRef m ∷ ts)
-  unfolding typeref_at end_at end_dot_at
+  unfolding typeref_at end_at ref_dot_at
   typeref_same m [] = refl
   typeref_same m (Mark Dot ∷ ts) = dot_same m ts
   typeref_same m (t ∷ ts) = refl
@@ -328,7 +365,7 @@ module _ (over : Limit → ℕ) (within : Limit → Type 0) (fits fits' : ℕ �
   end_same : (ts : List Lexeme) → end_read ts ≡ end_at fits ts
   unfolding number_at name_at typeref_at end_at
   end_same [] = refl
-  end_same (Number n ∷ ts) = fitting_made (number_end false) (fits n) n (Number n ∷ ts) ts
+  end_same (Number n ∷ ts) = fitting_made (positive_end) (fits n) n (Number n ∷ ts) ts
   end_same (Mark Minus ∷ ts) = minus_same ts
   end_same (Ident x ∷ ts) = refl
   end_same (TypeRef m ∷ ts) = typeref_same m ts
@@ -338,8 +375,8 @@ module _ (over : Limit → ℕ) (within : Limit → Type 0) (fits fits' : ℕ �
   rule_end =
       rule_tests ends_start no_lexeme end_tests (λ t e. refl)
       (rule_read (end_at fits) end_same
-      (rule_pick (rule_made (number_end false) (rule_number over within fits fits' grows past room))
-      (rule_pick (rule_made (number_end true) (rule_behind rule_minus (rule_token digits_is))) (rule_made (λ p. name_end p.0 p.1) rule_ref) ref_no_minus) rest_no_number))
+      (rule_pick (rule_made (positive_end) (rule_number over within fits fits' grows past room))
+      (rule_pick (rule_made (negative_end) (rule_behind rule_minus (rule_token digits_is))) (rule_made (λ p. name_end p.0 p.1) rule_ref) ref_no_minus) rest_no_number))
 
   -- ---- ranges
 
@@ -471,31 +508,40 @@ module _ (over : Limit → ℕ) (within : Limit → Type 0) (fits fits' : ℕ �
   or_no_range (Word Union) e = refl
   or_no_range t e = absurd cc
 
-  pub rule_ranges : Rules over within (ranges fits') range_starts (either is_range (either is_or is_range)) (ranges_at fits)
+  abbrev ranges_end : Lexeme → Bool
+  ranges_end = either (either is_range (either is_or is_range)) (either is_comma no_lexeme)
+
+  comma_ends : (t : Lexeme) → is_comma t ≡ true → either is_range (either is_or is_range) t ≡ false
+  comma_ends t e = subst (λ (t : Lexeme). either is_range (either is_or is_range) t ≡ false) (sym (comma_one t e)) refl
+
+  ranges_same : (ts : List Lexeme) → then_read marked (by_or_at (range_at fits)) (λ us. made is_some (perhaps is_comma dots_read us)) ts ≡ ranges_at fits ts
   unfolding ranges_at
-  rule_ranges = rule_by_or rule_range or_no_range
+  ranges_same ts = go (by_or_at (range_at fits) ts)
+    where
+      go : (r : Read (List RangeTree)) → after_read marked r (λ us. made is_some (perhaps is_comma dots_read us)) ≡ (r >>= λ rs. marker_at rs.1 >>= λ m. Ok (marked (rs.0, m.0), m.1))
+      go (Ok x) = ap (λ (r : Read Bool). r >>= λ m. Ok (marked (x.0, m.0), m.1)) (marker_same x.1)
+      go (Err f) = refl
+
+  pub rule_ranges : Rules over within (ranges fits') range_starts ranges_end (ranges_at fits)
+  rule_ranges = rule_read (ranges_at fits) ranges_same (rule_tail marked (rule_by_or rule_range or_no_range) loose_marker comma_ends)
 
   -- ---- sizes and constraints
 
-  size_same : (ts : List Lexeme) → then_read (λ (p : Unit {0} × List RangeTree). p.1) (one_at is_size) (parens_at (ranges_at fits)) ts ≡ size_at fits ts
+  size_same : (ts : List Lexeme) → made sizes_in (then_read (λ (p : Unit {0} × RangesTree). p.1) (one_at is_size) (parens_at (ranges_at fits)) ts) ≡ size_at fits ts
   unfolding size_at
   size_same [] = refl
-  size_same (Word Size ∷ ts) = read_again (parens_at (ranges_at fits) ts)
+  size_same (Word Size ∷ ts) = ap (made sizes_in) (read_again (parens_at (ranges_at fits) ts))
   size_same (t ∷ ts) = refl
 
   pub rule_size : Rules over within (size fits') is_size no_lexeme (size_at fits)
-  rule_size = rule_read (size_at fits) size_same (rule_behind rule_size_w (rule_parens rule_ranges refl))
+  rule_size = rule_read (size_at fits) size_same (rule_made sizes_in (rule_behind rule_size_w (rule_parens rule_ranges refl)))
 
   abbrev inner : Grammar ConstraintTree
-  inner = ranges fits' ⇒ values_in ∣ size fits' ⇒ sizes_in ∣ behind (Word From) (parens (by_or chars)) ⇒ chars_in
+  inner = ranges fits' ⇒ values_in ∣ size fits' ∣ behind (Word From) (parens (by_or chars)) ⇒ chars_in
 
-  rule_values_in : Rules over within (ranges fits' ⇒ values_in) range_starts (either is_range (either is_or is_range)) (values_in_at fits)
+  rule_values_in : Rules over within (ranges fits' ⇒ values_in) range_starts ranges_end (values_in_at fits)
   unfolding values_in_at
   rule_values_in = rule_made values_in rule_ranges
-
-  rule_size_in : Rules over within (size fits' ⇒ sizes_in) is_size no_lexeme (size_in_at fits)
-  unfolding size_in_at
-  rule_size_in = rule_made sizes_in rule_size
 
   rule_from_in : Rules over within (behind (Word From) (parens (by_or chars)) ⇒ chars_in) is_from no_lexeme (from_in_at fits)
   unfolding from_in_at
@@ -509,8 +555,8 @@ module _ (over : Limit → ℕ) (within : Limit → Type 0) (fits fits' : ℕ �
   words_no_range (Word From) e = refl
   words_no_range t e = absurd cc
 
-  inside_same : (ts : List Lexeme) → pick range_starts (values_in_at fits) (pick is_size (size_in_at fits) (from_in_at fits)) ts ≡ inside_at fits ts
-  unfolding inside_at values_in_at size_in_at from_in_at ranges_at by_or_at range_at single_at end_at from_at size_at
+  inside_same : (ts : List Lexeme) → pick range_starts (values_in_at fits) (pick is_size (size_at fits) (from_in_at fits)) ts ≡ inside_at fits ts
+  unfolding inside_at values_in_at from_in_at ranges_at by_or_at range_at single_at end_at from_at size_at
   inside_same [] = refl
   inside_same (Word Size ∷ ts) = refl
   inside_same (Word From ∷ ts) = refl
@@ -518,8 +564,8 @@ module _ (over : Limit → ℕ) (within : Limit → Type 0) (fits fits' : ℕ �
   inside_same (Mark Minus ∷ ts) = refl
   inside_same (t ∷ ts) = refl
 
-  rule_inside : Rules over within inner (either range_starts (either is_size is_from)) (either (either is_range (either is_or is_range)) (either no_lexeme no_lexeme)) (inside_at fits)
-  rule_inside = rule_read (inside_at fits) inside_same (rule_pick rule_values_in (rule_pick rule_size_in rule_from_in from_no_size) words_no_range)
+  rule_inside : Rules over within inner (either range_starts (either is_size is_from)) (either ranges_end (either no_lexeme no_lexeme)) (inside_at fits)
+  rule_inside = rule_read (inside_at fits) inside_same (rule_pick rule_values_in (rule_pick rule_size rule_from_in from_no_size) words_no_range)
 
   abbrev split_constraint : Grammar ConstraintTree
   split_constraint = parens inner
@@ -530,7 +576,7 @@ module _ (over : Limit → ℕ) (within : Limit → Type 0) (fits fits' : ℕ �
     where
       to_is : (x : ConstraintTree) (u : List Lexeme) → split_constraint.Is x u → (constraint fits').Is x u
       to_is x u (p, d, (m, v, q, hm, (w, c, e, inl (a, f, ha), hc))) = inl (a, d ⋆ f, ((tt, (a, tt)), refl, (m, v, q, hm, (w, c, e, ha, hc))))
-      to_is x u (p, d, (m, v, q, hm, (w, c, e, inr (inl (a, f, ha)), hc))) = inr (inl (a, d ⋆ f, ((tt, (a, tt)), refl, (m, v, q, hm, (w, c, e, ha, hc)))))
+      to_is x u (p, d, (m, v, q, hm, (w, c, e, inr (inl ha), hc))) = inr (inl (p, d, (m, v, q, hm, (w, c, e, ha, hc))))
       to_is x u (p, d, (m, v, q, hm, (w, c, e, inr (inr (a, f, ha)), hc))) = inr (inr (a, d ⋆ f, ((tt, (a, tt)), refl, (m, v, q, hm, (w, c, e, ha, hc)))))
 
       to_on : (u : List Lexeme) → split_constraint.CanGoOn u → (constraint fits').CanGoOn u
@@ -539,12 +585,12 @@ module _ (over : Limit → ℕ) (within : Limit → Type 0) (fits fits' : ℕ �
       to_on u (inr (o, m, v, q, hm, inl (inr (inl h)))) = inr (inl (inr (o, m, v, q, hm, inl h)))
       to_on u (inr (o, m, v, q, hm, inl (inr (inr h)))) = inr (inr (inr (o, m, v, q, hm, inl h)))
       to_on u (inr (o, m, v, q, hm, inr (x, w, c, e, inl (a, f, ha), hc))) = inl (inr (o, m, v, q, hm, inr (a, w, c, e, ha, hc)))
-      to_on u (inr (o, m, v, q, hm, inr (x, w, c, e, inr (inl (a, f, ha)), hc))) = inr (inl (inr (o, m, v, q, hm, inr (a, w, c, e, ha, hc))))
+      to_on u (inr (o, m, v, q, hm, inr (x, w, c, e, inr (inl ha), hc))) = inr (inl (inr (o, m, v, q, hm, inr (x, w, c, e, ha, hc))))
       to_on u (inr (o, m, v, q, hm, inr (x, w, c, e, inr (inr (a, f, ha)), hc))) = inr (inr (inr (o, m, v, q, hm, inr (a, w, c, e, ha, hc))))
 
       back_is : (x : ConstraintTree) (u : List Lexeme) → (constraint fits').Is x u → split_constraint.Is x u
       back_is x u (inl (a, d, (p, f, (m, v, q, hm, (w, c, e, ha, hc))))) = ((tt, (x, tt)), refl, (m, v, q, hm, (w, c, e, inl (p.1.0, d ⋆ ap values_in f, ha), hc)))
-      back_is x u (inr (inl (a, d, (p, f, (m, v, q, hm, (w, c, e, ha, hc)))))) = ((tt, (x, tt)), refl, (m, v, q, hm, (w, c, e, inr (inl (p.1.0, d ⋆ ap sizes_in f, ha)), hc)))
+      back_is x u (inr (inl (p, d, (m, v, q, hm, (w, c, e, ha, hc))))) = (p, d, (m, v, q, hm, (w, c, e, inr (inl ha), hc)))
       back_is x u (inr (inr (a, d, (p, f, (m, v, q, hm, (w, c, e, ha, hc)))))) = ((tt, (x, tt)), refl, (m, v, q, hm, (w, c, e, inr (inr (p.1.0, d ⋆ ap chars_in f, ha)), hc)))
 
       back_on : (u : List Lexeme) → (constraint fits').CanGoOn u → split_constraint.CanGoOn u
@@ -553,7 +599,7 @@ module _ (over : Limit → ℕ) (within : Limit → Type 0) (fits fits' : ℕ �
       back_on u (inl (inr (o, m, v, q, hm, inr (a, w, c, e, ha, hc)))) = inr (o, m, v, q, hm, inr (values_in a, w, c, e, inl (a, refl, ha), hc))
       back_on u (inr (inl (inl h))) = inl h
       back_on u (inr (inl (inr (o, m, v, q, hm, inl h)))) = inr (o, m, v, q, hm, inl (inr (inl h)))
-      back_on u (inr (inl (inr (o, m, v, q, hm, inr (a, w, c, e, ha, hc))))) = inr (o, m, v, q, hm, inr (sizes_in a, w, c, e, inr (inl (a, refl, ha)), hc))
+      back_on u (inr (inl (inr (o, m, v, q, hm, inr (a, w, c, e, ha, hc))))) = inr (o, m, v, q, hm, inr (a, w, c, e, inr (inl ha), hc))
       back_on u (inr (inr (inl h))) = inl h
       back_on u (inr (inr (inr (o, m, v, q, hm, inl h)))) = inr (o, m, v, q, hm, inl (inr (inr h)))
       back_on u (inr (inr (inr (o, m, v, q, hm, inr (a, w, c, e, ha, hc))))) = inr (o, m, v, q, hm, inr (chars_in a, w, c, e, inr (inr (a, refl, ha)), hc))

@@ -12,8 +12,8 @@ use Rattle.grammar.specs.Numbers.{Past}
 use Rattle.grammar.specs.Places.{Limits, any, small, bounded, Within, raised}
 use Rattle.grammar.specs.Answers.{joined, joined_first, joined_second, within_all, Reads}
 use Rattle.grammar.specs.Rules.{Rules, Ruled}
-use Rattle.trees.specs.Constraints.{EndTree, number_end, name_end, only, between, values_in, sizes_in, chars_in}
-use Rattle.notation.specs.ConstraintGrammar.{or, by_or, ref, chars, end, range, ranges, size, constraint, flat}
+use Rattle.trees.specs.Constraints.{EndTree, name_end, only, between, values_in, sizes_in, chars_in}
+use Rattle.notation.specs.ConstraintGrammar.{positive_end, negative_end, marker, marked, or, by_or, ref, chars, end, range, ranges, size, constraint, flat}
 use Rattle.grammar.specs.Grammar.{parens}
 use Rattle.notation.specs.ConstraintReading.{is_size, size_at, constraint_at}
 use Rattle.grammar.specs.Reading.{is_open}
@@ -35,8 +35,8 @@ by_or_grows a b g =
 module _ (fits fits' : ℕ → Bool) (grows : (n : ℕ) → fits n ≡ true → fits' n ≡ true) where
   end_grows : Grows (end fits) (end fits')
   end_grows =
-      either_grows (number_of fits ⇒ number_end false) (number_of fits' ⇒ number_end false) _ _ (made_grows (number_of fits) (number_of fits') (number_end false) (number_grows fits fits' grows))
-      (same_grows (behind (Mark Minus) (token Number) ⇒ number_end true ∣ ref ⇒ (λ p. name_end p.0 p.1)))
+      either_grows (number_of fits ⇒ positive_end) (number_of fits' ⇒ positive_end) _ _ (made_grows (number_of fits) (number_of fits') (positive_end) (number_grows fits fits' grows))
+      (same_grows (behind (Mark Minus) (token Number) ⇒ negative_end ∣ ref ⇒ (λ p. name_end p.0 p.1)))
 
   -- an end, or a word for none
   abbrev or_word : Grammar EndTree → Grammar (Unit {0}) → Grammar (Option EndTree)
@@ -53,16 +53,17 @@ module _ (fits fits' : ℕ → Bool) (grows : (n : ℕ) → fits n ≡ true → 
       (behind_grows (Mark Range) (or_word (end fits) (word Max)) (or_word (end fits') (word Max)) (bound_grows (word Max)))))
 
   ranges_grows : Grows (ranges fits) (ranges fits')
-  ranges_grows = by_or_grows (range fits) (range fits') range_grows
+  ranges_grows = made_grows (by_or (range fits) ∙ marker) (by_or (range fits') ∙ marker) marked (seq_grows (by_or (range fits)) (by_or (range fits')) marker marker (by_or_grows (range fits) (range fits') range_grows) (same_grows marker))
 
   pub size_grows : Grows (size fits) (size fits')
-  size_grows = behind_grows (Word Size) (parens (ranges fits)) (parens (ranges fits')) (parens_grows (ranges fits) (ranges fits') ranges_grows)
+  size_grows =
+      made_grows (behind (Word Size) (parens (ranges fits))) (behind (Word Size) (parens (ranges fits'))) sizes_in
+      (behind_grows (Word Size) (parens (ranges fits)) (parens (ranges fits')) (parens_grows (ranges fits) (ranges fits') ranges_grows))
 
   pub constraint_grows : Grows (constraint fits) (constraint fits')
   constraint_grows =
       either_grows (parens (ranges fits) ⇒ values_in) (parens (ranges fits') ⇒ values_in) _ _ (made_grows (parens (ranges fits)) (parens (ranges fits')) values_in (parens_grows (ranges fits) (ranges fits') ranges_grows))
-      (either_grows (parens (size fits) ⇒ sizes_in) (parens (size fits') ⇒ sizes_in) _ _ (made_grows (parens (size fits)) (parens (size fits')) sizes_in (parens_grows (size fits) (size fits') size_grows))
-      (same_grows (parens (behind (Word From) (parens (by_or chars))) ⇒ chars_in)))
+      (either_grows (parens (size fits)) (parens (size fits')) _ _ (parens_grows (size fits) (size fits') size_grows) (same_grows (parens (behind (Word From) (parens (by_or chars))) ⇒ chars_in)))
 
 -- ---- what nothing goes on with is read wherever it stands
 

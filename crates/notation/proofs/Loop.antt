@@ -2,7 +2,6 @@
 use Rattle.std.proofs.Common.{◌≡◌, ℕ, zero, suc, ◌-◌, Bool, true, false, List, [], ◌∷◌, ◌++◌, length, map, Some, None, Ok, Err, refl, sym, ap, subst, ◌∙◌ as ◌⋆◌, arith}
 use Rattle.std.proofs.lemmas.List.{append-nil}
 use Rattle.std.specs.Global.{Vec}
-use Rattle.std.specs.Prelude.{string_bytes}
 use Rattle.text.specs.declared.token.Mark.TheVariants.{Colon}
 use Rattle.grammar.specs.Lexeme.{Lexeme, Ident, Number, Mark}
 use Rattle.grammar.specs.Grammar.{token, ◌∙◌}
@@ -13,15 +12,13 @@ use Rattle.grammar.specs.Loops.{Shrinks, sound_short, regroup}
 use Rattle.kernel.specs.declared.fault.ReadError.{ReadError}
 use Rattle.kernel.specs.declared.fault.ReadError.TheVariants as errors
 use Rattle.kernel.specs.declared.fault.Limit.TheVariants as limits
-use Rattle.trees.specs.declared.value.ValueSyntax.{ValueSyntax}
-use Rattle.trees.specs.declared.value.ValueSyntax.TheViews.{Fields}
-use Rattle.trees.specs.declared.value.ValueSyntax.TheVariants.{rolls-Fields}
-use Rattle.trees.specs.declared.value.ValueSyntax.TheOpen as opened
-use Rattle.trees.specs.declared.value.ValueSyntax.TheShapes.{former-ValueSyntax-Fields-0-at-2}
+use Rattle.trees.specs.declared.value.ValueSyntax.{ValueSyntax, roll-ValueSyntax}
+use Rattle.trees.specs.declared.value.ValueForm.TheVariants.{Fields}
+use Rattle.trees.specs.declared.value.ValueSyntax.TheShapes.{former-ValueSyntax-form-at-13}
 use Rattle.trees.specs.declared.value.ValueSyntax.TheFolds.{fold-roll-ValueSyntax}
 use Rattle.trees.specs.declared.value.Named.{Named}
 use Rattle.kernel.specs.Given.{Fails}
-use Rattle.trees.specs.Values.{Name, Tree, fields, members, layer, tree_of, member_of}
+use Rattle.trees.specs.Values.{Name, Tree, fields, members, name_at, value_layer, tree_of, member_of}
 use Rattle.notation.specs.Value.{value}
 use Rattle.notation.specs.Reading.{alternative_at, step_at, value_at, next_number, numbers_at}
 use Rattle.notation.proofs.Sounds.{value_sound}
@@ -46,14 +43,14 @@ pub member_shrinks : (fits : ℕ → Bool) (n : ℕ) → Shrinks (named_at (valu
 member_shrinks fits n = record { shorter = λ ts x e. sound_short (token Ident ∙ value fits n) ts (named_at (value_at fits n) ts) x e (named_sound nowhere (value fits n) (value_at fits n) (value_sound fits n) ts) }
 
 -- the tree of components
-pub fields_tree : (ms : Vec (Named ValueSyntax)) → tree_of (Fields ms) ≡ fields (members (map member_of ms.items))
-fields_tree ms =
-    let a = ap tree_of (sym (rolls-Fields ms)) ⋆ fold-roll-ValueSyntax Tree layer (opened.Fields ms) in
-    a ⋆ ap (λ (l : List (Name × Tree)). fields (members l)) (together ms.items)
-  where
-    together : (l : List (Named ValueSyntax)) → map (λ (f : Named Tree). (string_bytes f.name, f.value)) (map (former-ValueSyntax-Fields-0-at-2.map ValueSyntax Tree tree_of) l) ≡ map member_of l
-    together [] = refl
-    together (f ∷ l) = ap (λ (r : List (Name × Tree)). member_of f ∷ r) (together l)
+together : (l : List (Named ValueSyntax)) → map (λ (f : Named Tree). (name_at f.name, f.value)) (map (former-ValueSyntax-form-at-13.map ValueSyntax Tree tree_of) l) ≡ map member_of l
+together [] = refl
+together (f ∷ l) = ap (λ (r : List (Name × Tree)). member_of f ∷ r) (together l)
+
+pub fields_tree : (at : ℕ) (ms : Vec (Named ValueSyntax)) → tree_of (roll-ValueSyntax (record { at = at; form = Fields ms })) ≡ fields (members (map member_of ms.items))
+fields_tree at ms =
+    fold-roll-ValueSyntax Tree value_layer (record { at = at; form = Fields ms })
+    ⋆ ap (λ (l : List (Name × Tree)). fields (members l)) (together ms.items)
 
 -- numbers
 pub numbers_end : (fits : ℕ → Bool) (ts : List Lexeme) (front : List ℕ) (total : Read (List ℕ)) → next_number ts ≡ None → with_front front (numbers_at fits ts) ≡ total → total ≡ Ok (front, ts)

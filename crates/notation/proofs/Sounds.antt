@@ -9,9 +9,9 @@ use Rattle.grammar.specs.Laws.{nowhere, deeper, wider, higher, more as left_when
 use Rattle.grammar.specs.Lists.{left_sound, right_sound, stop_sound, closed_sound, listed_sound, brace_sound, named_sound}
 use Rattle.grammar.specs.Numbers.{Past, fitting_sound}
 use Rattle.grammar.specs.Places.{any}
-use Rattle.trees.specs.Values.{Tree, yes, no, null, number, binary, hex, chars, reference, chosen, nothing, numbers, items, fields, trees, members}
-use Rattle.notation.specs.Value.{simple, nested, value}
-use Rattle.notation.specs.Reading.{negative_at, value_name_at, qualified_at, numbers_at, items_at, fields_at, follows_name, by_name_at, two_numbers_at, by_number_at, braced_at, alternative_at, step_at, value_at}
+use Rattle.trees.specs.Values.{Tree, yes, no, null, binary, hex, chars, reference, chosen, nothing, numbers, items, fields, trees, members}
+use Rattle.notation.specs.Value.{positive, negative, simple, nested, value}
+use Rattle.notation.specs.Reading.{negative_at, ref_name_at, ref_dot_at, referred, numbers_at, items_at, fields_at, follows_name, by_name_at, two_numbers_at, by_number_at, braced_at, alternative_at, step_at, value_at}
 
 -- the productions of what opens
 abbrev pub chosen_of : Grammar Tree → Grammar Tree
@@ -149,14 +149,14 @@ module _ (over : Limit → ℕ) (fits fits' : ℕ → Bool) (grows : (n : ℕ) �
   at_dot : (m : List ℕ) → (simple fits').CanGoOn (TypeRef m ∷ Mark Dot ∷ [])
   at_dot m = inr (inr (inr (inr (inr (inr (inr (inr (inr (inr (m, TypeRef m ∷ [], Mark Dot ∷ [], refl, refl, front_behind (Mark Dot) (token Ident) [] (inl refl)))))))))))
 
-  value_name_sound : (m : List ℕ) (ts : List Lexeme) → Sound over (simple fits') (TypeRef m ∷ Mark Dot ∷ ts) (value_name_at m ts)
-  unfolding value_name_at
+  value_name_sound : (m : List ℕ) (ts : List Lexeme) → Sound over (simple fits') (TypeRef m ∷ Mark Dot ∷ ts) (referred (ref_name_at m ts))
+  unfolding ref_name_at
   value_name_sound m [] = (TypeRef m ∷ Mark Dot ∷ [], [], refl, refl, at_dot m)
   value_name_sound m (Ident x ∷ ts) = (TypeRef m ∷ Mark Dot ∷ Ident x ∷ [], refl, inr (inr (inr (inr (inr (inr (inr (inr (inr ((m, x), refl, (TypeRef m ∷ [], Mark Dot ∷ Ident x ∷ [], refl, refl, is_behind (Mark Dot) (token Ident) x (Ident x ∷ []) refl)))))))))))
   value_name_sound m (t ∷ ts) = (TypeRef m ∷ Mark Dot ∷ [], t ∷ ts, refl, refl, at_dot m)
 
-  qualified_sound : (m : List ℕ) (ts : List Lexeme) → Sound over (simple fits') (TypeRef m ∷ ts) (qualified_at m ts)
-  unfolding qualified_at
+  qualified_sound : (m : List ℕ) (ts : List Lexeme) → Sound over (simple fits') (TypeRef m ∷ ts) (referred (ref_dot_at m ts))
+  unfolding ref_dot_at
   qualified_sound m [] = (TypeRef m ∷ [], [], refl, refl, at_module m)
   qualified_sound m (Mark Dot ∷ ts) = value_name_sound m ts
   qualified_sound m (t ∷ ts) = (TypeRef m ∷ [], t ∷ ts, refl, refl, at_module m)
@@ -183,8 +183,8 @@ module _ (over : Limit → ℕ) (fits fits' : ℕ → Bool) (grows : (n : ℕ) �
     alternative_sound x (Mark Colon ∷ ts) = open_name x ts
     alternative_sound x (t ∷ ts) = lift (Ident x ∷ t ∷ ts) (Ok (reference None x, t ∷ ts)) (name_sound x (t ∷ ts))
 
-    number_sound : (m : ℕ) (ts : List Lexeme) → Sound over (simple fits') (Number m ∷ ts) (fitting (fits m) (Number m ∷ ts) (Ok (number false m, ts)))
-    number_sound m ts = fitting_sound over fits fits' past (simple fits') (fits m) m [] ts (Ok (number false m, ts)) (inl (inl refl)) (λ f. inr (inr (inr (inl (inr (m, f, refl))))))
+    number_sound : (m : ℕ) (ts : List Lexeme) → Sound over (simple fits') (Number m ∷ ts) (fitting (fits m) (Number m ∷ ts) (Ok (positive m, ts)))
+    number_sound m ts = fitting_sound over fits fits' past (simple fits') (fits m) m [] ts (Ok (positive m, ts)) (inl (inl refl)) (λ f. inr (inr (inr (inl (inr (m, f, refl))))))
         (λ f. (Number m ∷ [], refl, inr (inr (inr (inl (m, refl, (grows m f, refl)))))))
 
     step_sound : (ts : List Lexeme) → Sound over g ts (step_at fits n read ts)
@@ -193,12 +193,12 @@ module _ (over : Limit → ℕ) (fits fits' : ℕ → Bool) (grows : (n : ℕ) �
     step_sound (Word True ∷ ts) = lift (Word True ∷ ts) (Ok (yes, ts)) (Word True ∷ [], refl, inl (tt, refl, refl))
     step_sound (Word False ∷ ts) = lift (Word False ∷ ts) (Ok (no, ts)) (Word False ∷ [], refl, inr (inl (tt, refl, refl)))
     step_sound (Word Null ∷ ts) = lift (Word Null ∷ ts) (Ok (null, ts)) (Word Null ∷ [], refl, inr (inr (inl (tt, refl, refl))))
-    step_sound (Number m ∷ ts) = lift (Number m ∷ ts) (fitting (fits m) (Number m ∷ ts) (Ok (number false m, ts))) (number_sound m ts)
+    step_sound (Number m ∷ ts) = lift (Number m ∷ ts) (fitting (fits m) (Number m ∷ ts) (Ok (positive m, ts))) (number_sound m ts)
     step_sound (Mark Minus ∷ ts) = lift (Mark Minus ∷ ts) (negative_at ts) (negative_sound ts)
     step_sound (BString b ∷ ts) = lift (BString b ∷ ts) (Ok (binary b, ts)) (BString b ∷ [], refl, inr (inr (inr (inr (inr (inl (b, refl, refl)))))))
     step_sound (HString b ∷ ts) = lift (HString b ∷ ts) (Ok (hex b, ts)) (HString b ∷ [], refl, inr (inr (inr (inr (inr (inr (inl (b, refl, refl))))))))
     step_sound (CString b ∷ ts) = lift (CString b ∷ ts) (Ok (chars b, ts)) (CString b ∷ [], refl, inr (inr (inr (inr (inr (inr (inr (inl (b, refl, refl)))))))))
-    step_sound (TypeRef m ∷ ts) = lift (TypeRef m ∷ ts) (qualified_at m ts) (qualified_sound m ts)
+    step_sound (TypeRef m ∷ ts) = lift (TypeRef m ∷ ts) (referred (ref_dot_at m ts)) (qualified_sound m ts)
     step_sound (Ident x ∷ ts) = alternative_sound x ts
     step_sound (Mark OpenBrace ∷ ts) = open_brace ts
     step_sound (t ∷ ts) = lift (t ∷ ts) (stop (t ∷ ts)) (stop_sound over (simple fits') (t ∷ ts) (inl (inl refl)))

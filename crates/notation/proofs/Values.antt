@@ -8,9 +8,9 @@ use Rattle.grammar.specs.Reading.{Limit, Integer, Read, Reader, ◌>>=◌, opene
 use Rattle.grammar.specs.Laws.{Follows, Passes, Stands, Finds, passes_on, passes_made, behind_is, behind_front}
 use Rattle.grammar.specs.Lists.{IsSolid, Next, braces_is, braces_front}
 use Rattle.grammar.specs.Numbers.{fitting_passes, fitting_shrinks, fitting_stands}
-use Rattle.trees.specs.Values.{Tree, yes, no, null, number, binary, hex, chars, reference, chosen, nothing, numbers, items, fields, trees, members}
-use Rattle.notation.specs.Value.{simple, nested}
-use Rattle.notation.specs.Reading.{negative_at, value_name_at, qualified_at, braced_at, alternative_at, step_at}
+use Rattle.trees.specs.Values.{Tree, yes, no, null, binary, hex, chars, reference, chosen, nothing, numbers, items, fields, trees, members}
+use Rattle.notation.specs.Value.{positive, negative, simple, nested}
+use Rattle.notation.specs.Reading.{negative_at, ref_name_at, ref_dot_at, referred, braced_at, alternative_at, step_at}
 use Rattle.notation.proofs.Sounds.{three_numbers}
 use Rattle.notation.specs.Laws.{starts, goes_on}
 use Rattle.notation.proofs.Finding.{ends_item, braced_shrinks, items_front, fields_front, numbers_front, items_whole, fields_whole, numbers_whole}
@@ -34,16 +34,16 @@ negative_shrinks within [] = omega arith
 negative_shrinks within (Number n ∷ us) = omega arith
 negative_shrinks within (t ∷ us) = omega arith
 
-value_name_shrinks : (within : Limit → Type 0) (m : List ℕ) (us : List Lexeme) → Passes within us (value_name_at m us)
-unfolding value_name_at
+value_name_shrinks : (within : Limit → Type 0) (m : List ℕ) (us : List Lexeme) → Passes within us (referred (ref_name_at m us))
+unfolding ref_name_at
 value_name_shrinks within m [] = omega arith
 value_name_shrinks within m (Ident n ∷ us) = omega arith
 value_name_shrinks within m (t ∷ us) = omega arith
 
-qualified_shrinks : (within : Limit → Type 0) (m : List ℕ) (us : List Lexeme) → Passes within us (qualified_at m us)
-unfolding qualified_at
+qualified_shrinks : (within : Limit → Type 0) (m : List ℕ) (us : List Lexeme) → Passes within us (referred (ref_dot_at m us))
+unfolding ref_dot_at
 qualified_shrinks within m [] = omega arith
-qualified_shrinks within m ((Mark Dot) ∷ us) = passes_on within ((Mark Dot) ∷ us) us (value_name_at m us) (omega arith) (value_name_shrinks within m us)
+qualified_shrinks within m ((Mark Dot) ∷ us) = passes_on within ((Mark Dot) ∷ us) us (referred (ref_name_at m us)) (omega arith) (value_name_shrinks within m us)
 qualified_shrinks within m (t ∷ us) = omega arith
 
 le_same : (n : ℕ) → n ≤ n
@@ -64,9 +64,9 @@ module _ (within : Limit → Type 0) (fits fits' : ℕ → Bool) (room : (n : �
   step_shrinks (Word True ∷ us) = omega arith
   step_shrinks (Word False ∷ us) = omega arith
   step_shrinks (Word Null ∷ us) = omega arith
-  step_shrinks (Number m ∷ us) = fitting_shrinks within (fits m) m us (Ok (number false m, us)) (le_same (length us))
+  step_shrinks (Number m ∷ us) = fitting_shrinks within (fits m) m us (Ok (positive m, us)) (le_same (length us))
   step_shrinks ((Mark Minus) ∷ us) = passes_on within ((Mark Minus) ∷ us) us (negative_at us) (omega arith) (negative_shrinks within us)
-  step_shrinks (TypeRef m ∷ us) = passes_on within (TypeRef m ∷ us) us (qualified_at m us) (omega arith) (qualified_shrinks within m us)
+  step_shrinks (TypeRef m ∷ us) = passes_on within (TypeRef m ∷ us) us (referred (ref_dot_at m us)) (omega arith) (qualified_shrinks within m us)
   step_shrinks (Ident x ∷ us) = passes_on within (Ident x ∷ us) us (alternative_at fits n read x us) (omega arith) (named_shrinks x us)
   step_shrinks ((Mark OpenBrace) ∷ us) = brace us
   step_shrinks (t ∷ us) = omega arith
@@ -79,7 +79,7 @@ module _ (within : Limit → Type 0) (fits fits' : ℕ → Bool) (room : (n : �
   number_front : (u us : List Lexeme) → (number_of fits').CanGoOn u → Passes within us (step_at fits n read (u ++ us))
   unfolding step_at
   number_front u us (inl e) = subst (λ (l : List Lexeme). Passes within us (step_at fits n read (l ++ us))) (sym e) (step_shrinks us)
-  number_front u us (inr (m, f, e)) = subst (λ (l : List Lexeme). Passes within us (step_at fits n read (l ++ us))) (sym e) (fitting_passes within (fits m) us (Number m ∷ us) (Ok (number false m, us)) (room m f) (le_same (length us)))
+  number_front u us (inr (m, f, e)) = subst (λ (l : List Lexeme). Passes within us (step_at fits n read (l ++ us))) (sym e) (fitting_passes within (fits m) us (Number m ∷ us) (Ok (positive m, us)) (room m f) (le_same (length us)))
 
   name_front : (x : List ℕ) (us : List Lexeme) → Passes within us (step_at fits n read (Ident x ∷ us))
   unfolding step_at
@@ -98,7 +98,7 @@ module _ (within : Limit → Type 0) (fits fits' : ℕ → Bool) (room : (n : �
   typeref_front m us = qualified_shrinks within m us
 
   qualified_front : (u us : List Lexeme) → (token TypeRef ∙ behind (Mark Dot) (token Ident)).CanGoOn u → Passes within us (step_at fits n read (u ++ us))
-  unfolding step_at qualified_at value_name_at
+  unfolding step_at ref_dot_at ref_name_at
   qualified_front u us (inl h) = one TypeRef typeref_front u us h
   qualified_front u us (inr (m, p, q, e, hp, hq)) =
       let d = e ⋆ ap (λ (l : List Lexeme). l ++ q) hp in
@@ -185,14 +185,14 @@ module _ (within : Limit → Type 0) (fits fits' : ℕ → Bool) (room : (n : �
   unfolding step_at
   is_name z u us f (x, d, e) = ap (λ (l : List Lexeme). step_at fits n read (l ++ us)) e ⋆ at_end x us (f x e) ⋆ ap (λ (t : Tree). Ok (t, us)) (sym d)
 
-  number_whole : (z : Tree) (u us : List Lexeme) → (number_of fits' ⇒ number false).Is z u → Stands within (step_at fits n read (u ++ us)) z us
+  number_whole : (z : Tree) (u us : List Lexeme) → (number_of fits' ⇒ positive).Is z u → Stands within (step_at fits n read (u ++ us)) z us
   unfolding step_at
   number_whole z u us (x, d, h) =
       subst (λ (l : List Lexeme). Stands within (step_at fits n read (l ++ us)) z us) (sym h.1)
-      (fitting_stands within (fits x) (Number x ∷ us) us (Ok (number false x, us)) z (room x h.0) (inl (ap (λ (t : Tree). Ok (t, us)) (sym d))))
+      (fitting_stands within (fits x) (Number x ∷ us) us (Ok (positive x, us)) z (room x h.0) (inl (ap (λ (t : Tree). Ok (t, us)) (sym d))))
 
   pub simple_whole : (z : Tree) (u us : List Lexeme) → ((x : List ℕ) → u ≡ Ident x ∷ [] → Follows goes_on us) → (simple fits').Is z u → Stands within (step_at fits n read (u ++ us)) z us
-  unfolding step_at negative_at qualified_at value_name_at
+  unfolding step_at negative_at ref_dot_at ref_name_at
   simple_whole z u us f (inl h) = inl (is_one (λ (x : Unit {0}). (Word True)) (λ _. yes) (λ x us. refl) z u us h)
   simple_whole z u us f (inr (inl h)) = inl (is_one (λ (x : Unit {0}). (Word False)) (λ _. no) (λ x us. refl) z u us h)
   simple_whole z u us f (inr (inr (inl h))) = inl (is_one (λ (x : Unit {0}). (Word Null)) (λ _. null) (λ x us. refl) z u us h)

@@ -1,10 +1,13 @@
 -- Reading constraints from left to right.
 use Rattle.std.specs.Prelude.{ℕ, Bool, true, false, List, ◌∷◌, length, Option, Some, None, Ok}
-use Rattle.text.specs.declared.token.Mark.TheVariants.{Range, Dot, Bar, Minus}
+use Rattle.text.specs.declared.token.Mark.TheVariants.{Range, Bar, Minus, Comma, Ellipsis}
 use Rattle.text.specs.declared.reserved.Word.TheVariants.{From, Size, Union, Min, Max}
 use Rattle.grammar.specs.Lexeme.{Lexeme, TypeRef, Ident, Number, CString, Word, Mark}
-use Rattle.grammar.specs.Reading.{Reader, ◌>>=◌, stop, parens_at, fitting, many_at}
-use Rattle.trees.specs.Constraints.{EndTree, number_end, name_end, RangeTree, only, between, ConstraintTree, values_in, sizes_in, chars_in}
+use Rattle.grammar.specs.Reading.{Read, Reader, ◌>>=◌, stop, parens_at, fitting, many_at}
+use Rattle.trees.specs.Values.{Name}
+use Rattle.trees.specs.Constraints.{EndTree, name_end, RangeTree, only, between, RangesTree, ConstraintTree, values_in, sizes_in, chars_in}
+use Rattle.notation.specs.ConstraintGrammar.{marked, positive_end, negative_end}
+use Rattle.notation.specs.Reading.{ref_dot_at}
 
 abbrev pub is_or : Lexeme → Bool
 is_or (Mark Bar) = true
@@ -46,16 +49,21 @@ from_at (Word From ∷ rest) = parens_at (by_or_at chars_at) rest
 from_at ts = stop ts
 
 unfoldable pub minus_at : Reader EndTree
-minus_at (Number n ∷ rest) = Ok (number_end true n, rest)
+minus_at (Number n ∷ rest) = Ok (negative_end n, rest)
 minus_at ts = stop ts
 
-unfoldable pub end_name_at : List ℕ → Reader EndTree
-end_name_at m (Ident x ∷ rest) = Ok (name_end (Some m) x, rest)
-end_name_at m ts = stop ts
+-- the end that is named so
+abbrev pub named_end : Read (Option Name × Name) → Read EndTree
+named_end r = r >>= λ p. Ok (name_end p.0.0 p.0.1, p.1)
 
-unfoldable pub end_dot_at : List ℕ → Reader EndTree
-end_dot_at m (Mark Dot ∷ rest) = end_name_at m rest
-end_dot_at m ts = stop ts
+-- behind the comma of a marker
+unfoldable pub ellipsis_at : Reader Bool
+ellipsis_at (Mark Ellipsis ∷ rest) = Ok (true, rest)
+ellipsis_at ts = stop ts
+
+unfoldable pub marker_at : Reader Bool
+marker_at (Mark Comma ∷ rest) = ellipsis_at rest
+marker_at ts = Ok (false, ts)
 
 abbrev pub is_size : Lexeme → Bool
 is_size (Word Size) = true
@@ -64,10 +72,10 @@ is_size t = false
 -- fits: the test that numbers with no minus meet
 module _ (fits : ℕ → Bool) where
   unfoldable pub end_at : Reader EndTree
-  end_at (Number n ∷ rest) = fitting (fits n) (Number n ∷ rest) (Ok (number_end false n, rest))
+  end_at (Number n ∷ rest) = fitting (fits n) (Number n ∷ rest) (Ok (positive_end n, rest))
   end_at (Mark Minus ∷ rest) = minus_at rest
   end_at (Ident x ∷ rest) = Ok (name_end None x, rest)
-  end_at (TypeRef m ∷ rest) = end_dot_at m rest
+  end_at (TypeRef m ∷ rest) = named_end (ref_dot_at m rest)
   end_at ts = stop ts
 
   unfoldable pub some_end_at : Reader (Option EndTree)
@@ -94,15 +102,15 @@ module _ (fits : ℕ → Bool) where
   range_at (Word Min ∷ rest) = behind_min_at rest
   range_at ts = single_at ts
 
-  unfoldable pub ranges_at : Reader (List RangeTree)
-  ranges_at ts = by_or_at range_at ts
+  unfoldable pub ranges_at : Reader RangesTree
+  ranges_at ts = do
+    rs ← by_or_at range_at ts
+    m ← marker_at rs.1
+    Ok (marked (rs.0, m.0), m.1)
 
-  unfoldable pub size_at : Reader (List RangeTree)
-  size_at (Word Size ∷ rest) = parens_at ranges_at rest
+  unfoldable pub size_at : Reader ConstraintTree
+  size_at (Word Size ∷ rest) = parens_at ranges_at rest >>= λ x. Ok (sizes_in x.0, x.1)
   size_at ts = stop ts
-
-  unfoldable pub size_in_at : Reader ConstraintTree
-  size_in_at ts = size_at ts >>= λ x. Ok (sizes_in x.0, x.1)
 
   unfoldable pub from_in_at : Reader ConstraintTree
   from_in_at ts = from_at ts >>= λ x. Ok (chars_in x.0, x.1)
@@ -112,7 +120,7 @@ module _ (fits : ℕ → Bool) where
 
   -- behind an open parenthesis
   unfoldable pub inside_at : Reader ConstraintTree
-  inside_at (Word Size ∷ rest) = size_in_at (Word Size ∷ rest)
+  inside_at (Word Size ∷ rest) = size_at (Word Size ∷ rest)
   inside_at (Word From ∷ rest) = from_in_at (Word From ∷ rest)
   inside_at ts = values_in_at ts
 

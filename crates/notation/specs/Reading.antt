@@ -3,20 +3,27 @@ use Rattle.std.specs.Prelude.{ℕ, zero, suc, List, [], ◌∷◌, Option, Some,
 use Rattle.text.specs.declared.token.Mark.TheVariants.{Comma, Colon, Dot, Minus, OpenBrace, CloseBrace}
 use Rattle.text.specs.declared.reserved.Word.TheVariants.{True, False, Null}
 use Rattle.grammar.specs.Lexeme.{Lexeme, TypeRef, Ident, Number, BString, HString, CString, Word, Mark}
-use Rattle.grammar.specs.Reading.{Reader, ◌>>=◌, stop, closed_at, listed_at, named_at, fitting, opened}
-use Rattle.trees.specs.Values.{Tree, yes, no, null, number, binary, hex, chars, reference, chosen, nothing, numbers, items, fields, trees, members}
+use Rattle.grammar.specs.Reading.{Read, Reader, ◌>>=◌, stop, closed_at, listed_at, named_at, fitting, opened}
+use Rattle.trees.specs.Values.{Name, Tree, yes, no, null, binary, hex, chars, reference, chosen, nothing, numbers, items, fields, trees, members}
+use Rattle.notation.specs.Value.{positive, negative}
 
 unfoldable pub negative_at : Reader Tree
-negative_at (Number n ∷ rest) = Ok (number true n, rest)
+negative_at (Number n ∷ rest) = Ok (negative n, rest)
 negative_at ts = stop ts
 
-unfoldable pub value_name_at : List ℕ → Reader Tree
-value_name_at m (Ident x ∷ rest) = Ok (reference (Some m) x, rest)
-value_name_at m ts = stop ts
+-- behind a module's name and a dot
+unfoldable pub ref_name_at : Name → Reader (Option Name × Name)
+ref_name_at m (Ident x ∷ rest) = Ok ((Some m, x), rest)
+ref_name_at m ts = stop ts
 
-unfoldable pub qualified_at : List ℕ → Reader Tree
-qualified_at m (Mark Dot ∷ rest) = value_name_at m rest
-qualified_at m ts = stop ts
+-- behind a module's name
+unfoldable pub ref_dot_at : Name → Reader (Option Name × Name)
+ref_dot_at m (Mark Dot ∷ rest) = ref_name_at m rest
+ref_dot_at m ts = stop ts
+
+-- the value that is named so
+abbrev pub referred : Read (Option Name × Name) → Read Tree
+referred r = r >>= λ p. Ok (reference p.0.0 p.0.1, p.1)
 
 unfoldable pub next_number : List Lexeme → Option (ℕ × List Lexeme)
 next_number (Number n ∷ rest) = Some (n, rest)
@@ -79,12 +86,12 @@ module _ (fits : ℕ → Bool) where
   step_at n read (Word True ∷ rest) = Ok (yes, rest)
   step_at n read (Word False ∷ rest) = Ok (no, rest)
   step_at n read (Word Null ∷ rest) = Ok (null, rest)
-  step_at n read (Number m ∷ rest) = fitting (fits m) (Number m ∷ rest) (Ok (number false m, rest))
+  step_at n read (Number m ∷ rest) = fitting (fits m) (Number m ∷ rest) (Ok (positive m, rest))
   step_at n read (Mark Minus ∷ rest) = negative_at rest
   step_at n read (BString b ∷ rest) = Ok (binary b, rest)
   step_at n read (HString h ∷ rest) = Ok (hex h, rest)
   step_at n read (CString c ∷ rest) = Ok (chars c, rest)
-  step_at n read (TypeRef m ∷ rest) = qualified_at m rest
+  step_at n read (TypeRef m ∷ rest) = referred (ref_dot_at m rest)
   step_at n read (Ident x ∷ rest) = alternative_at n read x rest
   step_at n read (Mark OpenBrace ∷ rest) = opened n (Mark OpenBrace ∷ rest) (braced_at read rest)
   step_at n read ts = stop ts

@@ -1,11 +1,17 @@
 -- The grammar of values (X.680, clause 17.1 and the clauses of each kind of value).
-use Rattle.std.specs.Prelude.{ℕ, zero, suc, Bool, true, false, ◌∷◌, Some, None}
+use Rattle.std.specs.Prelude.{ℕ, zero, suc, Bool, true, ◌∷◌, Some, None, pos, neg_ℤ}
 use Rattle.text.specs.declared.token.Mark.TheVariants.{Colon, Dot, Minus, OpenBrace, CloseBrace}
 use Rattle.text.specs.declared.reserved.Word.TheVariants.{True, False, Null}
 use Rattle.grammar.specs.Lexeme.{TypeRef, Ident, Number, BString, HString, CString, Mark}
 use Rattle.grammar.specs.Grammar.{Grammar, token, mark, word, number_of, ◌∙◌, ◌∣◌, ◌⇒◌, many, behind, listed, braces}
 use Rattle.grammar.specs.Places.{Limited}
 use Rattle.trees.specs.Values.{Tree, yes, no, null, number, binary, hex, chars, reference, chosen, nothing, numbers, items, fields, trees, members}
+
+abbrev pub positive : ℕ → Tree
+positive n = number (pos n)
+
+abbrev pub negative : ℕ → Tree
+negative n = number (neg_ℤ (pos n))
 
 -- A limit on numbers is a test that numbers with no minus meet.
 module _ (fits : ℕ → Bool) where
@@ -15,8 +21,8 @@ module _ (fits : ℕ → Bool) where
       word True ⇒ (λ _. yes)
       ∣ word False ⇒ (λ _. no)
       ∣ word Null ⇒ (λ _. null)
-      ∣ number_of fits ⇒ number false
-      ∣ behind (Mark Minus) (token Number) ⇒ number true
+      ∣ number_of fits ⇒ positive
+      ∣ behind (Mark Minus) (token Number) ⇒ negative
       ∣ token BString ⇒ binary
       ∣ token HString ⇒ hex
       ∣ token CString ⇒ chars

@@ -3,7 +3,7 @@
 ghost use Rattle.std.specs.Prelude.{◌≡◌, ◌≤◌, ℕ, List, length, IfOk, IfErr, MatchResult};
 ghost use Rattle.grammar.specs.Lexeme.{lexemes};
 ghost use Rattle.grammar.specs.Places.{bounded, free, IsRead};
-ghost use Rattle.trees.specs.Constraints.{ConstraintTree, RangeTree, constraint_of, size_of};
+ghost use Rattle.trees.specs.Constraints.{ConstraintTree, constraint_of};
 ghost use Rattle.notation.specs.ConstraintGrammar.{constraint, size, flat};
 ghost use Rattle.kernel.specs.Given.{IsLexed};
 ghost use Rattle.notation.specs.Answer.{Stands};
@@ -14,14 +14,14 @@ use crate::refused::unexpected;
 use kernel::ReadError;
 use std::alloc::Global;
 use text::Token;
-use trees::{ConstraintSyntax, SizeSyntax};
+use trees::ConstraintSyntax;
 
 /// Reads the constraint that begins at a place.
 ///
 /// In go a text, its tokens as [`text::lex`] gives them, and the place of a token, which may be their end.
 /// Out come the constraint and the place behind its closing parenthesis.
-/// The notation is that of X.680, clause 49.6, with single values, ranges, sizes and alphabets (clause 51), and no
-/// extension marker.
+/// The notation is that of X.680, clause 49.6, with single values, ranges, sizes and alphabets (clause 51), and an
+/// extension marker behind values, ranges and sizes (clause 50.1).
 ///
 /// # Errors
 /// The place of a fault is the first token with which no constraint within the limits can go on. It is told there as
@@ -59,7 +59,7 @@ pub fn constraint_at(
 ///
 /// In go a text, its tokens as [`text::lex`] gives them, and the place of a token, which may be their end.
 /// Out come the size and the place behind its closing parenthesis.
-/// The notation is that of X.680, clause 51.5, with no extension marker.
+/// The notation is that of X.680, clause 51.5, with an extension marker behind the sizes or none.
 ///
 /// # Errors
 /// The place of a fault is the first token with which no size within the limits can go on. It is told there as
@@ -73,14 +73,14 @@ pub fn size_at(
     text: &[u8],
     tokens: &[Token],
     place: usize,
-) -> Result<(SizeSyntax, usize), SyntaxFault>
+) -> Result<(ConstraintSyntax, usize), SyntaxFault>
     requires text { IsLexed text.now tokens.now }
     requires place { place ≤ length tokens.now }
     // What is answered is the size there.
-    ensures found { IfOk result (λ x. IsRead (flat size (bounded 0)) (free (flat size)) (lexemes text.now tokens.now) place (size_of x.0) x.1) }
+    ensures found { IfOk result (λ x. IsRead (flat size (bounded 0)) (free (flat size)) (lexemes text.now tokens.now) place (constraint_of x.0) x.1) }
     // A size that is there is answered, unless memory runs out.
-    ensures only { (v : List RangeTree) (end : ℕ) → IsRead (flat size (bounded 0)) (free (flat size)) (lexemes text.now tokens.now) place v end
-        → MatchResult result (λ x. (size_of x.0 ≡ v) × (x.1 ≡ end)) (λ f. f ≡ SyntaxFault.Memory) }
+    ensures only { (v : ConstraintTree) (end : ℕ) → IsRead (flat size (bounded 0)) (free (flat size)) (lexemes text.now tokens.now) place v end
+        → MatchResult result (λ x. (constraint_of x.0 ≡ v) × (x.1 ≡ end)) (λ f. f ≡ SyntaxFault.Memory) }
     // A fault stands at its place.
     ensures fault { IfErr result (Stands (flat size) (lexemes text.now tokens.now) place (bounded 0)) }
 {

@@ -1,21 +1,24 @@
 //! Reading a constraint from its first token on.
 
-ghost use Rattle.std.specs.Prelude.{◌≡◌, ◌<◌, Some, None, MatchOption, ℕ, length, map, option_map, IfOk, slice_range};
+ghost use Rattle.std.specs.Prelude.{◌≡◌, ◌<◌, Some, None, MatchOption, length, map, option_map, IfOk};
 ghost use Rattle.text.specs.declared.token.TokenKind.TheVariants as kinds;
 ghost use Rattle.grammar.specs.Lexeme.{lexemes, chars_between};
 ghost use Rattle.grammar.specs.Places.{small};
-ghost use Rattle.trees.specs.Constraints.{end_of, range_of, ranges_of, size_of, chars_of, constraint_of};
+ghost use Rattle.trees.specs.Constraints.{end_of, range_of, ranges_of, chars_of, form_of, constraint_of};
 ghost use Rattle.kernel.specs.Given.{Gives, IsTokenOf, AreTokens};
-ghost use Rattle.notation.specs.ConstraintReading.{next_or, by_or_at, last_chars_at, more_chars_at, chars_at, from_at, minus_at, end_dot_at, end_at, some_end_at, upper_at, behind_min_at, behind_end_at, single_at, range_at, ranges_at, size_at, size_in_at, from_in_at, values_in_at, inside_at, constraint_at};
-ghost use Rattle.grammar.specs.Reading.{open_at, close_at};
+ghost use Rattle.notation.specs.ConstraintReading.{next_or, by_or_at, last_chars_at, more_chars_at, chars_at, from_at, minus_at, end_at, some_end_at, upper_at, behind_min_at, behind_end_at, single_at, range_at, marker_at, ranges_at, size_at, from_in_at, values_in_at, inside_at, constraint_at};
 
+use crate::names::{bare, qualified};
+use crate::numbers::{negative, positive};
 use kernel::ReadError;
-use kernel::decode::{chars_of, name_of, number_of, small_number};
+use kernel::decode::chars_of;
 use kernel::marks::{close, open};
-use std::alloc::Global;
+use std::alloc::{AllocError, Global};
 use text::reserved::Word;
 use text::{Mark, Token, TokenKind};
-use trees::{CharsSyntax, ConstraintSyntax, EndSyntax, RangeSyntax, RangesSyntax, SizeSyntax};
+use trees::{
+    At, CharsSyntax, ConstraintForm, ConstraintSyntax, EndSyntax, RangeSyntax, RangesSyntax,
+};
 
 /// The tokens behind `|` or `UNION`, if one of them is next.
 #[tactic(auto, unfolding(crate::specs::ConstraintReading::next_or))]
@@ -34,6 +37,18 @@ fn or<'a>(text: &[u8], tokens: &'a [Token]) -> Option<&'a [Token]>
         ] => Some(rest),
         _ => None,
     }
+}
+
+/// The text in quotes that a token is, where it is written.
+fn quoted(alloc: Global, text: &[u8], token: Token) -> Result<At<Vec<u8>>, AllocError>
+    requires token { IsTokenOf text.now token }
+    requires chars { token.kind ≡ kinds.CharacterString }
+    ensures { IfOk result (λ c. c.it.items ≡ chars_between text.now token.span.start token.span.end) }
+{
+    Ok(At {
+        at: token.span.start,
+        it: chars_of(alloc, text, token)?,
+    })
 }
 
 /// Reads the text behind `..`.
@@ -58,9 +73,8 @@ fn last_chars<'a>(
             },
             rest @ ..,
         ] => {
-            let first = chars_of(alloc, text, first)?;
-            let last = chars_of(alloc, text, *last)?;
-            let last = Some(last);
+            let first = quoted(alloc, text, first)?;
+            let last = Some(quoted(alloc, text, *last)?);
             Ok((CharsSyntax { first, last }, rest))
         }
         _ => Err(ReadError::Unexpected(tokens.len())),
@@ -90,7 +104,7 @@ fn more_chars<'a>(
             rest @ ..,
         ] => last_chars(alloc, text, first, rest),
         _ => {
-            let first = chars_of(alloc, text, first)?;
+            let first = quoted(alloc, text, first)?;
             Ok((CharsSyntax { first, last: None }, tokens))
         }
     }
@@ -167,9 +181,13 @@ fn from<'a>(
     }
 }
 
-/// Reads the number behind a minus.
+/// Reads the number behind a minus, which stands at a place.
 #[tactic(auto, unfolding(crate::specs::ConstraintReading::minus_at))]
-fn negative_end<'a>(text: &[u8], tokens: &'a [Token]) -> Result<(EndSyntax, &'a [Token]), ReadError>
+fn negative_end<'a>(
+    text: &[u8],
+    at: usize,
+    tokens: &'a [Token],
+) -> Result<(EndSyntax, &'a [Token]), ReadError>
     requires tokens { AreTokens text.now tokens.now }
     ensures read { Gives (λ x. (end_of x.0, lexemes text.now x.1.now)) result (minus_at (lexemes text.now tokens.now)) }
     ensures rest { IfOk result (λ x. AreTokens text.now x.1.now) }
@@ -181,48 +199,10 @@ fn negative_end<'a>(text: &[u8], tokens: &'a [Token]) -> Result<(EndSyntax, &'a 
                 ..
             },
             rest @ ..,
-        ] => Ok((EndSyntax::Number(true, number_of(text, *number)), rest)),
-        _ => Err(ReadError::Unexpected(tokens.len())),
-    }
-}
-
-/// Reads what stands behind a module's name.
-#[tactic(auto, unfolding(crate::specs::ConstraintReading::end_dot_at, crate::specs::ConstraintReading::end_name_at))]
-fn qualified_end<'a>(
-    alloc: Global,
-    text: &[u8],
-    module_name: Token,
-    tokens: &'a [Token],
-) -> Result<(EndSyntax, &'a [Token]), ReadError>
-    requires tokens { AreTokens text.now tokens.now }
-    requires before { IsTokenOf text.now module_name }
-    requires name { module_name.kind ≡ kinds.TypeReference }
-    ensures read { Gives (λ x. (end_of x.0, lexemes text.now x.1.now)) result (end_dot_at (slice_range text.now module_name.span.start module_name.span.end) (lexemes text.now tokens.now)) }
-    ensures rest { IfOk result (λ x. AreTokens text.now x.1.now) }
-{
-    match tokens {
-        [
-            Token {
-                kind: TokenKind::Mark(Mark::Dot),
-                ..
-            },
-            name @ Token {
-                kind: TokenKind::Identifier,
-                ..
-            },
-            rest @ ..,
         ] => {
-            let module_name = name_of(alloc, text, module_name)?;
-            let name = name_of(alloc, text, *name)?;
-            Ok((EndSyntax::Reference(Some(module_name), name), rest))
+            let it = negative(text, *number);
+            Ok((EndSyntax::Number(At { at, it }), rest))
         }
-        [
-            Token {
-                kind: TokenKind::Mark(Mark::Dot),
-                ..
-            },
-            rest @ ..,
-        ] => Err(ReadError::Unexpected(rest.len())),
         _ => Err(ReadError::Unexpected(tokens.len())),
     }
 }
@@ -241,19 +221,21 @@ fn end<'a>(
     let [first, rest @ ..] = tokens else {
         return Err(ReadError::Unexpected(0));
     };
+    let at = first.span.start;
     match first.kind {
         TokenKind::Number => {
-            let number = small_number(text, *first, tokens.len())?;
-            Ok((EndSyntax::Number(false, number), rest))
+            let it = positive(text, *first, tokens.len())?;
+            Ok((EndSyntax::Number(At { at, it }), rest))
         }
-        TokenKind::Mark(Mark::Minus) => negative_end(text, rest),
+        TokenKind::Mark(Mark::Minus) => negative_end(text, at, rest),
         TokenKind::Identifier => {
-            Ok((
-                EndSyntax::Reference(None, name_of(alloc, text, *first)?),
-                rest,
-            ))
+            let name = bare(alloc, text, *first)?;
+            Ok((EndSyntax::Reference(name), rest))
         }
-        TokenKind::TypeReference => qualified_end(alloc, text, *first, rest),
+        TokenKind::TypeReference => {
+            let (name, rest) = qualified(alloc, text, *first, rest)?;
+            Ok((EndSyntax::Reference(name), rest))
+        }
         _ => Err(ReadError::Unexpected(tokens.len())),
     }
 }
@@ -409,7 +391,37 @@ fn range_list<'a>(
     Ok((parts, rest))
 }
 
-/// Reads values and ranges with `|` or `UNION` between them.
+/// Reads an extension marker behind a comma, if a comma stands here: `, ...`.
+#[tactic(auto, unfolding(crate::specs::ConstraintReading::marker_at, crate::specs::ConstraintReading::ellipsis_at))]
+fn marker<'a>(text: &[u8], tokens: &'a [Token]) -> Result<(bool, &'a [Token]), ReadError>
+    requires tokens { AreTokens text.now tokens.now }
+    ensures read { Gives (λ x. (x.0, lexemes text.now x.1.now)) result (marker_at (lexemes text.now tokens.now)) }
+    ensures rest { IfOk result (λ x. AreTokens text.now x.1.now) }
+{
+    match tokens {
+        [
+            Token {
+                kind: TokenKind::Mark(Mark::Comma),
+                ..
+            },
+            Token {
+                kind: TokenKind::Mark(Mark::Ellipsis),
+                ..
+            },
+            rest @ ..,
+        ] => Ok((true, rest)),
+        [
+            Token {
+                kind: TokenKind::Mark(Mark::Comma),
+                ..
+            },
+            rest @ ..,
+        ] => Err(ReadError::Unexpected(rest.len())),
+        _ => Ok((false, tokens)),
+    }
+}
+
+/// Reads values and ranges with `|` or `UNION` between them, and the marker behind them.
 #[tactic(auto, unfolding(crate::specs::ConstraintReading::ranges_at))]
 fn ranges<'a>(
     alloc: Global,
@@ -421,23 +433,24 @@ fn ranges<'a>(
     ensures rest { IfOk result (λ x. AreTokens text.now x.1.now) }
 {
     let (ranges, rest) = range_list(alloc, text, tokens)?;
-    Ok((RangesSyntax { ranges }, rest))
+    let (marker, rest) = marker(text, rest)?;
+    Ok((RangesSyntax { ranges, marker }, rest))
 }
 
-/// Reads `SIZE` and the sizes behind it.
+/// Reads `SIZE` and the sizes behind it: the size before `OF`, or what stands in the parentheses of a constraint.
 #[tactic(auto, unfolding(crate::specs::ConstraintReading::size_at, grammar::specs::Reading::parens_at))]
 pub fn size<'a>(
     alloc: Global,
     text: &[u8],
     tokens: &'a [Token],
-) -> Result<(SizeSyntax, &'a [Token]), ReadError>
+) -> Result<(ConstraintSyntax, &'a [Token]), ReadError>
     requires tokens { AreTokens text.now tokens.now }
-    ensures read { Gives (λ x. (size_of x.0, lexemes text.now x.1.now)) result (size_at small (lexemes text.now tokens.now)) }
+    ensures read { Gives (λ x. (constraint_of x.0, lexemes text.now x.1.now)) result (size_at small (lexemes text.now tokens.now)) }
     ensures rest { IfOk result (λ x. AreTokens text.now x.1.now) }
 {
     match tokens {
         [
-            Token {
+            word @ Token {
                 kind: TokenKind::Reserved(Word::Size),
                 ..
             },
@@ -445,25 +458,13 @@ pub fn size<'a>(
         ] => {
             let rest = open(text, rest)?;
             let (sizes, rest) = ranges(alloc, text, rest)?;
-            Ok((SizeSyntax { sizes }, close(text, rest)?))
+            let rest = close(text, rest)?;
+            let form = ConstraintForm::Size(sizes);
+            let at = word.span.start;
+            Ok((ConstraintSyntax { at, form }, rest))
         }
         _ => Err(ReadError::Unexpected(tokens.len())),
     }
-}
-
-/// Reads this kind of constraint.
-#[tactic(auto, unfolding(crate::specs::ConstraintReading::size_in_at))]
-fn size_in<'a>(
-    alloc: Global,
-    text: &[u8],
-    tokens: &'a [Token],
-) -> Result<(ConstraintSyntax, &'a [Token]), ReadError>
-    requires tokens { AreTokens text.now tokens.now }
-    ensures read { Gives (λ x. (constraint_of x.0, lexemes text.now x.1.now)) result (size_in_at small (lexemes text.now tokens.now)) }
-    ensures rest { IfOk result (λ x. AreTokens text.now x.1.now) }
-{
-    let (inside, rest) = size(alloc, text, tokens)?;
-    Ok((ConstraintSyntax::Size(inside), rest))
 }
 
 /// Reads this kind of constraint.
@@ -472,13 +473,13 @@ fn from_in<'a>(
     alloc: Global,
     text: &[u8],
     tokens: &'a [Token],
-) -> Result<(ConstraintSyntax, &'a [Token]), ReadError>
+) -> Result<(ConstraintForm, &'a [Token]), ReadError>
     requires tokens { AreTokens text.now tokens.now }
-    ensures read { Gives (λ x. (constraint_of x.0, lexemes text.now x.1.now)) result (from_in_at small (lexemes text.now tokens.now)) }
+    ensures read { Gives (λ x. (form_of x.0, lexemes text.now x.1.now)) result (from_in_at small (lexemes text.now tokens.now)) }
     ensures rest { IfOk result (λ x. AreTokens text.now x.1.now) }
 {
     let (inside, rest) = from(alloc, text, tokens)?;
-    Ok((ConstraintSyntax::From(inside), rest))
+    Ok((ConstraintForm::From(inside), rest))
 }
 
 /// Reads this kind of constraint.
@@ -487,13 +488,13 @@ fn values_in<'a>(
     alloc: Global,
     text: &[u8],
     tokens: &'a [Token],
-) -> Result<(ConstraintSyntax, &'a [Token]), ReadError>
+) -> Result<(ConstraintForm, &'a [Token]), ReadError>
     requires tokens { AreTokens text.now tokens.now }
-    ensures read { Gives (λ x. (constraint_of x.0, lexemes text.now x.1.now)) result (values_in_at small (lexemes text.now tokens.now)) }
+    ensures read { Gives (λ x. (form_of x.0, lexemes text.now x.1.now)) result (values_in_at small (lexemes text.now tokens.now)) }
     ensures rest { IfOk result (λ x. AreTokens text.now x.1.now) }
 {
     let (inside, rest) = ranges(alloc, text, tokens)?;
-    Ok((ConstraintSyntax::Values(inside), rest))
+    Ok((ConstraintForm::Values(inside), rest))
 }
 
 /// Reads what stands in the parentheses of a constraint.
@@ -502,9 +503,9 @@ fn inside<'a>(
     alloc: Global,
     text: &[u8],
     tokens: &'a [Token],
-) -> Result<(ConstraintSyntax, &'a [Token]), ReadError>
+) -> Result<(ConstraintForm, &'a [Token]), ReadError>
     requires tokens { AreTokens text.now tokens.now }
-    ensures read { Gives (λ x. (constraint_of x.0, lexemes text.now x.1.now)) result (inside_at small (lexemes text.now tokens.now)) }
+    ensures read { Gives (λ x. (form_of x.0, lexemes text.now x.1.now)) result (inside_at small (lexemes text.now tokens.now)) }
     ensures rest { IfOk result (λ x. AreTokens text.now x.1.now) }
 {
     match tokens {
@@ -514,7 +515,10 @@ fn inside<'a>(
                 ..
             },
             ..
-        ] => size_in(alloc, text, tokens),
+        ] => {
+            let (size, rest) = size(alloc, text, tokens)?;
+            Ok((size.form, rest))
+        }
         [
             Token {
                 kind: TokenKind::Reserved(Word::From),
@@ -527,7 +531,7 @@ fn inside<'a>(
 }
 
 /// Reads a constraint.
-#[tactic(auto, unfolding(crate::specs::ConstraintReading::constraint_at, grammar::specs::Reading::parens_at))]
+#[tactic(auto, unfolding(crate::specs::ConstraintReading::constraint_at, grammar::specs::Reading::parens_at, grammar::specs::Reading::open_at))]
 pub fn constraint<'a>(
     alloc: Global,
     text: &[u8],
@@ -537,7 +541,19 @@ pub fn constraint<'a>(
     ensures read { Gives (λ x. (constraint_of x.0, lexemes text.now x.1.now)) result (constraint_at small (lexemes text.now tokens.now)) }
     ensures rest { IfOk result (λ x. AreTokens text.now x.1.now) }
 {
-    let rest = open(text, tokens)?;
-    let (inside, rest) = inside(alloc, text, rest)?;
-    Ok((inside, close(text, rest)?))
+    match tokens {
+        [
+            first @ Token {
+                kind: TokenKind::Mark(Mark::OpenParenthesis),
+                ..
+            },
+            rest @ ..,
+        ] => {
+            let (form, rest) = inside(alloc, text, rest)?;
+            let rest = close(text, rest)?;
+            let at = first.span.start;
+            Ok((ConstraintSyntax { at, form }, rest))
+        }
+        _ => Err(ReadError::Unexpected(tokens.len())),
+    }
 }

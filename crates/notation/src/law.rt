@@ -10,7 +10,7 @@ ghost use Rattle.notation.specs.declared.fault.SyntaxFault.{SyntaxFault as Fault
 ghost use Rattle.notation.specs.declared.fault.SyntaxFault.TheVariants as faults;
 ghost use Rattle.trees.specs.Values.{Tree};
 ghost use Rattle.notation.specs.Value.{values};
-ghost use Rattle.trees.specs.Constraints.{ConstraintTree, RangeTree};
+ghost use Rattle.trees.specs.Constraints.{ConstraintTree};
 ghost use Rattle.notation.specs.ConstraintGrammar.{constraint, size, flat};
 ghost use Rattle.notation.specs.Laws.{ValueLaws};
 ghost use Rattle.grammar.specs.Rules.{Ruled};
@@ -30,7 +30,7 @@ pub fn one_constraint()
 
 /// A list of lexemes is one size at most.
 pub fn one_size()
-    ensures { (ts : List Lexeme) (v w : List RangeTree) → (size any).Is v ts → (size any).Is w ts → v ≡ w }
+    ensures { (ts : List Lexeme) (v w : ConstraintTree) → (size any).Is v ts → (size any).Is w ts → v ≡ w }
 {}
 
 /// One fault at most stands where a value is read, want of memory apart.

@@ -6,6 +6,8 @@ pub mod constraint_answer;
 pub mod constraint_reading;
 pub mod fault;
 pub mod law;
+pub mod names;
+pub mod numbers;
 pub mod reading;
 pub mod refused;
 
@@ -14,6 +16,6 @@ pub use constraint_answer::{constraint_at, size_at};
 pub use fault::SyntaxFault;
 pub use kernel::{Limit, ReadError};
 pub use trees::{
-    CharsSyntax, ConstraintSyntax, EndSyntax, Named, RangeSyntax, RangesSyntax, SizeSyntax,
-    ValueSyntax,
+    CharsSyntax, ConstraintForm, ConstraintSyntax, EndSyntax, Named, RangeSyntax, RangesSyntax,
+    ValueForm, ValueSyntax,
 };

@@ -1,26 +1,32 @@
 //! Reading a value from its first token on.
 
-ghost use Rattle.std.specs.Prelude.{◌≡◌, [], Some, None, MatchOption, ◌-◌, ◌<◌, ◌≤◌, ◌∷◌, ℕ, length, map, IfOk, string_bytes, slice_range, true};
+ghost use Rattle.std.specs.Prelude.{◌≡◌, [], Some, None, MatchOption, ◌-◌, ◌<◌, ◌∷◌, length, map, IfOk, slice_range};
 ghost use Rattle.text.specs.declared.token.TokenKind.TheVariants as kinds;
 ghost use Rattle.text.specs.Items.{number_value};
 ghost use Rattle.grammar.specs.Lexeme.{lexemes, Number};
-ghost use Rattle.grammar.specs.Reading.{with_front, closed_at, next_comma, listed_at, named_at};
+ghost use Rattle.grammar.specs.Reading.{with_front, listed_at, named_at};
 ghost use Rattle.grammar.specs.Places.{small};
 ghost use Rattle.trees.specs.Values.{tree_of, member_of};
 ghost use Rattle.kernel.specs.Given.{Gives, IsTokenOf, AreTokens};
-ghost use Rattle.notation.specs.Reading.{negative_at, qualified_at, next_number, numbers_at, two_numbers_at, by_number_at, items_at, fields_at, braced_at, alternative_at, step_at, value_at};
+ghost use Rattle.notation.specs.Reading.{negative_at, next_number, numbers_at, two_numbers_at, items_at, fields_at, braced_at, alternative_at, step_at, value_at};
 
-use kernel::decode::{chars_of, digits_of, name_of, number_of, small_number};
+use crate::names::{bare, name, qualified};
+use crate::numbers::{negative, positive};
+use kernel::decode::{chars_of, digits_of, name_of, small_number};
 use kernel::marks::{closed, comma};
 use kernel::{Limit, ReadError};
 use std::alloc::Global;
 use text::reserved::Word;
 use text::{Mark, Token, TokenKind};
-use trees::{Named, ValueSyntax};
+use trees::{Named, ValueForm, ValueSyntax};
 
-/// Reads the number behind a minus.
+/// Reads the number behind a minus, which stands at a place.
 #[tactic(auto, unfolding(crate::specs::Reading::negative_at))]
-fn negative<'a>(text: &[u8], tokens: &'a [Token]) -> Result<(ValueSyntax, &'a [Token]), ReadError>
+fn negative_value<'a>(
+    text: &[u8],
+    at: usize,
+    tokens: &'a [Token],
+) -> Result<(ValueSyntax, &'a [Token]), ReadError>
     requires tokens { AreTokens text.now tokens.now }
     ensures read { Gives (λ x. (tree_of x.0, lexemes text.now x.1.now)) result (negative_at (lexemes text.now tokens.now)) }
     ensures rest { IfOk result (λ x. AreTokens text.now x.1.now) }
@@ -32,48 +38,10 @@ fn negative<'a>(text: &[u8], tokens: &'a [Token]) -> Result<(ValueSyntax, &'a [T
                 ..
             },
             rest @ ..,
-        ] => { Ok((ValueSyntax::Number(true, number_of(text, *number)), rest)) }
-        _ => Err(ReadError::Unexpected(tokens.len())),
-    }
-}
-
-/// Reads what stands behind a module's name.
-#[tactic(auto, unfolding(crate::specs::Reading::qualified_at, crate::specs::Reading::value_name_at))]
-fn qualified<'a>(
-    alloc: Global,
-    text: &[u8],
-    module_name: Token,
-    tokens: &'a [Token],
-) -> Result<(ValueSyntax, &'a [Token]), ReadError>
-    requires tokens { AreTokens text.now tokens.now }
-    requires before { IsTokenOf text.now module_name }
-    requires name { module_name.kind ≡ kinds.TypeReference }
-    ensures read { Gives (λ x. (tree_of x.0, lexemes text.now x.1.now)) result (qualified_at (slice_range text.now module_name.span.start module_name.span.end) (lexemes text.now tokens.now)) }
-    ensures rest { IfOk result (λ x. AreTokens text.now x.1.now) }
-{
-    match tokens {
-        [
-            Token {
-                kind: TokenKind::Mark(Mark::Dot),
-                ..
-            },
-            name @ Token {
-                kind: TokenKind::Identifier,
-                ..
-            },
-            rest @ ..,
         ] => {
-            let module_name = name_of(alloc, text, module_name)?;
-            let name = name_of(alloc, text, *name)?;
-            Ok((ValueSyntax::Reference(Some(module_name), name), rest))
+            let form = ValueForm::Number(negative(text, *number));
+            Ok((ValueSyntax { at, form }, rest))
         }
-        [
-            Token {
-                kind: TokenKind::Mark(Mark::Dot),
-                ..
-            },
-            rest @ ..,
-        ] => { Err(ReadError::Unexpected(rest.len())) }
         _ => Err(ReadError::Unexpected(tokens.len())),
     }
 }
@@ -94,6 +62,7 @@ fn alternative<'a>(
     ensures read { Gives (λ x. (tree_of x.0, lexemes text.now x.1.now)) result (alternative_at small depth (value_at small (depth - 1)) (slice_range text.now name.span.start name.span.end) (lexemes text.now tokens.now)) }
     ensures rest { IfOk result (λ x. AreTokens text.now x.1.now) }
 {
+    let at = name.span.start;
     match tokens {
         [
             Token {
@@ -106,13 +75,14 @@ fn alternative<'a>(
                 return Err(ReadError::Limit(Limit::Nesting, tokens.len()));
             }
             let (inner, rest) = value(alloc, text, rest, depth - 1)?;
-            let name = name_of(alloc, text, name)?;
-            Ok((ValueSyntax::Chosen(name, Box::new(alloc, inner)?), rest))
+            let chosen = name_of(alloc, text, name)?;
+            let form = ValueForm::Chosen(chosen, Box::new(alloc, inner)?);
+            Ok((ValueSyntax { at, form }, rest))
         }
-        _ => Ok((
-            ValueSyntax::Reference(None, name_of(alloc, text, name)?),
-            tokens,
-        )),
+        _ => {
+            let form = ValueForm::Reference(bare(alloc, text, name)?);
+            Ok((ValueSyntax { at, form }, tokens))
+        }
     }
 }
 
@@ -147,49 +117,40 @@ fn step<'a>(
     let [first, rest @ ..] = tokens else {
         return Err(ReadError::Unexpected(0));
     };
-    match first.kind {
-        TokenKind::Reserved(Word::True) => Ok((ValueSyntax::True, rest)),
-        TokenKind::Reserved(Word::False) => Ok((ValueSyntax::False, rest)),
-        TokenKind::Reserved(Word::Null) => Ok((ValueSyntax::Null, rest)),
-        TokenKind::Number => {
-            let number = small_number(text, *first, tokens.len())?;
-            Ok((ValueSyntax::Number(false, number), rest))
+    let at = first.span.start;
+    let form = match first.kind {
+        TokenKind::Reserved(Word::True) => ValueForm::True,
+        TokenKind::Reserved(Word::False) => ValueForm::False,
+        TokenKind::Reserved(Word::Null) => ValueForm::Null,
+        TokenKind::Number => ValueForm::Number(positive(text, *first, tokens.len())?),
+        TokenKind::BinaryString => ValueForm::BinaryString(digits_of(alloc, text, *first)?),
+        TokenKind::HexString => ValueForm::HexString(digits_of(alloc, text, *first)?),
+        TokenKind::CharacterString => ValueForm::CharacterString(chars_of(alloc, text, *first)?),
+        TokenKind::TypeReference => {
+            let (name, rest) = qualified(alloc, text, *first, rest)?;
+            let form = ValueForm::Reference(name);
+            return Ok((ValueSyntax { at, form }, rest));
         }
-        TokenKind::Mark(Mark::Minus) => negative(text, rest),
-        TokenKind::BinaryString => {
-            Ok((
-                ValueSyntax::BinaryString(digits_of(alloc, text, *first)?),
-                rest,
-            ))
-        }
-        TokenKind::HexString => Ok((
-            ValueSyntax::HexString(digits_of(alloc, text, *first)?),
-            rest,
-        )),
-        TokenKind::CharacterString => {
-            Ok((
-                ValueSyntax::CharacterString(chars_of(alloc, text, *first)?),
-                rest,
-            ))
-        }
-        TokenKind::TypeReference => qualified(alloc, text, *first, rest),
-        TokenKind::Identifier => alternative(alloc, text, *first, rest, depth),
+        TokenKind::Mark(Mark::Minus) => return negative_value(text, at, rest),
+        TokenKind::Identifier => return alternative(alloc, text, *first, rest, depth),
         TokenKind::Mark(Mark::OpenBrace) => {
             if depth == 0 {
                 return Err(ReadError::Limit(Limit::Nesting, tokens.len()));
             }
-            braced(alloc, text, rest, depth - 1)
+            return braced(alloc, text, at, rest, depth - 1);
         }
-        _ => Err(ReadError::Unexpected(tokens.len())),
-    }
+        _ => return Err(ReadError::Unexpected(tokens.len())),
+    };
+    Ok((ValueSyntax { at, form }, rest))
 }
 
-/// Reads what stands behind an open brace.
-#[tactic(auto, unfolding(crate::specs::Reading::braced_at, crate::specs::Reading::by_name_at, crate::specs::Reading::follows_name))]
+/// Reads what stands behind an open brace, which stands at a place.
+#[tactic(auto, unfolding(crate::specs::Reading::braced_at, crate::specs::Reading::by_number_at, crate::specs::Reading::by_name_at, crate::specs::Reading::follows_name))]
 #[cycle(value)]
 fn braced<'a>(
     alloc: Global,
     text: &[u8],
+    at: usize,
     tokens: &'a [Token],
     depth: usize,
 ) -> Result<(ValueSyntax, &'a [Token]), ReadError>
@@ -204,16 +165,34 @@ fn braced<'a>(
                 ..
             },
             rest @ ..,
-        ] => { Ok((ValueSyntax::Empty, rest)) }
+        ] => {
+            let form = ValueForm::Empty;
+            Ok((ValueSyntax { at, form }, rest))
+        }
         [
-            number @ Token {
+            first @ Token {
+                kind: TokenKind::Number,
+                ..
+            },
+            second @ Token {
                 kind: TokenKind::Number,
                 ..
             },
             rest @ ..,
         ] => {
-            let first = small_number(text, *number, tokens.len())?;
-            by_number(alloc, text, *number, first, tokens, rest, depth)
+            let first = small_number(text, *first, tokens.len())?;
+            let second = small_number(text, *second, tokens.len() - 1)?;
+            two_numbers(alloc, text, at, first, second, rest)
+        }
+        [
+            number @ Token {
+                kind: TokenKind::Number,
+                ..
+            },
+            ..
+        ] => {
+            small_number(text, *number, tokens.len())?;
+            items(alloc, text, at, tokens, depth)
         }
         [
             Token {
@@ -225,57 +204,25 @@ fn braced<'a>(
                 ..
             },
             ..
-        ] => { items(alloc, text, tokens, depth) }
+        ] => items(alloc, text, at, tokens, depth),
         [
             Token {
                 kind: TokenKind::Identifier,
                 ..
             },
             ..
-        ] => fields(alloc, text, tokens, depth),
-        _ => items(alloc, text, tokens, depth),
+        ] => fields(alloc, text, at, tokens, depth),
+        _ => items(alloc, text, at, tokens, depth),
     }
 }
 
-/// Reads what stands behind the first number in braces.
-#[tactic(auto, unfolding(crate::specs::Reading::by_number_at))]
-#[cycle(value)]
-fn by_number<'a>(
-    alloc: Global,
-    text: &[u8],
-    number: Token,
-    first: u128,
-    tokens: &'a [Token],
-    rest: &'a [Token],
-    depth: usize,
-) -> Result<(ValueSyntax, &'a [Token]), ReadError>
-    requires tokens { AreTokens text.now tokens.now }
-    requires number { number.kind ≡ kinds.Number }
-    requires value { first ≡ number_value text.now number.span.start number.span.end }
-    requires behind { tokens.now ≡ number ∷ rest.now }
-    ensures read { Gives (λ x. (tree_of x.0, lexemes text.now x.1.now)) result (by_number_at small (value_at small depth) first (lexemes text.now rest.now)) }
-    ensures rest { IfOk result (λ x. AreTokens text.now x.1.now) }
-{
-    match rest {
-        [
-            second @ Token {
-                kind: TokenKind::Number,
-                ..
-            },
-            more @ ..,
-        ] => {
-            let second = small_number(text, *second, rest.len())?;
-            two_numbers(alloc, text, first, second, more)
-        }
-        _ => items(alloc, text, tokens, depth),
-    }
-}
-
+/// Reads values with commas between them, and the brace behind them.
 #[tactic(auto, unfolding(crate::specs::Reading::items_at))]
 #[cycle(value)]
 fn items<'a>(
     alloc: Global,
     text: &[u8],
+    at: usize,
     tokens: &'a [Token],
     depth: usize,
 ) -> Result<(ValueSyntax, &'a [Token]), ReadError>
@@ -285,14 +232,17 @@ fn items<'a>(
 {
     let (values, rest) = values(alloc, text, tokens, depth)?;
     let rest = closed(text, rest)?;
-    Ok((ValueSyntax::Items(values), rest))
+    let form = ValueForm::Items(values);
+    Ok((ValueSyntax { at, form }, rest))
 }
 
-#[tactic(auto, unfolding(crate::specs::Reading::fields_at))]
+/// Reads values behind names with commas between them, and the brace behind them.
+#[tactic(auto, unfolding(crate::specs::Reading::fields_at), using(crate::proofs::Loop::fields_tree))]
 #[cycle(value)]
 fn fields<'a>(
     alloc: Global,
     text: &[u8],
+    at: usize,
     tokens: &'a [Token],
     depth: usize,
 ) -> Result<(ValueSyntax, &'a [Token]), ReadError>
@@ -302,7 +252,8 @@ fn fields<'a>(
 {
     let (members, rest) = members(alloc, text, tokens, depth)?;
     let rest = closed(text, rest)?;
-    Ok((ValueSyntax::Fields(members), rest))
+    let form = ValueForm::Fields(members);
+    Ok((ValueSyntax { at, form }, rest))
 }
 
 #[tactic(auto, unfolding(grammar::specs::Reading::named_at))]
@@ -319,14 +270,14 @@ fn member<'a>(
 {
     match tokens {
         [
-            name @ Token {
+            first @ Token {
                 kind: TokenKind::Identifier,
                 ..
             },
             rest @ ..,
         ] => {
             let (value, rest) = value(alloc, text, rest, depth)?;
-            let name = name_of(alloc, text, *name)?;
+            let name = name(alloc, text, *first)?;
             Ok((Named { name, value }, rest))
         }
         _ => Err(ReadError::Unexpected(tokens.len())),
@@ -402,6 +353,7 @@ fn next_number<'a>(text: &[u8], tokens: &'a [Token]) -> Option<(Token, &'a [Toke
 fn two_numbers<'a>(
     alloc: Global,
     text: &[u8],
+    at: usize,
     first: u128,
     second: u128,
     tokens: &'a [Token],
@@ -412,7 +364,8 @@ fn two_numbers<'a>(
 {
     let (numbers, rest) = numbers(alloc, text, first, second, tokens)?;
     let rest = closed(text, rest)?;
-    Ok((ValueSyntax::Numbers(numbers), rest))
+    let form = ValueForm::Numbers(numbers);
+    Ok((ValueSyntax { at, form }, rest))
 }
 
 fn numbers<'a>(

@@ -6,7 +6,7 @@ use Rattle.grammar.specs.Answers.{Reads}
 use Rattle.grammar.specs.Texts.{found, rest_fits, left_fits, first, passes, same_found, never_found}
 use Rattle.notation.specs.Laws.{first_stands}
 use Rattle.kernel.specs.Given.{limit_of}
-use Rattle.trees.specs.Constraints.{size_of}
+use Rattle.trees.specs.Constraints.{constraint_of}
 use Rattle.notation.specs.ConstraintGrammar.{size, flat}
 use Rattle.notation.specs.ConstraintReading.{is_size, size_at}
 use Rattle.notation.proofs.ConstraintPlaces.{flat_reads, size_ruled, size_grows}
@@ -20,7 +20,7 @@ pub size-requires : goal.size-requires
 size-requires c = record { tokens = slice_tokens c.args.text.now c.args.place c.args.tokens.now (are_tokens c.spans_within.ensures c.args.text.now c.args.tokens.now c.requires.text) }
 
 pub overflow_sub-result : goal.overflow_sub-result
-overflow_sub-result c = rest_fits (flat size) (bounded 0) (size_at small) size_reads c.args.text.now c.args.tokens.now c.args.place c.requires.place (size_of c.in-Ok.size) c.in-Ok.rest.now c.in-Ok.ensures.read
+overflow_sub-result c = rest_fits (flat size) (bounded 0) (size_at small) size_reads c.args.text.now c.args.tokens.now c.args.place c.requires.place (constraint_of c.in-Ok.size) c.in-Ok.rest.now c.in-Ok.ensures.read
 
 pub overflow_sub-tokens : goal.overflow_sub-tokens
 overflow_sub-tokens c =
@@ -35,10 +35,10 @@ overflow_sub-result-in-Err-Limit c =
     left_fits (flat size) (bounded 0) (size_at small) size_reads c.args.text.now c.args.tokens.now c.args.place c.requires.place (Beyond (limit_of e.limit) e.left) h
 
 pub returns-in-Ok-clause-found : goal.returns-in-Ok-clause-found
-returns-in-Ok-clause-found c = found (flat size) (bounded 0) (size_at small) size_reads c.args.text.now c.args.tokens.now c.args.place c.requires.place (size_of c.in-Ok.size) c.in-Ok.rest.now c.in-Ok.ensures.read
+returns-in-Ok-clause-found c = found (flat size) (bounded 0) (size_at small) size_reads c.args.text.now c.args.tokens.now c.args.place c.requires.place (constraint_of c.in-Ok.size) c.in-Ok.rest.now c.in-Ok.ensures.read
 
 pub returns-in-Ok-clause-only : goal.returns-in-Ok-clause-only
-returns-in-Ok-clause-only c = λ v end i. same_found (flat size) (bounded 0) (size_at small) size_reads c.args.text.now c.args.tokens.now c.args.place c.requires.place (size_of c.in-Ok.size) v c.in-Ok.rest.now end c.in-Ok.ensures.read i
+returns-in-Ok-clause-only c = λ v end i. same_found (flat size) (bounded 0) (size_at small) size_reads c.args.text.now c.args.tokens.now c.args.place c.requires.place (constraint_of c.in-Ok.size) v c.in-Ok.rest.now end c.in-Ok.ensures.read i
 
 pub returns-in-Err-Unexpected-clause-only : goal.returns-in-Err-Unexpected-clause-only
 returns-in-Err-Unexpected-clause-only c = λ v end i.

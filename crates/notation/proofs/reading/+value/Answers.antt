@@ -11,10 +11,6 @@ use Rattle.kernel.specs.Failing.{listed_gives_up, commas_give_up}
 use Rattle.notation.proofs.Loop.{fields_tree, value_shrinks, member_shrinks}
 use Rattle.notation.proofs.reading.+value.Goals as goal
 
-pub fields-returns-clause-read : goal.fields-returns-clause-read
-unfolding fields_at
-fields-returns-clause-read t c = rw (fields_tree c.in_ok-members.members, c.in_ok-members.ensures.read, c.in_ok-rest.ensures.read) refl
-
 pub values-returns-in_err-first-clause-read : goal.values-returns-in_err-first-clause-read
 values-returns-in_err-first-clause-read t c =
     let p = err_from_is_err_and c.from_residual.result c.from_residual.ensures.1 in

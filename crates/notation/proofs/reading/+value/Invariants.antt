@@ -31,11 +31,8 @@ decreases-items l = 8 * l.depth + 9
 abbrev pub decreases-fields : goal.decreases-fields
 decreases-fields l = 8 * l.depth + 9
 
-abbrev pub decreases-by_number : goal.decreases-by_number
-decreases-by_number l = 8 * l.depth + 10
-
 abbrev pub decreases-braced : goal.decreases-braced
-decreases-braced l = 8 * l.depth + 11
+decreases-braced l = 8 * l.depth + 10
 
 abbrev pub invariant-values-loop-after : goal.invariant-values-loop-after
 invariant-values-loop-after l = record {

@@ -1,0 +1,83 @@
+//! The names of the notation, with where they are written.
+
+ghost use Rattle.std.specs.Prelude.{◌≡◌, ◌⊎◌, None, IfOk, option_map, string_bytes, slice_range};
+ghost use Rattle.text.specs.declared.token.TokenKind.TheVariants as kinds;
+ghost use Rattle.grammar.specs.Lexeme.{lexemes};
+ghost use Rattle.kernel.specs.Given.{Gives, IsTokenOf, AreTokens};
+ghost use Rattle.trees.specs.Values.{name_at};
+ghost use Rattle.notation.specs.Reading.{ref_dot_at};
+
+use kernel::ReadError;
+use kernel::decode::name_of;
+use std::alloc::{AllocError, Global};
+use text::{Mark, Token, TokenKind};
+use trees::{At, Reference};
+
+/// The name that a token is, where it is written.
+pub fn name(alloc: Global, text: &[u8], token: Token) -> Result<At<String>, AllocError>
+    requires token { IsTokenOf text.now token }
+    requires name { (token.kind ≡ kinds.Identifier) ⊎ (token.kind ≡ kinds.TypeReference) }
+    ensures { IfOk result (λ n. name_at n ≡ slice_range text.now token.span.start token.span.end) }
+{
+    Ok(At {
+        at: token.span.start,
+        it: name_of(alloc, text, token)?,
+    })
+}
+
+/// The name of a value, with no module's name before it.
+pub fn bare(alloc: Global, text: &[u8], token: Token) -> Result<Reference, AllocError>
+    requires token { IsTokenOf text.now token }
+    requires name { token.kind ≡ kinds.Identifier }
+    ensures { IfOk result (λ r. (option_map string_bytes r.module ≡ None)
+        × (string_bytes r.name ≡ slice_range text.now token.span.start token.span.end)) }
+{
+    Ok(Reference {
+        at: token.span.start,
+        module: None,
+        name: name_of(alloc, text, token)?,
+    })
+}
+
+/// Reads the dot and the name of a value that stand behind a module's name.
+#[tactic(auto, unfolding(crate::specs::Reading::ref_dot_at, crate::specs::Reading::ref_name_at))]
+pub fn qualified<'a>(
+    alloc: Global,
+    text: &[u8],
+    module_name: Token,
+    tokens: &'a [Token],
+) -> Result<(Reference, &'a [Token]), ReadError>
+    requires tokens { AreTokens text.now tokens.now }
+    requires before { IsTokenOf text.now module_name }
+    requires name { module_name.kind ≡ kinds.TypeReference }
+    ensures read { Gives (λ x. ((option_map string_bytes x.0.module, string_bytes x.0.name), lexemes text.now x.1.now)) result
+        (ref_dot_at (slice_range text.now module_name.span.start module_name.span.end) (lexemes text.now tokens.now)) }
+    ensures rest { IfOk result (λ x. AreTokens text.now x.1.now) }
+{
+    match tokens {
+        [
+            Token {
+                kind: TokenKind::Mark(Mark::Dot),
+                ..
+            },
+            value_name @ Token {
+                kind: TokenKind::Identifier,
+                ..
+            },
+            rest @ ..,
+        ] => {
+            let module = Some(name_of(alloc, text, module_name)?);
+            let name = name_of(alloc, text, *value_name)?;
+            let at = module_name.span.start;
+            Ok((Reference { at, module, name }, rest))
+        }
+        [
+            Token {
+                kind: TokenKind::Mark(Mark::Dot),
+                ..
+            },
+            rest @ ..,
+        ] => Err(ReadError::Unexpected(rest.len())),
+        _ => Err(ReadError::Unexpected(tokens.len())),
+    }
+}

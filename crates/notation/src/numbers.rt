@@ -1,0 +1,40 @@
+//! The numbers of the notation, with their signs.
+
+ghost use Rattle.std.specs.Prelude.{◌≡◌, MatchResult, pos, neg_ℤ, true, false};
+ghost use Rattle.text.specs.declared.token.TokenKind.TheVariants as kinds;
+ghost use Rattle.text.specs.Items.{number_value};
+ghost use Rattle.grammar.specs.Places.{small};
+ghost use Rattle.kernel.specs.Given.{IsTokenOf};
+
+use kernel::decode::{number_of, small_number};
+use kernel::{Limit, ReadError};
+use text::Token;
+
+/// The number that a token is where no minus stands before it, with `left` tokens from it on, if no limit is passed.
+pub fn positive(text: &[u8], token: Token, left: usize) -> Result<i128, ReadError>
+    requires token { IsTokenOf text.now token }
+    requires number { token.kind ≡ kinds.Number }
+    ensures { MatchResult result
+        (λ n. (n ≡ pos (number_value text.now token.span.start token.span.end))
+            × (small (number_value text.now token.span.start token.span.end) ≡ true))
+        (λ e. (e ≡ ReadError.Limit Limit.Integer left)
+            × (small (number_value text.now token.span.start token.span.end) ≡ false)) }
+{
+    match small_number(text, token, left) {
+        Ok(number) => Ok(number as i128),
+        Err(e) => Err(e),
+    }
+}
+
+/// The number that a token is behind a minus.
+pub fn negative(text: &[u8], token: Token) -> i128
+    requires token { IsTokenOf text.now token }
+    requires number { token.kind ≡ kinds.Number }
+    ensures { result ≡ neg_ℤ (pos (number_value text.now token.span.start token.span.end)) }
+{
+    let number = number_of(text, token);
+    if number == 0 {
+        return 0;
+    }
+    -1 - ((number - 1) as i128)
+}
