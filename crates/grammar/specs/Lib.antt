@@ -18,3 +18,4 @@ pub mod Openings
 pub mod Extension
 pub mod ExtensionFront
 pub mod Extensions
+pub mod Short

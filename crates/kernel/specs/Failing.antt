@@ -1,5 +1,5 @@
 -- Faults of what a loop reads are faults of the loop.
-use Rattle.std.specs.Prelude.{◌≡◌, ℕ, Bool, true, List, length, Some}
+use Rattle.std.specs.Prelude.{◌≡◌, Bool, true, List, length, Some}
 use Rattle.grammar.specs.Lexeme.{Lexeme}
 use Rattle.grammar.specs.Loops.{listed_fail, commas_fail}
 use Rattle.grammar.specs.Manies.{is_begun_by, many_fail}

@@ -14,6 +14,7 @@ ghost use Rattle.kernel.specs.Given.{IsTokenOf};
 use crate::fault::{Limit, ReadError};
 use std::alloc::{AllocError, Global};
 use text::Token;
+use trees::At;
 
 /// Numbers with no minus before them are less than this.
 const LIMIT: u128 = 1 << 127;
@@ -27,6 +28,18 @@ pub fn name_of(alloc: Global, text: &[u8], token: Token) -> Result<String, Alloc
     let octets = &text[token.span.start..token.span.end];
     let name = str::from_utf8(octets).unwrap();
     name.to_owned(alloc)
+}
+
+/// The name that a token is, with its place.
+pub fn name_at(alloc: Global, text: &[u8], token: Token) -> Result<At<String>, AllocError>
+    requires token { IsTokenOf text.now token }
+    requires name { (token.kind ≡ kinds.Identifier) ⊎ (token.kind ≡ kinds.TypeReference) }
+    ensures { IfOk result (λ n. (string_bytes n.it ≡ slice_range text.now token.span.start token.span.end) × (n.at ≡ token.span.start)) }
+{
+    Ok(At {
+        at: token.span.start,
+        it: name_of(alloc, text, token)?,
+    })
 }
 
 /// The number that decimal digits tell.

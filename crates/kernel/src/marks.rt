@@ -2,7 +2,7 @@
 
 ghost use Rattle.std.specs.Prelude.{◌≡◌, ◌<◌, None, Some, IfOk, MatchOption, length};
 ghost use Rattle.grammar.specs.Lexeme.{lexemes};
-ghost use Rattle.grammar.specs.Reading.{closed_at, next_comma, open_at, close_at};
+ghost use Rattle.grammar.specs.Reading.{closed_at, next_comma, open_at, close_at, next_marker, colon_at, close_version_at};
 ghost use Rattle.kernel.specs.Given.{Gives, AreTokens};
 
 use crate::fault::ReadError;
@@ -81,5 +81,62 @@ pub fn comma<'a>(text: &[u8], tokens: &'a [Token]) -> Option<&'a [Token]>
             rest @ ..,
         ] => Some(rest),
         _ => None,
+    }
+}
+
+/// The tokens behind an extension marker, if there is one.
+#[tactic(auto, unfolding(grammar::specs::Reading::next_marker))]
+pub fn marker<'a>(text: &[u8], tokens: &'a [Token]) -> Option<&'a [Token]>
+    requires tokens { AreTokens text.now tokens.now }
+    ensures { MatchOption result (next_marker (lexemes text.now tokens.now) ≡ None)
+        (λ x. (next_marker (lexemes text.now tokens.now) ≡ Some (lexemes text.now x.now)) × AreTokens text.now x.now) }
+{
+    match tokens {
+        [
+            Token {
+                kind: TokenKind::Mark(Mark::Ellipsis),
+                ..
+            },
+            rest @ ..,
+        ] => Some(rest),
+        _ => None,
+    }
+}
+
+/// The tokens behind a colon.
+#[tactic(auto, unfolding(grammar::specs::Reading::colon_at))]
+pub fn colon<'a>(text: &[u8], tokens: &'a [Token]) -> Result<&'a [Token], ReadError>
+    requires tokens { AreTokens text.now tokens.now }
+    ensures read { Gives (λ x. (tt, lexemes text.now x.now)) result (colon_at (lexemes text.now tokens.now)) }
+    ensures rest { IfOk result (λ x. AreTokens text.now x.now) }
+{
+    match tokens {
+        [
+            Token {
+                kind: TokenKind::Mark(Mark::Colon),
+                ..
+            },
+            rest @ ..,
+        ] => Ok(rest),
+        _ => Err(ReadError::Unexpected(tokens.len())),
+    }
+}
+
+/// The tokens behind closing version brackets.
+#[tactic(auto, unfolding(grammar::specs::Reading::close_version_at))]
+pub fn close_version<'a>(text: &[u8], tokens: &'a [Token]) -> Result<&'a [Token], ReadError>
+    requires tokens { AreTokens text.now tokens.now }
+    ensures read { Gives (λ x. (tt, lexemes text.now x.now)) result (close_version_at (lexemes text.now tokens.now)) }
+    ensures rest { IfOk result (λ x. AreTokens text.now x.now) }
+{
+    match tokens {
+        [
+            Token {
+                kind: TokenKind::Mark(Mark::CloseVersion),
+                ..
+            },
+            rest @ ..,
+        ] => Ok(rest),
+        _ => Err(ReadError::Unexpected(tokens.len())),
     }
 }

@@ -1,0 +1,339 @@
+//! Lists of parts with commas between them, with an extension marker among them or not.
+
+ghost use Rattle.std.specs.Prelude.{map, length, IfOk};
+ghost use Rattle.grammar.specs.Lexeme.{lexemes};
+ghost use Rattle.grammar.specs.Reading.{with_front, behind_commas_at, listed_at, additions_at, more_at, extensible_at, with_root, version_at};
+ghost use Rattle.grammar.specs.Places.{small};
+ghost use Rattle.kernel.specs.Given.{Gives, AreTokens};
+ghost use Rattle.kernel.specs.Parts.{extensible_of};
+
+use crate::decode::small_number;
+use crate::fault::ReadError;
+use crate::marks::{close_version, colon, comma, marker};
+use crate::part::Part;
+use std::alloc::Global;
+use text::{Mark, Token, TokenKind};
+
+/// Reads the parts behind the next commas, and puts them behind those that are read.
+fn behind_commas<'t, P: Part<'t>>(
+    alloc: Global,
+    text: &[u8],
+    part: &P,
+    items: Vec<P::Tree>,
+    tokens: &'t [Token],
+) -> Result<(Vec<P::Tree>, &'t [Token]), ReadError>
+    requires ready { P.is_ready part.now text.now }
+    requires tokens { AreTokens text.now tokens.now }
+    ensures read { Gives (λ x. (map P.view x.0.items, lexemes text.now x.1.now)) result (with_front (map P.view items.items) (behind_commas_at (P.reader part.now) (length (lexemes text.now tokens.now)) (lexemes text.now tokens.now))) }
+    ensures rest { IfOk result (λ x. AreTokens text.now x.1.now) }
+{
+    let mut items = items;
+    let mut rest = tokens;
+    while let Some(after) = comma(text, rest) {
+        let (next, after) = part.read(alloc, text, after)?;
+        items.push(next)?;
+        rest = after;
+    }
+    Ok((items, rest))
+}
+
+/// Reads one part or more with commas between them.
+#[tactic(auto, unfolding(grammar::specs::Reading::listed_at))]
+fn one_or_more<'t, P: Part<'t>>(
+    alloc: Global,
+    text: &[u8],
+    part: &P,
+    tokens: &'t [Token],
+) -> Result<(Vec<P::Tree>, &'t [Token]), ReadError>
+    requires ready { P.is_ready part.now text.now }
+    requires tokens { AreTokens text.now tokens.now }
+    ensures read { Gives (λ x. (map P.view x.0.items, lexemes text.now x.1.now)) result (listed_at (P.reader part.now) (lexemes text.now tokens.now)) }
+    ensures rest { IfOk result (λ x. AreTokens text.now x.1.now) }
+{
+    let (first, rest) = part.read(alloc, text, tokens)?;
+    let mut items = Vec::new(alloc);
+    items.push(first)?;
+    behind_commas(alloc, text, part, items, rest)
+}
+
+/// One part or more with commas between them.
+#[derive(Drop)]
+pub struct Listed<P> {
+    pub part: P,
+}
+
+impl<'t, P: Part<'t>> Part<'t> for Listed<P> {
+    ghost use Rattle.std.specs.Prelude.{List, map};
+    ghost use Rattle.grammar.specs.Reading.{listed_at};
+    ghost use Rattle.grammar.specs.Short.{listed_short};
+
+    type Tree = Vec<P::Tree>;
+
+    ghost Shape = { List P.Shape };
+
+    ghost view = { λ v. map P.view v.items };
+
+    ghost reader = { λ s. listed_at (P.reader s.part) };
+
+    ghost is_ready = { λ s x. P.is_ready s.part x };
+
+    ghost is_short = { λ s x r. listed_short (P.reader s.part) (P.is_short s.part x r) };
+
+    fn read(
+        &self,
+        alloc: Global,
+        text: &[u8],
+        tokens: &'t [Token],
+    ) -> Result<(Vec<P::Tree>, &'t [Token]), ReadError> {
+        one_or_more(alloc, text, &self.part, tokens)
+    }
+}
+
+/// Parts with commas between them, those before an extension marker and those behind it, if it is there.
+#[derive(Drop)]
+pub struct Extensible<T, U> {
+    pub root: Vec<T>,
+    pub additions: Option<Vec<U>>,
+}
+
+/// Reads the parts behind the marker.
+#[tactic(auto, unfolding(grammar::specs::Reading::additions_at), using(crate::proofs::Extensions::no_front))]
+fn additions<'t, P: Part<'t>, Q: Part<'t>>(
+    alloc: Global,
+    text: &[u8],
+    _part: &P,
+    addition: &Q,
+    root: Vec<P::Tree>,
+    tokens: &'t [Token],
+) -> Result<(Extensible<P::Tree, Q::Tree>, &'t [Token]), ReadError>
+    requires ready { Q.is_ready addition.now text.now }
+    requires tokens { AreTokens text.now tokens.now }
+    ensures read { Gives (λ x. (extensible_of P.view Q.view x.0, lexemes text.now x.1.now)) result (with_root (map P.view root.items) (additions_at (Q.reader addition.now) (lexemes text.now tokens.now))) }
+    ensures rest { IfOk result (λ x. AreTokens text.now x.1.now) }
+{
+    let (additions, rest) = behind_commas(alloc, text, addition, Vec::new(alloc), tokens)?;
+    Ok((
+        Extensible {
+            root,
+            additions: Some(additions),
+        },
+        rest,
+    ))
+}
+
+/// Reads what stands behind the parts that are read: more parts, and the marker with its own.
+fn more<'t, P: Part<'t>, Q: Part<'t>>(
+    alloc: Global,
+    text: &[u8],
+    part: &P,
+    addition: &Q,
+    root: Vec<P::Tree>,
+    tokens: &'t [Token],
+) -> Result<(Extensible<P::Tree, Q::Tree>, &'t [Token]), ReadError>
+    requires ready { P.is_ready part.now text.now }
+    requires added { Q.is_ready addition.now text.now }
+    requires tokens { AreTokens text.now tokens.now }
+    ensures read { Gives (λ x. (extensible_of P.view Q.view x.0, lexemes text.now x.1.now)) result (with_root (map P.view root.items) (more_at (P.reader part.now) (Q.reader addition.now) (length (lexemes text.now tokens.now)) (lexemes text.now tokens.now))) }
+    ensures rest { IfOk result (λ x. AreTokens text.now x.1.now) }
+{
+    let mut root = root;
+    let mut rest = tokens;
+    while let Some(after) = comma(text, rest) {
+        if let Some(behind) = marker(text, after) {
+            return additions(alloc, text, part, addition, root, behind);
+        }
+        let (next, after) = part.read(alloc, text, after)?;
+        root.push(next)?;
+        rest = after;
+    }
+    Ok((
+        Extensible {
+            root,
+            additions: None,
+        },
+        rest,
+    ))
+}
+
+/// Reads one part or more, and the marker with its own.
+#[tactic(auto, unfolding(grammar::specs::Reading::extensible_at))]
+fn root_first<'t, P: Part<'t>, Q: Part<'t>>(
+    alloc: Global,
+    text: &[u8],
+    part: &P,
+    addition: &Q,
+    tokens: &'t [Token],
+) -> Result<(Extensible<P::Tree, Q::Tree>, &'t [Token]), ReadError>
+    requires ready { P.is_ready part.now text.now }
+    requires added { Q.is_ready addition.now text.now }
+    requires tokens { AreTokens text.now tokens.now }
+    ensures read { Gives (λ x. (extensible_of P.view Q.view x.0, lexemes text.now x.1.now)) result (extensible_at (P.reader part.now) (Q.reader addition.now) (lexemes text.now tokens.now)) }
+    ensures rest { IfOk result (λ x. AreTokens text.now x.1.now) }
+{
+    let (first, rest) = part.read(alloc, text, tokens)?;
+    let mut root = Vec::new(alloc);
+    root.push(first)?;
+    more(alloc, text, part, addition, root, rest)
+}
+
+/// A list in which one extension marker may stand, behind the root, with additions behind it.
+#[derive(Drop)]
+pub struct ExtensibleList<P, Q> {
+    pub part: P,
+    pub addition: Q,
+}
+
+impl<'t, P: Part<'t>, Q: Part<'t>> Part<'t> for ExtensibleList<P, Q> {
+    ghost use Rattle.std.specs.Prelude.{List, Option};
+    ghost use Rattle.grammar.specs.Reading.{extensible_at};
+    ghost use Rattle.grammar.specs.Short.{extensible_short};
+    ghost use Rattle.kernel.specs.Parts.{extensible_of};
+
+    type Tree = Extensible<P::Tree, Q::Tree>;
+
+    ghost Shape = { List P.Shape × Option (List Q.Shape) };
+
+    ghost view = { λ e. extensible_of P.view Q.view e };
+
+    ghost reader = { λ s. extensible_at (P.reader s.part) (Q.reader s.addition) };
+
+    ghost is_ready = { λ s x. P.is_ready s.part x × Q.is_ready s.addition x };
+
+    ghost is_short = { λ s x r. extensible_short (P.reader s.part) (Q.reader s.addition) (P.is_short s.part x r.0) (Q.is_short s.addition x r.1) };
+
+    fn read(
+        &self,
+        alloc: Global,
+        text: &[u8],
+        tokens: &'t [Token],
+    ) -> Result<(Extensible<P::Tree, Q::Tree>, &'t [Token]), ReadError> {
+        root_first(alloc, text, &self.part, &self.addition, tokens)
+    }
+}
+
+/// A list in which one extension marker may stand, behind the root or at once, with additions behind it.
+#[derive(Drop)]
+pub struct RootlessList<P, Q> {
+    pub part: P,
+    pub addition: Q,
+}
+
+impl<'t, P: Part<'t>, Q: Part<'t>> Part<'t> for RootlessList<P, Q> {
+    ghost use Rattle.std.specs.Prelude.{List, Option};
+    ghost use Rattle.grammar.specs.Reading.{rootless_at};
+    ghost use Rattle.grammar.specs.Short.{rootless_short};
+    ghost use Rattle.kernel.specs.Parts.{extensible_of};
+
+    type Tree = Extensible<P::Tree, Q::Tree>;
+
+    ghost Shape = { List P.Shape × Option (List Q.Shape) };
+
+    ghost view = { λ e. extensible_of P.view Q.view e };
+
+    ghost reader = { λ s. rootless_at (P.reader s.part) (Q.reader s.addition) };
+
+    ghost is_ready = { λ s x. P.is_ready s.part x × Q.is_ready s.addition x };
+
+    ghost is_short = { λ s x r. rootless_short (P.reader s.part) (Q.reader s.addition) (P.is_short s.part x r.0) (Q.is_short s.addition x r.1) };
+
+    #[tactic(auto, using(crate::proofs::Extensions::marker_first, crate::proofs::Extensions::no_marker))]
+    fn read(
+        &self,
+        alloc: Global,
+        text: &[u8],
+        tokens: &'t [Token],
+    ) -> Result<(Extensible<P::Tree, Q::Tree>, &'t [Token]), ReadError> {
+        match marker(text, tokens) {
+            Some(behind) => additions(
+                alloc,
+                text,
+                &self.part,
+                &self.addition,
+                Vec::new(alloc),
+                behind,
+            ),
+            None => root_first(alloc, text, &self.part, &self.addition, tokens),
+        }
+    }
+}
+
+/// A part, or parts in version brackets.
+#[derive(Drop)]
+pub enum Addition<T> {
+    Alone(T),
+    Bracket(Vec<T>),
+}
+
+/// The tokens behind the number of version brackets and its colon, if they are there.
+#[tactic(auto, unfolding(grammar::specs::Reading::version_at))]
+fn version<'t>(text: &[u8], tokens: &'t [Token]) -> Result<&'t [Token], ReadError>
+    requires tokens { AreTokens text.now tokens.now }
+    ensures read { Gives (λ x. (tt, lexemes text.now x.now)) result (version_at small (lexemes text.now tokens.now)) }
+    ensures rest { IfOk result (λ x. AreTokens text.now x.now) }
+{
+    match tokens {
+        [
+            number @ Token {
+                kind: TokenKind::Number,
+                ..
+            },
+            rest @ ..,
+        ] => {
+            small_number(text, *number, tokens.len())?;
+            colon(text, rest)
+        },
+        _ => Ok(tokens),
+    }
+}
+
+/// A part, or parts in version brackets, one at least (X.680, clause 25.1).
+#[derive(Drop)]
+pub struct Added<P> {
+    pub part: P,
+}
+
+impl<'t, P: Part<'t>> Part<'t> for Added<P> {
+    ghost use Rattle.std.specs.Prelude.{◌⊎◌, List};
+    ghost use Rattle.grammar.specs.Places.{small};
+    ghost use Rattle.grammar.specs.Reading.{addition_at};
+    ghost use Rattle.grammar.specs.Short.{addition_short};
+    ghost use Rattle.kernel.specs.Parts.{addition_of};
+
+    type Tree = Addition<P::Tree>;
+
+    ghost Shape = { P.Shape ⊎ List P.Shape };
+
+    ghost view = { λ a. addition_of P.view a };
+
+    ghost reader = { λ s. addition_at small (P.reader s.part) };
+
+    ghost is_ready = { λ s x. P.is_ready s.part x };
+
+    ghost is_short = { λ s x r. addition_short (P.reader s.part) (P.is_short s.part x r) small };
+
+    #[tactic(auto, unfolding(grammar::specs::Reading::addition_at, grammar::specs::Reading::version_parts_at))]
+    fn read(
+        &self,
+        alloc: Global,
+        text: &[u8],
+        tokens: &'t [Token],
+    ) -> Result<(Addition<P::Tree>, &'t [Token]), ReadError> {
+        match tokens {
+            [
+                Token {
+                    kind: TokenKind::Mark(Mark::OpenVersion),
+                    ..
+                },
+                rest @ ..,
+            ] => {
+                let rest = version(text, rest)?;
+                let (parts, rest) = one_or_more(alloc, text, &self.part, rest)?;
+                Ok((Addition::Bracket(parts), close_version(text, rest)?))
+            },
+            _ => {
+                let (part, rest) = self.part.read(alloc, text, tokens)?;
+                Ok((Addition::Alone(part), rest))
+            },
+        }
+    }
+}

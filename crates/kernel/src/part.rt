@@ -1,0 +1,115 @@
+//! What a reader of a production is.
+
+ghost use Rattle.std.specs.Prelude.{◌≡◌, ℕ, List, Bool, IfOk};
+ghost use Rattle.grammar.specs.Lexeme.{Lexeme, lexemes};
+ghost use Rattle.grammar.specs.Manies.{is_begun_by};
+ghost use Rattle.grammar.specs.Reading.{Reader};
+ghost use Rattle.grammar.specs.Short.{Short};
+ghost use Rattle.kernel.specs.Given.{Gives, AreTokens};
+
+use crate::fault::ReadError;
+use std::alloc::Global;
+use std::marker::PhantomData;
+use text::Token;
+
+/// A production with its reader on lists.
+pub trait Production {
+    type Tree: Drop;
+
+    ghost Shape: { Type 0 };
+
+    ghost view: { Self.Tree → Shape };
+
+    ghost reader: { ℕ → Reader Shape };
+}
+
+/// A reader of one production.
+pub trait Part<'t> {
+    type Tree: Drop;
+
+    /// The tree without memory.
+    ghost Shape: { Type 0 };
+
+    ghost view: { Self.Tree → Shape };
+
+    ghost reader: { Self → Reader Shape };
+
+    /// What must hold of the reader in a text before it reads.
+    ghost is_ready: { Self → List ℕ → Type 0 };
+
+    ghost is_short: { (s : Self) (x : List ℕ) → is_ready s x → Short (reader s) };
+
+    /// Reads the production at the first of these tokens.
+    fn read(
+        &self,
+        alloc: Global,
+        text: &[u8],
+        tokens: &'t [Token],
+    ) -> Result<(Self::Tree, &'t [Token]), ReadError>
+        requires ready { is_ready self.now text.now }
+        requires tokens { AreTokens text.now tokens.now }
+        ensures read { Gives (λ x. (view x.0, lexemes text.now x.1.now)) result (reader self.now (lexemes text.now tokens.now)) }
+        ensures rest { IfOk result (λ x. AreTokens text.now x.1.now) };
+}
+
+/// A reader that can tell from the first token whether its production stands here.
+pub trait Begun<'t>: Part<'t> {
+    ghost begins: { Lexeme → Bool };
+
+    fn is_here(&self, text: &[u8], tokens: &'t [Token]) -> bool
+        requires tokens { AreTokens text.now tokens.now }
+        ensures { result ≡ is_begun_by begins (lexemes text.now tokens.now) };
+}
+
+/// A reader by a function: how a production reads itself again.
+#[derive(Drop)]
+pub struct By<'t, G: Production, F: Fn(&'t [Token]) -> Result<(G::Tree, &'t [Token]), ReadError>> {
+    f: F,
+    depth: usize,
+    of: PhantomData<(&'t u8, G)>,
+}
+
+/// The function reads the production, where so many more things may be open.
+pub fn reads_by<'t, G: Production, F: Fn(&'t [Token]) -> Result<(G::Tree, &'t [Token]), ReadError>>(
+    _of: PhantomData<G>,
+    f: F,
+    depth: usize,
+) -> By<'t, G, F>
+    ensures depth { result.depth ≡ depth }
+    ensures f { result.f ≡ f }
+{
+    By {
+        f,
+        depth,
+        of: PhantomData,
+    }
+}
+
+impl<'t, G: Production, F: Fn(&'t [Token]) -> Result<(G::Tree, &'t [Token]), ReadError>> Part<'t>
+    for By<'t, G, F> {
+    ghost use Rattle.std.specs.Prelude.{IfOk};
+    ghost use Rattle.grammar.specs.Lexeme.{lexemes};
+    ghost use Rattle.grammar.specs.Short.{Short};
+    ghost use Rattle.kernel.specs.Given.{Gives, AreTokens};
+
+    type Tree = G::Tree;
+
+    ghost Shape = { G.Shape };
+
+    ghost view = { G.view };
+
+    ghost reader = { λ s. G.reader s.depth };
+
+    ghost is_ready = { λ s x. ((ts : _) → AreTokens x ts.now → F.pre s.f ts) × ((ts : _) (r : _) → AreTokens x ts.now → F.post s.f ts r → Gives (λ y. (G.view y.0, lexemes x y.1.now)) r (G.reader s.depth (lexemes x ts.now)) × IfOk r (λ y. AreTokens x y.1.now)) × Short (G.reader s.depth) };
+
+    ghost is_short = { λ s x r. r.2 };
+
+    fn read(
+        &self,
+        _alloc: Global,
+        _text: &[u8],
+        tokens: &'t [Token],
+    ) -> Result<(G::Tree, &'t [Token]), ReadError> {
+        (self.f)(tokens)
+    }
+}
