@@ -2,10 +2,10 @@
 use Rattle.std.proofs.Common.{◌≡◌, ℕ, suc, ◌+◌, ◌++◌, List, [], ◌∷◌, length, map, refl, sym, ap, ◌∙◌, append_assoc, length-append, arith}
 use Rattle.std.proofs.lemmas.List.{length-map}
 use Rattle.trees.specs.Modules.{AssignmentTree, assigns_type, assigns_value, ModuleTree}
-use Rattle.names.specs.Gathered.{names_of}
+use Rattle.names.specs.Names.{names_of}
 use Rattle.names.specs.declared.scope.Assigned.TheVariants as assigned
-use Rattle.names.specs.Gathering.{name_of, root_of, imports_of, named_from, roots_from, values_from, owned_by}
-use Rattle.names.specs.Modules.{type_count, value_count, all_assignments, scopes_from, owned_from}
+use Rattle.names.specs.Modules.{name_of, type_count, value_count, all_assignments}
+use Rattle.names.specs.ByNumber.{root_of, named_from, roots_from, values_from, owned_by, scope_of, scopes_from, owned_from}
 
 pub named_behind : (n v : ℕ) (gs ks : List AssignmentTree) → named_from n v (gs ++ ks) ≡ named_from n v gs ++ named_from (n + length gs) (v + value_count gs) ks
 named_behind n v [] ks = let a : n + 0 ≡ n = omega arith in let b : v + 0 ≡ v = omega arith in rw (a, b) refl
@@ -70,7 +70,7 @@ scopes_behind n v (m ∷ ms) ks =
     let hs = all_assignments ms in
     let a : n + length gs + length hs ≡ n + length (gs ++ hs) = omega (arith, length-append gs hs) in
     let b : v + value_count gs + value_count hs ≡ v + value_count (gs ++ hs) = omega (arith, values_count gs hs) in
-    ap (λ l. (m.name, record { assigned = named_from n v gs; imports = imports_of m.imports; exports = m.exports }) ∷ l) (scopes_behind (n + length gs) (v + value_count gs) ms ks ∙ ap (λ z. scopes_from (n + length gs) (v + value_count gs) ms ++ scopes_from z (v + value_count gs + value_count hs) ks) a ∙ ap (λ z. scopes_from (n + length gs) (v + value_count gs) ms ++ scopes_from (n + length (gs ++ hs)) z ks) b)
+    ap (λ l. (m.name, scope_of n v m) ∷ l) (scopes_behind (n + length gs) (v + value_count gs) ms ks ∙ ap (λ z. scopes_from (n + length gs) (v + value_count gs) ms ++ scopes_from z (v + value_count gs + value_count hs) ks) a ∙ ap (λ z. scopes_from (n + length gs) (v + value_count gs) ms ++ scopes_from (n + length (gs ++ hs)) z ks) b)
 
 pub owned_behind : (k : ℕ) (ms ks : List ModuleTree) → owned_from k (ms ++ ks) ≡ owned_from k ms ++ owned_from (k + length ms) ks
 owned_behind k [] ks = let a : k + 0 ≡ k = omega arith in rw a refl

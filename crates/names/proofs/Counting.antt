@@ -1,46 +1,38 @@
 -- Assignments counted one by one.
-use Rattle.std.proofs.Common.{◌≡◌, ℕ, zero, suc, ◌+◌, ◌++◌, ◌<◌, List, [], ◌∷◌, length, map, get_or, take, drop, refl, sym, subst, ap, ◌∙◌, arith, string_bytes}
+use Rattle.std.proofs.Common.{◌≡◌, ℕ, ◌+◌, ◌++◌, ◌<◌, List, [], ◌∷◌, length, map, get_or, take, drop, refl, sym, subst, ap, ◌∙◌, arith}
 use Rattle.std.proofs.lemmas.List.{map-append, take-append-drop}
-use Rattle.trees.specs.Values.{Name}
+use Rattle.trees.specs.Values.{Name, name_at}
 use Rattle.trees.specs.declared.module.Assignment.{Assignment}
 use Rattle.trees.specs.declared.module.Module.{Module}
 use Rattle.trees.specs.Modules.{AssignmentTree, ModuleTree, assignment_of as given_of, module_tree_of}
 use Rattle.names.specs.declared.fault.NameFault.{NameFault}
 use Rattle.names.specs.declared.fault.NameFault.TheVariants as faults
 use Rattle.names.specs.declared.fault.Limit.TheVariants as limits
-use Rattle.names.specs.Gathered.{IsPastCount, IsNamingFault}
-use Rattle.names.specs.Gathering.{name_of}
-use Rattle.names.specs.Faults.{IsPastHere, IsPast}
-use Rattle.names.specs.Modules.{type_count, value_count, all_assignments}
+use Rattle.names.specs.proving.Limiting.{IsPastCount}
+use Rattle.names.specs.proving.Gathering.{IsNamingFault}
+use Rattle.names.specs.Modules.{name_of, type_count, value_count, all_assignments}
+use Rattle.names.specs.Faults.{IsPastHere, IsPast, module_told, name_told}
+use Rattle.names.specs.proving.Distinct.{drop_at}
 use Rattle.names.proofs.Behind.{types_count, values_count, all_behind}
-
-pub drop_all : {X : Type 0} (xs : List X) → drop (length xs) xs ≡ []
-drop_all [] = refl
-drop_all (x ∷ xs) = drop_all xs
-
-pub drop_one : {X : Type 0} (xs : List X) (i : ℕ) (x : X) → i < length xs → x ≡ get_or xs i x → drop i xs ≡ x ∷ drop (i + 1) xs
-drop_one [] i x l e = absurd (omega arith)
-drop_one (y ∷ xs) zero x l e = ap (λ z. z ∷ xs) (sym e)
-drop_one (y ∷ xs) (suc i) x l e = let z : suc i + 1 ≡ suc (i + 1) = omega arith in rw z (drop_one xs i x (omega arith) e)
 
 -- one assignment more
 pub types_drop : (gs : List Assignment) (i : ℕ) (g : Assignment) → i < length gs → g ≡ get_or gs i g → type_count (map given_of (drop i gs)) ≡ type_count (given_of g ∷ []) + type_count (map given_of (drop (i + 1) gs))
-types_drop gs i g l e = ap (λ z. type_count (map given_of z)) (drop_one gs i g l e) ∙ types_count (given_of g ∷ []) (map given_of (drop (i + 1) gs))
+types_drop gs i g l e = ap (λ z. type_count (map given_of z)) (drop_at gs i g l e) ∙ types_count (given_of g ∷ []) (map given_of (drop (i + 1) gs))
 
 pub values_drop : (gs : List Assignment) (i : ℕ) (g : Assignment) → i < length gs → g ≡ get_or gs i g → value_count (map given_of (drop i gs)) ≡ value_count (given_of g ∷ []) + value_count (map given_of (drop (i + 1) gs))
-values_drop gs i g l e = ap (λ z. value_count (map given_of z)) (drop_one gs i g l e) ∙ values_count (given_of g ∷ []) (map given_of (drop (i + 1) gs))
+values_drop gs i g l e = ap (λ z. value_count (map given_of z)) (drop_at gs i g l e) ∙ values_count (given_of g ∷ []) (map given_of (drop (i + 1) gs))
 
 -- one module more
 pub types_drop_module : (ms : List Module) (i : ℕ) (m : Module) → i < length ms → m ≡ get_or ms i m → type_count (all_assignments (map module_tree_of (drop i ms))) ≡ type_count (map given_of m.assignments.items) + type_count (all_assignments (map module_tree_of (drop (i + 1) ms)))
-types_drop_module ms i m l e = ap (λ z. type_count (all_assignments (map module_tree_of z))) (drop_one ms i m l e) ∙ types_count (map given_of m.assignments.items) (all_assignments (map module_tree_of (drop (i + 1) ms)))
+types_drop_module ms i m l e = ap (λ z. type_count (all_assignments (map module_tree_of z))) (drop_at ms i m l e) ∙ types_count (map given_of m.assignments.items) (all_assignments (map module_tree_of (drop (i + 1) ms)))
 
 pub values_drop_module : (ms : List Module) (i : ℕ) (m : Module) → i < length ms → m ≡ get_or ms i m → value_count (all_assignments (map module_tree_of (drop i ms))) ≡ value_count (map given_of m.assignments.items) + value_count (all_assignments (map module_tree_of (drop (i + 1) ms)))
-values_drop_module ms i m l e = ap (λ z. value_count (all_assignments (map module_tree_of z))) (drop_one ms i m l e) ∙ values_count (map given_of m.assignments.items) (all_assignments (map module_tree_of (drop (i + 1) ms)))
+values_drop_module ms i m l e = ap (λ z. value_count (all_assignments (map module_tree_of z))) (drop_at ms i m l e) ∙ values_count (map given_of m.assignments.items) (all_assignments (map module_tree_of (drop (i + 1) ms)))
 
 -- ---- what passes a limit
 
 around : {X : Type 0} (xs : List X) (i : ℕ) (x : X) → i < length xs → x ≡ get_or xs i x → take i xs ++ x ∷ drop (i + 1) xs ≡ xs
-around xs i x l e = ap (λ r. take i xs ++ r) (sym (drop_one xs i x l e)) ∙ take-append-drop i xs
+around xs i x l e = ap (λ r. take i xs ++ r) (sym (drop_at xs i x l e)) ∙ take-append-drop i xs
 
 module _ (count : List AssignmentTree → ℕ) (add : (gs ks : List AssignmentTree) → count (gs ++ ks) ≡ count gs + count ks) (n : ℕ) where
   -- the assignment at i passes the limit, where so many stand before it
@@ -50,41 +42,41 @@ module _ (count : List AssignmentTree → ℕ) (add : (gs ks : List AssignmentTr
       let before = map given_of (take i gs) in
       let behind = map given_of (drop (i + 1) gs) in
       let s : before ++ given_of g ∷ behind ≡ map given_of gs = sym (map-append given_of (take i gs) (g ∷ drop (i + 1) gs)) ∙ ap (map given_of) (around gs i g l e) in
-      let d : count (map given_of (drop i gs)) ≡ count (given_of g ∷ behind) = ap (λ z. count (map given_of z)) (drop_one gs i g l e) in
+      let d : count (map given_of (drop i gs)) ≡ count (given_of g ∷ behind) = ap (λ z. count (map given_of z)) (drop_at gs i g l e) in
       let a : count (map given_of gs) ≡ count before + count (given_of g ∷ behind) = ap count (sym s) ∙ add before (given_of g ∷ behind) in
       record { before = before; given = given_of g; behind = behind; splits = s; assigns = q; full = omega (arith, full, sum, d, a); counted = one }
 
-  past_module : (ms : List Module) (i : ℕ) (m : Module) (k : ℕ) (M x : Name) → i < length ms → m ≡ get_or ms i m → M ≡ string_bytes m.name → k + count (all_assignments (map module_tree_of (drop i ms))) ≡ count (all_assignments (map module_tree_of ms)) →
+  past_module : (ms : List Module) (i : ℕ) (m : Module) (k : ℕ) (M x : Name) → i < length ms → m ≡ get_or ms i m → M ≡ name_at m.name → k + count (all_assignments (map module_tree_of (drop i ms))) ≡ count (all_assignments (map module_tree_of ms)) →
       IsPastHere count n k (map given_of m.assignments.items) x → IsPast count n (map module_tree_of ms) M x
   past_module ms i m k M x l e q sum h =
       let before = map module_tree_of (take i ms) in
       let behind = map module_tree_of (drop (i + 1) ms) in
       let s : before ++ module_tree_of m ∷ behind ≡ map module_tree_of ms = sym (map-append module_tree_of (take i ms) (m ∷ drop (i + 1) ms)) ∙ ap (map module_tree_of) (around ms i m l e) in
-      let d : count (all_assignments (map module_tree_of (drop i ms))) ≡ count (all_assignments (module_tree_of m ∷ behind)) = ap (λ z. count (all_assignments (map module_tree_of z))) (drop_one ms i m l e) in
+      let d : count (all_assignments (map module_tree_of (drop i ms))) ≡ count (all_assignments (module_tree_of m ∷ behind)) = ap (λ z. count (all_assignments (map module_tree_of z))) (drop_at ms i m l e) in
       let a : count (all_assignments (map module_tree_of ms)) ≡ count (all_assignments before) + count (all_assignments (module_tree_of m ∷ behind)) =
       ap (λ z. count (all_assignments z)) (sym s) ∙ ap count (all_behind before (module_tree_of m ∷ behind)) ∙ add (all_assignments before) (all_assignments (module_tree_of m ∷ behind)) in
       let same : k ≡ count (all_assignments before) = omega (arith, sum, d, a) in
       record { before = before; tree = module_tree_of m; behind = behind; splits = s; named = sym q; here = subst (λ j. IsPastHere count n j (map given_of m.assignments.items) x) same h }
 
 -- what passes a limit in one module passes it in all
-pub past_naming : (ms : List Module) (i : ℕ) (m : Module) (t v : ℕ) (M : Name) (gs : List AssignmentTree) (e : NameFault) → i < length ms → m ≡ get_or ms i m → M ≡ string_bytes m.name → gs ≡ map given_of m.assignments.items →
+pub past_naming : (ms : List Module) (i : ℕ) (m : Module) (t v : ℕ) (M : Name) (gs : List AssignmentTree) (e : NameFault) → i < length ms → m ≡ get_or ms i m → M ≡ name_at m.name → gs ≡ map given_of m.assignments.items →
     t + type_count (all_assignments (map module_tree_of (drop i ms))) ≡ type_count (all_assignments (map module_tree_of ms)) → v + value_count (all_assignments (map module_tree_of (drop i ms))) ≡ value_count (all_assignments (map module_tree_of ms)) →
     IsPastCount t v M gs e → IsNamingFault (map module_tree_of ms) e
 past_naming ms i m t v M gs faults.Memory l d q r a b p = tt
-past_naming ms i m t v M gs (faults.Limit limits.Types z y) l d q r a b p =
-    past_module type_count types_count 4096 ms i m t (string_bytes z) (string_bytes y) l d (p.0 ∙ q) a (subst (λ w. IsPastHere type_count 4096 t w (string_bytes y)) r p.1)
-past_naming ms i m t v M gs (faults.Limit limits.Values z y) l d q r a b p =
-    past_module value_count values_count 65536 ms i m v (string_bytes z) (string_bytes y) l d (p.0 ∙ q) b (subst (λ w. IsPastHere value_count 65536 v w (string_bytes y)) r p.1)
-past_naming ms i m t v M gs (faults.Limit limits.Modules z y) l d q r a b p = absurd p
-past_naming ms i m t v M gs (faults.Limit limits.Members z y) l d q r a b p = absurd p
-past_naming ms i m t v M gs (faults.Limit limits.Items z y) l d q r a b p = absurd p
-past_naming ms i m t v M gs (faults.Limit limits.NamedBit z y) l d q r a b p = absurd p
-past_naming ms i m t v M gs (faults.Limit limits.Integer z y) l d q r a b p = absurd p
-past_naming ms i m t v M gs (faults.Twice z y) l d q r a b p = absurd p
-past_naming ms i m t v M gs (faults.UnknownName z y) l d q r a b p = absurd p
-past_naming ms i m t v M gs (faults.NotExported z y) l d q r a b p = absurd p
-past_naming ms i m t v M gs (faults.Circular z y) l d q r a b p = absurd p
-past_naming ms i m t v M gs (faults.UnknownModule z y) l d q r a b p = absurd p
+past_naming ms i m t v M gs (faults.Limit limits.Types s) l d q r a b p =
+    past_module type_count types_count 4096 ms i m t (module_told s) (name_told s) l d (p.0 ∙ q) a (subst (λ w. IsPastHere type_count 4096 t w (name_told s)) r p.1)
+past_naming ms i m t v M gs (faults.Limit limits.Values s) l d q r a b p =
+    past_module value_count values_count 65536 ms i m v (module_told s) (name_told s) l d (p.0 ∙ q) b (subst (λ w. IsPastHere value_count 65536 v w (name_told s)) r p.1)
+past_naming ms i m t v M gs (faults.Limit limits.Modules s) l d q r a b p = absurd p
+past_naming ms i m t v M gs (faults.Limit limits.Members s) l d q r a b p = absurd p
+past_naming ms i m t v M gs (faults.Limit limits.Items s) l d q r a b p = absurd p
+past_naming ms i m t v M gs (faults.Limit limits.NamedBit s) l d q r a b p = absurd p
+past_naming ms i m t v M gs (faults.Limit limits.Integer s) l d q r a b p = absurd p
+past_naming ms i m t v M gs (faults.Twice s) l d q r a b p = absurd p
+past_naming ms i m t v M gs (faults.UnknownName s) l d q r a b p = absurd p
+past_naming ms i m t v M gs (faults.NotExported s) l d q r a b p = absurd p
+past_naming ms i m t v M gs (faults.Circular s) l d q r a b p = absurd p
+past_naming ms i m t v M gs (faults.UnknownModule s) l d q r a b p = absurd p
 
 -- the assignment that passes a limit is counted too
 pub past_more : (count : List AssignmentTree → ℕ) → ((gs ks : List AssignmentTree) → count (gs ++ ks) ≡ count gs + count ks) → (n : ℕ) (ms : List ModuleTree) (M x : Name) → IsPast count n ms M x → n < count (all_assignments ms)

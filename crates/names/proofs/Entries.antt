@@ -9,7 +9,7 @@ use Rattle.indexmap.proofs.CallerLemmas.{insert_entry-new}
 use Rattle.trees.specs.Values.{Name}
 use Rattle.names.specs.Names.{under}
 use Rattle.names.specs.Scopes.{seen}
-use Rattle.names.specs.Meanings.{under_seen}
+use Rattle.names.specs.proving.Meanings.{under_seen}
 
 none_map : {X Y : Type 0} (f : X → Y) (o : Option X) → option_map f o ≡ None → o ≡ None
 none_map f None e = refl

@@ -1,26 +1,23 @@
 -- Assignments, imports and modules that are gathered one behind the other.
-use Rattle.std.proofs.Common.{◌≡◌, inl, inr, ℕ, ◌+◌, ◌++◌, List, [], ◌∷◌, Some, None, length, map, refl, sym, subst, ap, ◌∙◌, append_assoc, length-append, arith, string_bytes}
-use Rattle.std.proofs.lemmas.List.{length-map, map-append}
+use Rattle.std.proofs.Common.{◌≡◌, inl, inr, ℕ, ◌+◌, ◌++◌, List, [], ◌∷◌, Some, None, length, map, refl, sym, subst, ap, ◌∙◌, append_assoc, length-append, arith}
+use Rattle.std.proofs.lemmas.List.{append-nil, length-map, map-append}
+use Rattle.trees.specs.declared.place.Spot.{Spot}
 use Rattle.trees.specs.Values.{Name}
-use Rattle.trees.specs.Modules.{AssignmentTree, ImportTree, ModuleTree}
+use Rattle.trees.specs.Modules.{AssignmentTree, ModuleTree}
 use Rattle.names.specs.declared.fault.NameFault.{NameFault}
 use Rattle.names.specs.declared.fault.NameFault.TheVariants as faults
 use Rattle.names.specs.declared.gather.Gathered.{Gathered}
 use Rattle.names.specs.declared.gather.Tables.{Tables}
 use Rattle.names.specs.declared.scope.Assigned.{Assigned}
-use Rattle.names.specs.Faults.{IsTwice, IsTaken, IsRepeated}
-use Rattle.names.specs.Gathered.{names_of, Adds, HasGathered, IsNamingFault}
-use Rattle.names.specs.Gathering.{name_of, named_from, roots_from, values_from, owned_by, imports_of}
-use Rattle.names.specs.Modules.{StandsIn, StandsTwice, AreDistinct, names_in, value_count, all_assignments, scopes_from, owned_from}
-use Rattle.names.specs.Names.{Module, under}
+use Rattle.names.specs.proving.Gathering.{TellsTwice, IsTwice, IsTaken, IsRepeated, Adds, HasGathered, IsNamingFault}
+use Rattle.names.specs.Faults.{module_told, name_told}
+use Rattle.names.specs.Names.{names_of, Module, under}
+use Rattle.names.specs.Modules.{name_of, imports_of, StandsIn, StandsTwice, AreDistinct, names_in, value_count, all_assignments}
+use Rattle.names.specs.ByNumber.{named_from, roots_from, values_from, owned_by, scope_of, scopes_from, owned_from}
 use Rattle.names.specs.Scopes.{seen, module_of}
 use Rattle.names.specs.Sources.{assignment_of, header_of, sources_of, value_of}
 use Rattle.names.proofs.Behind.{named_behind, roots_behind, values_behind, names_named, length_values, length_owned, length_all_owned, all_behind, scopes_behind, owned_behind, names_scopes}
-use Rattle.names.specs.Distinct.{right, stands_either, stands_one, twice_left, twice_across, distinct_none, distinct_more, under_none, name_under}
-
-pub append_nil : {X : Type 0} (xs : List X) → xs ++ [] ≡ xs
-append_nil [] = refl
-append_nil (x ∷ xs) = ap (λ l. x ∷ l) (append_nil xs)
+use Rattle.names.specs.proving.Distinct.{right, stands_either, stands_one, twice_left, twice_across, distinct_none, distinct_more, under_none, name_under}
 
 -- ---- assignments
 
@@ -38,7 +35,7 @@ placed_start k all old names e = record {
   splits = refl;
   named = e;
   distinct = distinct_none;
-  adds = record { owned = sym (append_nil (map assignment_of old.assignments.items)); roots = sym (append_nil (sources_of old.roots.items)); values = sym (append_nil (map value_of old.values.items)) };
+  adds = record { owned = sym (append-nil (map assignment_of old.assignments.items)); roots = sym (append-nil (sources_of old.roots.items)); values = sym (append-nil (map value_of old.values.items)) };
 }
 
 more_owned : (k : ℕ) (gs : List AssignmentTree) (old now : Tables) → Adds k gs old now → length now.assignments.items ≡ length old.assignments.items + length gs
@@ -78,27 +75,27 @@ placed_step k all rest g old now new names names' p e u b =
 pub placed_end : (k : ℕ) (all : List AssignmentTree) (old now : Tables) (names : List (Name × Assigned)) → ArePlaced k all [] old now names →
     (names ≡ named_from (length old.assignments.items) (length old.values.items) all) × AreDistinct (map name_of all) × Adds k all old now
 placed_end k all old now names p =
-    let e : p.done ≡ all = sym (append_nil p.done) ∙ p.splits in
+    let e : p.done ≡ all = sym (append-nil p.done) ∙ p.splits in
     (p.named ∙ ap (named_from (length old.assignments.items) (length old.values.items)) e, subst (λ l. AreDistinct (map name_of l)) e p.distinct, subst (λ l. Adds k l old now) e p.adds)
 
+-- what a fault 30 or want of memory leads to
+tells : (Q : Name → Name → Type 0) (P : NameFault → Type 0) → P faults.Memory → ((s : Spot) → Q (module_told s) (name_told s) → P (faults.Twice s)) → (e : NameFault) → TellsTwice Q e → P e
+tells Q P m t faults.Memory q = m
+tells Q P m t (faults.Twice s) q = t s q
+tells Q P m t (faults.UnknownName s) q = absurd q
+tells Q P m t (faults.Limit l s) q = absurd q
+tells Q P m t (faults.NotExported s) q = absurd q
+tells Q P m t (faults.Circular s) q = absurd q
+tells Q P m t (faults.UnknownModule s) q = absurd q
+
 -- a name that is taken stands twice among all
-pub taken_twice : (M x : Name) (xs ys all : List Name) (e : NameFault) → xs ++ x ∷ ys ≡ all → IsTaken M x xs e → IsRepeated M all e
-taken_twice M x xs ys all faults.Memory q t = tt
-taken_twice M x xs ys all (faults.Twice m y) q t = (t.0, subst (λ z. StandsTwice all z) (sym t.1) (subst (λ l. StandsTwice l x) q (twice_across xs (x ∷ ys) x t.2 (0, refl))))
-taken_twice M x xs ys all (faults.UnknownName m y) q t = absurd t
-taken_twice M x xs ys all (faults.Limit l m y) q t = absurd t
-taken_twice M x xs ys all (faults.NotExported m y) q t = absurd t
-taken_twice M x xs ys all (faults.Circular m y) q t = absurd t
-taken_twice M x xs ys all (faults.UnknownModule m y) q t = absurd t
+taken_twice : (M x : Name) (xs ys all : List Name) (e : NameFault) → xs ++ x ∷ ys ≡ all → IsTaken M x xs e → IsRepeated M all e
+taken_twice M x xs ys all e q t =
+    tells (λ m y. (m ≡ M) × (y ≡ x) × StandsIn xs x) (IsRepeated M all) tt (λ s u. (u.0, subst (λ z. StandsTwice all z) (sym u.1) (subst (λ l. StandsTwice l x) q (twice_across xs (x ∷ ys) x u.2 (0, refl))))) e t
 
 twice_taken : {X : Type 0} (M x : Name) (es : List (Name × X)) (e : NameFault) → IsTwice M x es e → IsTaken M x (names_of es) e
-twice_taken M x es faults.Memory t = tt
-twice_taken M x es (faults.Twice m y) t = (t.0, t.1, name_under x es t.2 t.3)
-twice_taken M x es (faults.UnknownName m y) t = absurd t
-twice_taken M x es (faults.Limit l m y) t = absurd t
-twice_taken M x es (faults.NotExported m y) t = absurd t
-twice_taken M x es (faults.Circular m y) t = absurd t
-twice_taken M x es (faults.UnknownModule m y) t = absurd t
+twice_taken {X} M x es e t =
+    tells (λ m y. (m ≡ M) × (y ≡ x) × (a : X) × (under x es ≡ Some a)) (IsTaken M x (names_of es)) tt (λ s u. (u.0, u.1, name_under x es u.2 u.3)) e t
 
 pub placed_fault : (k : ℕ) (all rest : List AssignmentTree) (g : AssignmentTree) (old now : Tables) (names : List (Name × Assigned)) (M : Name) (e : NameFault) → ArePlaced k all (g ∷ rest) old now names → IsTwice M (name_of g) names e → IsRepeated M (map name_of all) e
 placed_fault k all rest g old now names M e p t =
@@ -126,13 +123,8 @@ pub imports_sum : {X : Type 0} (is is' one rest all : List X) → is ++ (one ++ 
 imports_sum is is' one rest all q e = ap (λ l. l ++ rest) e ∙ append_assoc is one rest ∙ q
 
 pub repeated_more : (M : Name) (xs ys all : List Name) (e : NameFault) → xs ++ ys ≡ all → IsRepeated M xs e → IsRepeated M all e
-repeated_more M xs ys all faults.Memory q t = tt
-repeated_more M xs ys all (faults.Twice m y) q t = (t.0, subst (λ l. StandsTwice l (string_bytes y)) q (twice_left xs ys (string_bytes y) t.1))
-repeated_more M xs ys all (faults.UnknownName m y) q t = absurd t
-repeated_more M xs ys all (faults.Limit l m y) q t = absurd t
-repeated_more M xs ys all (faults.NotExported m y) q t = absurd t
-repeated_more M xs ys all (faults.Circular m y) q t = absurd t
-repeated_more M xs ys all (faults.UnknownModule m y) q t = absurd t
+repeated_more M xs ys all e q t =
+    tells (λ m y. (m ≡ M) × StandsTwice xs y) (IsRepeated M all) tt (λ s u. (u.0, subst (λ l. StandsTwice l (name_told s)) q (twice_left xs ys (name_told s) u.1))) e t
 
 pub imports_fault : (M : Name) (xs : List Name) (is one rest all : List (Name × Name)) (e : NameFault) → is ++ (one ++ rest) ≡ all → IsRepeated M (xs ++ names_of (is ++ one)) e → IsRepeated M (xs ++ names_of all) e
 imports_fault M xs is one rest all e q t =
@@ -148,7 +140,7 @@ stands_last P xs x f p y s =
     ]
 
 pub gathered_more : (ms : List ModuleTree) (t : ModuleTree) (g g' : Gathered) → HasGathered ms g → under t.name (seen module_of g.modules.entries) ≡ None →
-    seen module_of g'.modules.entries ≡ seen module_of g.modules.entries ++ (t.name, record { assigned = named_from (length g.tables.assignments.items) (length g.tables.values.items) t.assignments; imports = imports_of t.imports; exports = t.exports }) ∷ [] →
+    seen module_of g'.modules.entries ≡ seen module_of g.modules.entries ++ (t.name, scope_of (length g.tables.assignments.items) (length g.tables.values.items) t) ∷ [] →
     map header_of g'.headers.items ≡ map header_of g.headers.items ++ (t.name, t.tag_default) ∷ [] →
     Adds (length g.headers.items) t.assignments g.tables g'.tables → AreDistinct (names_in t) → HasGathered (ms ++ t ∷ []) g'
 gathered_more ms t g g' h u s d a n =
@@ -159,12 +151,12 @@ gathered_more ms t g g' h u s d a n =
     let zg : length gs ≡ 0 + length gs = omega arith in
     let zv : value_count gs ≡ 0 + value_count gs = omega arith in
     let zh : length ms ≡ 0 + length ms = omega arith in
-    let all : all_assignments (ms ++ t ∷ []) ≡ gs ++ t.assignments = all_behind ms (t ∷ []) ∙ ap (λ l. gs ++ l) (append_nil t.assignments) in
+    let all : all_assignments (ms ++ t ∷ []) ≡ gs ++ t.assignments = all_behind ms (t ∷ []) ∙ ap (λ l. gs ++ l) (append-nil t.assignments) in
     let same : names_of (seen module_of g.modules.entries) ≡ map (λ m. m.name) ms = ap names_of h.scopes ∙ names_scopes 0 0 ms in
     record {
       scopes = s ∙ ap (λ z. seen module_of g.modules.entries ++ scopes_from z (length g.tables.values.items) (t ∷ [])) (lg ∙ zg) ∙ ap (λ z. seen module_of g.modules.entries ++ scopes_from (0 + length gs) z (t ∷ [])) (lv ∙ zv) ∙ ap (λ z. z ++ scopes_from (0 + length gs) (0 + value_count gs) (t ∷ [])) h.scopes ∙ sym (scopes_behind 0 0 ms (t ∷ []));
       headers = d ∙ ap (λ z. z ++ (t.name, t.tag_default) ∷ []) h.headers ∙ sym (map-append (λ m. (m.name, m.tag_default)) ms (t ∷ []));
-      assignments = a.owned ∙ ap (λ z. map assignment_of g.tables.assignments.items ++ owned_by z t.assignments) (lh ∙ zh) ∙ ap (λ z. z ++ owned_by (0 + length ms) t.assignments) h.assignments ∙ ap (λ z. owned_from 0 ms ++ z) (sym (append_nil (owned_by (0 + length ms) t.assignments))) ∙ sym (owned_behind 0 ms (t ∷ []));
+      assignments = a.owned ∙ ap (λ z. map assignment_of g.tables.assignments.items ++ owned_by z t.assignments) (lh ∙ zh) ∙ ap (λ z. z ++ owned_by (0 + length ms) t.assignments) h.assignments ∙ ap (λ z. owned_from 0 ms ++ z) (sym (append-nil (owned_by (0 + length ms) t.assignments))) ∙ sym (owned_behind 0 ms (t ∷ []));
       roots = a.roots ∙ ap (λ z. sources_of g.tables.roots.items ++ roots_from z t.assignments) (lg ∙ zg) ∙ ap (λ z. z ++ roots_from (0 + length gs) t.assignments) h.roots ∙ sym (roots_behind 0 gs t.assignments) ∙ ap (roots_from 0) (sym all);
       values = a.values ∙ ap (λ z. map value_of g.tables.values.items ++ values_from z t.assignments) (lg ∙ zg) ∙ ap (λ z. z ++ values_from (0 + length gs) t.assignments) h.values ∙ sym (values_behind 0 gs t.assignments) ∙ ap (values_from 0) (sym all);
       distinct = subst AreDistinct (sym (map-append (λ m. m.name) ms (t ∷ []))) (distinct_more (map (λ m. m.name) ms) t.name h.distinct (λ z. under_none t.name (seen module_of g.modules.entries) u (subst (λ l. StandsIn l t.name) (sym same) z)));
@@ -179,14 +171,8 @@ module_twice ms rest t g m h u =
     subst (λ l. StandsTwice l t.name) (sym (map-append (λ m. m.name) ms (t ∷ rest))) (twice_across (map (λ m. m.name) ms) (t.name ∷ map (λ m. m.name) rest) t.name s (0, refl))
 
 pub scope_fault : (ms rest : List ModuleTree) (t : ModuleTree) (M : Name) (e : NameFault) → M ≡ t.name → IsRepeated M (names_in t) e → IsNamingFault (ms ++ t ∷ rest) e
-scope_fault ms rest t M faults.Memory q r = tt
-scope_fault ms rest t M (faults.Twice m y) q r =
-    inr (record { number = length ms + 0; tree = t; there = right ms (t ∷ rest) 0; named = sym q ∙ sym r.0; twice = r.1 })
-scope_fault ms rest t M (faults.UnknownName m y) q r = absurd r
-scope_fault ms rest t M (faults.Limit l m y) q r = absurd r
-scope_fault ms rest t M (faults.NotExported m y) q r = absurd r
-scope_fault ms rest t M (faults.Circular m y) q r = absurd r
-scope_fault ms rest t M (faults.UnknownModule m y) q r = absurd r
+scope_fault ms rest t M e q r =
+    tells (λ m y. (m ≡ M) × StandsTwice (names_in t) y) (IsNamingFault (ms ++ t ∷ rest)) tt (λ s u. inr (record { number = length ms + 0; tree = t; there = right ms (t ∷ rest) 0; named = sym q ∙ sym u.0; twice = u.1 })) e r
 
 -- modules that are gathered so far, and those that wait
 pub record ArePartly (all rest : List ModuleTree) (g : Gathered) : Type 0 where
@@ -198,17 +184,7 @@ pub partly_step : (all rest : List ModuleTree) (t : ModuleTree) (g g' : Gathered
 partly_step all rest t g g' p f = record { done = p.done ++ t ∷ []; splits = append_assoc p.done (t ∷ []) rest ∙ p.splits; gathered = f p.done p.gathered }
 
 pub partly_end : (all : List ModuleTree) (g : Gathered) → ArePartly all [] g → HasGathered all g
-partly_end all g p = subst (λ l. HasGathered l g) (sym (append_nil p.done) ∙ p.splits) p.gathered
+partly_end all g p = subst (λ l. HasGathered l g) (sym (append-nil p.done) ∙ p.splits) p.gathered
 
 pub partly_fault : (all rest : List ModuleTree) (t : ModuleTree) (g : Gathered) (e : NameFault) → ArePartly all (t ∷ rest) g → ((ms rest : List ModuleTree) → HasGathered ms g → IsNamingFault (ms ++ t ∷ rest) e) → IsNamingFault all e
 partly_fault all rest t g e p f = subst (λ l. IsNamingFault l e) p.splits (f p.done rest p.gathered)
-
-pub imports_step : (is is' all : List (Name × Name)) (i : ImportTree) (rest : List ImportTree) (xs : List Name) (N : Name) → is ++ imports_of (i ∷ rest) ≡ all → xs ≡ i.names → N ≡ i.from → is' ≡ is ++ map (λ x. (x, N)) xs → is' ++ imports_of rest ≡ all
-imports_step is is' all i rest xs N q p r e =
-    let same : map (λ (x : Name). (x, N)) xs ≡ map (λ (x : Name). (x, i.from)) i.names = ap (λ (z : Name). map (λ (x : Name). (x, z)) xs) r ∙ ap (map (λ (x : Name). (x, i.from))) p in
-    imports_sum is is' (map (λ (x : Name). (x, i.from)) i.names) (imports_of rest) all q (e ∙ ap (λ l. is ++ l) same)
-
-pub imports_stop : (M : Name) (xs : List Name) (is all : List (Name × Name)) (i : ImportTree) (rest : List ImportTree) (ys : List Name) (N : Name) (e : NameFault) → is ++ imports_of (i ∷ rest) ≡ all → ys ≡ i.names → N ≡ i.from → IsRepeated M (xs ++ names_of (is ++ map (λ x. (x, N)) ys)) e → IsRepeated M (xs ++ names_of all) e
-imports_stop M xs is all i rest ys N e q p r f =
-    let same : map (λ (x : Name). (x, N)) ys ≡ map (λ (x : Name). (x, i.from)) i.names = ap (λ (z : Name). map (λ (x : Name). (x, z)) ys) r ∙ ap (map (λ (x : Name). (x, i.from))) p in
-    imports_fault M xs is (map (λ (x : Name). (x, i.from)) i.names) (imports_of rest) all e q (subst (λ l. IsRepeated M (xs ++ names_of (is ++ l)) e) same f)

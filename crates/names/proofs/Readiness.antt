@@ -2,22 +2,21 @@
 use Rattle.std.proofs.Common.{◌≡◌, inl, inr, ℕ, zero, suc, ◌+◌, ◌<◌, ◌≤◌, List, [], ◌∷◌, length, Some, refl, sym, subst, ap, ◌∙◌, length-append, arith}
 use Rattle.std.specs.Prelude.{slice_get}
 use Rattle.std.proofs.lemmas.List.{length-map}
+use Rattle.std.proofs.lemmas.Option.{same_Some}
 use Rattle.trees.specs.Values.{Name}
 use Rattle.trees.specs.Modules.{AssignmentTree, assigns_type, assigns_value, ModuleTree}
 use Rattle.names.specs.declared.gather.Gathered.{Gathered}
 use Rattle.names.specs.declared.scope.Assigned.{Assigned}
 use Rattle.names.specs.declared.scope.Assigned.TheVariants as assigned
-use Rattle.names.specs.Gathered.{HasGathered, IsReady, IsGiven}
-use Rattle.names.specs.Gathering.{name_of, named_from, roots_from, values_from, owned_by}
-use Rattle.names.specs.Modules.{StandsIn, value_count, all_assignments, scopes_from, owned_from}
+use Rattle.names.specs.proving.Gathering.{HasGathered}
+use Rattle.names.specs.proving.Ready.{IsReady, IsGiven}
+use Rattle.names.specs.Modules.{name_of, StandsIn, value_count, all_assignments}
+use Rattle.names.specs.ByNumber.{named_from, roots_from, values_from, owned_by, scopes_from, owned_from}
 use Rattle.names.specs.Names.{Module, Meaning, own, imported, IsApart}
 use Rattle.names.specs.Sources.{AllAssigned, HaveNoPlace, Value, assignment_of, header_of, source_of, value_of}
 use Rattle.names.proofs.Behind.{length_roots, length_values, length_all_owned, values_count}
-use Rattle.names.specs.Distinct.{either, stands_map, under_some}
+use Rattle.names.specs.proving.Distinct.{either, stands_map, under_some}
 use Rattle.names.proofs.Standings.{are_apart}
-
-some_same : {X : Type 0} (a b : X) → Some a ≡ Some b → a ≡ b
-some_same a b e = cc
 
 all_roots : (n t : ℕ) (gs : List AssignmentTree) → n + length gs ≤ t → AllAssigned t (roots_from n gs)
 all_roots n t [] h = tt
@@ -31,7 +30,7 @@ no_places n (assigns_value x u w ∷ gs) = (refl, no_places (suc n) gs)
 
 owned_one : (m : ℕ) (gs : List AssignmentTree) (i : ℕ) (a : ℕ × Name) → slice_get (owned_by m gs) i ≡ Some a → a.0 ≡ m
 owned_one m [] i a e = absurd cc
-owned_one m (g ∷ gs) zero a e = ap (λ z. z.0) (sym (some_same (m, name_of g) a e))
+owned_one m (g ∷ gs) zero a e = ap (λ z. z.0) (sym (same_Some (m, name_of g) a e))
 owned_one m (g ∷ gs) (suc i) a e = owned_one m gs i a e
 
 owned_there : (k : ℕ) (ms : List ModuleTree) (i : ℕ) (a : ℕ × Name) → slice_get (owned_from k ms) i ≡ Some a → a.0 < k + length ms
@@ -46,7 +45,7 @@ valued_there : (n t : ℕ) (gs : List AssignmentTree) → n + length gs ≤ t �
 valued_there n t [] h i v e = absurd cc
 valued_there n t (assigns_type x u ∷ gs) h i v e = valued_there (suc n) t gs (omega (arith, h)) i v e
 valued_there n t (assigns_value x u w ∷ gs) h zero v e =
-    let q = some_same (record { assignment = n; ty = n; notation = w }) v e in
+    let q = same_Some (record { assignment = n; ty = n; notation = w }) v e in
     let a : n ≡ v.ty = ap (λ z. z.ty) q in
     let b : n ≡ v.assignment = ap (λ z. z.assignment) q in
     (omega (arith, a, h), omega (arith, b, h))
@@ -55,12 +54,12 @@ valued_there n t (assigns_value x u w ∷ gs) h (suc i) v e = valued_there (suc 
 given_there : (n v t w : ℕ) (gs : List AssignmentTree) → n + length gs ≤ t → v + value_count gs ≤ w → (i : ℕ) (x : Name) (a : Assigned) → slice_get (named_from n v gs) i ≡ Some (x, a) → IsGiven t w a
 given_there n v t w [] h k i x a e = absurd cc
 given_there n v t w (assigns_type y u ∷ gs) h k zero x a e =
-    let q : assigned.Type n ≡ a = ap (λ z. z.1) (some_same (y, assigned.Type n) (x, a) e) in
+    let q : assigned.Type n ≡ a = ap (λ z. z.1) (same_Some (y, assigned.Type n) (x, a) e) in
     let l : n < t = omega (arith, h) in
     subst (IsGiven t w) q l
 given_there n v t w (assigns_type y u ∷ gs) h k (suc i) x a e = given_there (suc n) v t w gs (omega (arith, h)) k i x a e
 given_there n v t w (assigns_value y u z ∷ gs) h k zero x a e =
-    let q : assigned.Value v ≡ a = ap (λ z. z.1) (some_same (y, assigned.Value v) (x, a) e) in
+    let q : assigned.Value v ≡ a = ap (λ z. z.1) (same_Some (y, assigned.Value v) (x, a) e) in
     let l : v < w = omega (arith, k) in
     subst (IsGiven t w) q l
 given_there n v t w (assigns_value y u z ∷ gs) h k (suc i) x a e = given_there (suc n) (suc v) t w gs (omega (arith, h)) (omega (arith, k)) i x a e
@@ -69,7 +68,7 @@ scopes_there : (n v t w : ℕ) (ms : List ModuleTree) → n + length (all_assign
     (x : Name) (a : Assigned) → StandsIn m.assigned (x, a) → IsGiven t w a
 scopes_there n v t w [] h j k M m e x a s = absurd cc
 scopes_there n v t w (u ∷ ms) h j zero M m e x a s =
-    let q = ap (λ z. z.1.assigned) (sym (some_same _ (M, m) e)) in
+    let q = ap (λ z. z.1.assigned) (sym (same_Some _ (M, m) e)) in
     let la = length-append u.assignments (all_assignments ms) in
     let lv = values_count u.assignments (all_assignments ms) in
     given_there n v t w u.assignments (omega (arith, h, la)) (omega (arith, j, lv)) s.0 x a (ap (λ l. slice_get l s.0) (sym q) ∙ s.1)

@@ -1,29 +1,23 @@
 -- Exports and imports that stand in tables of names, and in the modules that gave them.
-use Rattle.std.proofs.Common.{◌≡◌, ◌⊎◌, inl, inr, ℕ, zero, suc, ◌+◌, ◌<◌, List, [], ◌∷◌, length, Some, None, map, refl, sym, subst, ap, ◌∙◌, arith, below_more, string_bytes}
+use Rattle.std.proofs.Common.{◌≡◌, ◌⊎◌, inl, inr, ℕ, zero, suc, ◌+◌, ◌<◌, List, [], ◌∷◌, length, Some, None, map, refl, sym, subst, ap, ◌∙◌, arith, below_more}
 use Rattle.std.specs.Prelude.{slice_get, Option, String}
 use Rattle.std.specs.Global.{Global}
-use Rattle.std.proofs.lemmas.Option.{slice_get_within}
+use Rattle.std.proofs.lemmas.Option.{same_Some, slice_get_within}
 use Rattle.trees.specs.Values.{Name}
 use Rattle.trees.specs.Modules.{ModuleTree}
 use Rattle.names.specs.declared.fault.NameFault.{NameFault}
 use Rattle.names.specs.declared.fault.NameFault.TheVariants as faults
 use Rattle.names.specs.declared.gather.Gathered.{Gathered}
 use Rattle.names.specs.declared.scope.Assigned.{Assigned}
-use Rattle.names.specs.Gathered.{names_of, HasGathered, IsNamingFault, IsOffered, IsExportFault, IsImportFault, IsImportsFault, AreStanding, IsStandingFault}
-use Rattle.names.specs.Gathering.{named_from, imports_of}
-use Rattle.names.specs.Modules.{StandsIn, AreDistinct, IsExported, AreNamed, Offers, assigned_names, value_count, scopes_from, names_in}
-use Rattle.names.specs.Names.{Module, under, IsApart}
+use Rattle.names.specs.Names.{names_of, Module, under, IsApart}
+use Rattle.names.specs.proving.Gathering.{HasGathered, IsNamingFault}
+use Rattle.names.specs.proving.Standing.{IsOffered, IsExportFault, IsImportFault, IsImportsFault, AreStanding, IsStandingFault}
+use Rattle.names.specs.ByNumber.{scope_of, scopes_from}
+use Rattle.names.specs.Faults.{name_told}
+use Rattle.names.specs.Modules.{imports_of, StandsIn, AreDistinct, IsExported, AreNamed, Offers, assigned_names, value_count, names_in}
 use Rattle.names.specs.Scopes.{seen, module_of}
 use Rattle.names.proofs.Behind.{names_named, names_scopes}
-use Rattle.names.specs.Distinct.{stands_map, under_none, under_some, name_under, twice_across}
-
--- what holds of the first items, and of the next
-pub more_at : {X Y : Type 0} (f : X → Y) (xs : List X) (P : Y → Type 0) (i : ℕ) (x : X) → slice_get xs i ≡ Some x → ((k : ℕ) (y : Y) → k < i → slice_get (map f xs) k ≡ Some y → P y) → P (f x) → (k : ℕ) (y : Y) → k < i + 1 → slice_get (map f xs) k ≡ Some y → P y
-more_at f xs P i x e below here k y l h =
-    below_more (λ j. (z : _) → slice_get (map f xs) j ≡ Some z → P z) i (λ j m z q. below j z m q) (λ z q. (let same : f x ≡ z = some_same (f x) z (sym (stands_map f xs i x e) ∙ q) in subst P same here)) k l y h
-  where
-    some_same : {Z : Type 0} (a b : Z) → Some a ≡ Some b → a ≡ b
-    some_same a b w = cc
+use Rattle.names.specs.proving.Distinct.{stands_map, under_none, under_some, name_under, twice_across}
 
 -- what holds of all
 pub all_stood : {Y : Type 0} (ys : List Y) (P : Y → Type 0) (n : ℕ) → n ≡ length ys → ((k : ℕ) (y : Y) → k < n → slice_get ys k ≡ Some y → P y) → (y : Y) → StandsIn ys y → P y
@@ -43,7 +37,7 @@ pub record Tells (ms : List ModuleTree) (M : Name) (m : Module) : Type 0 where
 pub tells : (n v : ℕ) (ms : List ModuleTree) (k : ℕ) (M : Name) (m : Module) → slice_get (scopes_from n v ms) k ≡ Some (M, m) → Tells ms M m
 tells n v [] k M m e = absurd cc
 tells n v (t ∷ ms) zero M m e =
-    let q : (t.name, record { assigned = named_from n v t.assignments; imports = imports_of t.imports; exports = t.exports }) ≡ (M, m) = some_same _ _ e in
+    let q : (t.name, scope_of n v t) ≡ (M, m) = same_Some _ _ e in
     record {
       tree = t;
       there = (0, refl);
@@ -52,9 +46,6 @@ tells n v (t ∷ ms) zero M m e =
       imports = ap (λ z. z.1.imports) (sym q);
       exports = ap (λ z. z.1.exports) (sym q);
     }
-  where
-    some_same : (a b : Name × Module) → Some a ≡ Some b → a ≡ b
-    some_same a b w = cc
 tells n v (t ∷ ms) (suc k) M m e =
     let r = tells (n + length t.assignments) (v + value_count t.assignments) ms k M m e in
     record { tree = r.tree; there = (suc r.there.0, r.there.1); named = r.named; assigned = r.assigned; imports = r.imports; exports = r.exports }
@@ -70,11 +61,8 @@ pub record Told (ss : List (Name × Module)) (t : ModuleTree) : Type 0 where
 pub told : (n v : ℕ) (ms : List ModuleTree) (k : ℕ) (t : ModuleTree) → slice_get ms k ≡ Some t → Told (scopes_from n v ms) t
 told n v [] k t e = absurd cc
 told n v (u ∷ ms) zero t e =
-    let q : u ≡ t = some_same u t e in
-    subst (λ z. Told (scopes_from n v (u ∷ ms)) z) q (record { scope = record { assigned = named_from n v u.assignments; imports = imports_of u.imports; exports = u.exports }; there = (0, refl); assigned = names_named n v u.assignments; imports = refl; exports = refl })
-  where
-    some_same : (a b : ModuleTree) → Some a ≡ Some b → a ≡ b
-    some_same a b w = cc
+    let q : u ≡ t = same_Some u t e in
+    subst (λ z. Told (scopes_from n v (u ∷ ms)) z) q (record { scope = scope_of n v u; there = (0, refl); assigned = names_named n v u.assignments; imports = refl; exports = refl })
 told n v (u ∷ ms) (suc k) t e =
     let r = told (n + length u.assignments) (v + value_count u.assignments) ms k t e in
     record { scope = r.scope; there = (suc r.there.0, r.there.1); assigned = r.assigned; imports = r.imports; exports = r.exports }
@@ -108,13 +96,13 @@ unassigned m t x e u s = under_none x m.assigned u (subst (λ l. StandsIn l x) (
 
 export_fault : (ms : List ModuleTree) (M : Name) (m : Module) (e : NameFault) → Tells ms M m → IsExportFault M m e → IsNamingFault ms e
 export_fault ms M m faults.Memory t f = tt
-export_fault ms M m (faults.UnknownName a y) t f =
-    inl (record { tree = t.tree; there = t.there; named = sym t.named ∙ sym f.2.0; names = f.0; list = sym t.exports ∙ f.1; listed = f.2.1; unassigned = unassigned m t.tree (string_bytes y) t.assigned f.2.2 })
-export_fault ms M m (faults.Limit l a y) t f = absurd f.2
-export_fault ms M m (faults.Twice a y) t f = absurd f.2
-export_fault ms M m (faults.NotExported a y) t f = absurd f.2
-export_fault ms M m (faults.Circular a y) t f = absurd f.2
-export_fault ms M m (faults.UnknownModule a y) t f = absurd f.2
+export_fault ms M m (faults.UnknownName s) t f =
+    inl (record { tree = t.tree; there = t.there; named = sym t.named ∙ sym f.2.0; names = f.0; list = sym t.exports ∙ f.1; listed = f.2.1; unassigned = unassigned m t.tree (name_told s) t.assigned f.2.2 })
+export_fault ms M m (faults.Limit l s) t f = absurd f.2
+export_fault ms M m (faults.Twice s) t f = absurd f.2
+export_fault ms M m (faults.NotExported s) t f = absurd f.2
+export_fault ms M m (faults.Circular s) t f = absurd f.2
+export_fault ms M m (faults.UnknownModule s) t f = absurd f.2
 
 module _ (ms : List ModuleTree) (M : Name) (m : Module) (t : Tells ms M m) (N x : Name) (s : StandsIn m.imports (x, N)) where
   taken_from : (y : Name) → y ≡ x → (n : Module) (r : Tells ms N n) → StandsIn (imports_of t.tree.imports) (y, r.tree.name)
@@ -122,20 +110,20 @@ module _ (ms : List ModuleTree) (M : Name) (m : Module) (t : Tells ms M m) (N x 
 
   import_fault : (e : NameFault) → IsImportFault (scopes_from 0 0 ms) M N x e → IsNamingFault ms e
   import_fault faults.Memory f = tt
-  import_fault (faults.UnknownModule a y) f =
+  import_fault (faults.UnknownModule a) f =
       record {
         tree = t.tree;
         there = t.there;
         named = sym t.named ∙ sym f.0;
         name = x;
-        imports = subst (λ l. StandsIn l (x, string_bytes y)) t.imports (subst (λ z. StandsIn m.imports (x, z)) (sym f.1) s);
+        imports = subst (λ l. StandsIn l (x, name_told a)) t.imports (subst (λ z. StandsIn m.imports (x, z)) (sym f.1) s);
         nowhere = subst (λ z. StandsIn (map (λ m. m.name) ms) z → ⊥) (sym f.1) (absent ms N f.2);
       }
-  import_fault (faults.UnknownName a y) f =
+  import_fault (faults.UnknownName a) f =
       let o = under_some N (scopes_from 0 0 ms) f.2 f.3 in
       let r = tells 0 0 ms o.0 N f.2 o.1 in
-      inr (record { tree = t.tree; there = t.there; named = sym t.named ∙ sym f.0; other = r.tree; given = r.there; imports = taken_from (string_bytes y) f.1 f.2 r; such = subst (λ z. StandsIn (assigned_names r.tree) z → ⊥) (sym f.1) (unassigned f.2 r.tree x r.assigned f.4) })
-  import_fault (faults.NotExported a y) f =
+      inr (record { tree = t.tree; there = t.there; named = sym t.named ∙ sym f.0; other = r.tree; given = r.there; imports = taken_from (name_told a) f.1 f.2 r; such = subst (λ z. StandsIn (assigned_names r.tree) z → ⊥) (sym f.1) (unassigned f.2 r.tree x r.assigned f.4) })
+  import_fault (faults.NotExported a) f =
       let o = under_some N (scopes_from 0 0 ms) f.2 f.3 in
       let r = tells 0 0 ms o.0 N f.2 o.1 in
       record {
@@ -144,37 +132,22 @@ module _ (ms : List ModuleTree) (M : Name) (m : Module) (t : Tells ms M m) (N x 
         named = sym t.named ∙ sym f.0;
         other = r.tree;
         given = r.there;
-        imports = taken_from (string_bytes y) f.1 f.2 r;
+        imports = taken_from (name_told a) f.1 f.2 r;
         such = (
           subst (λ z. StandsIn (assigned_names r.tree) z) (sym f.1) (subst (λ l. StandsIn l x) r.assigned (name_under x f.2.assigned f.4 f.5)),
           subst (λ z. IsExported r.tree.exports z → ⊥) (sym f.1) (subst (λ z. IsExported z x → ⊥) r.exports f.6),
         );
       }
-  import_fault (faults.Limit l a y) f = absurd f
-  import_fault (faults.Twice a y) f = absurd f
-  import_fault (faults.Circular a y) f = absurd f
-
-imports_fault : (ms : List ModuleTree) (M : Name) (m : Module) (e : NameFault) → Tells ms M m → IsImportsFault (scopes_from 0 0 ms) M m.imports e → IsNamingFault ms e
-imports_fault ms M m faults.Memory t f = tt
-imports_fault ms M m (faults.UnknownModule a y) t f = import_fault ms M m t f.0 f.1 f.2 (faults.UnknownModule a y) f.3
-imports_fault ms M m (faults.UnknownName a y) t f = import_fault ms M m t f.0 f.1 f.2 (faults.UnknownName a y) f.3
-imports_fault ms M m (faults.NotExported a y) t f = import_fault ms M m t f.0 f.1 f.2 (faults.NotExported a y) f.3
-imports_fault ms M m (faults.Limit l a y) t f = absurd f.3
-imports_fault ms M m (faults.Twice a y) t f = absurd f.3
-imports_fault ms M m (faults.Circular a y) t f = absurd f.3
+  import_fault (faults.Limit l a) f = absurd f
+  import_fault (faults.Twice a) f = absurd f
+  import_fault (faults.Circular a) f = absurd f
 
 one_fault : (ms : List ModuleTree) (M : Name) (m : Module) (e : NameFault) → Tells ms M m → IsExportFault M m e ⊎ IsImportsFault (scopes_from 0 0 ms) M m.imports e → IsNamingFault ms e
 one_fault ms M m e t (inl f) = export_fault ms M m e t f
-one_fault ms M m e t (inr f) = imports_fault ms M m e t f
+one_fault ms M m e t (inr f) = import_fault ms M m t f.0 f.1 f.2 e f.3
 
 scopes_fault : (ms : List ModuleTree) (e : NameFault) → IsStandingFault (scopes_from 0 0 ms) e → IsNamingFault ms e
-scopes_fault ms faults.Memory f = tt
-scopes_fault ms (faults.UnknownName a y) f = one_fault ms f.0 f.1 (faults.UnknownName a y) (tells 0 0 ms f.2.0 f.0 f.1 f.2.1) f.3
-scopes_fault ms (faults.UnknownModule a y) f = one_fault ms f.0 f.1 (faults.UnknownModule a y) (tells 0 0 ms f.2.0 f.0 f.1 f.2.1) f.3
-scopes_fault ms (faults.NotExported a y) f = one_fault ms f.0 f.1 (faults.NotExported a y) (tells 0 0 ms f.2.0 f.0 f.1 f.2.1) f.3
-scopes_fault ms (faults.Limit l a y) f = one_fault ms f.0 f.1 (faults.Limit l a y) (tells 0 0 ms f.2.0 f.0 f.1 f.2.1) f.3
-scopes_fault ms (faults.Twice a y) f = one_fault ms f.0 f.1 (faults.Twice a y) (tells 0 0 ms f.2.0 f.0 f.1 f.2.1) f.3
-scopes_fault ms (faults.Circular a y) f = one_fault ms f.0 f.1 (faults.Circular a y) (tells 0 0 ms f.2.0 f.0 f.1 f.2.1) f.3
+scopes_fault ms e f = one_fault ms f.0 f.1 e (tells 0 0 ms f.2.0 f.0 f.1 f.2.1) f.3
 
 pub standing_fault : (ms : List ModuleTree) (g : Gathered) (e : NameFault) → HasGathered ms g → IsStandingFault (seen module_of g.modules.entries) e → IsNamingFault ms e
 standing_fault ms g e h f = scopes_fault ms e (subst (λ z. IsStandingFault z e) h.scopes f)
@@ -192,33 +165,10 @@ are_apart ms d M x N m u i = by (under x m.assigned) refl
         let two = subst (λ l. StandsIn (names_of l) x) t.imports (name_under x m.imports N i) in
         absurd (d t.tree t.there x (twice_across (assigned_names t.tree) (names_of (imports_of t.tree.imports)) x one two))
 
--- the fault of one import is one of all
-pub imports_stop : (ss : List (Name × Module)) (M : Name) (is : List (Name × Name)) (N x : Name) (e : NameFault) → StandsIn is (x, N) → IsImportFault ss M N x e → IsImportsFault ss M is e
-imports_stop ss M is N x faults.Memory s f = tt
-imports_stop ss M is N x (faults.UnknownModule a y) s f = (N, x, s, f)
-imports_stop ss M is N x (faults.UnknownName a y) s f = (N, x, s, f)
-imports_stop ss M is N x (faults.NotExported a y) s f = (N, x, s, f)
-imports_stop ss M is N x (faults.Limit l a y) s f = (N, x, s, f)
-imports_stop ss M is N x (faults.Twice a y) s f = (N, x, s, f)
-imports_stop ss M is N x (faults.Circular a y) s f = (N, x, s, f)
-
--- the fault of one module is one of all
-pub standing_stop : (ss : List (Name × Module)) (M : Name) (m : Module) (e : NameFault) → StandsIn ss (M, m) → IsExportFault M m e ⊎ IsImportsFault ss M m.imports e → IsStandingFault ss e
-standing_stop ss M m faults.Memory s f = tt
-standing_stop ss M m (faults.UnknownModule a y) s f = (M, m, s, f)
-standing_stop ss M m (faults.UnknownName a y) s f = (M, m, s, f)
-standing_stop ss M m (faults.NotExported a y) s f = (M, m, s, f)
-standing_stop ss M m (faults.Limit l a y) s f = (M, m, s, f)
-standing_stop ss M m (faults.Twice a y) s f = (M, m, s, f)
-standing_stop ss M m (faults.Circular a y) s f = (M, m, s, f)
-
 -- what holds of the first items of a list, and of the next
 pub more_of : {Y : Type 0} (ys : List Y) (P : Y → Type 0) (i : ℕ) (y : Y) → slice_get ys i ≡ Some y → ((k : ℕ) (z : Y) → k < i → slice_get ys k ≡ Some z → P z) → P y → (k : ℕ) (z : Y) → k < i + 1 → slice_get ys k ≡ Some z → P z
 more_of ys P i y e below here k z l h =
-    below_more (λ j. (u : _) → slice_get ys j ≡ Some u → P u) i (λ j m u q. below j u m q) (λ u q. (let same : y ≡ u = some_same y u (sym e ∙ q) in subst P same here)) k l z h
-  where
-    some_same : {Z : Type 0} (a b : Z) → Some a ≡ Some b → a ≡ b
-    some_same a b w = cc
+    below_more (λ j. (u : _) → slice_get ys j ≡ Some u → P u) i (λ j m u q. below j u m q) (λ u q. (let same : y ≡ u = same_Some y u (sym e ∙ q) in subst P same here)) k l z h
 
 pub seen_long : {X Y : Type 0} (f : X → Y) (es : List (String Global × X)) → length (seen f es) ≡ length es
 seen_long f [] = refl

@@ -1,31 +1,19 @@
--- What faults of names say.
+-- What faults of names say: the module and the name that they tell. Where in the text they point isn't said.
 use Rattle.std.specs.Prelude.{◌≡◌, ◌+◌, ℕ, List, Some, string_bytes, slice_get, ◌⊎◌, ◌++◌, [], ◌∷◌, map}
+use Rattle.trees.specs.declared.place.Spot.{Spot}
 use Rattle.trees.specs.Values.{Name}
+use Rattle.trees.specs.Modules.{AssignmentTree, ModuleTree}
 use Rattle.names.specs.declared.fault.NameFault.{NameFault}
 use Rattle.names.specs.declared.fault.NameFault.TheVariants as faults
 use Rattle.names.specs.declared.fault.Limit.TheVariants as limits
-use Rattle.names.specs.Modules.{StandsIn, StandsTwice, assigned_names, names_in, IsExported, Imports, type_count, value_count, all_assignments}
-use Rattle.names.specs.Names.{under}
-use Rattle.trees.specs.Modules.{AssignmentTree, ModuleTree}
-use Rattle.names.specs.Gathering.{name_of}
+use Rattle.names.specs.Modules.{StandsIn, StandsTwice, name_of, assigned_names, names_in, IsExported, Imports, type_count, value_count, all_assignments}
 
--- memory ran out, or in module M name x already stands in a table of names
-abbrev pub IsTwice : {X : Type 0} → Name → Name → List (Name × X) → NameFault → Type 0
-IsTwice M x es faults.Memory = Unit {0}
-IsTwice {X} M x es (faults.Twice m y) = (string_bytes m ≡ M) × (string_bytes y ≡ x) × (a : X) × (under x es ≡ Some a)
-IsTwice M x es e = ⊥
+-- the module and the name that a fault tells
+abbrev pub module_told : Spot → Name
+module_told s = string_bytes s.module
 
--- memory ran out, or in module M name x is one of these already
-abbrev pub IsTaken : Name → Name → List Name → NameFault → Type 0
-IsTaken M x xs faults.Memory = Unit {0}
-IsTaken M x xs (faults.Twice m y) = (string_bytes m ≡ M) × (string_bytes y ≡ x) × StandsIn xs x
-IsTaken M x xs e = ⊥
-
--- memory ran out, or in module M a name stands twice among these
-abbrev pub IsRepeated : Name → List Name → NameFault → Type 0
-IsRepeated M xs faults.Memory = Unit {0}
-IsRepeated M xs (faults.Twice m y) = (string_bytes m ≡ M) × StandsTwice xs (string_bytes y)
-IsRepeated M xs e = ⊥
+abbrev pub name_told : Spot → Name
+name_told s = string_bytes s.name
 
 -- name x has two meanings in module M
 pub record IsNamedTwice (ms : List ModuleTree) (M x : Name) : Type 0 where
@@ -90,13 +78,25 @@ pub record ImportsNowhere (ms : List ModuleTree) (M N : Name) : Type 0 where
   pub imports : Imports tree N name
   pub nowhere : StandsIn (map (λ m. m.name) ms) N → ⊥
 
+-- two modules have the name x, which is told for M too, or x has two meanings in module M
+abbrev pub IsGivenTwice : List ModuleTree → Name → Name → Type 0
+IsGivenTwice ms M x = ((M ≡ x) × StandsTwice (map (λ m. m.name) ms) x) ⊎ IsNamedTwice ms M x
+
+-- module M exports or imports name x, which is not assigned where it has to be
+abbrev pub IsUnassigned : List ModuleTree → Name → Name → Type 0
+IsUnassigned ms M x = ExportsNothing ms M x ⊎ ImportsFrom ms M x (λ m. StandsIn (assigned_names m) x → ⊥)
+
+-- module M imports name x from a module that assigns it and doesn't export it
+abbrev pub IsKeptBack : List ModuleTree → Name → Name → Type 0
+IsKeptBack ms M x = ImportsFrom ms M x (λ m. StandsIn (assigned_names m) x × (IsExported m.exports x → ⊥))
+
 -- why the names of modules have no meaning, or more than one
 abbrev pub IsNamesFault : List ModuleTree → NameFault → Type 0
-IsNamesFault ms (faults.Twice m y) = ((string_bytes m ≡ string_bytes y) × StandsTwice (map (λ t. t.name) ms) (string_bytes y)) ⊎ IsNamedTwice ms (string_bytes m) (string_bytes y)
-IsNamesFault ms (faults.UnknownName m y) = ExportsNothing ms (string_bytes m) (string_bytes y) ⊎ ImportsFrom ms (string_bytes m) (string_bytes y) (λ n. StandsIn (assigned_names n) (string_bytes y) → ⊥)
-IsNamesFault ms (faults.NotExported m y) = ImportsFrom ms (string_bytes m) (string_bytes y) (λ n. StandsIn (assigned_names n) (string_bytes y) × (IsExported n.exports (string_bytes y) → ⊥))
-IsNamesFault ms (faults.UnknownModule m y) = ImportsNowhere ms (string_bytes m) (string_bytes y)
-IsNamesFault ms (faults.Limit limits.Modules m y) = IsPastModules ms (string_bytes m) (string_bytes y)
-IsNamesFault ms (faults.Limit limits.Types m y) = IsPast type_count 4096 ms (string_bytes m) (string_bytes y)
-IsNamesFault ms (faults.Limit limits.Values m y) = IsPast value_count 65536 ms (string_bytes m) (string_bytes y)
+IsNamesFault ms (faults.Twice s) = IsGivenTwice ms (module_told s) (name_told s)
+IsNamesFault ms (faults.UnknownName s) = IsUnassigned ms (module_told s) (name_told s)
+IsNamesFault ms (faults.NotExported s) = IsKeptBack ms (module_told s) (name_told s)
+IsNamesFault ms (faults.UnknownModule s) = ImportsNowhere ms (module_told s) (name_told s)
+IsNamesFault ms (faults.Limit limits.Modules s) = IsPastModules ms (module_told s) (name_told s)
+IsNamesFault ms (faults.Limit limits.Types s) = IsPast type_count 4096 ms (module_told s) (name_told s)
+IsNamesFault ms (faults.Limit limits.Values s) = IsPast value_count 65536 ms (module_told s) (name_told s)
 IsNamesFault ms e = ⊥

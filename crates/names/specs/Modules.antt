@@ -1,11 +1,7 @@
 -- Modules as they are written: the names that they give, export and import (X.680, clauses 13.1 to 13.16).
-use Rattle.std.specs.Prelude.{◌≡◌, ◌<◌, ◌≤◌, ℕ, suc, ◌+◌, List, [], ◌∷◌, ◌++◌, Option, Some, None, map, length, slice_get}
-use Rattle.trees.specs.declared.module.TagDefault.{TagDefault}
+use Rattle.std.specs.Prelude.{◌≡◌, ◌<◌, ◌≤◌, ℕ, suc, List, [], ◌∷◌, ◌++◌, Option, Some, None, map, length, slice_get}
 use Rattle.trees.specs.Values.{Name}
-use Rattle.trees.specs.Modules.{AssignmentTree, assigns_type, assigns_value, ModuleTree}
-use Rattle.names.specs.Gathering.{name_of, imports_of, named_from, roots_from, values_from, owned_by}
-use Rattle.names.specs.Sources.{Source, Value}
-use Rattle.names.specs.Names.{Module}
+use Rattle.trees.specs.Modules.{AssignmentTree, assigns_type, assigns_value, ImportTree, ModuleTree}
 
 -- x stands in the list
 abbrev pub StandsIn : {A : Type 0} → List A → A → Type 0
@@ -21,6 +17,15 @@ pub record StandsTwice {A : Type 0} (xs : List A) (x : A) : Type 0 where
 
 abbrev pub AreDistinct : {A : Type 0} → List A → Type 0
 AreDistinct {A} xs = (x : A) → StandsTwice xs x → ⊥
+
+abbrev pub name_of : AssignmentTree → Name
+name_of (assigns_type x t) = x
+name_of (assigns_value x t v) = x
+
+-- names with the module that they are imported from
+abbrev pub imports_of : List ImportTree → List (Name × Name)
+imports_of [] = []
+imports_of (i ∷ is) = map (λ x. (x, i.from)) i.names ++ imports_of is
 
 -- the names that a module assigns
 abbrev pub assigned_names : ModuleTree → List Name
@@ -55,7 +60,11 @@ pub record Offers (ms : List ModuleTree) (N x : Name) : Type 0 where
 pub record AreNamed (ms : List ModuleTree) : Type 0 where
   pub modules : AreDistinct (map (λ m. m.name) ms)
   pub names : (m : ModuleTree) → StandsIn ms m → AreDistinct (names_in m)
-  pub exports : (m : ModuleTree) (xs : List Name) (x : Name) → StandsIn ms m → m.exports ≡ Some xs → StandsIn xs x → StandsIn (assigned_names m) x
+  pub exports : (m : ModuleTree) (xs : List Name) (x : Name) →
+      StandsIn ms m →
+      m.exports ≡ Some xs →
+      StandsIn xs x →
+      StandsIn (assigned_names m) x
   pub imports : (m : ModuleTree) (N x : Name) → StandsIn ms m → Imports m N x → Offers ms N x
 
 abbrev pub type_count : List AssignmentTree → ℕ
@@ -78,27 +87,3 @@ pub record AreFew (ms : List ModuleTree) : Type 0 where
   pub modules : length ms ≤ 256
   pub types : type_count (all_assignments ms) ≤ 4096
   pub values : value_count (all_assignments ms) ≤ 65536
-
--- ---- the tables of modules
-
--- the names of modules, where the first assignment has number n and the first value number v
-abbrev pub scopes_from : ℕ → ℕ → List ModuleTree → List (Name × Module)
-scopes_from n v [] = []
-scopes_from n v (m ∷ ms) =
-    (m.name, record { assigned = named_from n v m.assignments; imports = imports_of m.imports; exports = m.exports })
-    ∷ scopes_from (n + length m.assignments) (v + value_count m.assignments) ms
-
-abbrev pub headers_of : List ModuleTree → List (Name × TagDefault)
-headers_of = map (λ m. (m.name, m.tag_default))
-
--- the assignments with their modules' numbers, the first of which is k
-abbrev pub owned_from : ℕ → List ModuleTree → List (ℕ × Name)
-owned_from k [] = []
-owned_from k (m ∷ ms) = owned_by k m.assignments ++ owned_from (suc k) ms
-
--- the types of the assignments
-abbrev pub roots_of : List ModuleTree → List Source
-roots_of ms = roots_from 0 (all_assignments ms)
-
-abbrev pub values_of : List ModuleTree → List Value
-values_of ms = values_from 0 (all_assignments ms)

@@ -1,5 +1,5 @@
 -- What names stand for (X.680, clause 13).
-use Rattle.std.specs.Prelude.{◌≡◌, List, Option, Some, None, bytes_eq}
+use Rattle.std.specs.Prelude.{◌≡◌, List, Option, Some, None, bytes_eq, map}
 use Rattle.std.specs.Map.{lookup}
 use Rattle.trees.specs.Values.{Name}
 use Rattle.names.specs.declared.scope.Assigned.{Assigned}
@@ -11,22 +11,40 @@ pub record Module : Type 0 where
   pub imports : List (Name × Name)
   pub exports : Option (List Name)
 
+-- the names of a table
+abbrev pub names_of : {X : Type 0} → List (Name × X) → List Name
+names_of es = map (λ e. e.0) es
+
 -- what stands under a name in a table of names
 abbrev pub under : {X : Type 0} → Name → List (Name × X) → Option X
 under x es = lookup (bytes_eq x) es
 
 -- name x, read in module M, stands for a: the assignment there, or that of the module which it is imported from
 pub data Meaning (ms : List (Name × Module)) (M x : Name) : Assigned → Type 0 where
-  own : {a : Assigned} (m : Module) → under M ms ≡ Some m → under x m.assigned ≡ Some a → Meaning ms M x a
-  imported : {a : Assigned} (m n : Module) (N : Name) → under M ms ≡ Some m → under x m.imports ≡ Some N →
-      under N ms ≡ Some n → under x n.assigned ≡ Some a → Meaning ms M x a
+  own : {a : Assigned} (m : Module) →
+      under M ms ≡ Some m →
+      under x m.assigned ≡ Some a →
+      Meaning ms M x a
+  imported : {a : Assigned} (m n : Module) (N : Name) →
+      under M ms ≡ Some m →
+      under x m.imports ≡ Some N →
+      under N ms ≡ Some n →
+      under x n.assigned ≡ Some a →
+      Meaning ms M x a
 
 -- a name with a module before it may stand where that module is M itself or the one that the name is imported from
 pub data Refers (ms : List (Name × Module)) (M : Name) : Option Name → Name → Assigned → Type 0 where
   bare : {x : Name} {a : Assigned} → Meaning ms M x a → Refers ms M None x a
   within : {x : Name} {a : Assigned} → Meaning ms M x a → Refers ms M (Some M) x a
-  across : {x : Name} {a : Assigned} (m : Module) (N : Name) → under M ms ≡ Some m → under x m.imports ≡ Some N → Meaning ms M x a → Refers ms M (Some N) x a
+  across : {x : Name} {a : Assigned} (m : Module) (N : Name) →
+      under M ms ≡ Some m →
+      under x m.imports ≡ Some N →
+      Meaning ms M x a →
+      Refers ms M (Some N) x a
 
 -- no module imports a name that it assigns
 abbrev pub IsApart : List (Name × Module) → Type 0
-IsApart ms = (M x N : Name) (m : Module) → under M ms ≡ Some m → under x m.imports ≡ Some N → under x m.assigned ≡ None
+IsApart ms = (M x N : Name) (m : Module) →
+    under M ms ≡ Some m →
+    under x m.imports ≡ Some N →
+    under x m.assigned ≡ None

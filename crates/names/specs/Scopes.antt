@@ -1,7 +1,8 @@
 -- Tables of names without where they lie in memory.
 use Rattle.std.specs.Prelude.{List, map, string_bytes, String}
 use Rattle.std.specs.Global.{Global}
-use Rattle.trees.specs.Values.{Name}
+use Rattle.trees.specs.Values.{Name, name_at}
+use Rattle.names.specs.declared.scope.Origin.{Origin}
 use Rattle.names.specs.declared.scope.Scope.{Scope}
 use Rattle.names.specs.Names.{Module}
 
@@ -9,9 +10,13 @@ use Rattle.names.specs.Names.{Module}
 abbrev pub seen : {X Y : Type 0} → (X → Y) → List (String Global × X) → List (Name × Y)
 seen f es = map (λ e. (string_bytes e.0, f e.1)) es
 
+-- the module that a name is imported from
+abbrev pub origin_of : Origin → Name
+origin_of o = name_at o.module
+
 abbrev pub module_of : Scope → Module
 module_of s = record {
   assigned = seen (λ i. i) s.assigned.entries;
-  imports = seen string_bytes s.imports.entries;
+  imports = seen origin_of s.imports.entries;
   exports = s.exports;
 }

@@ -1,7 +1,7 @@
 -- What modules give: types that are still to be numbered, and values, without where they lie in memory.
-use Rattle.std.specs.Prelude.{◌≡◌, ◌<◌, ℕ, List, Option, Some, None, map, string_bytes}
+use Rattle.std.specs.Prelude.{◌≡◌, ◌<◌, ℕ, List, Option, Some, None, map}
 use Rattle.std.specs.List.{AllByRecursion}
-use Rattle.trees.specs.Values.{Name, Tree, tree_of}
+use Rattle.trees.specs.Values.{Name, Tree, name_at, tree_of}
 use Rattle.trees.specs.declared.module.TagDefault.{TagDefault}
 use Rattle.trees.specs.Types.{TypeTree, type_tree_of}
 use Rattle.names.specs.declared.sources.Place.{Place}
@@ -45,7 +45,7 @@ value_of v = record { assignment = v.assignment; ty = v.ty; notation = tree_of v
 
 -- an assignment's module and name
 abbrev pub assignment_of : Assignment → ℕ × Name
-assignment_of a = (a.module, string_bytes a.name)
+assignment_of a = (a.module, name_at a.name)
 
 abbrev pub header_of : Header → Name × TagDefault
-header_of h = (string_bytes h.name, h.default)
+header_of h = (name_at h.name, h.default)

@@ -1,7 +1,8 @@
 //! What a module exports.
 
-ghost use Rattle.std.specs.Prelude.{◌≡◌, ◌↔◌, true, [], IfOk, IfErr, OnOk, map, string_bytes};
-ghost use Rattle.names.specs.Listed.{IsTableOf};
+ghost use Rattle.std.specs.Prelude.{◌≡◌, ◌↔◌, true, [], IfOk, IfErr, OnOk, map};
+ghost use Rattle.trees.specs.Values.{name_at};
+ghost use Rattle.names.specs.proving.Tabled.{IsTableOf};
 ghost use Rattle.names.specs.Modules.{StandsIn};
 ghost use Rattle.names.specs.declared.fault.NameFault.TheVariants as faults;
 
@@ -9,43 +10,44 @@ use crate::fault::NameFault;
 use indexmap::IndexSet;
 use std::alloc::Global;
 use std::marker::Model;
+use trees::At;
 
 /// The names that a module exports, in order, with a table to look them up in.
 #[derive(Drop)]
 pub struct Exports {
-    names: Vec<String>,
+    names: Vec<At<String>>,
     table: IndexSet<String>,
 }
 
 impl Model for Exports {
-    ghost use Rattle.std.specs.Prelude.{List, map, string_bytes};
-    ghost use Rattle.trees.specs.Values.{Name};
+    ghost use Rattle.std.specs.Prelude.{List, map};
+    ghost use Rattle.trees.specs.Values.{Name, name_at};
 
     ghost Value = { List Name };
 
-    ghost view = { λ e. map string_bytes e.names.items };
+    ghost view = { λ e. map name_at e.names.items };
 
-    ghost use Rattle.names.specs.Listed.{IsTableOf};
+    ghost use Rattle.names.specs.proving.Tabled.{IsTableOf};
 
     ghost invariant = { λ e. IsTableOf e.names.items e.table };
 }
 
 /// Puts names into a table.
-fn fill(alloc: Global, names: &[String], table: &mut IndexSet<String>) -> Result<(), NameFault>
+fn fill(alloc: Global, names: &[At<String>], table: &mut IndexSet<String>) -> Result<(), NameFault>
     requires empty { table.old.keys ≡ [] }
     ensures ok { OnOk result (IsTableOf names.now table.new) }
     ensures fault { IfErr result (λ e. e ≡ faults.Memory) }
 {
     for name in names {
-        table.insert(String::from_str(alloc, name.as_str())?)?;
+        table.insert(String::from_str(alloc, name.it.as_str())?)?;
     }
     Ok(())
 }
 
 impl Exports {
     /// These names, with their table.
-    pub fn of(alloc: Global, names: Vec<String>) -> Result<Exports, NameFault>
-        ensures ok { IfOk result (λ e. e ≡ map string_bytes names.items) }
+    pub fn of(alloc: Global, names: Vec<At<String>>) -> Result<Exports, NameFault>
+        ensures ok { IfOk result (λ e. e ≡ map name_at names.items) }
         ensures fault { IfErr result (λ e. e ≡ faults.Memory) }
     {
         let mut table = IndexSet::new(alloc);
@@ -63,8 +65,8 @@ impl Exports {
     }
 
     /// The names, in order.
-    pub fn names(&self) -> &[String]
-        ensures { map string_bytes result.now ≡ self.now }
+    pub fn names(&self) -> &[At<String>]
+        ensures { map name_at result.now ≡ self.now }
     {
         &self.names
     }

@@ -1,10 +1,12 @@
 //! Why modules could not be linked.
 
-ghost use Rattle.std.specs.Prelude.{◌≡◌};
+ghost use Rattle.std.specs.Prelude.{◌≡◌, IfOk};
+ghost use Rattle.names.specs.Faults.{module_told, name_told};
 ghost use Rattle.names.specs.declared.fault.NameFault.TheVariants as faults;
 
-use std::alloc::{AllocError, AllocFailed};
+use std::alloc::{AllocError, AllocFailed, Global};
 use thiserror::Error;
+use trees::Spot;
 
 /// A limit that is passed.
 #[derive(Clone, Copy, Debug, PartialEq, Eq)]
@@ -15,40 +17,41 @@ pub enum Limit {
     Types,
     /// At most 65,536 value assignments in all modules.
     Values,
-    /// At most 256 members in a list.
+    /// At most 256 members in the root of a list, and at most 64 additions.
     Members,
-    /// At most 1,024 items in an enumeration.
+    /// At most 1,024 items in the root of an enumeration, and at most 64 additions.
     Items,
     /// A named bit stands at a place from 0 to 65,535.
     NamedBit,
-    /// Numbers lie between -2 to the 127 and 2 to the 127 minus 1.
+    /// The number of an item, where none is written, is below 2 to the 127.
     Integer,
 }
 
-/// What is wrong, with the module and the name where it stands.
+/// What is wrong, with the module, the name that is told, and where it stands.
 #[derive(Debug, Drop, Error)]
 pub enum NameFault {
     /// There was not enough memory.
     #[error("1 Memory")]
     Memory,
-    /// A limit is passed.
-    #[error("2 Limit({0:?}): {1}.{2}")]
-    Limit(Limit, String, String),
-    /// In the module this name is given twice: by modules, by assignments and imports, by the identifiers of one list, or by the names of one number.
-    #[error("30 Twice: {0}.{1}")]
-    Twice(String, String),
+    /// A limit is passed in this assignment.
+    #[error("2 Limit({0:?}): {1}")]
+    Limit(Limit, Spot),
+    /// In the module this name is given twice: by modules, by assignments and imports, by the identifiers of one list, or by
+    /// the names of one number. The place is that of the second of two names.
+    #[error("30 Twice: {0}")]
+    Twice(Spot),
     /// In the module this name stands for nothing.
-    #[error("31 UnknownName: {0}.{1}")]
-    UnknownName(String, String),
+    #[error("31 UnknownName: {0}")]
+    UnknownName(Spot),
     /// The module imports a name that the other module doesn't export.
-    #[error("32 NotExported: {0}.{1}")]
-    NotExported(String, String),
+    #[error("32 NotExported: {0}")]
+    NotExported(Spot),
     /// In the module this type comes back to itself.
-    #[error("33 Circular: {0}.{1}")]
-    Circular(String, String),
+    #[error("33 Circular: {0}")]
+    Circular(Spot),
     /// The module imports names from a module that isn't there.
-    #[error("34 UnknownModule: {0}.{1}")]
-    UnknownModule(String, String),
+    #[error("34 UnknownModule: {0}")]
+    UnknownModule(Spot),
 }
 
 impl From<AllocError> for NameFault {
@@ -65,4 +68,16 @@ impl<T: Drop> From<AllocFailed<T>> for NameFault {
     fn from(_e: AllocFailed<T>) -> NameFault {
         NameFault::Memory
     }
+}
+
+/// The spot of a name in a module.
+pub fn spot(alloc: Global, within: &str, name: &str, at: usize) -> Result<Spot, AllocError>
+    ensures within { IfOk result (λ s. module_told s ≡ within.now) }
+    ensures name { IfOk result (λ s. name_told s ≡ name.now) }
+{
+    Ok(Spot {
+        module: String::from_str(alloc, within)?,
+        name: String::from_str(alloc, name)?,
+        at,
+    })
 }

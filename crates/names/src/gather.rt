@@ -1,26 +1,25 @@
 //! What modules give: their names, and the types and values of their assignments, numbered in order.
 
-ghost use Rattle.std.specs.Prelude.{◌≡◌, ◌++◌, ◌∷◌, [], IfOk, IfErr, OnOk, length, map, option_map, None, List, string_bytes};
-ghost use Rattle.trees.specs.Values.{tree_of};
+ghost use Rattle.std.specs.Prelude.{◌≡◌, ◌++◌, ◌∷◌, [], IfOk, IfErr, OnOk, length, map, option_map, None, List};
+ghost use Rattle.trees.specs.Values.{tree_of, name_at};
 ghost use Rattle.trees.specs.Types.{type_tree_of};
 ghost use Rattle.trees.specs.Modules.{AssignmentTree, ModuleTree, assigns_type, assigns_value, assignment_of as given_of, import_of, module_tree_of};
 ghost use Rattle.names.specs.declared.fault.NameFault.TheVariants as faults;
-ghost use Rattle.names.specs.Scopes.{seen, module_of};
-ghost use Rattle.names.specs.Names.{under};
+ghost use Rattle.names.specs.ByNumber.{named_from};
+ghost use Rattle.names.specs.Modules.{AreDistinct, name_of, imports_of};
+ghost use Rattle.names.specs.Names.{under, names_of};
+ghost use Rattle.names.specs.Scopes.{seen, module_of, origin_of};
 ghost use Rattle.names.specs.Sources.{assignment_of, value_of, sources_of};
-ghost use Rattle.names.specs.Faults.{IsTwice, IsTaken, IsRepeated};
-ghost use Rattle.names.specs.Gathering.{name_of, named_from, imports_of};
-ghost use Rattle.names.specs.Gathered.{names_of, Adds, HasGathered, IsNamingFault};
-ghost use Rattle.names.specs.Modules.{AreDistinct};
+ghost use Rattle.names.specs.proving.Gathering.{IsTwice, IsTaken, IsRepeated, Adds, HasGathered, IsNamingFault};
 
 use crate::exports::Exports;
-use crate::fault::NameFault;
-use crate::scope::{Assigned, Scope, scope_of};
+use crate::fault::{NameFault, spot};
+use crate::scope::{Assigned, Origin, Scope, scope_of};
 use crate::sources::{Assignment, Header, Source, ValueAt};
 use indexmap::IndexMap;
 use std::alloc::Global;
 use std::collections::VecDeque;
-use trees::{Assignment as Given, Import, Module, TypeAssignment, TypeSyntax, ValueAssignment};
+use trees::{Assignment as Given, At, Import, Module, TypeAssignment, TypeSyntax, ValueAssignment};
 
 /// The assignments of modules, with their types and values.
 #[derive(Drop)]
@@ -39,7 +38,7 @@ pub struct Gathered {
 }
 
 /// What a name is assigned.
-#[tactic(auto, using(crate::specs::Meanings::under_seen))]
+#[tactic(auto, using(crate::specs::proving::Meanings::under_seen))]
 fn meaning_in(assigned: &IndexMap<String, Assigned>, name: &str) -> Option<Assigned>
     ensures { result ≡ under name.now (seen (λ a. a) assigned.now.entries) }
 {
@@ -50,21 +49,19 @@ fn meaning_in(assigned: &IndexMap<String, Assigned>, name: &str) -> Option<Assig
 fn name_once(
     alloc: Global,
     within: &str,
-    name: &str,
+    name: &At<String>,
     meaning: Assigned,
     assigned: &mut IndexMap<String, Assigned>,
 ) -> Result<(), NameFault>
-    ensures ok { OnOk result (seen (λ a. a) assigned.new.entries ≡ seen (λ a. a) assigned.old.entries ++ (name.now, meaning) ∷ []) }
-    ensures fresh { OnOk result (under name.now (seen (λ a. a) assigned.old.entries) ≡ None) }
-    ensures fault { IfErr result (IsTwice within.now name.now (seen (λ a. a) assigned.old.entries)) }
+    ensures ok { OnOk result (seen (λ a. a) assigned.new.entries ≡ seen (λ a. a) assigned.old.entries ++ (name_at name.now, meaning) ∷ []) }
+    ensures fresh { OnOk result (under (name_at name.now) (seen (λ a. a) assigned.old.entries) ≡ None) }
+    ensures fault { IfErr result (IsTwice within.now (name_at name.now) (seen (λ a. a) assigned.old.entries)) }
 {
-    match meaning_in(assigned, name) {
-        Some(_) => Err(NameFault::Twice(
-            String::from_str(alloc, within)?,
-            String::from_str(alloc, name)?,
-        )),
+    let text = name.it.as_str();
+    match meaning_in(assigned, text) {
+        Some(_) => Err(NameFault::Twice(spot(alloc, within, text, name.at)?)),
         None => {
-            assigned.insert(String::from_str(alloc, name)?, meaning)?;
+            assigned.insert(String::from_str(alloc, text)?, meaning)?;
             Ok(())
         }
     }
@@ -73,11 +70,11 @@ fn name_once(
 /// Adds an assignment, with its type, behind the others.
 fn place(
     owner: usize,
-    name: String,
+    name: At<String>,
     syntax: TypeSyntax,
     tables: &mut Tables,
 ) -> Result<(), NameFault>
-    ensures owned { OnOk result (map assignment_of tables.new.assignments.items ≡ map assignment_of tables.old.assignments.items ++ (owner, string_bytes name) ∷ []) }
+    ensures owned { OnOk result (map assignment_of tables.new.assignments.items ≡ map assignment_of tables.old.assignments.items ++ (owner, name_at name) ∷ []) }
     ensures roots { OnOk result (sources_of tables.new.roots.items ≡ sources_of tables.old.roots.items ++ record { tree = type_tree_of syntax; assignment = length tables.old.assignments.items; place = None } ∷ []) }
     ensures values { tables.new.values.items ≡ tables.old.values.items }
     ensures fault { IfErr result (λ e. e ≡ faults.Memory) }
@@ -104,14 +101,14 @@ fn add_type(
     assigned: &mut IndexMap<String, Assigned>,
     tables: &mut Tables,
 ) -> Result<(), NameFault>
-    ensures named { OnOk result (seen (λ a. a) assigned.new.entries ≡ seen (λ a. a) assigned.old.entries ++ named_from (length tables.old.assignments.items) (length tables.old.values.items) (assigns_type (string_bytes given.name) (type_tree_of given.syntax) ∷ [])) }
-    ensures fresh { OnOk result (under (string_bytes given.name) (seen (λ a. a) assigned.old.entries) ≡ None) }
-    ensures adds { OnOk result (Adds owner (assigns_type (string_bytes given.name) (type_tree_of given.syntax) ∷ []) tables.old tables.new) }
-    ensures fault { IfErr result (IsTwice within.now (string_bytes given.name) (seen (λ a. a) assigned.old.entries)) }
+    ensures named { OnOk result (seen (λ a. a) assigned.new.entries ≡ seen (λ a. a) assigned.old.entries ++ named_from (length tables.old.assignments.items) (length tables.old.values.items) (assigns_type (name_at given.name) (type_tree_of given.syntax) ∷ [])) }
+    ensures fresh { OnOk result (under (name_at given.name) (seen (λ a. a) assigned.old.entries) ≡ None) }
+    ensures adds { OnOk result (Adds owner (assigns_type (name_at given.name) (type_tree_of given.syntax) ∷ []) tables.old tables.new) }
+    ensures fault { IfErr result (IsTwice within.now (name_at given.name) (seen (λ a. a) assigned.old.entries)) }
 {
     let TypeAssignment { name, syntax } = given;
     let meaning = Assigned::Type(tables.assignments.len());
-    match name_once(alloc, within, name.as_str(), meaning, assigned) {
+    match name_once(alloc, within, &name, meaning, assigned) {
         Ok(()) => {}
         Err(fault) => return Err(fault),
     }
@@ -128,10 +125,10 @@ fn add_value(
     assigned: &mut IndexMap<String, Assigned>,
     tables: &mut Tables,
 ) -> Result<(), NameFault>
-    ensures named { OnOk result (seen (λ a. a) assigned.new.entries ≡ seen (λ a. a) assigned.old.entries ++ named_from (length tables.old.assignments.items) (length tables.old.values.items) (assigns_value (string_bytes given.name) (type_tree_of given.syntax) (tree_of given.value) ∷ [])) }
-    ensures fresh { OnOk result (under (string_bytes given.name) (seen (λ a. a) assigned.old.entries) ≡ None) }
-    ensures adds { OnOk result (Adds owner (assigns_value (string_bytes given.name) (type_tree_of given.syntax) (tree_of given.value) ∷ []) tables.old tables.new) }
-    ensures fault { IfErr result (IsTwice within.now (string_bytes given.name) (seen (λ a. a) assigned.old.entries)) }
+    ensures named { OnOk result (seen (λ a. a) assigned.new.entries ≡ seen (λ a. a) assigned.old.entries ++ named_from (length tables.old.assignments.items) (length tables.old.values.items) (assigns_value (name_at given.name) (type_tree_of given.syntax) (tree_of given.value) ∷ [])) }
+    ensures fresh { OnOk result (under (name_at given.name) (seen (λ a. a) assigned.old.entries) ≡ None) }
+    ensures adds { OnOk result (Adds owner (assigns_value (name_at given.name) (type_tree_of given.syntax) (tree_of given.value) ∷ []) tables.old tables.new) }
+    ensures fault { IfErr result (IsTwice within.now (name_at given.name) (seen (λ a. a) assigned.old.entries)) }
 {
     let ValueAssignment {
         name,
@@ -139,7 +136,7 @@ fn add_value(
         value,
     } = given;
     let meaning = Assigned::Value(tables.values.len());
-    match name_once(alloc, within, name.as_str(), meaning, assigned) {
+    match name_once(alloc, within, &name, meaning, assigned) {
         Ok(()) => {}
         Err(fault) => return Err(fault),
     }
@@ -204,9 +201,9 @@ fn add_all(
 }
 
 /// The module that a name is imported from.
-#[tactic(auto, using(crate::specs::Meanings::under_seen))]
-fn origin_in<'a>(imports: &'a IndexMap<String, String>, name: &str) -> Option<&'a String>
-    ensures { option_map (λ t. string_bytes t.now) result ≡ under name.now (seen string_bytes imports.now.entries) }
+#[tactic(auto, using(crate::specs::proving::Meanings::under_seen))]
+fn origin_in<'a>(imports: &'a IndexMap<String, Origin>, name: &str) -> Option<&'a Origin>
+    ensures { option_map (λ o. origin_of o.now) result ≡ under name.now (seen origin_of imports.now.entries) }
 {
     imports.get(name)
 }
@@ -215,24 +212,34 @@ fn origin_in<'a>(imports: &'a IndexMap<String, String>, name: &str) -> Option<&'
 fn import_once(
     alloc: Global,
     within: &str,
-    name: String,
-    from: &str,
+    name: At<String>,
+    from: &At<String>,
     assigned: &IndexMap<String, Assigned>,
-    imports: &mut IndexMap<String, String>,
+    imports: &mut IndexMap<String, Origin>,
 ) -> Result<(), NameFault>
-    ensures ok { OnOk result (seen string_bytes imports.new.entries ≡ seen string_bytes imports.old.entries ++ (string_bytes name, from.now) ∷ []) }
-    ensures unassigned { OnOk result (under (string_bytes name) (seen (λ a. a) assigned.now.entries) ≡ None) }
-    ensures fresh { OnOk result (under (string_bytes name) (seen string_bytes imports.old.entries) ≡ None) }
-    ensures fault { IfErr result (IsTaken within.now (string_bytes name) (names_of (seen (λ a. a) assigned.now.entries) ++ names_of (seen string_bytes imports.old.entries))) }
+    ensures ok { OnOk result (seen origin_of imports.new.entries ≡ seen origin_of imports.old.entries ++ (name_at name, name_at from.now) ∷ []) }
+    ensures unassigned { OnOk result (under (name_at name) (seen (λ a. a) assigned.now.entries) ≡ None) }
+    ensures fresh { OnOk result (under (name_at name) (seen origin_of imports.old.entries) ≡ None) }
+    ensures fault { IfErr result (IsTaken within.now (name_at name) (names_of (seen (λ a. a) assigned.now.entries) ++ names_of (seen origin_of imports.old.entries))) }
 {
-    match meaning_in(assigned, name.as_str()) {
-        Some(_) => return Err(NameFault::Twice(String::from_str(alloc, within)?, name)),
+    match meaning_in(assigned, name.it.as_str()) {
+        Some(_) => {
+            return Err(NameFault::Twice(spot(alloc, within, name.it.as_str(), name.at)?));
+        }
         None => {}
     }
-    match origin_in(imports, name.as_str()) {
-        Some(_) => Err(NameFault::Twice(String::from_str(alloc, within)?, name)),
+    match origin_in(imports, name.it.as_str()) {
+        Some(_) => Err(NameFault::Twice(spot(alloc, within, name.it.as_str(), name.at)?)),
         None => {
-            imports.insert(name, String::from_str(alloc, from)?)?;
+            let it = String::from_str(alloc, from.it.as_str())?;
+            let module = At { at: from.at, it };
+            imports.insert(
+                name.it,
+                Origin {
+                    at: name.at,
+                    module,
+                },
+            )?;
             Ok(())
         }
     }
@@ -242,15 +249,15 @@ fn import_once(
 fn import_names(
     alloc: Global,
     within: &str,
-    names: Vec<String>,
-    from: &str,
+    names: Vec<At<String>>,
+    from: &At<String>,
     assigned: &IndexMap<String, Assigned>,
-    imports: &mut IndexMap<String, String>,
+    imports: &mut IndexMap<String, Origin>,
 ) -> Result<(), NameFault>
-    requires distinct { AreDistinct (names_of (seen (λ a. a) assigned.now.entries) ++ names_of (seen string_bytes imports.old.entries)) }
-    ensures ok { OnOk result (seen string_bytes imports.new.entries ≡ seen string_bytes imports.old.entries ++ map (λ x. (x, from.now)) (map string_bytes names.items)) }
-    ensures distinct { OnOk result (AreDistinct (names_of (seen (λ a. a) assigned.now.entries) ++ names_of (seen string_bytes imports.new.entries))) }
-    ensures fault { IfErr result (IsRepeated within.now (names_of (seen (λ a. a) assigned.now.entries) ++ names_of (seen string_bytes imports.old.entries ++ map (λ x. (x, from.now)) (map string_bytes names.items)))) }
+    requires distinct { AreDistinct (names_of (seen (λ a. a) assigned.now.entries) ++ names_of (seen origin_of imports.old.entries)) }
+    ensures ok { OnOk result (seen origin_of imports.new.entries ≡ seen origin_of imports.old.entries ++ map (λ x. (x, name_at from.now)) (map name_at names.items)) }
+    ensures distinct { OnOk result (AreDistinct (names_of (seen (λ a. a) assigned.now.entries) ++ names_of (seen origin_of imports.new.entries))) }
+    ensures fault { IfErr result (IsRepeated within.now (names_of (seen (λ a. a) assigned.now.entries) ++ names_of (seen origin_of imports.old.entries ++ map (λ x. (x, name_at from.now)) (map name_at names.items)))) }
 {
     for name in names {
         match import_once(alloc, within, name, from, assigned, imports) {
@@ -267,11 +274,11 @@ fn import_all(
     within: &str,
     given: Vec<Import>,
     assigned: &IndexMap<String, Assigned>,
-    imports: &mut IndexMap<String, String>,
+    imports: &mut IndexMap<String, Origin>,
 ) -> Result<(), NameFault>
     requires distinct { AreDistinct (names_of (seen (λ a. a) assigned.now.entries)) }
     requires empty { imports.old.entries ≡ [] }
-    ensures ok { OnOk result (seen string_bytes imports.new.entries ≡ imports_of (map import_of given.items)) }
+    ensures ok { OnOk result (seen origin_of imports.new.entries ≡ imports_of (map import_of given.items)) }
     ensures distinct { OnOk result (AreDistinct (names_of (seen (λ a. a) assigned.now.entries) ++ names_of (imports_of (map import_of given.items)))) }
     ensures fault { IfErr result (IsRepeated within.now (names_of (seen (λ a. a) assigned.now.entries) ++ names_of (imports_of (map import_of given.items)))) }
 {
@@ -279,7 +286,7 @@ fn import_all(
         names,
         module: from,
     } in given {
-        match import_names(alloc, within, names, from.as_str(), assigned, imports) {
+        match import_names(alloc, within, names, &from, assigned, imports) {
             Ok(()) => {}
             Err(fault) => return Err(fault),
         }
@@ -288,8 +295,8 @@ fn import_all(
 }
 
 /// The exports of a module, ready for look-ups.
-fn exports_of(alloc: Global, given: Option<Vec<String>>) -> Result<Option<Exports>, NameFault>
-    ensures ok { IfOk result (λ e. e ≡ option_map (λ xs. map string_bytes xs.items) given) }
+fn exports_of(alloc: Global, given: Option<Vec<At<String>>>) -> Result<Option<Exports>, NameFault>
+    ensures ok { IfOk result (λ e. e ≡ option_map (λ xs. map name_at xs.items) given) }
     ensures fault { IfErr result (λ e. e ≡ faults.Memory) }
 {
     match given {
@@ -306,12 +313,12 @@ fn scope_from(
     alloc: Global,
     owner: usize,
     within: &str,
-    exports: Option<Vec<String>>,
+    exports: Option<Vec<At<String>>>,
     given: Vec<Import>,
     assignments: Vec<Given>,
     tables: &mut Tables,
 ) -> Result<Scope, NameFault>
-    ensures scope { IfOk result (λ s. module_of s ≡ record { assigned = named_from (length tables.old.assignments.items) (length tables.old.values.items) (map given_of assignments.items); imports = imports_of (map import_of given.items); exports = option_map (λ xs. map string_bytes xs.items) exports }) }
+    ensures scope { IfOk result (λ s. module_of s ≡ record { assigned = named_from (length tables.old.assignments.items) (length tables.old.values.items) (map given_of assignments.items); imports = imports_of (map import_of given.items); exports = option_map (λ xs. map name_at xs.items) exports }) }
     ensures distinct { OnOk result (AreDistinct (map name_of (map given_of assignments.items) ++ names_of (imports_of (map import_of given.items)))) }
     ensures adds { OnOk result (Adds owner (map given_of assignments.items) tables.old tables.new) }
     ensures fault { IfErr result (IsRepeated within.now (map name_of (map given_of assignments.items) ++ names_of (imports_of (map import_of given.items)))) }
@@ -348,26 +355,30 @@ fn add_module(alloc: Global, given: Module, gathered: &mut Gathered) -> Result<(
         imports,
         assignments,
     } = given;
-    match scope_of(&gathered.modules, name.as_str()) {
-        Some(_) => return Err(NameFault::Twice(String::from_str(alloc, name.as_str())?, name)),
+    match scope_of(&gathered.modules, name.it.as_str()) {
+        Some(_) => {
+            let told = spot(alloc, name.it.as_str(), name.it.as_str(), name.at)?;
+            return Err(NameFault::Twice(told));
+        }
         None => {}
     }
     let number = gathered.headers.len();
     match scope_from(
         alloc,
         number,
-        name.as_str(),
+        name.it.as_str(),
         exports,
         imports,
         assignments,
         &mut gathered.tables,
     ) {
         Ok(scope) => {
+            let text = String::from_str(alloc, name.it.as_str())?;
             gathered.headers.push(Header {
-                name: String::from_str(alloc, name.as_str())?,
+                name,
                 default: tag_default,
             })?;
-            gathered.modules.insert(name, scope)?;
+            gathered.modules.insert(text, scope)?;
             Ok(())
         }
         Err(fault) => Err(fault),

@@ -5,10 +5,13 @@ ghost use Rattle.trees.specs.Modules.{ModuleTree};
 ghost use Rattle.names.specs.declared.fault.NameFault.{NameFault};
 ghost use Rattle.names.specs.declared.gather.Gathered.{Gathered};
 ghost use Rattle.names.specs.Faults.{IsNamesFault};
-ghost use Rattle.names.specs.Gathered.{AreStanding, HasGathered, IsNamingFault, IsReady, IsStandingFault};
-ghost use Rattle.names.specs.Modules.{AreDistinct, AreFew, AreNamed, StandsIn, names_in, scopes_from};
+ghost use Rattle.names.specs.ByNumber.{scopes_from};
+ghost use Rattle.names.specs.Modules.{AreDistinct, AreFew, AreNamed, StandsIn, names_in};
 ghost use Rattle.names.specs.Names.{IsApart};
 ghost use Rattle.names.specs.Scopes.{module_of, seen};
+ghost use Rattle.names.specs.proving.Gathering.{HasGathered, IsNamingFault};
+ghost use Rattle.names.specs.proving.Ready.{IsReady};
+ghost use Rattle.names.specs.proving.Standing.{AreStanding, IsStandingFault};
 
 /// Modules in whose names a fault stands are not named as they have to be, or are too many.
 pub fn name_faults_exclude()

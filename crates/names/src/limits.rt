@@ -3,9 +3,10 @@
 ghost use Rattle.std.specs.Prelude.{◌≡◌, ◌≤◌, ◌+◌, IfErr, OnOk, map};
 ghost use Rattle.trees.specs.Modules.{assignment_of as given_of, module_tree_of};
 ghost use Rattle.names.specs.Modules.{AreFew, type_count, value_count, all_assignments};
-ghost use Rattle.names.specs.Gathered.{IsPastCount, IsNamingFault};
+ghost use Rattle.names.specs.proving.Gathering.{IsNamingFault};
+ghost use Rattle.names.specs.proving.Limiting.{IsPastCount};
 
-use crate::fault::{Limit, NameFault};
+use crate::fault::{Limit, NameFault, spot};
 use std::alloc::Global;
 use trees::{Assignment, Module};
 
@@ -35,20 +36,20 @@ fn count(
         match given {
             Assignment::Type(assigned) => {
                 if counts.types == 4096 {
+                    let name = &assigned.name;
                     return Err(NameFault::Limit(
                         Limit::Types,
-                        String::from_str(alloc, within)?,
-                        String::from_str(alloc, assigned.name.as_str())?,
+                        spot(alloc, within, name.it.as_str(), name.at)?,
                     ));
                 }
                 counts.types += 1;
             }
             Assignment::Value(assigned) => {
                 if counts.values == 65536 {
+                    let name = &assigned.name;
                     return Err(NameFault::Limit(
                         Limit::Values,
-                        String::from_str(alloc, within)?,
-                        String::from_str(alloc, assigned.name.as_str())?,
+                        spot(alloc, within, name.it.as_str(), name.at)?,
                     ));
                 }
                 counts.values += 1;
@@ -67,7 +68,7 @@ fn count_all(alloc: Global, modules: &[Module], counts: &mut Counts) -> Result<(
     ensures fault { IfErr result (IsNamingFault (map module_tree_of modules.now)) }
 {
     for given in modules {
-        match count(alloc, given.name.as_str(), &given.assignments, counts) {
+        match count(alloc, given.name.it.as_str(), &given.assignments, counts) {
             Ok(()) => {}
             Err(fault) => return Err(fault),
         }
@@ -81,11 +82,10 @@ pub fn within_limits(alloc: Global, modules: &[Module]) -> Result<(), NameFault>
     ensures fault { IfErr result (IsNamingFault (map module_tree_of modules.now)) }
 {
     if modules.len() > 256 {
-        let name = modules[256].name.as_str();
+        let name = &modules[256].name;
         return Err(NameFault::Limit(
             Limit::Modules,
-            String::from_str(alloc, name)?,
-            String::from_str(alloc, name)?,
+            spot(alloc, name.it.as_str(), name.it.as_str(), name.at)?,
         ));
     }
     let mut counts = Counts {

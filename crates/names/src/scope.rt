@@ -3,12 +3,13 @@
 ghost use Rattle.std.specs.Prelude.{ℕ, ◌≡◌, ◌↔◌, Some, option_map, string_bytes};
 ghost use Rattle.names.specs.declared.scope.Assigned.{Assigned};
 ghost use Rattle.names.specs.Names.{Meaning, Refers, IsApart, under};
-ghost use Rattle.names.specs.Scopes.{seen, module_of};
-ghost use Rattle.names.specs.Finding.{found, assigned_in, imported_in};
+ghost use Rattle.names.specs.Scopes.{seen, module_of, origin_of};
+ghost use Rattle.names.specs.proving.Lookup.{found, assigned_in, imported_in};
 
 use crate::exports::Exports;
 use indexmap::IndexMap;
 use std::marker::Model;
+use trees::At;
 
 /// What a name is assigned: a type or a value, by its number in the table of types or of values.
 #[derive(Clone, Copy, Debug, PartialEq, Eq)]
@@ -17,11 +18,20 @@ pub enum Assigned {
     Value(usize),
 }
 
+/// Where a name is imported from.
+#[derive(Drop)]
+pub struct Origin {
+    /// Where the name stands among the imported ones.
+    pub at: usize,
+    /// The module, where it is named behind `FROM`.
+    pub module: At<String>,
+}
+
 /// A module's names: its assignments, its imports with their modules, and the names that it exports (all that it assigns where it lists none).
 #[derive(Drop)]
 pub struct Scope {
     pub assigned: IndexMap<String, Assigned>,
-    pub imports: IndexMap<String, String>,
+    pub imports: IndexMap<String, Origin>,
     pub exports: Option<Exports>,
 }
 
@@ -57,7 +67,7 @@ impl Names {
     }
 
     /// What a name stands for in a module.
-    #[tactic(auto, using(crate::specs::Meanings::found_meaning, crate::specs::Meanings::meaning_found))]
+    #[tactic(auto, using(crate::specs::proving::Meanings::found_meaning, crate::specs::proving::Meanings::meaning_found))]
     pub fn find(&self, within: &str, name: &str) -> Option<Assigned>
         ensures { (a : Assigned) → (result ≡ Some a ↔ Meaning self.now within.now name.now a) }
     {
@@ -66,7 +76,7 @@ impl Names {
 
     /// What a name, behind the name of a module if one is given, stands for in a module. `M.x` may stand in M itself, or where
     /// x is imported from M.
-    #[tactic(auto, using(crate::specs::Meanings::refers_bare, crate::specs::Meanings::refers_within, crate::specs::Meanings::refers_across, crate::specs::Meanings::refers_not))]
+    #[tactic(auto, using(crate::specs::proving::Meanings::refers_bare, crate::specs::proving::Meanings::refers_within, crate::specs::proving::Meanings::refers_across, crate::specs::proving::Meanings::refers_not))]
     pub fn refers(&self, within: &str, owner: &Option<String>, name: &str) -> Option<Assigned>
         ensures { (a : Assigned) → (result ≡ Some a ↔ Refers self.now within.now (option_map string_bytes owner.now) name.now a) }
     {
@@ -79,7 +89,7 @@ impl Names {
                     match imported_by(&self.modules, within, name) {
                         None => None,
                         Some(from) => {
-                            if from.as_str() == module.as_str() {
+                            if from.module.it.as_str() == module.as_str() {
                                 self.find(within, name)
                             } else {
                                 None
@@ -92,28 +102,28 @@ impl Names {
     }
 }
 
-#[tactic(auto, using(crate::specs::Meanings::under_seen))]
+#[tactic(auto, using(crate::specs::proving::Meanings::under_seen))]
 pub(crate) fn scope_of<'a>(modules: &'a IndexMap<String, Scope>, name: &str) -> Option<&'a Scope>
     ensures { option_map (λ s. module_of s.now) result ≡ under name.now (seen module_of modules.now.entries) }
 {
     modules.get(name)
 }
 
-#[tactic(auto, using(crate::specs::Meanings::under_seen))]
+#[tactic(auto, using(crate::specs::proving::Meanings::under_seen))]
 pub(crate) fn assigned_to(scope: &Scope, name: &str) -> Option<Assigned>
     ensures { result ≡ under name.now (module_of scope.now).assigned }
 {
     scope.assigned.get(name).copied()
 }
 
-#[tactic(auto, using(crate::specs::Meanings::under_seen))]
-fn imported<'a>(scope: &'a Scope, name: &str) -> Option<&'a String>
-    ensures { option_map (λ t. string_bytes t.now) result ≡ under name.now (module_of scope.now).imports }
+#[tactic(auto, using(crate::specs::proving::Meanings::under_seen))]
+fn imported<'a>(scope: &'a Scope, name: &str) -> Option<&'a Origin>
+    ensures { option_map (λ o. origin_of o.now) result ≡ under name.now (module_of scope.now).imports }
 {
     scope.imports.get(name)
 }
 
-#[tactic(auto, unfolding(crate::specs::Finding::found))]
+#[tactic(auto, unfolding(crate::specs::proving::Lookup::found))]
 fn find_among(modules: &IndexMap<String, Scope>, within: &str, name: &str) -> Option<Assigned>
     ensures { result ≡ found (seen module_of modules.now.entries) within.now name.now }
 {
@@ -123,7 +133,7 @@ fn find_among(modules: &IndexMap<String, Scope>, within: &str, name: &str) -> Op
             Some(ty) => Some(ty),
             None => match imported(scope, name) {
                 None => None,
-                Some(from) => match scope_of(modules, from.as_str()) {
+                Some(from) => match scope_of(modules, from.module.it.as_str()) {
                     None => None,
                     Some(other) => assigned_to(other, name),
                 },
@@ -137,8 +147,8 @@ fn imported_by<'a>(
     modules: &'a IndexMap<String, Scope>,
     within: &str,
     name: &str,
-) -> Option<&'a String>
-    ensures { option_map (λ t. string_bytes t.now) result ≡ imported_in name.now (under within.now (seen module_of modules.now.entries)) }
+) -> Option<&'a Origin>
+    ensures { option_map (λ o. origin_of o.now) result ≡ imported_in name.now (under within.now (seen module_of modules.now.entries)) }
 {
     match scope_of(modules, within) {
         None => None,

@@ -1,6 +1,6 @@
 //! What modules give, by number: headers, assignments, the types that are assigned, and the values.
 
-use trees::{TagDefault, TypeSyntax, ValueSyntax};
+use trees::{At, TagDefault, TypeSyntax, ValueSyntax};
 
 /// The list that a type is a member of, by its type's number, and which member it is, counted from 0.
 #[derive(Clone, Copy, Debug, PartialEq, Eq)]
@@ -18,21 +18,21 @@ pub struct Source {
 }
 
 /// A module: its name, and what tags in it are if nothing else stands behind them.
-#[derive(Debug, Drop)]
+#[derive(Drop)]
 pub struct Header {
-    pub name: String,
+    pub name: At<String>,
     pub default: TagDefault,
 }
 
-/// Where an assignment stands: its module's number and its name.
-#[derive(Debug, Drop)]
+/// Where an assignment stands: its module's number, and its name.
+#[derive(Drop)]
 pub struct Assignment {
     pub module: usize,
-    pub name: String,
+    pub name: At<String>,
 }
 
 /// A value assignment: its number among all assignments, its type's number, and the value as it is written.
-#[derive(Debug, Drop)]
+#[derive(Drop)]
 pub struct ValueAt {
     pub assignment: usize,
     pub ty: usize,

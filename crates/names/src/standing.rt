@@ -1,33 +1,36 @@
 //! Exports and imports: what they name is there.
 
 ghost use Rattle.std.specs.Prelude.{◌≡◌, ◌<◌, ◌↔◌, ◌⊎◌, true, Some, length, slice_get, IfErr, OnOk, map, string_bytes};
-ghost use Rattle.names.specs.Scopes.{seen, module_of};
+ghost use Rattle.trees.specs.Values.{Name, name_at};
 ghost use Rattle.names.specs.Modules.{StandsIn, IsExported};
-ghost use Rattle.trees.specs.Values.{Name};
-ghost use Rattle.names.specs.Gathered.{names_of, IsOffered, ExportAssigned, ImportOffered, IsUnassigned, IsExportFault, IsImportFault, IsImportsFault, AreStanding, IsStandingFault};
+ghost use Rattle.names.specs.Names.{names_of};
+ghost use Rattle.names.specs.Scopes.{seen, module_of, origin_of};
+ghost use Rattle.names.specs.proving.Standing.{IsOffered, ExportAssigned, ImportOffered, HasNoAssignment, IsExportFault, IsImportFault, IsImportsFault, AreStanding, IsStandingFault};
 
-use crate::fault::NameFault;
-use crate::scope::{Scope, assigned_to, scope_of};
+use crate::fault::{NameFault, spot};
+use crate::scope::{Origin, Scope, assigned_to, scope_of};
 use indexmap::IndexMap;
 use std::alloc::Global;
+use trees::At;
 
 /// Are these names assigned?
 fn all_assigned(
     alloc: Global,
     within: &str,
-    names: &[String],
+    names: &[At<String>],
     scope: &Scope,
 ) -> Result<(), NameFault>
-    ensures ok { OnOk result ((x : Name) → StandsIn (map string_bytes names.now) x → StandsIn (names_of (module_of scope.now).assigned) x) }
-    ensures fault { IfErr result (IsUnassigned within.now (map string_bytes names.now) (module_of scope.now).assigned) }
+    ensures ok { OnOk result ((x : Name) → StandsIn (map name_at names.now) x → StandsIn (names_of (module_of scope.now).assigned) x) }
+    ensures fault { IfErr result (HasNoAssignment within.now (map name_at names.now) (module_of scope.now).assigned) }
 {
     for i in 0..names.len() {
-        match assigned_to(scope, names[i].as_str()) {
+        let name = &names[i];
+        match assigned_to(scope, name.it.as_str()) {
             Some(_) => {}
-            None => return Err(NameFault::UnknownName(
-                String::from_str(alloc, within)?,
-                String::from_str(alloc, names[i].as_str())?,
-            )),
+            None => {
+                let told = spot(alloc, within, name.it.as_str(), name.at)?;
+                return Err(NameFault::UnknownName(told));
+            }
         }
     }
     Ok(())
@@ -63,39 +66,31 @@ fn import_stands(
     modules: &IndexMap<String, Scope>,
     within: &str,
     name: &str,
-    from: &str,
+    origin: &Origin,
 ) -> Result<(), NameFault>
-    ensures ok { OnOk result (IsOffered (seen module_of modules.now.entries) from.now name.now) }
-    ensures fault { IfErr result (IsImportFault (seen module_of modules.now.entries) within.now from.now name.now) }
+    ensures ok { OnOk result (IsOffered (seen module_of modules.now.entries) (origin_of origin.now) name.now) }
+    ensures fault { IfErr result (IsImportFault (seen module_of modules.now.entries) within.now (origin_of origin.now) name.now) }
 {
-    match scope_of(modules, from) {
-        None => Err(NameFault::UnknownModule(
-            String::from_str(alloc, within)?,
-            String::from_str(alloc, from)?,
-        )),
+    let from = &origin.module;
+    match scope_of(modules, from.it.as_str()) {
+        None => Err(NameFault::UnknownModule(spot(alloc, within, from.it.as_str(), from.at)?)),
         Some(other) => match assigned_to(other, name) {
-            None => Err(NameFault::UnknownName(
-                String::from_str(alloc, within)?,
-                String::from_str(alloc, name)?,
-            )),
+            None => Err(NameFault::UnknownName(spot(alloc, within, name, origin.at)?)),
             Some(_) => {
                 if exports(other, name) {
                     Ok(())
                 } else {
-                    Err(NameFault::NotExported(
-                        String::from_str(alloc, within)?,
-                        String::from_str(alloc, name)?,
-                    ))
+                    Err(NameFault::NotExported(spot(alloc, within, name, origin.at)?))
                 }
             }
         },
     }
 }
 
-/// An import, by its place: the name and its module.
-fn entry_at<'a>(imports: &'a IndexMap<String, String>, i: usize) -> (&'a String, &'a String)
+/// An import, by its place: the name and where it is from.
+fn entry_at<'a>(imports: &'a IndexMap<String, Origin>, i: usize) -> (&'a String, &'a Origin)
     requires { i < length imports.now.entries }
-    ensures { slice_get (seen string_bytes imports.now.entries) i ≡ Some (string_bytes result.0.now, string_bytes result.1.now) }
+    ensures { slice_get (seen origin_of imports.now.entries) i ≡ Some (string_bytes result.0.now, origin_of result.1.now) }
 {
     imports.get_index(i).unwrap()
 }
@@ -113,14 +108,14 @@ fn imports_stand(
     alloc: Global,
     modules: &IndexMap<String, Scope>,
     within: &str,
-    imports: &IndexMap<String, String>,
+    imports: &IndexMap<String, Origin>,
 ) -> Result<(), NameFault>
-    ensures ok { OnOk result (ImportOffered (seen module_of modules.now.entries) (seen string_bytes imports.now.entries)) }
-    ensures fault { IfErr result (IsImportsFault (seen module_of modules.now.entries) within.now (seen string_bytes imports.now.entries)) }
+    ensures ok { OnOk result (ImportOffered (seen module_of modules.now.entries) (seen origin_of imports.now.entries)) }
+    ensures fault { IfErr result (IsImportsFault (seen module_of modules.now.entries) within.now (seen origin_of imports.now.entries)) }
 {
     for i in 0..imports.len() {
-        let (name, from) = entry_at(imports, i);
-        match import_stands(alloc, modules, within, name.as_str(), from.as_str()) {
+        let (name, origin) = entry_at(imports, i);
+        match import_stands(alloc, modules, within, name.as_str(), origin) {
             Ok(()) => {}
             Err(fault) => return Err(fault),
         }

@@ -1,5 +1,5 @@
 use Rattle.std.proofs.Common.{take}
-use Rattle.names.specs.Listed.{IsTableOf}
+use Rattle.names.specs.proving.Tabled.{IsTableOf}
 use Rattle.names.proofs.exports.fill.Given as goal
 
 abbrev pub invariant-loop-name : goal.invariant-loop-name

@@ -1,7 +1,9 @@
-use Rattle.std.proofs.Common.{rules, arith, ◌≡◌, ◌++◌, ◌∷◌, [], inl, length, map, option_map, Some, None, refl, sym, subst, ap, ◌∙◌, string_bytes}
+use Rattle.std.proofs.Common.{rules, arith, ◌≡◌, ◌++◌, ◌∷◌, [], inl, length, map, option_map, Some, None, sym, subst, ap, ◌∙◌, string_bytes}
 use Rattle.std.proofs.lemmas.List.{map-append}
+use Rattle.trees.specs.Values.{name_at}
 use Rattle.trees.specs.Modules.{module_tree_of}
-use Rattle.names.specs.Gathered.{Adds}
+use Rattle.names.specs.Modules.{StandsTwice}
+use Rattle.names.specs.proving.Gathering.{Adds}
 use Rattle.names.specs.Names.{under}
 use Rattle.names.specs.Scopes.{seen, module_of}
 use Rattle.names.specs.Sources.{header_of}
@@ -14,8 +16,8 @@ returns-in-Some-clause-fault c = λ ms rest h.
     let t = module_tree_of c.args.given in
     let ss = seen module_of c.args.gathered.now.modules.entries in
     let u : under t.name ss ≡ Some (module_of c.in-Some.field-0.now) = ap (λ z. under z ss) (sym c.as_str.ensures.value) ∙ sym c.scope_of.ensures ∙ ap (option_map (λ s. module_of s.now)) c.in-Some.is in
-    let name : string_bytes c.in_ok-from_str-in-Some.field-0 ≡ string_bytes c.args.given.name = search rules in
-    inl (name, module_twice ms rest t c.args.gathered.now (module_of c.in-Some.field-0.now) h u)
+    let e = c.in_ok-told-in-Some.ensures in
+    inl (e.within ∙ c.as_str-in-Some.ensures.value ∙ sym (e.name ∙ c.as_str-in-Some-2.ensures.value), subst (λ z. StandsTwice _ z) (sym (e.name ∙ c.as_str-in-Some-2.ensures.value)) (module_twice ms rest t c.args.gathered.now (module_of c.in-Some.field-0.now) h u))
 
 pub returns-in_ok-insert-in-Ok-clause-ok : goal.returns-in_ok-insert-in-Ok-clause-ok
 returns-in_ok-insert-in-Ok-clause-ok c = λ ms h.
@@ -24,9 +26,9 @@ returns-in_ok-insert-in-Ok-clause-ok c = λ ms h.
     let ss = seen module_of g.modules.entries in
     let u : under t.name ss ≡ None = ap (λ z. under z ss) (sym c.as_str.ensures.value) ∙ sym c.scope_of.ensures ∙ ap (option_map (λ s. module_of s.now)) c.in-None.is in
     let n : c.len-number.result ≡ length g.headers.items = omega arith in
-    let name : string_bytes c.in_ok-from_str-in-Ok.field-0 ≡ string_bytes c.args.given.name = search rules in
-    let s = inserted module_of g.modules c.args.given.name c.in-Ok.scope t.name c.insert.new.self.entries refl u c.in_ok-insert-in-Ok.ensures.entries ∙ ap (λ z. ss ++ (t.name, z) ∷ []) c.in-Ok.ensures.scope in
-    let d = ap (map header_of) c.in_ok-push-in-Ok.ensures.items ∙ map-append header_of g.headers.items (_ ∷ []) ∙ ap (λ z. map header_of g.headers.items ++ (z, t.tag_default) ∷ []) name in
+    let name : string_bytes c.in_ok-text-in-Ok.field-0 ≡ name_at c.args.given.name = search rules in
+    let s = inserted module_of g.modules c.in_ok-text-in-Ok.field-0 c.in-Ok.scope t.name c.insert.new.self.entries name u c.in_ok-insert-in-Ok.ensures.entries ∙ ap (λ z. ss ++ (t.name, z) ∷ []) c.in-Ok.ensures.scope in
+    let d = ap (map header_of) c.in_ok-push-in-Ok.ensures.items ∙ map-append header_of g.headers.items (_ ∷ []) in
     gathered_more ms t g (record { modules = c.insert.new.self; headers = c.push.new.self; tables = c.scope_from.new.tables }) h u s d (subst (λ k. Adds k t.assignments g.tables c.scope_from.new.tables) n c.in-Ok.ensures.adds) c.in-Ok.ensures.distinct
 
 pub returns-in-Err-clause-fault : goal.returns-in-Err-clause-fault

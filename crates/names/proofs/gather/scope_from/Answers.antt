@@ -1,9 +1,8 @@
 use Rattle.std.proofs.Common.{◌≡◌, ◌++◌, length, map, refl, sym, subst, ap, ◌∙◌}
 use Rattle.trees.specs.Modules.{assignment_of as given_of, import_of}
-use Rattle.names.specs.Faults.{IsRepeated}
-use Rattle.names.specs.Gathered.{names_of}
-use Rattle.names.specs.Gathering.{name_of, imports_of}
-use Rattle.names.specs.Modules.{AreDistinct}
+use Rattle.names.specs.proving.Gathering.{IsRepeated}
+use Rattle.names.specs.Names.{names_of}
+use Rattle.names.specs.Modules.{name_of, imports_of, AreDistinct}
 use Rattle.names.specs.Scopes.{seen}
 use Rattle.names.proofs.Behind.{names_named}
 use Rattle.names.proofs.Gatherings.{repeated_more}

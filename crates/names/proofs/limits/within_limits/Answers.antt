@@ -1,7 +1,8 @@
-use Rattle.std.proofs.Common.{rules, arith, ◌≡◌, ◌<◌, length, refl, string_bytes}
-use Rattle.std.proofs.lemmas.Option.{slice_get_read}
+use Rattle.std.proofs.Common.{arith, ◌≡◌, ◌<◌, length, sym, ap, ◌∙◌}
+use Rattle.trees.specs.Values.{name_at}
 use Rattle.trees.specs.Modules.{module_tree_of}
-use Rattle.names.specs.Distinct.{stands_map}
+use Rattle.names.specs.Faults.{module_told, name_told}
+use Rattle.names.specs.proving.Distinct.{item_at}
 use Rattle.names.proofs.limits.within_limits.Goals as goal
 
 pub returns-then-modules-gt256-clause-fault : goal.returns-then-modules-gt256-clause-fault
@@ -9,9 +10,13 @@ returns-then-modules-gt256-clause-fault c =
     let ms = c.args.modules.now in
     let m = c.index-modules-256.result in
     let there : 256 < length ms = omega arith in
+    let back = ap (λ z. name_at z.name) (sym c.index-modules-256.is) in
+    let e = c.in_ok-spot.ensures in
+    let within : module_told c.in_ok-spot.field-0 ≡ name_at m.name = e.within ∙ c.as_str.ensures.value ∙ back in
+    let name : name_told c.in_ok-spot.field-0 ≡ name_at m.name = e.name ∙ c.as_str-then-modules-gt256.ensures.value ∙ back in
     record {
       tree = module_tree_of m;
-      there = stands_map module_tree_of ms 256 m (slice_get_read ms (length ms) 256 m refl there c.index-modules-256.is);
-      named = (let e : string_bytes m.name ≡ string_bytes c.in_ok-from_str.field-0 = search rules in e);
-      same = (let e : string_bytes c.in_ok-from_str-2.field-0 ≡ string_bytes c.in_ok-from_str.field-0 = search rules in e);
+      there = item_at module_tree_of ms 256 m there c.index-modules-256.is;
+      named = sym within;
+      same = name ∙ sym within;
     }

@@ -1,9 +1,9 @@
 use Rattle.std.proofs.Common.{arith, ◌≡◌, ◌⊎◌, length, subst, string_bytes}
 use Rattle.trees.specs.Values.{Name}
-use Rattle.names.specs.Gathered.{ExportAssigned, ImportOffered, IsExportFault, IsImportsFault}
+use Rattle.names.specs.proving.Standing.{ExportAssigned, ImportOffered, IsExportFault, IsImportsFault}
 use Rattle.names.specs.Names.{Module}
 use Rattle.names.specs.Scopes.{seen, module_of}
-use Rattle.names.proofs.Standings.{more_of, all_stood, standing_stop, seen_long}
+use Rattle.names.proofs.Standings.{more_of, all_stood, seen_long}
 use Rattle.names.proofs.standing.all_stand.Goals as goal
 
 pub loop-i-preserved : goal.loop-i-preserved
@@ -16,7 +16,7 @@ returns-in-Err-clause-fault c =
     let ss = seen module_of c.args.modules.now.entries in
     let m = module_of c.module_at.result.1.now in
     let f = subst (λ z. IsExportFault z m c.in-Err.fault ⊎ IsImportsFault ss z m.imports c.in-Err.fault) c.as_str.ensures.value c.in-Err.ensures.fault in
-    standing_stop ss (string_bytes c.module_at.result.0.now) m c.in-Err.fault (c.loop-i.i, c.module_at.ensures) f
+    (string_bytes c.module_at.result.0.now, m, (c.loop-i.i, c.module_at.ensures), f)
 
 pub returns-clause-ok : goal.returns-clause-ok
 returns-clause-ok c = λ M m s.

@@ -1,7 +1,7 @@
 use Rattle.std.proofs.Common.{◌≡◌, ℕ, ◌<◌, Some}
 use Rattle.std.specs.Prelude.{slice_get}
 use Rattle.trees.specs.Values.{Name}
-use Rattle.names.specs.Gathered.{ExportAssigned, ImportOffered}
+use Rattle.names.specs.proving.Standing.{ExportAssigned, ImportOffered}
 use Rattle.names.specs.Names.{Module}
 use Rattle.names.specs.Scopes.{seen, module_of}
 use Rattle.names.proofs.standing.all_stand.Given as goal

@@ -1,9 +1,10 @@
 use Rattle.std.proofs.Common.{sym, ap, ◌∙◌, string_bytes, option_map}
 use Rattle.std.specs.Map.Iter.{deref_pair}
-use Rattle.names.specs.Distinct.{stands_map}
+use Rattle.names.specs.proving.Distinct.{stands_map}
+use Rattle.names.specs.Scopes.{origin_of}
 use Rattle.names.proofs.standing.entry_at.Goals as goal
 
 pub returns : goal.returns
 returns c =
     let e = sym c.get_index.ensures.entry ∙ ap (option_map deref_pair) c.unwrap.ensures in
-    stands_map (λ p. (string_bytes p.0, string_bytes p.1)) c.args.imports.now.entries c.args.i (c.unwrap.result.0.now, c.unwrap.result.1.now) e
+    stands_map (λ p. (string_bytes p.0, origin_of p.1)) c.args.imports.now.entries c.args.i (c.unwrap.result.0.now, c.unwrap.result.1.now) e

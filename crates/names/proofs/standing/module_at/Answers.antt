@@ -1,7 +1,7 @@
 use Rattle.std.proofs.Common.{sym, ap, ◌∙◌, string_bytes, option_map}
 use Rattle.std.specs.Map.Iter.{deref_pair}
 use Rattle.names.specs.Scopes.{module_of}
-use Rattle.names.specs.Distinct.{stands_map}
+use Rattle.names.specs.proving.Distinct.{stands_map}
 use Rattle.names.proofs.standing.module_at.Goals as goal
 
 pub returns : goal.returns

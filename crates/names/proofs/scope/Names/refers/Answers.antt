@@ -1,5 +1,5 @@
 use Rattle.std.proofs.Common.{rules}
-use Rattle.names.specs.Meanings.{refers_bare, refers_within, refers_across}
+use Rattle.names.specs.proving.Meanings.{refers_bare, refers_within, refers_across}
 use Rattle.names.proofs.scope.Names.refers.Goals as goal
 
 pub returns-in-None : goal.returns-in-None

@@ -7,9 +7,8 @@ use Rattle.std.proofs.lemmas.List.{drop_all}
 use Rattle.std.proofs.lemmas.Option.{slice_get_within, slice_get_read}
 use Rattle.std.proofs.lemmas.Slice.Eq.{bytes_eq-Decides}
 use Rattle.trees.specs.Values.{Name}
-use Rattle.names.specs.Gathered.{names_of}
+use Rattle.names.specs.Names.{names_of, under}
 use Rattle.names.specs.Modules.{StandsIn, StandsTwice, AreDistinct}
-use Rattle.names.specs.Names.{under}
 
 pub left : {X : Type 0} (xs ys : List X) (k : ℕ) (x : X) → slice_get xs k ≡ Some x → slice_get (xs ++ ys) k ≡ Some x
 left [] ys k x e = absurd cc

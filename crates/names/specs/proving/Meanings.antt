@@ -7,7 +7,7 @@ use Rattle.trees.specs.Values.{Name}
 use Rattle.names.specs.declared.scope.Assigned.{Assigned}
 use Rattle.names.specs.Names.{Module, under, Meaning, own, imported, IsApart, Refers, bare, within, across}
 use Rattle.names.specs.Scopes.{seen}
-use Rattle.names.specs.Finding.{found, found_in, found_or, assigned_in, assigned_from, imported_in}
+use Rattle.names.specs.proving.Lookup.{found, found_in, found_or, assigned_in, assigned_from, imported_in}
 
 step : {X Y : Type 0} (f : X → Y) (b : Bool) (x : X) (o : Option X) (p : Option Y) → p ≡ option_map f o → cond b (Some (f x)) p ≡ option_map f (cond b (Some x) o)
 step f true x o p e = refl

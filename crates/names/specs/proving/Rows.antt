@@ -3,7 +3,7 @@ use Rattle.std.proofs.Common.{◌≡◌, ℕ, ◌<◌, List, length, Some, map, 
 use Rattle.std.specs.Prelude.{slice_get}
 use Rattle.names.specs.declared.sources.Assignment.{Assignment}
 use Rattle.names.specs.declared.sources.Header.{Header}
-use Rattle.names.specs.Distinct.{item_at}
+use Rattle.names.specs.proving.Distinct.{item_at}
 use Rattle.names.specs.Sources.{assignment_of, header_of}
 
 pub assignment_at : (gs : List Assignment) (i : ℕ) (g : Assignment) → i < length gs → g ≡ get_or gs i g → slice_get (map assignment_of gs) i ≡ Some (assignment_of g)

@@ -1,0 +1,11 @@
+-- What only contracts inside the crates and proofs speak of: definitions for the functions that gather names, and laws
+-- that upper crates stand on.
+pub mod Lookup
+pub mod Tabled
+pub mod Limiting
+pub mod Gathering
+pub mod Standing
+pub mod Ready
+pub mod Distinct
+pub mod Meanings
+pub mod Rows

@@ -1,0 +1,65 @@
+-- Modules whose names, types and values are gathered, and what is wrong with names on the way.
+use Rattle.std.specs.Prelude.{◌≡◌, ℕ, List, ◌++◌, Some, map, length}
+use Rattle.trees.specs.Values.{Name}
+use Rattle.trees.specs.declared.module.TagDefault.{TagDefault}
+use Rattle.trees.specs.Modules.{AssignmentTree, ModuleTree}
+use Rattle.names.specs.declared.fault.NameFault.{NameFault}
+use Rattle.names.specs.declared.fault.NameFault.TheVariants as faults
+use Rattle.names.specs.declared.gather.Tables.{Tables}
+use Rattle.names.specs.declared.gather.Gathered.{Gathered}
+use Rattle.names.specs.ByNumber.{roots_from, values_from, owned_by, scopes_from, headers_of, owned_from, roots_of, values_of}
+use Rattle.names.specs.Faults.{IsNamesFault, module_told, name_told}
+use Rattle.names.specs.Modules.{StandsIn, StandsTwice, AreDistinct, names_in}
+use Rattle.names.specs.Names.{Module, under}
+use Rattle.names.specs.Scopes.{seen, module_of}
+use Rattle.names.specs.Sources.{Source, Value, assignment_of, header_of, sources_of, value_of}
+
+-- tables, and those that have besides the assignments of module k
+pub record Adds (k : ℕ) (gs : List AssignmentTree) (old new : Tables) : Type 0 where
+  pub owned : map assignment_of new.assignments.items ≡ map assignment_of old.assignments.items ++ owned_by k gs
+  pub roots : sources_of new.roots.items ≡ sources_of old.roots.items ++ roots_from (length old.assignments.items) gs
+  pub values : map value_of new.values.items ≡ map value_of old.values.items ++ values_from (length old.assignments.items) gs
+
+-- the names, types and values of modules, in which no name has two meanings
+pub record AreGathered (ms : List ModuleTree) (ss : List (Name × Module)) (hs : List (Name × TagDefault)) (gs : List (ℕ × Name)) (rs : List Source) (vs : List Value) : Type 0 where
+  pub scopes : ss ≡ scopes_from 0 0 ms
+  pub headers : hs ≡ headers_of ms
+  pub assignments : gs ≡ owned_from 0 ms
+  pub roots : rs ≡ roots_of ms
+  pub values : vs ≡ values_of ms
+  pub distinct : AreDistinct (map (λ m. m.name) ms)
+  pub apart : (m : ModuleTree) → StandsIn ms m → AreDistinct (names_in m)
+
+abbrev pub HasGathered : List ModuleTree → Gathered → Type 0
+HasGathered ms g =
+    AreGathered ms
+    (seen module_of g.modules.entries)
+    (map header_of g.headers.items)
+    (map assignment_of g.tables.assignments.items)
+    (sources_of g.tables.roots.items)
+    (map value_of g.tables.values.items)
+
+-- ---- faults
+
+-- memory ran out, or fault 30 tells a module and a name of which Q holds
+abbrev pub TellsTwice : (Name → Name → Type 0) → NameFault → Type 0
+TellsTwice Q faults.Memory = Unit {0}
+TellsTwice Q (faults.Twice s) = Q (module_told s) (name_told s)
+TellsTwice Q e = ⊥
+
+-- in module M name x already stands in a table of names
+abbrev pub IsTwice : {X : Type 0} → Name → Name → List (Name × X) → NameFault → Type 0
+IsTwice {X} M x es = TellsTwice (λ m y. (m ≡ M) × (y ≡ x) × (a : X) × (under x es ≡ Some a))
+
+-- in module M name x is one of these already
+abbrev pub IsTaken : Name → Name → List Name → NameFault → Type 0
+IsTaken M x xs = TellsTwice (λ m y. (m ≡ M) × (y ≡ x) × StandsIn xs x)
+
+-- in module M a name stands twice among these
+abbrev pub IsRepeated : Name → List Name → NameFault → Type 0
+IsRepeated M xs = TellsTwice (λ m y. (m ≡ M) × StandsTwice xs y)
+
+-- memory ran out, or something is wrong with the names of modules
+abbrev pub IsNamingFault : List ModuleTree → NameFault → Type 0
+IsNamingFault ms faults.Memory = Unit {0}
+IsNamingFault ms e = IsNamesFault ms e

@@ -1,0 +1,32 @@
+-- What is gathered refers to what is there.
+use Rattle.std.specs.Prelude.{◌≡◌, ◌<◌, slice_get, ℕ, Some, length}
+use Rattle.trees.specs.Values.{Name}
+use Rattle.names.specs.declared.gather.Gathered.{Gathered}
+use Rattle.names.specs.declared.scope.Assigned.{Assigned}
+use Rattle.names.specs.declared.scope.Assigned.TheVariants as assigned
+use Rattle.names.specs.declared.sources.Assignment.{Assignment}
+use Rattle.names.specs.declared.sources.ValueAt.{ValueAt}
+use Rattle.names.specs.Names.{Meaning, IsApart}
+use Rattle.names.specs.Scopes.{seen, module_of}
+use Rattle.names.specs.Sources.{AllAssigned, HaveNoPlace, sources_of}
+
+-- there are so many types and values that what a name is assigned is there
+abbrev pub IsGiven : (types values : ℕ) → Assigned → Type 0
+IsGiven n m (assigned.Type i) = i < n
+IsGiven n m (assigned.Value i) = i < m
+
+-- what is gathered refers to what is there
+pub record IsReady (g : Gathered) : Type 0 where
+  pub apart : IsApart (seen module_of g.modules.entries)
+  pub pairs : length g.tables.roots.items ≡ length g.tables.assignments.items
+  pub assigned : AllAssigned (length g.tables.assignments.items) (sources_of g.tables.roots.items)
+  pub unplaced : HaveNoPlace (sources_of g.tables.roots.items)
+  pub placed : (k : ℕ) (a : Assignment) →
+      slice_get g.tables.assignments.items k ≡ Some a →
+      a.module < length g.headers.items
+  pub named : (M x : Name) (a : Assigned) →
+      Meaning (seen module_of g.modules.entries) M x a →
+      IsGiven (length g.tables.roots.items) (length g.tables.values.items) a
+  pub valued : (k : ℕ) (v : ValueAt) →
+      slice_get g.tables.values.items k ≡ Some v →
+      (v.ty < length g.tables.roots.items) × (v.assignment < length g.tables.assignments.items)

@@ -1,0 +1,63 @@
+-- What is exported and imported, in tables of names.
+use Rattle.std.specs.Prelude.{◌≡◌, List, Some, None, ◌⊎◌}
+use Rattle.trees.specs.Values.{Name}
+use Rattle.names.specs.declared.fault.NameFault.{NameFault}
+use Rattle.names.specs.declared.fault.NameFault.TheVariants as faults
+use Rattle.names.specs.declared.scope.Assigned.{Assigned}
+use Rattle.names.specs.Faults.{module_told, name_told}
+use Rattle.names.specs.Modules.{StandsIn, IsExported}
+use Rattle.names.specs.Names.{Module, under, names_of}
+
+-- module N, among these, assigns name x and exports it
+pub record IsOffered (ss : List (Name × Module)) (N x : Name) : Type 0 where
+  pub other : Module
+  pub there : under N ss ≡ Some other
+  pub assigned : Assigned
+  pub assigns : under x other.assigned ≡ Some assigned
+  pub exported : IsExported other.exports x
+
+-- what a module exports it assigns
+abbrev pub ExportAssigned : Module → Type 0
+ExportAssigned m =
+    (xs : List Name) (x : Name) → m.exports ≡ Some xs → StandsIn xs x → StandsIn (names_of m.assigned) x
+
+-- what it imports is offered
+abbrev pub ImportOffered : List (Name × Module) → List (Name × Name) → Type 0
+ImportOffered ss is = (N x : Name) → StandsIn is (x, N) → IsOffered ss N x
+
+-- memory ran out, or one of these names, in module M, has no assignment
+abbrev pub HasNoAssignment : Name → List Name → List (Name × Assigned) → NameFault → Type 0
+HasNoAssignment M xs as' faults.Memory = Unit {0}
+HasNoAssignment M xs as' (faults.UnknownName s) =
+    (module_told s ≡ M) × StandsIn xs (name_told s) × (under (name_told s) as' ≡ None)
+HasNoAssignment M xs as' e = ⊥
+
+-- module M exports what it doesn't assign, or memory ran out over that
+abbrev pub IsExportFault : Name → Module → NameFault → Type 0
+IsExportFault M m e = (xs : List Name) × (m.exports ≡ Some xs) × HasNoAssignment M xs m.assigned e
+
+-- memory ran out, or name x can't be imported into module M from module N
+abbrev pub IsImportFault : List (Name × Module) → Name → Name → Name → NameFault → Type 0
+IsImportFault ss M N x faults.Memory = Unit {0}
+IsImportFault ss M N x (faults.UnknownModule s) = (module_told s ≡ M) × (name_told s ≡ N) × (under N ss ≡ None)
+IsImportFault ss M N x (faults.UnknownName s) =
+    (module_told s ≡ M) × (name_told s ≡ x) × (n : Module) × (under N ss ≡ Some n) × (under x n.assigned ≡ None)
+IsImportFault ss M N x (faults.NotExported s) =
+    (module_told s ≡ M) × (name_told s ≡ x)
+    × (n : Module) × (under N ss ≡ Some n)
+    × (a : Assigned) × (under x n.assigned ≡ Some a)
+    × (IsExported n.exports x → ⊥)
+IsImportFault ss M N x e = ⊥
+
+-- the same of one of these imports
+abbrev pub IsImportsFault : List (Name × Module) → Name → List (Name × Name) → NameFault → Type 0
+IsImportsFault ss M is e = (N : Name) × (x : Name) × StandsIn is (x, N) × IsImportFault ss M N x e
+
+-- in each module exports are assigned and imports are offered
+abbrev pub AreStanding : List (Name × Module) → Type 0
+AreStanding ss = (M : Name) (m : Module) → StandsIn ss (M, m) → ExportAssigned m × ImportOffered ss m.imports
+
+-- in some module they aren't, or memory ran out over that
+abbrev pub IsStandingFault : List (Name × Module) → NameFault → Type 0
+IsStandingFault ss e =
+    (M : Name) × (m : Module) × StandsIn ss (M, m) × (IsExportFault M m e ⊎ IsImportsFault ss M m.imports e)
