@@ -1,9 +1,9 @@
 -- Reading the head of a module from left to right.
-use Rattle.std.specs.Prelude.{ℕ, Bool, List, [], ◌∷◌, map, Option, None, option_map, string_bytes, Ok}
+use Rattle.std.specs.Prelude.{ℕ, Bool, List, [], ◌∷◌, map, Option, None, option_map, Ok}
 use Rattle.text.specs.declared.reserved.Word.TheVariants.{Explicit, Implicit, Automatic, Exports, Imports}
 use Rattle.grammar.specs.Lexeme.{Word}
 use Rattle.grammar.specs.Reading.{Reader, ◌>>=◌}
-use Rattle.trees.specs.Values.{Name}
+use Rattle.trees.specs.Values.{Name, name_at}
 use Rattle.trees.specs.declared.module.TagDefault.{TagDefault}
 use Rattle.trees.specs.declared.module.TagDefault.TheVariants as defaults
 use Rattle.trees.specs.Modules.{ImportTree, import_of}
@@ -48,8 +48,8 @@ module _ (fits : ℕ → Bool) where
 -- the tree that a head in memory holds
 abbrev pub head_tree_of : ModuleHead → HeadTree
 head_tree_of h = record {
-  name = string_bytes h.name;
+  name = name_at h.name;
   tag_default = h.tag_default;
-  exports = option_map (λ xs. map string_bytes xs.items) h.exports;
+  exports = option_map (λ xs. map name_at xs.items) h.exports;
   imports = map import_of h.imports.items;
 }

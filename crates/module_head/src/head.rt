@@ -1,10 +1,11 @@
 //! Reading a module's head.
 
-ghost use Rattle.std.specs.Prelude.{IfOk, string_bytes};
+ghost use Rattle.std.specs.Prelude.{IfOk};
 ghost use Rattle.grammar.specs.Lexeme.{lexemes};
 ghost use Rattle.grammar.specs.Places.{small};
 ghost use Rattle.grammar.specs.Single.{definitions_at, assign_at, begin_at};
 ghost use Rattle.kernel.specs.Given.{Gives, AreTokens};
+ghost use Rattle.trees.specs.Values.{name_at};
 ghost use Rattle.module_head.specs.HeadReading.{begun_at, heading_at, head_at, head_tree_of};
 
 use crate::heading::{export_list, tag_default};
@@ -13,15 +14,15 @@ use notation::ReadError;
 use std::alloc::Global;
 use text::reserved::Word;
 use text::{Mark, Token, TokenKind};
-use trees::{Import, TagDefault};
+use trees::{At, Import, TagDefault};
 
 /// What stands before a module's assignments (X.680, clause 13.1).
 #[derive(Drop)]
 pub struct ModuleHead {
-    pub name: String,
+    pub name: At<String>,
     pub tag_default: TagDefault,
     /// The names that other modules may import; all that are assigned where none are listed.
-    pub exports: Option<Vec<String>>,
+    pub exports: Option<Vec<At<String>>>,
     pub imports: Vec<Import>,
 }
 
@@ -100,9 +101,9 @@ fn heading<'a>(
     alloc: Global,
     text: &[u8],
     tokens: &'a [Token],
-) -> Result<((String, TagDefault), &'a [Token]), ReadError>
+) -> Result<((At<String>, TagDefault), &'a [Token]), ReadError>
     requires tokens { AreTokens text.now tokens.now }
-    ensures read { Gives (λ x. ((string_bytes x.0.0, x.0.1), lexemes text.now x.1.now)) result (heading_at small (lexemes text.now tokens.now)) }
+    ensures read { Gives (λ x. ((name_at x.0.0, x.0.1), lexemes text.now x.1.now)) result (heading_at small (lexemes text.now tokens.now)) }
     ensures rest { IfOk result (λ x. AreTokens text.now x.1.now) }
 {
     let (name, rest) = module_ref(alloc, text, tokens)?;

@@ -1,20 +1,21 @@
 //! Reading the head of a module: its default for tags and its exports.
 
-ghost use Rattle.std.specs.Prelude.{map, option_map, IfOk, string_bytes};
+ghost use Rattle.std.specs.Prelude.{map, option_map, IfOk};
 ghost use Rattle.grammar.specs.Lexeme.{lexemes};
 ghost use Rattle.grammar.specs.Reading.{listed_at};
 ghost use Rattle.kernel.specs.Given.{Gives, AreTokens};
 ghost use Rattle.grammar.specs.Single.{tags_at};
+ghost use Rattle.trees.specs.Values.{name_at};
 ghost use Rattle.module_head.specs.HeadingReading.{tag_word_at, default_words_at, semicolon_at, symbol_at, some_exports_at, all_exports_at, no_exports_at, exported_at, exports_at};
 ghost use Rattle.module_head.specs.HeadReading.{tag_default_at, export_list_at};
 
 use notation::ReadError;
-use kernel::decode::name_of;
+use notation::names::name;
 use kernel::marks::comma;
 use std::alloc::Global;
 use text::reserved::Word;
 use text::{Mark, Token, TokenKind};
-use trees::TagDefault;
+use trees::{At, TagDefault};
 
 /// The tokens behind `TAGS`.
 #[tactic(auto, unfolding(grammar::specs::Single::tags_at))]
@@ -129,19 +130,19 @@ fn symbol<'a>(
     alloc: Global,
     text: &[u8],
     tokens: &'a [Token],
-) -> Result<(String, &'a [Token]), ReadError>
+) -> Result<(At<String>, &'a [Token]), ReadError>
     requires tokens { AreTokens text.now tokens.now }
-    ensures read { Gives (λ x. (string_bytes x.0, lexemes text.now x.1.now)) result (symbol_at (lexemes text.now tokens.now)) }
+    ensures read { Gives (λ x. (name_at x.0, lexemes text.now x.1.now)) result (symbol_at (lexemes text.now tokens.now)) }
     ensures rest { IfOk result (λ x. AreTokens text.now x.1.now) }
 {
     match tokens {
         [
-            name @ Token {
+            symbol @ Token {
                 kind: TokenKind::TypeReference | TokenKind::Identifier,
                 ..
             },
             rest @ ..,
-        ] => Ok((name_of(alloc, text, *name)?, rest)),
+        ] => Ok((name(alloc, text, *symbol)?, rest)),
         _ => Err(ReadError::Unexpected(tokens.len())),
     }
 }
@@ -151,9 +152,9 @@ pub fn symbols<'a>(
     alloc: Global,
     text: &[u8],
     tokens: &'a [Token],
-) -> Result<(Vec<String>, &'a [Token]), ReadError>
+) -> Result<(Vec<At<String>>, &'a [Token]), ReadError>
     requires tokens { AreTokens text.now tokens.now }
-    ensures read { Gives (λ x. (map string_bytes x.0.items, lexemes text.now x.1.now)) result (listed_at symbol_at (lexemes text.now tokens.now)) }
+    ensures read { Gives (λ x. (map name_at x.0.items, lexemes text.now x.1.now)) result (listed_at symbol_at (lexemes text.now tokens.now)) }
     ensures rest { IfOk result (λ x. AreTokens text.now x.1.now) }
 {
     let mut names = Vec::new(alloc);
@@ -173,9 +174,9 @@ fn some_exports<'a>(
     alloc: Global,
     text: &[u8],
     tokens: &'a [Token],
-) -> Result<(Option<Vec<String>>, &'a [Token]), ReadError>
+) -> Result<(Option<Vec<At<String>>>, &'a [Token]), ReadError>
     requires tokens { AreTokens text.now tokens.now }
-    ensures read { Gives (λ x. (option_map (λ xs. map string_bytes xs.items) x.0, lexemes text.now x.1.now)) result (some_exports_at (lexemes text.now tokens.now)) }
+    ensures read { Gives (λ x. (option_map (λ xs. map name_at xs.items) x.0, lexemes text.now x.1.now)) result (some_exports_at (lexemes text.now tokens.now)) }
     ensures rest { IfOk result (λ x. AreTokens text.now x.1.now) }
 {
     let (names, rest) = symbols(alloc, text, tokens)?;
@@ -188,9 +189,9 @@ fn exported<'a>(
     alloc: Global,
     text: &[u8],
     tokens: &'a [Token],
-) -> Result<(Option<Vec<String>>, &'a [Token]), ReadError>
+) -> Result<(Option<Vec<At<String>>>, &'a [Token]), ReadError>
     requires tokens { AreTokens text.now tokens.now }
-    ensures read { Gives (λ x. (option_map (λ xs. map string_bytes xs.items) x.0, lexemes text.now x.1.now)) result (exported_at (lexemes text.now tokens.now)) }
+    ensures read { Gives (λ x. (option_map (λ xs. map name_at xs.items) x.0, lexemes text.now x.1.now)) result (exported_at (lexemes text.now tokens.now)) }
     ensures rest { IfOk result (λ x. AreTokens text.now x.1.now) }
 {
     match tokens {
@@ -218,9 +219,9 @@ fn exports<'a>(
     alloc: Global,
     text: &[u8],
     tokens: &'a [Token],
-) -> Result<(Option<Vec<String>>, &'a [Token]), ReadError>
+) -> Result<(Option<Vec<At<String>>>, &'a [Token]), ReadError>
     requires tokens { AreTokens text.now tokens.now }
-    ensures read { Gives (λ x. (option_map (λ xs. map string_bytes xs.items) x.0, lexemes text.now x.1.now)) result (exports_at (lexemes text.now tokens.now)) }
+    ensures read { Gives (λ x. (option_map (λ xs. map name_at xs.items) x.0, lexemes text.now x.1.now)) result (exports_at (lexemes text.now tokens.now)) }
     ensures rest { IfOk result (λ x. AreTokens text.now x.1.now) }
 {
     match tokens {
@@ -241,9 +242,9 @@ pub fn export_list<'a>(
     alloc: Global,
     text: &[u8],
     tokens: &'a [Token],
-) -> Result<(Option<Vec<String>>, &'a [Token]), ReadError>
+) -> Result<(Option<Vec<At<String>>>, &'a [Token]), ReadError>
     requires tokens { AreTokens text.now tokens.now }
-    ensures read { Gives (λ x. (option_map (λ xs. map string_bytes xs.items) x.0, lexemes text.now x.1.now)) result (export_list_at (lexemes text.now tokens.now)) }
+    ensures read { Gives (λ x. (option_map (λ xs. map name_at xs.items) x.0, lexemes text.now x.1.now)) result (export_list_at (lexemes text.now tokens.now)) }
     ensures rest { IfOk result (λ x. AreTokens text.now x.1.now) }
 {
     match tokens {

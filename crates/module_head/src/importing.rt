@@ -1,6 +1,6 @@
 //! Reading the imports of a module.
 
-ghost use Rattle.std.specs.Prelude.{◌≡◌, map, length, IfOk, string_bytes, slice_range};
+ghost use Rattle.std.specs.Prelude.{◌≡◌, map, length, IfOk, slice_range};
 ghost use Rattle.text.specs.declared.token.TokenKind.TheVariants as kinds;
 ghost use Rattle.grammar.specs.Lexeme.{lexemes};
 ghost use Rattle.grammar.specs.Reading.{many_at};
@@ -8,19 +8,20 @@ ghost use Rattle.grammar.specs.Manies.{is_begun_by};
 ghost use Rattle.grammar.specs.Places.{small};
 ghost use Rattle.kernel.specs.Given.{Gives, IsTokenOf, AreTokens};
 ghost use Rattle.grammar.specs.Rules.{number_at};
+ghost use Rattle.trees.specs.Values.{name_at};
 ghost use Rattle.trees.specs.Modules.{import_of};
 ghost use Rattle.module_head.specs.ImportReading.{begins_arc, begins_symbol, arc_number_at, behind_arc_at, arc_at, more_arcs_at, arcs_at, oid_at, behind_module_at, module_ref_at, from_module_at, import_from_at, imported_at, imports_at};
 ghost use Rattle.module_head.specs.HeadReading.{import_list_at};
 
 use crate::heading::{semicolon, symbols};
 use notation::ReadError;
-use kernel::decode::{name_of, small_number};
-use kernel::marks::{close, open};
-use kernel::marks::closed;
+use notation::names::name;
+use kernel::decode::small_number;
+use kernel::marks::{close, closed, open};
 use std::alloc::Global;
 use text::reserved::Word;
 use text::{Mark, Token, TokenKind};
-use trees::Import;
+use trees::{At, Import};
 
 /// Reads a number.
 #[tactic(auto, unfolding(grammar::specs::Rules::number_at))]
@@ -189,13 +190,13 @@ fn oid<'a>(text: &[u8], tokens: &'a [Token]) -> Result<&'a [Token], ReadError>
 fn behind_module<'a>(
     alloc: Global,
     text: &[u8],
-    name: Token,
+    module_name: Token,
     tokens: &'a [Token],
-) -> Result<(String, &'a [Token]), ReadError>
+) -> Result<(At<String>, &'a [Token]), ReadError>
     requires tokens { AreTokens text.now tokens.now }
-    requires before { IsTokenOf text.now name }
-    requires name { name.kind ≡ kinds.TypeReference }
-    ensures read { Gives (λ x. (string_bytes x.0, lexemes text.now x.1.now)) result (behind_module_at small (slice_range text.now name.span.start name.span.end) (lexemes text.now tokens.now)) }
+    requires before { IsTokenOf text.now module_name }
+    requires name { module_name.kind ≡ kinds.TypeReference }
+    ensures read { Gives (λ x. (name_at x.0, lexemes text.now x.1.now)) result (behind_module_at small (slice_range text.now module_name.span.start module_name.span.end) (lexemes text.now tokens.now)) }
     ensures rest { IfOk result (λ x. AreTokens text.now x.1.now) }
 {
     match tokens {
@@ -207,9 +208,9 @@ fn behind_module<'a>(
             ..
         ] => {
             let rest = oid(text, tokens)?;
-            Ok((name_of(alloc, text, name)?, rest))
+            Ok((name(alloc, text, module_name)?, rest))
         }
-        _ => Ok((name_of(alloc, text, name)?, tokens)),
+        _ => Ok((name(alloc, text, module_name)?, tokens)),
     }
 }
 
@@ -219,9 +220,9 @@ pub fn module_ref<'a>(
     alloc: Global,
     text: &[u8],
     tokens: &'a [Token],
-) -> Result<(String, &'a [Token]), ReadError>
+) -> Result<(At<String>, &'a [Token]), ReadError>
     requires tokens { AreTokens text.now tokens.now }
-    ensures read { Gives (λ x. (string_bytes x.0, lexemes text.now x.1.now)) result (module_ref_at small (lexemes text.now tokens.now)) }
+    ensures read { Gives (λ x. (name_at x.0, lexemes text.now x.1.now)) result (module_ref_at small (lexemes text.now tokens.now)) }
     ensures rest { IfOk result (λ x. AreTokens text.now x.1.now) }
 {
     match tokens {
@@ -242,9 +243,9 @@ fn from_module<'a>(
     alloc: Global,
     text: &[u8],
     tokens: &'a [Token],
-) -> Result<(String, &'a [Token]), ReadError>
+) -> Result<(At<String>, &'a [Token]), ReadError>
     requires tokens { AreTokens text.now tokens.now }
-    ensures read { Gives (λ x. (string_bytes x.0, lexemes text.now x.1.now)) result (from_module_at small (lexemes text.now tokens.now)) }
+    ensures read { Gives (λ x. (name_at x.0, lexemes text.now x.1.now)) result (from_module_at small (lexemes text.now tokens.now)) }
     ensures rest { IfOk result (λ x. AreTokens text.now x.1.now) }
 {
     match tokens {

@@ -66,10 +66,12 @@ pub fn qualified<'a>(
             },
             rest @ ..,
         ] => {
-            let module = Some(name_of(alloc, text, module_name)?);
-            let name = name_of(alloc, text, *value_name)?;
-            let at = module_name.span.start;
-            Ok((Reference { at, module, name }, rest))
+            let name = Reference {
+                at: module_name.span.start,
+                module: Some(name_of(alloc, text, module_name)?),
+                name: name_of(alloc, text, *value_name)?,
+            };
+            Ok((name, rest))
         }
         [
             Token {

@@ -1,5 +1,5 @@
 use Rattle.std.proofs.Common.{arith, map}
-use Rattle.std.specs.Prelude.{string_bytes}
+use Rattle.trees.specs.Values.{name_at}
 use Rattle.std.proofs.lemmas.Result.{err_from_is_err_and}
 use Rattle.std.proofs.lemmas.List.{map_push, length-map}
 use Rattle.grammar.specs.Lexeme.{lexeme_of, lexemes}
@@ -18,7 +18,7 @@ pub loop-after-init : goal.loop-after-init
 loop-after-init c =
     let x = c.args.text.now in
     record {
-      read = rw (c.in_ok-push.ensures.items, c.new-names.ensures.items) (listed_first symbol_at (lexemes x c.args.tokens.now) (string_bytes c.in_ok-first.first, lexemes x c.in_ok-first.rest.now) c.in_ok-first.ensures.read);
+      read = rw (c.in_ok-push.ensures.items, c.new-names.ensures.items) (listed_first symbol_at (lexemes x c.args.tokens.now) (name_at c.in_ok-first.first, lexemes x c.in_ok-first.rest.now) c.in_ok-first.ensures.read);
       tokens = c.in_ok-first.ensures.rest;
     }
 
@@ -26,12 +26,12 @@ pub returns-in_err-next-clause-read : goal.returns-in_err-next-clause-read
 returns-in_err-next-clause-read c =
     let x = c.args.text.now in
     let p = err_from_is_err_and c.from_residual-in_err-next.result c.from_residual-in_err-next.ensures.1 in
-    rw (p.1, p.2) (commas_give_up symbol_at (lexemes x c.loop-after.rest.now) (lexemes x c.in-Some.after.now) c.in_err-next.field-0.0 (map string_bytes c.loop-after.names.items) _ c.in-Some.ensures.0 c.in_err-next.ensures.read c.loop-after.invariant.read)
+    rw (p.1, p.2) (commas_give_up symbol_at (lexemes x c.loop-after.rest.now) (lexemes x c.in-Some.after.now) c.in_err-next.field-0.0 (map name_at c.loop-after.names.items) _ c.in-Some.ensures.0 c.in_err-next.ensures.read c.loop-after.invariant.read)
 
 pub loop-after-smaller : goal.loop-after-smaller
 loop-after-smaller c =
     let x = c.args.text.now in
-    let shorter = symbol_shrinks.shorter (lexemes x c.in-Some.after.now) (string_bytes c.in_ok-next.next, lexemes x c.in_ok-next.after.now) c.in_ok-next.ensures.read in
+    let shorter = symbol_shrinks.shorter (lexemes x c.in-Some.after.now) (name_at c.in_ok-next.next, lexemes x c.in_ok-next.after.now) c.in_ok-next.ensures.read in
     omega (arith, c.in-Some.ensures.2, shorter, length-map c.in-Some.after.now (lexeme_of x), length-map c.in_ok-next.after.now (lexeme_of x))
 
 pub loop-after-preserved : goal.loop-after-preserved
@@ -39,9 +39,9 @@ loop-after-preserved c =
     let x = c.args.text.now in
     let e = c.in_ok-push-2.ensures.items in
     record {
-      read = rw (e, map_push string_bytes c.loop-after.names.items c.in_ok-next.next) (commas_more symbol_at symbol_shrinks (lexemes x c.loop-after.rest.now) (lexemes x c.in-Some.after.now) (string_bytes c.in_ok-next.next, lexemes x c.in_ok-next.after.now) (map string_bytes c.loop-after.names.items) _ c.in-Some.ensures.0 c.in_ok-next.ensures.read c.loop-after.invariant.read);
+      read = rw (e, map_push name_at c.loop-after.names.items c.in_ok-next.next) (commas_more symbol_at symbol_shrinks (lexemes x c.loop-after.rest.now) (lexemes x c.in-Some.after.now) (name_at c.in_ok-next.next, lexemes x c.in_ok-next.after.now) (map name_at c.loop-after.names.items) _ c.in-Some.ensures.0 c.in_ok-next.ensures.read c.loop-after.invariant.read);
       tokens = c.in_ok-next.ensures.rest;
     }
 
 pub returns-clause-read : goal.returns-clause-read
-returns-clause-read c = commas_end symbol_at (lexemes c.args.text.now c.loop-after.rest.now) (map string_bytes c.loop-after.names.items) _ c.in_default.ensures c.loop-after.invariant.read
+returns-clause-read c = commas_end symbol_at (lexemes c.args.text.now c.loop-after.rest.now) (map name_at c.loop-after.names.items) _ c.in_default.ensures c.loop-after.invariant.read
