@@ -1,10 +1,13 @@
 -- What the loop over a list with an extension marker keeps.
-use Rattle.std.proofs.Common.{◌≡◌, ℕ, zero, suc, ◌≤◌, List, [], ◌∷◌, ◌++◌, length, Option, Some, None, Ok, Err, refl, sym, ap, ◌∙◌ as ◌⋆◌, append_assoc, arith}
+use Rattle.std.proofs.Common.{◌≡◌, ℕ, zero, suc, ◌≤◌, Bool, true, List, [], ◌∷◌, ◌++◌, length, Option, Some, None, Ok, Err, refl, sym, ap, ◌∙◌ as ◌⋆◌, append_assoc, arith}
 use Rattle.std.proofs.lemmas.List.{append-nil}
-use Rattle.text.specs.declared.token.Mark.TheVariants.{Comma}
+use Rattle.text.specs.declared.token.Mark.TheVariants.{Comma, Ellipsis}
 use Rattle.grammar.specs.Lexeme.{Lexeme, Mark}
 use Rattle.grammar.specs.Reading.{Read, Reader, ◌>>=◌, with_front, next_comma, Extensible, next_marker, additions_at, put, or_marker, more_at, extensible_at, rootless_at, with_root}
+use Rattle.grammar.specs.Extensions.{is_ellipsis}
 use Rattle.grammar.specs.Loops.{is_comma}
+use Rattle.grammar.specs.Manies.{is_begun_by}
+use Rattle.grammar.specs.Rules.{either}
 use Rattle.kernel.specs.declared.fault.ReadError.{ReadError}
 use Rattle.kernel.specs.declared.fault.ReadError.TheVariants as errors
 use Rattle.kernel.specs.Given.{Fails}
@@ -80,3 +83,15 @@ marker_first ra rb ts behind e = ap (λ (o : Option (List Lexeme)). or_marker ra
 pub no_marker : {A B : Type 0} (ra : Reader A) (rb : Reader B) (ts : List Lexeme) → next_marker ts ≡ None → rootless_at ra rb ts ≡ extensible_at ra rb ts
 unfolding rootless_at extensible_at
 no_marker ra rb ts e = ap (λ (o : Option (List Lexeme)). or_marker ra rb (λ us. more_at ra rb (length us) us) o ts) e
+
+pub marker_begins : (begins : Lexeme → Bool) (ts behind : List Lexeme) → next_marker ts ≡ Some behind → is_begun_by (either is_ellipsis begins) ts ≡ true
+unfolding next_marker
+marker_begins begins [] behind e = absurd cc
+marker_begins begins (Mark Ellipsis ∷ ts) behind e = refl
+marker_begins begins (t ∷ ts) behind e = absurd cc
+
+pub part_begins : (begins : Lexeme → Bool) (ts : List Lexeme) → next_marker ts ≡ None → is_begun_by (either is_ellipsis begins) ts ≡ is_begun_by begins ts
+unfolding next_marker
+part_begins begins [] e = refl
+part_begins begins (Mark Ellipsis ∷ ts) e = absurd cc
+part_begins begins (t ∷ ts) e = refl

@@ -10,7 +10,7 @@ ghost use Rattle.kernel.specs.Parts.{extensible_of};
 use crate::decode::small_number;
 use crate::fault::ReadError;
 use crate::marks::{close_version, colon, comma, marker};
-use crate::part::Part;
+use crate::part::{Begun, Part};
 use std::alloc::Global;
 use text::{Mark, Token, TokenKind};
 
@@ -253,6 +253,21 @@ impl<'t, P: Part<'t>, Q: Part<'t>> Part<'t> for RootlessList<P, Q> {
                 behind,
             ),
             None => root_first(alloc, text, &self.part, &self.addition, tokens),
+        }
+    }
+}
+
+impl<'t, P: Begun<'t>, Q: Part<'t>> Begun<'t> for RootlessList<P, Q> {
+    ghost use Rattle.grammar.specs.Extensions.{is_ellipsis};
+    ghost use Rattle.grammar.specs.Rules.{either};
+
+    ghost begins = { either is_ellipsis P.begins };
+
+    #[tactic(auto, using(crate::proofs::Extensions::marker_begins, crate::proofs::Extensions::part_begins))]
+    fn is_here(&self, text: &[u8], tokens: &'t [Token]) -> bool {
+        match marker(text, tokens) {
+            Some(_) => true,
+            None => self.part.is_here(text, tokens),
         }
     }
 }

@@ -113,3 +113,26 @@ impl<'t, G: Production, F: Fn(&'t [Token]) -> Result<(G::Tree, &'t [Token]), Rea
         (self.f)(tokens)
     }
 }
+
+impl<'t, 'p, P: Part<'t>> Part<'t> for &'p P {
+    type Tree = P::Tree;
+
+    ghost Shape = { P.Shape };
+
+    ghost view = { P.view };
+
+    ghost reader = { λ s. P.reader s.now };
+
+    ghost is_ready = { λ s x. P.is_ready s.now x };
+
+    ghost is_short = { λ s x r. P.is_short s.now x r };
+
+    fn read(
+        &self,
+        alloc: Global,
+        text: &[u8],
+        tokens: &'t [Token],
+    ) -> Result<(P::Tree, &'t [Token]), ReadError> {
+        (**self).read(alloc, text, tokens)
+    }
+}

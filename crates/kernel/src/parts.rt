@@ -3,6 +3,8 @@
 ghost use Rattle.std.specs.Prelude.{◌≡◌};
 ghost use Rattle.grammar.specs.Lexeme.{lexemes};
 ghost use Rattle.grammar.specs.Manies.{is_begun_by};
+ghost use Rattle.grammar.specs.Lists.{is_ident};
+ghost use Rattle.grammar.specs.Openings.{is_lbrace};
 ghost use Rattle.grammar.specs.Reading.{is_open};
 ghost use Rattle.kernel.specs.Given.{AreTokens};
 
@@ -76,6 +78,23 @@ impl<'t, P: Part<'t>> Begun<'t> for InParens<P> {
     }
 }
 
+/// Whether a brace opens here.
+fn is_brace(text: &[u8], tokens: &[Token]) -> bool
+    requires tokens { AreTokens text.now tokens.now }
+    ensures { result ≡ is_begun_by is_lbrace (lexemes text.now tokens.now) }
+{
+    matches!(
+        tokens,
+        [
+            Token {
+                kind: TokenKind::Mark(Mark::OpenBrace),
+                ..
+            },
+            ..
+        ]
+    )
+}
+
 /// A part in braces, where so many more things may be open.
 #[derive(Drop)]
 pub struct InBraces<P> {
@@ -125,6 +144,33 @@ impl<'t, P: Part<'t>> Part<'t> for InBraces<P> {
     }
 }
 
+impl<'t, P: Part<'t>> Begun<'t> for InBraces<P> {
+    ghost use Rattle.grammar.specs.Openings.{is_lbrace};
+
+    ghost begins = { is_lbrace };
+
+    fn is_here(&self, text: &[u8], tokens: &'t [Token]) -> bool {
+        is_brace(text, tokens)
+    }
+}
+
+/// Whether an identifier is here.
+fn is_named(text: &[u8], tokens: &[Token]) -> bool
+    requires tokens { AreTokens text.now tokens.now }
+    ensures { result ≡ is_begun_by is_ident (lexemes text.now tokens.now) }
+{
+    matches!(
+        tokens,
+        [
+            Token {
+                kind: TokenKind::Identifier,
+                ..
+            },
+            ..
+        ]
+    )
+}
+
 /// A part behind a name.
 #[derive(Drop)]
 pub struct WithName<P> {
@@ -170,6 +216,16 @@ impl<'t, P: Part<'t>> Part<'t> for WithName<P> {
             },
             _ => Err(ReadError::Unexpected(tokens.len())),
         }
+    }
+}
+
+impl<'t, P: Part<'t>> Begun<'t> for WithName<P> {
+    ghost use Rattle.grammar.specs.Lists.{is_ident};
+
+    ghost begins = { is_ident };
+
+    fn is_here(&self, text: &[u8], tokens: &'t [Token]) -> bool {
+        is_named(text, tokens)
     }
 }
 
