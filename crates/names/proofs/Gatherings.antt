@@ -12,7 +12,7 @@ use Rattle.names.specs.declared.scope.Assigned.{Assigned}
 use Rattle.names.specs.proving.Gathering.{TellsTwice, IsTwice, IsTaken, IsRepeated, Adds, HasGathered, IsNamingFault}
 use Rattle.names.specs.Faults.{module_told, name_told}
 use Rattle.names.specs.Names.{names_of, Module, under}
-use Rattle.names.specs.Modules.{name_of, imports_of, StandsIn, StandsTwice, AreDistinct, names_in, value_count, all_assignments}
+use Rattle.names.specs.Modules.{name_of, StandsIn, StandsTwice, AreDistinct, names_in, value_count, all_assignments}
 use Rattle.names.specs.ByNumber.{named_from, roots_from, values_from, owned_by, scope_of, scopes_from, owned_from}
 use Rattle.names.specs.Scopes.{seen, module_of}
 use Rattle.names.specs.Sources.{assignment_of, header_of, sources_of, value_of}

@@ -1,5 +1,5 @@
 -- Names with a table of them.
-use Rattle.std.proofs.Common.{◌≡◌, inl, inr, ℕ, zero, suc, true, false, Bool, ◌||◌, cond, take, get_or, ◌<◌, ◌+◌, length, List, [], ◌∷◌, Some, map, refl, sym, ap, ◌∙◌}
+use Rattle.std.proofs.Common.{◌≡◌, inl, inr, ℕ, suc, true, false, Bool, ◌||◌, cond, take, get_or, ◌<◌, ◌+◌, length, List, [], ◌∷◌, Some, map, refl, sym, ap, ◌∙◌}
 use Rattle.std.specs.Prelude.{String, bytes_eq}
 use Rattle.std.specs.Global.{Global}
 use Rattle.std.specs.List.{list_any}

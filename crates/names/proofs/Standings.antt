@@ -17,7 +17,7 @@ use Rattle.names.specs.Faults.{name_told}
 use Rattle.names.specs.Modules.{imports_of, StandsIn, AreDistinct, IsExported, AreNamed, Offers, assigned_names, value_count, names_in}
 use Rattle.names.specs.Scopes.{seen, module_of}
 use Rattle.names.proofs.Behind.{names_named, names_scopes}
-use Rattle.names.specs.proving.Distinct.{stands_map, under_none, under_some, name_under, twice_across}
+use Rattle.names.specs.proving.Distinct.{under_none, under_some, name_under, twice_across}
 
 -- what holds of all
 pub all_stood : {Y : Type 0} (ys : List Y) (P : Y → Type 0) (n : ℕ) → n ≡ length ys → ((k : ℕ) (y : Y) → k < n → slice_get ys k ≡ Some y → P y) → (y : Y) → StandsIn ys y → P y

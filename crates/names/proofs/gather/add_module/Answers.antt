@@ -17,7 +17,7 @@ returns-in-Some-clause-fault c = λ ms rest h.
     let ss = seen module_of c.args.gathered.now.modules.entries in
     let u : under t.name ss ≡ Some (module_of c.in-Some.field-0.now) = ap (λ z. under z ss) (sym c.as_str.ensures.value) ∙ sym c.scope_of.ensures ∙ ap (option_map (λ s. module_of s.now)) c.in-Some.is in
     let e = c.in_ok-told-in-Some.ensures in
-    inl (e.within ∙ c.as_str-in-Some.ensures.value ∙ sym (e.name ∙ c.as_str-in-Some-2.ensures.value), subst (λ z. StandsTwice _ z) (sym (e.name ∙ c.as_str-in-Some-2.ensures.value)) (module_twice ms rest t c.args.gathered.now (module_of c.in-Some.field-0.now) h u))
+    inl (e.within ∙ c.as_str-in-Some.ensures.value ∙ sym (e.name ∙ c.as_str-in-Some-2.ensures.value), subst (λ z. StandsTwice (map (λ m. m.name) (ms ++ t ∷ rest)) z) (sym (e.name ∙ c.as_str-in-Some-2.ensures.value)) (module_twice ms rest t c.args.gathered.now (module_of c.in-Some.field-0.now) h u))
 
 pub returns-in_ok-insert-in-Ok-clause-ok : goal.returns-in_ok-insert-in-Ok-clause-ok
 returns-in_ok-insert-in-Ok-clause-ok c = λ ms h.
@@ -26,8 +26,8 @@ returns-in_ok-insert-in-Ok-clause-ok c = λ ms h.
     let ss = seen module_of g.modules.entries in
     let u : under t.name ss ≡ None = ap (λ z. under z ss) (sym c.as_str.ensures.value) ∙ sym c.scope_of.ensures ∙ ap (option_map (λ s. module_of s.now)) c.in-None.is in
     let n : c.len-number.result ≡ length g.headers.items = omega arith in
-    let name : string_bytes c.in_ok-text-in-Ok.field-0 ≡ name_at c.args.given.name = search rules in
-    let s = inserted module_of g.modules c.in_ok-text-in-Ok.field-0 c.in-Ok.scope t.name c.insert.new.self.entries name u c.in_ok-insert-in-Ok.ensures.entries ∙ ap (λ z. ss ++ (t.name, z) ∷ []) c.in-Ok.ensures.scope in
+    let name : string_bytes c.in_ok-text-in-Ok.text ≡ name_at c.args.given.name = search rules in
+    let s = inserted module_of g.modules c.in_ok-text-in-Ok.text c.in-Ok.scope t.name c.insert.new.self.entries name u c.in_ok-insert-in-Ok.ensures.entries ∙ ap (λ z. ss ++ (t.name, z) ∷ []) c.in-Ok.ensures.scope in
     let d = ap (map header_of) c.in_ok-push-in-Ok.ensures.items ∙ map-append header_of g.headers.items (_ ∷ []) in
     gathered_more ms t g (record { modules = c.insert.new.self; headers = c.push.new.self; tables = c.scope_from.new.tables }) h u s d (subst (λ k. Adds k t.assignments g.tables c.scope_from.new.tables) n c.in-Ok.ensures.adds) c.in-Ok.ensures.distinct
 

@@ -28,5 +28,5 @@ returns-in_ok-insert-in-None-origin_in-clause-ok c =
     let x = name_at c.args.name in
     let is = seen origin_of c.args.imports.now.entries in
     let u : under x is ≡ None = ap (λ z. under z is) (sym c.as_str-2.ensures.value) ∙ sym c.origin_in.ensures ∙ ap (option_map (λ t. origin_of t.now)) c.in-None-origin_in.is in
-    let from : string_bytes c.in_ok-it-in-None-origin_in.field-0 ≡ name_at c.args.from.now = search rules in
+    let from : string_bytes c.in_ok-it-in-None-origin_in.it ≡ name_at c.args.from.now = search rules in
     inserted origin_of c.args.imports.now c.args.name.it _ x c.insert.new.self.entries refl u c.in_ok-insert-in-None-origin_in.ensures.entries ∙ ap (λ z. is ++ (x, z) ∷ []) from

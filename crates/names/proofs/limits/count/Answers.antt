@@ -1,4 +1,4 @@
-use Rattle.std.proofs.Common.{rules, arith, ◌≡◌, ◌∷◌, [], sym, ap, ◌∙◌}
+use Rattle.std.proofs.Common.{arith, ◌≡◌, ◌∷◌, [], sym, ap, ◌∙◌}
 use Rattle.trees.specs.Modules.{assignment_of as given_of}
 use Rattle.trees.specs.Values.{name_at}
 use Rattle.names.specs.Faults.{name_told}

@@ -1,4 +1,4 @@
-use Rattle.std.proofs.Common.{◌≡◌, ◌↔◌, true, false, Some, None, sym, ap, ◌∙◌, option_map}
+use Rattle.std.proofs.Common.{◌≡◌, true, false, Some, sym, ap, ◌∙◌, option_map}
 use Rattle.names.specs.Modules.{IsExported}
 use Rattle.names.specs.Names.{under}
 use Rattle.names.specs.Scopes.{seen, module_of, origin_of}
