@@ -14,7 +14,7 @@ use Rattle.names.specs.Faults.{module_told, name_told}
 use Rattle.names.specs.Names.{names_of, Module, under}
 use Rattle.names.specs.Modules.{name_of, StandsIn, StandsTwice, AreDistinct, names_in, value_count, all_assignments}
 use Rattle.names.specs.ByNumber.{named_from, roots_from, values_from, owned_by, scope_of, scopes_from, owned_from}
-use Rattle.names.specs.Scopes.{seen, module_of}
+use Rattle.names.specs.Scopes.{scopes}
 use Rattle.names.specs.Sources.{assignment_of, header_of, sources_of, value_of}
 use Rattle.names.proofs.Behind.{named_behind, roots_behind, values_behind, names_named, length_values, length_owned, length_all_owned, all_behind, scopes_behind, owned_behind, names_scopes}
 use Rattle.names.specs.proving.Distinct.{right, stands_either, stands_one, twice_left, twice_across, distinct_none, distinct_more, under_none, name_under}
@@ -139,8 +139,8 @@ stands_last P xs x f p y s =
       | inr b ↦ subst P (stands_one x y b) p
     ]
 
-pub gathered_more : (ms : List ModuleTree) (t : ModuleTree) (g g' : Gathered) → HasGathered ms g → under t.name (seen module_of g.modules.entries) ≡ None →
-    seen module_of g'.modules.entries ≡ seen module_of g.modules.entries ++ (t.name, scope_of (length g.tables.assignments.items) (length g.tables.values.items) t) ∷ [] →
+pub gathered_more : (ms : List ModuleTree) (t : ModuleTree) (g g' : Gathered) → HasGathered ms g → under t.name (scopes g.modules.entries) ≡ None →
+    scopes g'.modules.entries ≡ scopes g.modules.entries ++ (t.name, scope_of (length g.tables.assignments.items) (length g.tables.values.items) t) ∷ [] →
     map header_of g'.headers.items ≡ map header_of g.headers.items ++ (t.name, t.tag_default) ∷ [] →
     Adds (length g.headers.items) t.assignments g.tables g'.tables → AreDistinct (names_in t) → HasGathered (ms ++ t ∷ []) g'
 gathered_more ms t g g' h u s d a n =
@@ -152,22 +152,22 @@ gathered_more ms t g g' h u s d a n =
     let zv : value_count gs ≡ 0 + value_count gs = omega arith in
     let zh : length ms ≡ 0 + length ms = omega arith in
     let all : all_assignments (ms ++ t ∷ []) ≡ gs ++ t.assignments = all_behind ms (t ∷ []) ∙ ap (λ l. gs ++ l) (append-nil t.assignments) in
-    let same : names_of (seen module_of g.modules.entries) ≡ map (λ m. m.name) ms = ap names_of h.scopes ∙ names_scopes 0 0 ms in
+    let same : names_of (scopes g.modules.entries) ≡ map (λ m. m.name) ms = ap names_of h.scopes ∙ names_scopes 0 0 ms in
     record {
-      scopes = s ∙ ap (λ z. seen module_of g.modules.entries ++ scopes_from z (length g.tables.values.items) (t ∷ [])) (lg ∙ zg) ∙ ap (λ z. seen module_of g.modules.entries ++ scopes_from (0 + length gs) z (t ∷ [])) (lv ∙ zv) ∙ ap (λ z. z ++ scopes_from (0 + length gs) (0 + value_count gs) (t ∷ [])) h.scopes ∙ sym (scopes_behind 0 0 ms (t ∷ []));
+      scopes = s ∙ ap (λ z. scopes g.modules.entries ++ scopes_from z (length g.tables.values.items) (t ∷ [])) (lg ∙ zg) ∙ ap (λ z. scopes g.modules.entries ++ scopes_from (0 + length gs) z (t ∷ [])) (lv ∙ zv) ∙ ap (λ z. z ++ scopes_from (0 + length gs) (0 + value_count gs) (t ∷ [])) h.scopes ∙ sym (scopes_behind 0 0 ms (t ∷ []));
       headers = d ∙ ap (λ z. z ++ (t.name, t.tag_default) ∷ []) h.headers ∙ sym (map-append (λ m. (m.name, m.tag_default)) ms (t ∷ []));
       assignments = a.owned ∙ ap (λ z. map assignment_of g.tables.assignments.items ++ owned_by z t.assignments) (lh ∙ zh) ∙ ap (λ z. z ++ owned_by (0 + length ms) t.assignments) h.assignments ∙ ap (λ z. owned_from 0 ms ++ z) (sym (append-nil (owned_by (0 + length ms) t.assignments))) ∙ sym (owned_behind 0 ms (t ∷ []));
       roots = a.roots ∙ ap (λ z. sources_of g.tables.roots.items ++ roots_from z t.assignments) (lg ∙ zg) ∙ ap (λ z. z ++ roots_from (0 + length gs) t.assignments) h.roots ∙ sym (roots_behind 0 gs t.assignments) ∙ ap (roots_from 0) (sym all);
       values = a.values ∙ ap (λ z. map value_of g.tables.values.items ++ values_from z t.assignments) (lg ∙ zg) ∙ ap (λ z. z ++ values_from (0 + length gs) t.assignments) h.values ∙ sym (values_behind 0 gs t.assignments) ∙ ap (values_from 0) (sym all);
-      distinct = subst AreDistinct (sym (map-append (λ m. m.name) ms (t ∷ []))) (distinct_more (map (λ m. m.name) ms) t.name h.distinct (λ z. under_none t.name (seen module_of g.modules.entries) u (subst (λ l. StandsIn l t.name) (sym same) z)));
+      distinct = subst AreDistinct (sym (map-append (λ m. m.name) ms (t ∷ []))) (distinct_more (map (λ m. m.name) ms) t.name h.distinct (λ z. under_none t.name (scopes g.modules.entries) u (subst (λ l. StandsIn l t.name) (sym same) z)));
       apart = stands_last (λ m. AreDistinct (names_in m)) ms t h.apart n;
     }
 
 -- the name of a module is that of one before it
-pub module_twice : (ms rest : List ModuleTree) (t : ModuleTree) (g : Gathered) (m : Module) → HasGathered ms g → under t.name (seen module_of g.modules.entries) ≡ Some m → StandsTwice (map (λ m. m.name) (ms ++ t ∷ rest)) t.name
+pub module_twice : (ms rest : List ModuleTree) (t : ModuleTree) (g : Gathered) (m : Module) → HasGathered ms g → under t.name (scopes g.modules.entries) ≡ Some m → StandsTwice (map (λ m. m.name) (ms ++ t ∷ rest)) t.name
 module_twice ms rest t g m h u =
-    let same : names_of (seen module_of g.modules.entries) ≡ map (λ m. m.name) ms = ap names_of h.scopes ∙ names_scopes 0 0 ms in
-    let s = subst (λ l. StandsIn l t.name) same (name_under t.name (seen module_of g.modules.entries) m u) in
+    let same : names_of (scopes g.modules.entries) ≡ map (λ m. m.name) ms = ap names_of h.scopes ∙ names_scopes 0 0 ms in
+    let s = subst (λ l. StandsIn l t.name) same (name_under t.name (scopes g.modules.entries) m u) in
     subst (λ l. StandsTwice l t.name) (sym (map-append (λ m. m.name) ms (t ∷ rest))) (twice_across (map (λ m. m.name) ms) (t.name ∷ map (λ m. m.name) rest) t.name s (0, refl))
 
 pub scope_fault : (ms rest : List ModuleTree) (t : ModuleTree) (M : Name) (e : NameFault) → M ≡ t.name → IsRepeated M (names_in t) e → IsNamingFault (ms ++ t ∷ rest) e

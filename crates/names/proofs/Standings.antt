@@ -15,7 +15,7 @@ use Rattle.names.specs.proving.Standing.{IsOffered, IsExportFault, IsImportFault
 use Rattle.names.specs.ByNumber.{scope_of, scopes_from}
 use Rattle.names.specs.Faults.{name_told}
 use Rattle.names.specs.Modules.{imports_of, StandsIn, AreDistinct, IsExported, AreNamed, Offers, assigned_names, value_count, names_in}
-use Rattle.names.specs.Scopes.{seen, module_of}
+use Rattle.names.specs.Scopes.{seen, scopes}
 use Rattle.names.proofs.Behind.{names_named, names_scopes}
 use Rattle.names.specs.proving.Distinct.{under_none, under_some, name_under, twice_across}
 
@@ -74,7 +74,7 @@ offers ms N x o =
     let t = tells 0 0 ms s.0 N o.other s.1 in
     record { tree = t.tree; there = t.there; named = sym t.named; assigns = subst (λ l. StandsIn l x) t.assigned (name_under x o.other.assigned o.assigned o.assigns); exported = subst (λ z. IsExported z x) t.exports o.exported }
 
-pub are_named : (ms : List ModuleTree) (g : Gathered) → HasGathered ms g → AreStanding (seen module_of g.modules.entries) → AreNamed ms
+pub are_named : (ms : List ModuleTree) (g : Gathered) → HasGathered ms g → AreStanding (scopes g.modules.entries) → AreNamed ms
 are_named ms g h s =
     let a = subst AreStanding h.scopes s in
     record {
@@ -149,7 +149,7 @@ one_fault ms M m e t (inr f) = import_fault ms M m t f.0 f.1 f.2 e f.3
 scopes_fault : (ms : List ModuleTree) (e : NameFault) → IsStandingFault (scopes_from 0 0 ms) e → IsNamingFault ms e
 scopes_fault ms e f = one_fault ms f.0 f.1 e (tells 0 0 ms f.2.0 f.0 f.1 f.2.1) f.3
 
-pub standing_fault : (ms : List ModuleTree) (g : Gathered) (e : NameFault) → HasGathered ms g → IsStandingFault (seen module_of g.modules.entries) e → IsNamingFault ms e
+pub standing_fault : (ms : List ModuleTree) (g : Gathered) (e : NameFault) → HasGathered ms g → IsStandingFault (scopes g.modules.entries) e → IsNamingFault ms e
 standing_fault ms g e h f = scopes_fault ms e (subst (λ z. IsStandingFault z e) h.scopes f)
 
 -- no module imports a name that it assigns

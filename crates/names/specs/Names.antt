@@ -4,8 +4,8 @@ use Rattle.std.specs.Map.{lookup}
 use Rattle.trees.specs.Values.{Name}
 use Rattle.names.specs.declared.scope.Assigned.{Assigned}
 
--- a module: its assignments, each a type or a value by its number, its imports, each with the module that it comes from,
--- and what it exports: all that it assigns where it lists none
+-- a module: its assignments, each a type or a value by its number, its imports, each with the module that it comes
+-- from, and what it exports: all that it assigns where it lists none
 pub record Module : Type 0 where
   pub assigned : List (Name × Assigned)
   pub imports : List (Name × Name)

@@ -2,6 +2,7 @@
 use Rattle.std.specs.Prelude.{List, map, string_bytes, String}
 use Rattle.std.specs.Global.{Global}
 use Rattle.trees.specs.Values.{Name, name_at}
+use Rattle.names.specs.declared.scope.Assigned.{Assigned}
 use Rattle.names.specs.declared.scope.Origin.{Origin}
 use Rattle.names.specs.declared.scope.Scope.{Scope}
 use Rattle.names.specs.Names.{Module}
@@ -14,9 +15,18 @@ seen f es = map (λ e. (string_bytes e.0, f e.1)) es
 abbrev pub origin_of : Origin → Name
 origin_of o = name_at o.module
 
+-- what names are assigned
+abbrev pub meanings : List (String Global × Assigned) → List (Name × Assigned)
+meanings = seen (λ a. a)
+
+-- the modules that names are imported from
+abbrev pub origins : List (String Global × Origin) → List (Name × Name)
+origins = seen origin_of
+
 abbrev pub module_of : Scope → Module
-module_of s = record {
-  assigned = seen (λ i. i) s.assigned.entries;
-  imports = seen origin_of s.imports.entries;
-  exports = s.exports;
-}
+module_of s =
+    record { assigned = meanings s.assigned.entries; imports = origins s.imports.entries; exports = s.exports }
+
+-- the names of modules
+abbrev pub scopes : List (String Global × Scope) → List (Name × Module)
+scopes = seen module_of

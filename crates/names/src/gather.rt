@@ -1,16 +1,16 @@
 //! What modules give: their names, and the types and values of their assignments, numbered in order.
 
 ghost use Rattle.std.specs.Prelude.{◌≡◌, ◌++◌, ◌∷◌, [], IfOk, IfErr, OnOk, length, map, option_map, None, List};
-ghost use Rattle.trees.specs.Values.{tree_of, name_at};
+ghost use Rattle.trees.specs.Values.{name_at};
 ghost use Rattle.trees.specs.Types.{type_tree_of};
-ghost use Rattle.trees.specs.Modules.{AssignmentTree, ModuleTree, assigns_type, assigns_value, assignment_of as given_of, import_of, module_tree_of};
+ghost use Rattle.trees.specs.declared.module.Assignment.TheVariants as givens;
+ghost use Rattle.trees.specs.Modules.{AssignmentTree, ModuleTree, assignment_of as given_of, import_of, module_tree_of};
 ghost use Rattle.names.specs.declared.fault.NameFault.TheVariants as faults;
-ghost use Rattle.names.specs.ByNumber.{named_from};
 ghost use Rattle.names.specs.Modules.{AreDistinct, name_of, imports_of};
 ghost use Rattle.names.specs.Names.{under, names_of};
-ghost use Rattle.names.specs.Scopes.{seen, module_of, origin_of};
+ghost use Rattle.names.specs.Scopes.{module_of, origin_of, meanings, origins};
 ghost use Rattle.names.specs.Sources.{assignment_of, value_of, sources_of};
-ghost use Rattle.names.specs.proving.Gathering.{IsTwice, IsTaken, IsRepeated, Adds, HasGathered, IsNamingFault};
+ghost use Rattle.names.specs.proving.Gathering.{named_by, named_next, IsTwice, IsTaken, IsRepeated, Adds, HasGathered, IsNamingFault};
 
 use crate::exports::Exports;
 use crate::fault::{NameFault, spot};
@@ -40,7 +40,7 @@ pub struct Gathered {
 /// What a name is assigned.
 #[tactic(auto, using(crate::specs::proving::Meanings::under_seen))]
 fn meaning_in(assigned: &IndexMap<String, Assigned>, name: &str) -> Option<Assigned>
-    ensures { result ≡ under name.now (seen (λ a. a) assigned.now.entries) }
+    ensures { result ≡ under name.now (meanings assigned.now.entries) }
 {
     assigned.get(name).copied()
 }
@@ -53,9 +53,10 @@ fn name_once(
     meaning: Assigned,
     assigned: &mut IndexMap<String, Assigned>,
 ) -> Result<(), NameFault>
-    ensures ok { OnOk result (seen (λ a. a) assigned.new.entries ≡ seen (λ a. a) assigned.old.entries ++ (name_at name.now, meaning) ∷ []) }
-    ensures fresh { OnOk result (under (name_at name.now) (seen (λ a. a) assigned.old.entries) ≡ None) }
-    ensures fault { IfErr result (IsTwice within.now (name_at name.now) (seen (λ a. a) assigned.old.entries)) }
+    ensures ok { OnOk result
+        (meanings assigned.new.entries ≡ meanings assigned.old.entries ++ (name_at name.now, meaning) ∷ []) }
+    ensures fresh { OnOk result (under (name_at name.now) (meanings assigned.old.entries) ≡ None) }
+    ensures fault { IfErr result (IsTwice within.now (name_at name.now) (meanings assigned.old.entries)) }
 {
     let text = name.it.as_str();
     match meaning_in(assigned, text) {
@@ -74,8 +75,13 @@ fn place(
     syntax: TypeSyntax,
     tables: &mut Tables,
 ) -> Result<(), NameFault>
-    ensures owned { OnOk result (map assignment_of tables.new.assignments.items ≡ map assignment_of tables.old.assignments.items ++ (owner, name_at name) ∷ []) }
-    ensures roots { OnOk result (sources_of tables.new.roots.items ≡ sources_of tables.old.roots.items ++ record { tree = type_tree_of syntax; assignment = length tables.old.assignments.items; place = None } ∷ []) }
+    ensures owned { OnOk result
+        (map assignment_of tables.new.assignments.items
+        ≡ map assignment_of tables.old.assignments.items ++ (owner, name_at name) ∷ []) }
+    ensures roots { OnOk result
+        (sources_of tables.new.roots.items
+        ≡ sources_of tables.old.roots.items
+        ++ record { tree = type_tree_of syntax; assignment = length tables.old.assignments.items; place = None } ∷ []) }
     ensures values { tables.new.values.items ≡ tables.old.values.items }
     ensures fault { IfErr result (λ e. e ≡ faults.Memory) }
 {
@@ -101,10 +107,12 @@ fn add_type(
     assigned: &mut IndexMap<String, Assigned>,
     tables: &mut Tables,
 ) -> Result<(), NameFault>
-    ensures named { OnOk result (seen (λ a. a) assigned.new.entries ≡ seen (λ a. a) assigned.old.entries ++ named_from (length tables.old.assignments.items) (length tables.old.values.items) (assigns_type (name_at given.name) (type_tree_of given.syntax) ∷ [])) }
-    ensures fresh { OnOk result (under (name_at given.name) (seen (λ a. a) assigned.old.entries) ≡ None) }
-    ensures adds { OnOk result (Adds owner (assigns_type (name_at given.name) (type_tree_of given.syntax) ∷ []) tables.old tables.new) }
-    ensures fault { IfErr result (IsTwice within.now (name_at given.name) (seen (λ a. a) assigned.old.entries)) }
+    ensures named { OnOk result
+        (meanings assigned.new.entries
+        ≡ meanings assigned.old.entries ++ named_next tables.old (given_of (givens.Type given) ∷ [])) }
+    ensures fresh { OnOk result (under (name_at given.name) (meanings assigned.old.entries) ≡ None) }
+    ensures adds { OnOk result (Adds owner (given_of (givens.Type given) ∷ []) tables.old tables.new) }
+    ensures fault { IfErr result (IsTwice within.now (name_at given.name) (meanings assigned.old.entries)) }
 {
     let TypeAssignment { name, syntax } = given;
     let meaning = Assigned::Type(tables.assignments.len());
@@ -125,10 +133,12 @@ fn add_value(
     assigned: &mut IndexMap<String, Assigned>,
     tables: &mut Tables,
 ) -> Result<(), NameFault>
-    ensures named { OnOk result (seen (λ a. a) assigned.new.entries ≡ seen (λ a. a) assigned.old.entries ++ named_from (length tables.old.assignments.items) (length tables.old.values.items) (assigns_value (name_at given.name) (type_tree_of given.syntax) (tree_of given.value) ∷ [])) }
-    ensures fresh { OnOk result (under (name_at given.name) (seen (λ a. a) assigned.old.entries) ≡ None) }
-    ensures adds { OnOk result (Adds owner (assigns_value (name_at given.name) (type_tree_of given.syntax) (tree_of given.value) ∷ []) tables.old tables.new) }
-    ensures fault { IfErr result (IsTwice within.now (name_at given.name) (seen (λ a. a) assigned.old.entries)) }
+    ensures named { OnOk result
+        (meanings assigned.new.entries
+        ≡ meanings assigned.old.entries ++ named_next tables.old (given_of (givens.Value given) ∷ [])) }
+    ensures fresh { OnOk result (under (name_at given.name) (meanings assigned.old.entries) ≡ None) }
+    ensures adds { OnOk result (Adds owner (given_of (givens.Value given) ∷ []) tables.old tables.new) }
+    ensures fault { IfErr result (IsTwice within.now (name_at given.name) (meanings assigned.old.entries)) }
 {
     let ValueAssignment {
         name,
@@ -159,10 +169,11 @@ fn add(
     assigned: &mut IndexMap<String, Assigned>,
     tables: &mut Tables,
 ) -> Result<(), NameFault>
-    ensures named { OnOk result (seen (λ a. a) assigned.new.entries ≡ seen (λ a. a) assigned.old.entries ++ named_from (length tables.old.assignments.items) (length tables.old.values.items) (given_of given ∷ [])) }
-    ensures fresh { OnOk result (under (name_of (given_of given)) (seen (λ a. a) assigned.old.entries) ≡ None) }
+    ensures named { OnOk result
+        (meanings assigned.new.entries ≡ meanings assigned.old.entries ++ named_next tables.old (given_of given ∷ [])) }
+    ensures fresh { OnOk result (under (name_of (given_of given)) (meanings assigned.old.entries) ≡ None) }
     ensures adds { OnOk result (Adds owner (given_of given ∷ []) tables.old tables.new) }
-    ensures fault { IfErr result (IsTwice within.now (name_of (given_of given)) (seen (λ a. a) assigned.old.entries)) }
+    ensures fault { IfErr result (IsTwice within.now (name_of (given_of given)) (meanings assigned.old.entries)) }
 {
     match given {
         Given::Type(ty) => match add_type(alloc, owner, within, ty, assigned, tables) {
@@ -186,7 +197,7 @@ fn add_all(
     tables: &mut Tables,
 ) -> Result<(), NameFault>
     requires empty { assigned.old.entries ≡ [] }
-    ensures named { OnOk result (seen (λ a. a) assigned.new.entries ≡ named_from (length tables.old.assignments.items) (length tables.old.values.items) (map given_of givens.items)) }
+    ensures named { OnOk result (meanings assigned.new.entries ≡ named_next tables.old (map given_of givens.items)) }
     ensures distinct { OnOk result (AreDistinct (map name_of (map given_of givens.items))) }
     ensures adds { OnOk result (Adds owner (map given_of givens.items) tables.old tables.new) }
     ensures fault { IfErr result (IsRepeated within.now (map name_of (map given_of givens.items))) }
@@ -203,7 +214,7 @@ fn add_all(
 /// The module that a name is imported from.
 #[tactic(auto, using(crate::specs::proving::Meanings::under_seen))]
 fn origin_in<'a>(imports: &'a IndexMap<String, Origin>, name: &str) -> Option<&'a Origin>
-    ensures { option_map (λ o. origin_of o.now) result ≡ under name.now (seen origin_of imports.now.entries) }
+    ensures { option_map (λ o. origin_of o.now) result ≡ under name.now (origins imports.now.entries) }
 {
     imports.get(name)
 }
@@ -217,10 +228,12 @@ fn import_once(
     assigned: &IndexMap<String, Assigned>,
     imports: &mut IndexMap<String, Origin>,
 ) -> Result<(), NameFault>
-    ensures ok { OnOk result (seen origin_of imports.new.entries ≡ seen origin_of imports.old.entries ++ (name_at name, name_at from.now) ∷ []) }
-    ensures unassigned { OnOk result (under (name_at name) (seen (λ a. a) assigned.now.entries) ≡ None) }
-    ensures fresh { OnOk result (under (name_at name) (seen origin_of imports.old.entries) ≡ None) }
-    ensures fault { IfErr result (IsTaken within.now (name_at name) (names_of (seen (λ a. a) assigned.now.entries) ++ names_of (seen origin_of imports.old.entries))) }
+    ensures ok { OnOk result
+        (origins imports.new.entries ≡ origins imports.old.entries ++ (name_at name, name_at from.now) ∷ []) }
+    ensures unassigned { OnOk result (under (name_at name) (meanings assigned.now.entries) ≡ None) }
+    ensures fresh { OnOk result (under (name_at name) (origins imports.old.entries) ≡ None) }
+    ensures fault { IfErr result
+        (IsTaken within.now (name_at name) (named_by assigned.now.entries (origins imports.old.entries))) }
 {
     match meaning_in(assigned, name.it.as_str()) {
         Some(_) => {
@@ -254,10 +267,15 @@ fn import_names(
     assigned: &IndexMap<String, Assigned>,
     imports: &mut IndexMap<String, Origin>,
 ) -> Result<(), NameFault>
-    requires distinct { AreDistinct (names_of (seen (λ a. a) assigned.now.entries) ++ names_of (seen origin_of imports.old.entries)) }
-    ensures ok { OnOk result (seen origin_of imports.new.entries ≡ seen origin_of imports.old.entries ++ map (λ x. (x, name_at from.now)) (map name_at names.items)) }
-    ensures distinct { OnOk result (AreDistinct (names_of (seen (λ a. a) assigned.now.entries) ++ names_of (seen origin_of imports.new.entries))) }
-    ensures fault { IfErr result (IsRepeated within.now (names_of (seen (λ a. a) assigned.now.entries) ++ names_of (seen origin_of imports.old.entries ++ map (λ x. (x, name_at from.now)) (map name_at names.items)))) }
+    requires distinct { AreDistinct (named_by assigned.now.entries (origins imports.old.entries)) }
+    ensures ok { OnOk result
+        (origins imports.new.entries
+        ≡ origins imports.old.entries ++ map (λ x. (x, name_at from.now)) (map name_at names.items)) }
+    ensures distinct { OnOk result (AreDistinct (named_by assigned.now.entries (origins imports.new.entries))) }
+    ensures fault { IfErr result
+        (IsRepeated within.now
+        (named_by assigned.now.entries
+        (origins imports.old.entries ++ map (λ x. (x, name_at from.now)) (map name_at names.items)))) }
 {
     for name in names {
         match import_once(alloc, within, name, from, assigned, imports) {
@@ -276,11 +294,13 @@ fn import_all(
     assigned: &IndexMap<String, Assigned>,
     imports: &mut IndexMap<String, Origin>,
 ) -> Result<(), NameFault>
-    requires distinct { AreDistinct (names_of (seen (λ a. a) assigned.now.entries)) }
+    requires distinct { AreDistinct (names_of (meanings assigned.now.entries)) }
     requires empty { imports.old.entries ≡ [] }
-    ensures ok { OnOk result (seen origin_of imports.new.entries ≡ imports_of (map import_of given.items)) }
-    ensures distinct { OnOk result (AreDistinct (names_of (seen (λ a. a) assigned.now.entries) ++ names_of (imports_of (map import_of given.items)))) }
-    ensures fault { IfErr result (IsRepeated within.now (names_of (seen (λ a. a) assigned.now.entries) ++ names_of (imports_of (map import_of given.items)))) }
+    ensures ok { OnOk result (origins imports.new.entries ≡ imports_of (map import_of given.items)) }
+    ensures distinct { OnOk result
+        (AreDistinct (named_by assigned.now.entries (imports_of (map import_of given.items)))) }
+    ensures fault { IfErr result
+        (IsRepeated within.now (named_by assigned.now.entries (imports_of (map import_of given.items)))) }
 {
     for Import {
         names,
@@ -318,10 +338,19 @@ fn scope_from(
     assignments: Vec<Given>,
     tables: &mut Tables,
 ) -> Result<Scope, NameFault>
-    ensures scope { IfOk result (λ s. module_of s ≡ record { assigned = named_from (length tables.old.assignments.items) (length tables.old.values.items) (map given_of assignments.items); imports = imports_of (map import_of given.items); exports = option_map (λ xs. map name_at xs.items) exports }) }
-    ensures distinct { OnOk result (AreDistinct (map name_of (map given_of assignments.items) ++ names_of (imports_of (map import_of given.items)))) }
+    ensures scope { IfOk result (λ s.
+        module_of s ≡ record {
+          assigned = named_next tables.old (map given_of assignments.items);
+          imports = imports_of (map import_of given.items);
+          exports = option_map (λ xs. map name_at xs.items) exports;
+        }) }
+    ensures distinct { OnOk result
+        (AreDistinct
+        (map name_of (map given_of assignments.items) ++ names_of (imports_of (map import_of given.items)))) }
     ensures adds { OnOk result (Adds owner (map given_of assignments.items) tables.old tables.new) }
-    ensures fault { IfErr result (IsRepeated within.now (map name_of (map given_of assignments.items) ++ names_of (imports_of (map import_of given.items)))) }
+    ensures fault { IfErr result
+        (IsRepeated within.now
+        (map name_of (map given_of assignments.items) ++ names_of (imports_of (map import_of given.items)))) }
 {
     let mut assigned = IndexMap::new(alloc);
     match add_all(alloc, owner, within, assignments, &mut assigned, tables) {
@@ -345,8 +374,14 @@ fn scope_from(
 
 /// Adds a module behind the others.
 fn add_module(alloc: Global, given: Module, gathered: &mut Gathered) -> Result<(), NameFault>
-    ensures ok { OnOk result ((ms : List ModuleTree) → HasGathered ms gathered.old → HasGathered (ms ++ module_tree_of given ∷ []) gathered.new) }
-    ensures fault { IfErr result (λ e. (ms rest : List ModuleTree) → HasGathered ms gathered.old → IsNamingFault (ms ++ module_tree_of given ∷ rest) e) }
+    ensures ok { OnOk result
+        ((ms : List ModuleTree) →
+        HasGathered ms gathered.old →
+        HasGathered (ms ++ module_tree_of given ∷ []) gathered.new) }
+    ensures fault { IfErr result (λ e.
+        (ms rest : List ModuleTree) →
+        HasGathered ms gathered.old →
+        IsNamingFault (ms ++ module_tree_of given ∷ rest) e) }
 {
     let Module {
         name,

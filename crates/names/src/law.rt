@@ -8,7 +8,7 @@ ghost use Rattle.names.specs.Faults.{IsNamesFault};
 ghost use Rattle.names.specs.ByNumber.{scopes_from};
 ghost use Rattle.names.specs.Modules.{AreDistinct, AreFew, AreNamed, StandsIn, names_in};
 ghost use Rattle.names.specs.Names.{IsApart};
-ghost use Rattle.names.specs.Scopes.{module_of, seen};
+ghost use Rattle.names.specs.Scopes.{meanings, scopes};
 ghost use Rattle.names.specs.proving.Gathering.{HasGathered, IsNamingFault};
 ghost use Rattle.names.specs.proving.Ready.{IsReady};
 ghost use Rattle.names.specs.proving.Standing.{AreStanding, IsStandingFault};
@@ -20,7 +20,9 @@ pub fn name_faults_exclude()
 
 /// Where no name has two meanings in a module, no module imports a name that it assigns.
 pub fn apart()
-    ensures { (ms : List ModuleTree) → ((m : ModuleTree) → StandsIn ms m → AreDistinct (names_in m)) → IsApart (scopes_from 0 0 ms) }
+    ensures { (ms : List ModuleTree) →
+        ((m : ModuleTree) → StandsIn ms m → AreDistinct (names_in m)) →
+        IsApart (scopes_from 0 0 ms) }
 {}
 
 /// What is gathered refers to what is there.
@@ -31,6 +33,12 @@ pub fn ready()
 /// Modules are named as they have to be where what is exported and imported stands in what is gathered of them; and a
 /// fault that stands there stands in the modules.
 pub fn stood()
-    ensures named { (ms : List ModuleTree) (g : Gathered) → HasGathered ms g → AreStanding (seen module_of g.modules.entries) → AreNamed ms }
-    ensures fault { (ms : List ModuleTree) (g : Gathered) (e : NameFault) → HasGathered ms g → IsStandingFault (seen module_of g.modules.entries) e → IsNamingFault ms e }
+    ensures named { (ms : List ModuleTree) (g : Gathered) →
+        HasGathered ms g →
+        AreStanding (scopes g.modules.entries) →
+        AreNamed ms }
+    ensures fault { (ms : List ModuleTree) (g : Gathered) (e : NameFault) →
+        HasGathered ms g →
+        IsStandingFault (scopes g.modules.entries) e →
+        IsNamingFault ms e }
 {}

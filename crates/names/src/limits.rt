@@ -27,7 +27,8 @@ fn count(
     requires types { counts.old.types ≤ 4096 }
     requires values { counts.old.values ≤ 65536 }
     ensures counted_types { OnOk result (counts.new.types ≡ counts.old.types + type_count (map given_of givens.now)) }
-    ensures counted_values { OnOk result (counts.new.values ≡ counts.old.values + value_count (map given_of givens.now)) }
+    ensures counted_values { OnOk result
+        (counts.new.values ≡ counts.old.values + value_count (map given_of givens.now)) }
     ensures types { OnOk result (counts.new.types ≤ 4096) }
     ensures values { OnOk result (counts.new.values ≤ 65536) }
     ensures fault { IfErr result (IsPastCount counts.old.types counts.old.values within.now (map given_of givens.now)) }

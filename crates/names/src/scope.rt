@@ -3,7 +3,7 @@
 ghost use Rattle.std.specs.Prelude.{ℕ, ◌≡◌, ◌↔◌, Some, option_map, string_bytes};
 ghost use Rattle.names.specs.declared.scope.Assigned.{Assigned};
 ghost use Rattle.names.specs.Names.{Meaning, Refers, IsApart, under};
-ghost use Rattle.names.specs.Scopes.{seen, module_of, origin_of};
+ghost use Rattle.names.specs.Scopes.{module_of, origin_of, scopes};
 ghost use Rattle.names.specs.proving.Lookup.{found, assigned_in, imported_in};
 
 use crate::exports::Exports;
@@ -27,7 +27,8 @@ pub struct Origin {
     pub module: At<String>,
 }
 
-/// A module's names: its assignments, its imports with their modules, and the names that it exports (all that it assigns where it lists none).
+/// A module's names: its assignments, its imports with their modules, and the names that it exports (all that it assigns
+/// where it lists none).
 #[derive(Drop)]
 pub struct Scope {
     pub assigned: IndexMap<String, Assigned>,
@@ -48,20 +49,20 @@ impl Model for Names {
 
     ghost Value = { List (Name × Module) };
 
-    ghost use Rattle.names.specs.Scopes.{seen, module_of};
+    ghost use Rattle.names.specs.Scopes.{scopes};
 
-    ghost view = { λ n. seen module_of n.modules.entries };
+    ghost view = { λ n. scopes n.modules.entries };
 
     ghost use Rattle.names.specs.Names.{IsApart};
 
-    ghost invariant = { λ n. IsApart (seen module_of n.modules.entries) };
+    ghost invariant = { λ n. IsApart (scopes n.modules.entries) };
 }
 
 impl Names {
     /// The names of these modules. No module imports a name that it assigns.
     pub fn of(modules: IndexMap<String, Scope>) -> Names
-        requires { IsApart (seen module_of modules.entries) }
-        ensures { result ≡ seen module_of modules.entries }
+        requires { IsApart (scopes modules.entries) }
+        ensures { result ≡ scopes modules.entries }
     {
         Names { modules }
     }
@@ -78,7 +79,8 @@ impl Names {
     /// x is imported from M.
     #[tactic(auto, using(crate::specs::proving::Meanings::refers_bare, crate::specs::proving::Meanings::refers_within, crate::specs::proving::Meanings::refers_across, crate::specs::proving::Meanings::refers_not))]
     pub fn refers(&self, within: &str, owner: &Option<String>, name: &str) -> Option<Assigned>
-        ensures { (a : Assigned) → (result ≡ Some a ↔ Refers self.now within.now (option_map string_bytes owner.now) name.now a) }
+        ensures { (a : Assigned) →
+            (result ≡ Some a ↔ Refers self.now within.now (option_map string_bytes owner.now) name.now a) }
     {
         match owner {
             None => self.find(within, name),
@@ -104,7 +106,7 @@ impl Names {
 
 #[tactic(auto, using(crate::specs::proving::Meanings::under_seen))]
 pub(crate) fn scope_of<'a>(modules: &'a IndexMap<String, Scope>, name: &str) -> Option<&'a Scope>
-    ensures { option_map (λ s. module_of s.now) result ≡ under name.now (seen module_of modules.now.entries) }
+    ensures { option_map (λ s. module_of s.now) result ≡ under name.now (scopes modules.now.entries) }
 {
     modules.get(name)
 }
@@ -125,7 +127,7 @@ fn imported<'a>(scope: &'a Scope, name: &str) -> Option<&'a Origin>
 
 #[tactic(auto, unfolding(crate::specs::proving::Lookup::found))]
 fn find_among(modules: &IndexMap<String, Scope>, within: &str, name: &str) -> Option<Assigned>
-    ensures { result ≡ found (seen module_of modules.now.entries) within.now name.now }
+    ensures { result ≡ found (scopes modules.now.entries) within.now name.now }
 {
     match scope_of(modules, within) {
         None => None,
@@ -148,7 +150,8 @@ fn imported_by<'a>(
     within: &str,
     name: &str,
 ) -> Option<&'a Origin>
-    ensures { option_map (λ o. origin_of o.now) result ≡ imported_in name.now (under within.now (seen module_of modules.now.entries)) }
+    ensures { option_map (λ o. origin_of o.now) result
+        ≡ imported_in name.now (under within.now (scopes modules.now.entries)) }
 {
     match scope_of(modules, within) {
         None => None,

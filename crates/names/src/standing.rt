@@ -4,7 +4,7 @@ ghost use Rattle.std.specs.Prelude.{◌≡◌, ◌<◌, ◌↔◌, ◌⊎◌, tr
 ghost use Rattle.trees.specs.Values.{Name, name_at};
 ghost use Rattle.names.specs.Modules.{StandsIn, IsExported};
 ghost use Rattle.names.specs.Names.{names_of};
-ghost use Rattle.names.specs.Scopes.{seen, module_of, origin_of};
+ghost use Rattle.names.specs.Scopes.{module_of, origin_of, origins, scopes};
 ghost use Rattle.names.specs.proving.Standing.{IsOffered, ExportAssigned, ImportOffered, HasNoAssignment, IsExportFault, IsImportFault, IsImportsFault, AreStanding, IsStandingFault};
 
 use crate::fault::{NameFault, spot};
@@ -20,7 +20,9 @@ fn all_assigned(
     names: &[At<String>],
     scope: &Scope,
 ) -> Result<(), NameFault>
-    ensures ok { OnOk result ((x : Name) → StandsIn (map name_at names.now) x → StandsIn (names_of (module_of scope.now).assigned) x) }
+    ensures ok { OnOk result ((x : Name) →
+        StandsIn (map name_at names.now) x →
+        StandsIn (names_of (module_of scope.now).assigned) x) }
     ensures fault { IfErr result (HasNoAssignment within.now (map name_at names.now) (module_of scope.now).assigned) }
 {
     for i in 0..names.len() {
@@ -68,8 +70,9 @@ fn import_stands(
     name: &str,
     origin: &Origin,
 ) -> Result<(), NameFault>
-    ensures ok { OnOk result (IsOffered (seen module_of modules.now.entries) (origin_of origin.now) name.now) }
-    ensures fault { IfErr result (IsImportFault (seen module_of modules.now.entries) within.now (origin_of origin.now) name.now) }
+    ensures ok { OnOk result (IsOffered (scopes modules.now.entries) (origin_of origin.now) name.now) }
+    ensures fault { IfErr result
+        (IsImportFault (scopes modules.now.entries) within.now (origin_of origin.now) name.now) }
 {
     let from = &origin.module;
     match scope_of(modules, from.it.as_str()) {
@@ -90,7 +93,7 @@ fn import_stands(
 /// An import, by its place: the name and where it is from.
 fn entry_at<'a>(imports: &'a IndexMap<String, Origin>, i: usize) -> (&'a String, &'a Origin)
     requires { i < length imports.now.entries }
-    ensures { slice_get (seen origin_of imports.now.entries) i ≡ Some (string_bytes result.0.now, origin_of result.1.now) }
+    ensures { slice_get (origins imports.now.entries) i ≡ Some (string_bytes result.0.now, origin_of result.1.now) }
 {
     imports.get_index(i).unwrap()
 }
@@ -98,7 +101,7 @@ fn entry_at<'a>(imports: &'a IndexMap<String, Origin>, i: usize) -> (&'a String,
 /// A module, by its place: its name and its names.
 fn module_at<'a>(modules: &'a IndexMap<String, Scope>, i: usize) -> (&'a String, &'a Scope)
     requires { i < length modules.now.entries }
-    ensures { slice_get (seen module_of modules.now.entries) i ≡ Some (string_bytes result.0.now, module_of result.1.now) }
+    ensures { slice_get (scopes modules.now.entries) i ≡ Some (string_bytes result.0.now, module_of result.1.now) }
 {
     modules.get_index(i).unwrap()
 }
@@ -110,8 +113,9 @@ fn imports_stand(
     within: &str,
     imports: &IndexMap<String, Origin>,
 ) -> Result<(), NameFault>
-    ensures ok { OnOk result (ImportOffered (seen module_of modules.now.entries) (seen origin_of imports.now.entries)) }
-    ensures fault { IfErr result (IsImportsFault (seen module_of modules.now.entries) within.now (seen origin_of imports.now.entries)) }
+    ensures ok { OnOk result (ImportOffered (scopes modules.now.entries) (origins imports.now.entries)) }
+    ensures fault { IfErr result
+        (IsImportsFault (scopes modules.now.entries) within.now (origins imports.now.entries)) }
 {
     for i in 0..imports.len() {
         let (name, origin) = entry_at(imports, i);
@@ -131,8 +135,10 @@ fn one_stands(
     scope: &Scope,
 ) -> Result<(), NameFault>
     ensures exports { OnOk result (ExportAssigned (module_of scope.now)) }
-    ensures imports { OnOk result (ImportOffered (seen module_of modules.now.entries) (module_of scope.now).imports) }
-    ensures fault { IfErr result (λ e. IsExportFault within.now (module_of scope.now) e ⊎ IsImportsFault (seen module_of modules.now.entries) within.now (module_of scope.now).imports e) }
+    ensures imports { OnOk result (ImportOffered (scopes modules.now.entries) (module_of scope.now).imports) }
+    ensures fault { IfErr result (λ e.
+        IsExportFault within.now (module_of scope.now) e
+        ⊎ IsImportsFault (scopes modules.now.entries) within.now (module_of scope.now).imports e) }
 {
     match exports_stand(alloc, within, scope) {
         Ok(()) => {}
@@ -146,8 +152,8 @@ fn one_stands(
 
 /// Do all exports and imports stand?
 pub fn all_stand(alloc: Global, modules: &IndexMap<String, Scope>) -> Result<(), NameFault>
-    ensures ok { OnOk result (AreStanding (seen module_of modules.now.entries)) }
-    ensures fault { IfErr result (IsStandingFault (seen module_of modules.now.entries)) }
+    ensures ok { OnOk result (AreStanding (scopes modules.now.entries)) }
+    ensures fault { IfErr result (IsStandingFault (scopes modules.now.entries)) }
 {
     for i in 0..modules.len() {
         let (name, scope) = module_at(modules, i);

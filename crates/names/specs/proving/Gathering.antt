@@ -1,5 +1,6 @@
 -- Modules whose names, types and values are gathered, and what is wrong with names on the way.
-use Rattle.std.specs.Prelude.{◌≡◌, ℕ, List, ◌++◌, Some, map, length}
+use Rattle.std.specs.Prelude.{◌≡◌, ℕ, List, ◌++◌, Some, String, map, length}
+use Rattle.std.specs.Global.{Global}
 use Rattle.trees.specs.Values.{Name}
 use Rattle.trees.specs.declared.module.TagDefault.{TagDefault}
 use Rattle.trees.specs.Modules.{AssignmentTree, ModuleTree}
@@ -7,21 +8,37 @@ use Rattle.names.specs.declared.fault.NameFault.{NameFault}
 use Rattle.names.specs.declared.fault.NameFault.TheVariants as faults
 use Rattle.names.specs.declared.gather.Tables.{Tables}
 use Rattle.names.specs.declared.gather.Gathered.{Gathered}
-use Rattle.names.specs.ByNumber.{roots_from, values_from, owned_by, scopes_from, headers_of, owned_from, roots_of, values_of}
+use Rattle.names.specs.declared.scope.Assigned.{Assigned}
+use Rattle.names.specs.ByNumber.{named_from, roots_from, values_from, owned_by, scopes_from, headers_of, owned_from, roots_of, values_of}
 use Rattle.names.specs.Faults.{IsNamesFault, module_told, name_told}
 use Rattle.names.specs.Modules.{StandsIn, StandsTwice, AreDistinct, names_in}
-use Rattle.names.specs.Names.{Module, under}
-use Rattle.names.specs.Scopes.{seen, module_of}
+use Rattle.names.specs.Names.{Module, under, names_of}
+use Rattle.names.specs.Scopes.{meanings, scopes}
 use Rattle.names.specs.Sources.{Source, Value, assignment_of, header_of, sources_of, value_of}
+
+-- the names of assignments that stand behind those of the tables
+abbrev pub named_next : Tables → List AssignmentTree → List (Name × Assigned)
+named_next t gs = named_from (length t.assignments.items) (length t.values.items) gs
+
+-- the names that are assigned and those that are imported
+abbrev pub named_by : List (String Global × Assigned) → List (Name × Name) → List Name
+named_by as' is = names_of (meanings as') ++ names_of is
 
 -- tables, and those that have besides the assignments of module k
 pub record Adds (k : ℕ) (gs : List AssignmentTree) (old new : Tables) : Type 0 where
   pub owned : map assignment_of new.assignments.items ≡ map assignment_of old.assignments.items ++ owned_by k gs
   pub roots : sources_of new.roots.items ≡ sources_of old.roots.items ++ roots_from (length old.assignments.items) gs
-  pub values : map value_of new.values.items ≡ map value_of old.values.items ++ values_from (length old.assignments.items) gs
+  pub values :
+      map value_of new.values.items ≡ map value_of old.values.items ++ values_from (length old.assignments.items) gs
 
 -- the names, types and values of modules, in which no name has two meanings
-pub record AreGathered (ms : List ModuleTree) (ss : List (Name × Module)) (hs : List (Name × TagDefault)) (gs : List (ℕ × Name)) (rs : List Source) (vs : List Value) : Type 0 where
+pub record AreGathered
+    (ms : List ModuleTree)
+    (ss : List (Name × Module))
+    (hs : List (Name × TagDefault))
+    (gs : List (ℕ × Name))
+    (rs : List Source)
+    (vs : List Value) : Type 0 where
   pub scopes : ss ≡ scopes_from 0 0 ms
   pub headers : hs ≡ headers_of ms
   pub assignments : gs ≡ owned_from 0 ms
@@ -33,7 +50,7 @@ pub record AreGathered (ms : List ModuleTree) (ss : List (Name × Module)) (hs :
 abbrev pub HasGathered : List ModuleTree → Gathered → Type 0
 HasGathered ms g =
     AreGathered ms
-    (seen module_of g.modules.entries)
+    (scopes g.modules.entries)
     (map header_of g.headers.items)
     (map assignment_of g.tables.assignments.items)
     (sources_of g.tables.roots.items)

@@ -7,7 +7,7 @@ use Rattle.names.specs.declared.scope.Assigned.TheVariants as assigned
 use Rattle.names.specs.declared.sources.Assignment.{Assignment}
 use Rattle.names.specs.declared.sources.ValueAt.{ValueAt}
 use Rattle.names.specs.Names.{Meaning, IsApart}
-use Rattle.names.specs.Scopes.{seen, module_of}
+use Rattle.names.specs.Scopes.{scopes}
 use Rattle.names.specs.Sources.{AllAssigned, HaveNoPlace, sources_of}
 
 -- there are so many types and values that what a name is assigned is there
@@ -17,7 +17,7 @@ IsGiven n m (assigned.Value i) = i < m
 
 -- what is gathered refers to what is there
 pub record IsReady (g : Gathered) : Type 0 where
-  pub apart : IsApart (seen module_of g.modules.entries)
+  pub apart : IsApart (scopes g.modules.entries)
   pub pairs : length g.tables.roots.items ≡ length g.tables.assignments.items
   pub assigned : AllAssigned (length g.tables.assignments.items) (sources_of g.tables.roots.items)
   pub unplaced : HaveNoPlace (sources_of g.tables.roots.items)
@@ -25,7 +25,7 @@ pub record IsReady (g : Gathered) : Type 0 where
       slice_get g.tables.assignments.items k ≡ Some a →
       a.module < length g.headers.items
   pub named : (M x : Name) (a : Assigned) →
-      Meaning (seen module_of g.modules.entries) M x a →
+      Meaning (scopes g.modules.entries) M x a →
       IsGiven (length g.tables.roots.items) (length g.tables.values.items) a
   pub valued : (k : ℕ) (v : ValueAt) →
       slice_get g.tables.values.items k ≡ Some v →

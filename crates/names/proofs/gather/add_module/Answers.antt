@@ -5,7 +5,7 @@ use Rattle.trees.specs.Modules.{module_tree_of}
 use Rattle.names.specs.Modules.{StandsTwice}
 use Rattle.names.specs.proving.Gathering.{Adds}
 use Rattle.names.specs.Names.{under}
-use Rattle.names.specs.Scopes.{seen, module_of}
+use Rattle.names.specs.Scopes.{module_of, scopes}
 use Rattle.names.specs.Sources.{header_of}
 use Rattle.names.proofs.Entries.{inserted}
 use Rattle.names.proofs.Gatherings.{gathered_more, module_twice, scope_fault}
@@ -14,7 +14,7 @@ use Rattle.names.proofs.gather.add_module.Goals as goal
 pub returns-in-Some-clause-fault : goal.returns-in-Some-clause-fault
 returns-in-Some-clause-fault c = λ ms rest h.
     let t = module_tree_of c.args.given in
-    let ss = seen module_of c.args.gathered.now.modules.entries in
+    let ss = scopes c.args.gathered.now.modules.entries in
     let u : under t.name ss ≡ Some (module_of c.in-Some.field-0.now) = ap (λ z. under z ss) (sym c.as_str.ensures.value) ∙ sym c.scope_of.ensures ∙ ap (option_map (λ s. module_of s.now)) c.in-Some.is in
     let e = c.in_ok-told-in-Some.ensures in
     inl (e.within ∙ c.as_str-in-Some.ensures.value ∙ sym (e.name ∙ c.as_str-in-Some-2.ensures.value), subst (λ z. StandsTwice (map (λ m. m.name) (ms ++ t ∷ rest)) z) (sym (e.name ∙ c.as_str-in-Some-2.ensures.value)) (module_twice ms rest t c.args.gathered.now (module_of c.in-Some.field-0.now) h u))
@@ -23,7 +23,7 @@ pub returns-in_ok-insert-in-Ok-clause-ok : goal.returns-in_ok-insert-in-Ok-claus
 returns-in_ok-insert-in-Ok-clause-ok c = λ ms h.
     let t = module_tree_of c.args.given in
     let g = c.args.gathered.now in
-    let ss = seen module_of g.modules.entries in
+    let ss = scopes g.modules.entries in
     let u : under t.name ss ≡ None = ap (λ z. under z ss) (sym c.as_str.ensures.value) ∙ sym c.scope_of.ensures ∙ ap (option_map (λ s. module_of s.now)) c.in-None.is in
     let n : c.len-number.result ≡ length g.headers.items = omega arith in
     let name : string_bytes c.in_ok-text-in-Ok.text ≡ name_at c.args.given.name = search rules in

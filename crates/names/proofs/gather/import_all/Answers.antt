@@ -5,26 +5,26 @@ use Rattle.trees.specs.Values.{Name}
 use Rattle.trees.specs.Modules.{import_of}
 use Rattle.names.specs.Names.{names_of}
 use Rattle.names.specs.Modules.{imports_of, AreDistinct}
-use Rattle.names.specs.Scopes.{seen, origin_of}
+use Rattle.names.specs.Scopes.{meanings, origins}
 use Rattle.names.proofs.Gatherings.{imports_sum, imports_fault}
 use Rattle.names.proofs.gather.import_all.Goals as goal
 
 pub loop-names-init : goal.loop-names-init
 loop-names-init c =
     let e : c.into_iter-names-iterator.result.rest.items ≡ c.args.given.items = search rules in
-    let as' = names_of (seen (λ a. a) c.args.assigned.now.entries) in
+    let as' = names_of (meanings c.args.assigned.now.entries) in
     record {
-      sum = ap (λ l. seen origin_of l ++ imports_of (map import_of c.into_iter-names-iterator.result.rest.items)) c.requires.empty ∙ ap (λ l. imports_of (map import_of l)) e;
-      distinct = subst (λ l. AreDistinct (as' ++ names_of (seen origin_of l))) (sym c.requires.empty) (subst AreDistinct (sym (append-nil as')) c.requires.distinct);
+      sum = ap (λ l. origins l ++ imports_of (map import_of c.into_iter-names-iterator.result.rest.items)) c.requires.empty ∙ ap (λ l. imports_of (map import_of l)) e;
+      distinct = subst (λ l. AreDistinct (as' ++ names_of (origins l))) (sym c.requires.empty) (subst AreDistinct (sym (append-nil as')) c.requires.distinct);
     }
 
 pub loop-names-preserved : goal.loop-names-preserved
 loop-names-preserved c =
     let e : c.loop-names.names-iterator.rest.items ≡ c.in-Some.field-0 ∷ c.next.new.self.rest.items = search rules in
     let i = import_of c.in-Some.field-0 in
-    let s = ap (λ l. seen origin_of c.loop-names.imports.entries ++ imports_of (map import_of l)) (sym e) ∙ c.loop-names.invariant.sum in
+    let s = ap (λ l. origins c.loop-names.imports.entries ++ imports_of (map import_of l)) (sym e) ∙ c.loop-names.invariant.sum in
     record {
-      sum = imports_sum (seen origin_of c.loop-names.imports.entries) (seen origin_of c.import_names.new.imports.entries) (map (λ (x : Name). (x, i.from)) i.names) (imports_of (map import_of c.next.new.self.rest.items)) (imports_of (map import_of c.args.given.items)) s c.in-Ok.ensures.ok;
+      sum = imports_sum (origins c.loop-names.imports.entries) (origins c.import_names.new.imports.entries) (map (λ (x : Name). (x, i.from)) i.names) (imports_of (map import_of c.next.new.self.rest.items)) (imports_of (map import_of c.args.given.items)) s c.in-Ok.ensures.ok;
       distinct = c.in-Ok.ensures.distinct;
     }
 
@@ -32,12 +32,12 @@ pub returns-in-Err-clause-fault : goal.returns-in-Err-clause-fault
 returns-in-Err-clause-fault c =
     let e : c.loop-names.names-iterator.rest.items ≡ c.in-Some.field-0 ∷ c.next.new.self.rest.items = search rules in
     let i = import_of c.in-Some.field-0 in
-    let s = ap (λ l. seen origin_of c.loop-names.imports.entries ++ imports_of (map import_of l)) (sym e) ∙ c.loop-names.invariant.sum in
-    imports_fault c.args.within.now (names_of (seen (λ a. a) c.args.assigned.now.entries)) (seen origin_of c.loop-names.imports.entries) (map (λ (x : Name). (x, i.from)) i.names) (imports_of (map import_of c.next.new.self.rest.items)) (imports_of (map import_of c.args.given.items)) c.in-Err.fault s c.in-Err.ensures.fault
+    let s = ap (λ l. origins c.loop-names.imports.entries ++ imports_of (map import_of l)) (sym e) ∙ c.loop-names.invariant.sum in
+    imports_fault c.args.within.now (names_of (meanings c.args.assigned.now.entries)) (origins c.loop-names.imports.entries) (map (λ (x : Name). (x, i.from)) i.names) (imports_of (map import_of c.next.new.self.rest.items)) (imports_of (map import_of c.args.given.items)) c.in-Err.fault s c.in-Err.ensures.fault
 
 pub returns-clause-distinct : goal.returns-clause-distinct
 returns-clause-distinct c =
     let e : c.loop-names.names-iterator.rest.items ≡ [] = grind (arith, common_steps) in
-    let is = seen origin_of c.loop-names.imports.entries in
+    let is = origins c.loop-names.imports.entries in
     let s : is ≡ imports_of (map import_of c.args.given.items) = sym (append-nil is) ∙ ap (λ l. is ++ imports_of (map import_of l)) (sym e) ∙ c.loop-names.invariant.sum in
-    subst (λ l. AreDistinct (names_of (seen (λ a. a) c.args.assigned.now.entries) ++ names_of l)) s c.loop-names.invariant.distinct
+    subst (λ l. AreDistinct (names_of (meanings c.args.assigned.now.entries) ++ names_of l)) s c.loop-names.invariant.distinct

@@ -2,12 +2,12 @@ use Rattle.std.proofs.Common.{◌≡◌, ◌++◌, map}
 use Rattle.trees.specs.Modules.{import_of}
 use Rattle.names.specs.Names.{names_of}
 use Rattle.names.specs.Modules.{imports_of, AreDistinct}
-use Rattle.names.specs.Scopes.{seen, origin_of}
+use Rattle.names.specs.Scopes.{meanings, origins}
 use Rattle.names.proofs.gather.import_all.Given as goal
 
 abbrev pub invariant-loop-names : goal.invariant-loop-names
 invariant-loop-names l =
     record {
-      sum : seen origin_of l.imports.entries ++ imports_of (map import_of l.names-iterator.rest.items) ≡ imports_of (map import_of l.fn.given.items);
-      distinct : AreDistinct (names_of (seen (λ a. a) l.assigned.entries) ++ names_of (seen origin_of l.imports.entries));
+      sum : origins l.imports.entries ++ imports_of (map import_of l.names-iterator.rest.items) ≡ imports_of (map import_of l.fn.given.items);
+      distinct : AreDistinct (names_of (meanings l.assigned.entries) ++ names_of (origins l.imports.entries));
     }

@@ -1,7 +1,7 @@
 use Rattle.std.proofs.Common.{rules, ◌≡◌, ◌++◌, ◌∷◌, [], Some, None, refl, sym, ap, ◌∙◌, string_bytes, option_map}
 use Rattle.trees.specs.Values.{name_at}
 use Rattle.names.specs.Names.{names_of, under}
-use Rattle.names.specs.Scopes.{seen, origin_of}
+use Rattle.names.specs.Scopes.{origin_of, meanings, origins}
 use Rattle.names.specs.proving.Distinct.{stands_left, stands_right, name_under}
 use Rattle.names.proofs.Entries.{inserted}
 use Rattle.names.proofs.gather.import_once.Goals as goal
@@ -9,16 +9,16 @@ use Rattle.names.proofs.gather.import_once.Goals as goal
 pub returns-in-Some-clause-fault : goal.returns-in-Some-clause-fault
 returns-in-Some-clause-fault c =
     let x = name_at c.args.name in
-    let as' = seen (λ a. a) c.args.assigned.now.entries in
-    let is = seen origin_of c.args.imports.now.entries in
+    let as' = meanings c.args.assigned.now.entries in
+    let is = origins c.args.imports.now.entries in
     let u : under x as' ≡ Some c.in-Some.field-0 = ap (λ z. under z as') (sym c.as_str.ensures.value) ∙ sym c.meaning_in.ensures ∙ c.in-Some.is in
     (c.in_ok-spot-in-Some.ensures.within, c.in_ok-spot-in-Some.ensures.name ∙ c.as_str-in-Some.ensures.value, stands_left (names_of as') (names_of is) x (name_under x as' c.in-Some.field-0 u))
 
 pub returns-in_ok-spot-in-Some-origin_in-clause-fault : goal.returns-in_ok-spot-in-Some-origin_in-clause-fault
 returns-in_ok-spot-in-Some-origin_in-clause-fault c =
     let x = name_at c.args.name in
-    let as' = seen (λ a. a) c.args.assigned.now.entries in
-    let is = seen origin_of c.args.imports.now.entries in
+    let as' = meanings c.args.assigned.now.entries in
+    let is = origins c.args.imports.now.entries in
     let o = origin_of c.in-Some-origin_in.field-0.now in
     let u : under x is ≡ Some o = ap (λ z. under z is) (sym c.as_str-2.ensures.value) ∙ sym c.origin_in.ensures ∙ ap (option_map (λ t. origin_of t.now)) c.in-Some-origin_in.is in
     (c.in_ok-spot-in-Some-origin_in.ensures.within, c.in_ok-spot-in-Some-origin_in.ensures.name ∙ c.as_str-in-Some-origin_in.ensures.value, stands_right (names_of as') (names_of is) x (name_under x is o u))
@@ -26,7 +26,7 @@ returns-in_ok-spot-in-Some-origin_in-clause-fault c =
 pub returns-in_ok-insert-in-None-origin_in-clause-ok : goal.returns-in_ok-insert-in-None-origin_in-clause-ok
 returns-in_ok-insert-in-None-origin_in-clause-ok c =
     let x = name_at c.args.name in
-    let is = seen origin_of c.args.imports.now.entries in
+    let is = origins c.args.imports.now.entries in
     let u : under x is ≡ None = ap (λ z. under z is) (sym c.as_str-2.ensures.value) ∙ sym c.origin_in.ensures ∙ ap (option_map (λ t. origin_of t.now)) c.in-None-origin_in.is in
     let from : string_bytes c.in_ok-it-in-None-origin_in.it ≡ name_at c.args.from.now = search rules in
     inserted origin_of c.args.imports.now c.args.name.it _ x c.insert.new.self.entries refl u c.in_ok-insert-in-None-origin_in.ensures.entries ∙ ap (λ z. is ++ (x, z) ∷ []) from

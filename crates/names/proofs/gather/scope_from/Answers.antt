@@ -3,7 +3,7 @@ use Rattle.trees.specs.Modules.{assignment_of as given_of, import_of}
 use Rattle.names.specs.proving.Gathering.{IsRepeated}
 use Rattle.names.specs.Names.{names_of}
 use Rattle.names.specs.Modules.{name_of, imports_of, AreDistinct}
-use Rattle.names.specs.Scopes.{seen}
+use Rattle.names.specs.Scopes.{meanings}
 use Rattle.names.proofs.Behind.{names_named}
 use Rattle.names.proofs.Gatherings.{repeated_more}
 use Rattle.names.proofs.gather.scope_from.Goals as goal
@@ -15,17 +15,17 @@ returns-in-Err-clause-fault c =
 pub import_all-requires-clause-distinct : goal.import_all-requires-clause-distinct
 import_all-requires-clause-distinct c =
     let gs = map given_of c.args.assignments.items in
-    let same : names_of (seen (λ a. a) c.add_all.new.assigned.entries) ≡ map name_of gs = ap names_of c.in-Ok.ensures.named ∙ names_named (length c.args.tables.now.assignments.items) (length c.args.tables.now.values.items) gs in
+    let same : names_of (meanings c.add_all.new.assigned.entries) ≡ map name_of gs = ap names_of c.in-Ok.ensures.named ∙ names_named (length c.args.tables.now.assignments.items) (length c.args.tables.now.values.items) gs in
     subst AreDistinct (sym same) c.in-Ok.ensures.distinct
 
 pub returns-in-Err-import_all-clause-fault : goal.returns-in-Err-import_all-clause-fault
 returns-in-Err-import_all-clause-fault c =
     let gs = map given_of c.args.assignments.items in
-    let same : names_of (seen (λ a. a) c.add_all.new.assigned.entries) ≡ map name_of gs = ap names_of c.in-Ok.ensures.named ∙ names_named (length c.args.tables.now.assignments.items) (length c.args.tables.now.values.items) gs in
+    let same : names_of (meanings c.add_all.new.assigned.entries) ≡ map name_of gs = ap names_of c.in-Ok.ensures.named ∙ names_named (length c.args.tables.now.assignments.items) (length c.args.tables.now.values.items) gs in
     subst (λ l. IsRepeated c.args.within.now (l ++ names_of (imports_of (map import_of c.args.given.items))) c.in-Err-import_all.fault) same c.in-Err-import_all.ensures.fault
 
 pub returns-in-Ok-exports_of-clause-distinct : goal.returns-in-Ok-exports_of-clause-distinct
 returns-in-Ok-exports_of-clause-distinct c =
     let gs = map given_of c.args.assignments.items in
-    let same : names_of (seen (λ a. a) c.add_all.new.assigned.entries) ≡ map name_of gs = ap names_of c.in-Ok.ensures.named ∙ names_named (length c.args.tables.now.assignments.items) (length c.args.tables.now.values.items) gs in
+    let same : names_of (meanings c.add_all.new.assigned.entries) ≡ map name_of gs = ap names_of c.in-Ok.ensures.named ∙ names_named (length c.args.tables.now.assignments.items) (length c.args.tables.now.values.items) gs in
     subst (λ l. AreDistinct (l ++ names_of (imports_of (map import_of c.args.given.items)))) same c.in-Ok-import_all.ensures.distinct

@@ -1,12 +1,12 @@
 use Rattle.std.proofs.Common.{◌≡◌, true, false, Some, sym, ap, ◌∙◌, option_map}
 use Rattle.names.specs.Modules.{IsExported}
 use Rattle.names.specs.Names.{under}
-use Rattle.names.specs.Scopes.{seen, module_of, origin_of}
+use Rattle.names.specs.Scopes.{module_of, origin_of, scopes}
 use Rattle.names.proofs.standing.import_stands.Goals as goal
 
 pub returns-in_ok-spot-in-None-assigned_to-clause-fault : goal.returns-in_ok-spot-in-None-assigned_to-clause-fault
 returns-in_ok-spot-in-None-assigned_to-clause-fault c =
-    let ss = seen module_of c.args.modules.now.entries in
+    let ss = scopes c.args.modules.now.entries in
     let n = module_of c.in-Some.other.now in
     let e = c.in_ok-spot-in-None-assigned_to.ensures in
     let u : under (origin_of c.args.origin.now) ss ≡ Some n = ap (λ z. under z ss) (sym c.as_str.ensures.value) ∙ sym c.scope_of.ensures ∙ ap (option_map (λ s. module_of s.now)) c.in-Some.is in
@@ -14,14 +14,14 @@ returns-in_ok-spot-in-None-assigned_to-clause-fault c =
 
 pub returns-then-exports-clause-ok : goal.returns-then-exports-clause-ok
 returns-then-exports-clause-ok c =
-    let ss = seen module_of c.args.modules.now.entries in
+    let ss = scopes c.args.modules.now.entries in
     let n = module_of c.in-Some.other.now in
     let u : under (origin_of c.args.origin.now) ss ≡ Some n = ap (λ z. under z ss) (sym c.as_str.ensures.value) ∙ sym c.scope_of.ensures ∙ ap (option_map (λ s. module_of s.now)) c.in-Some.is in
     record { other = n; there = u; assigned = c.in-Some-assigned_to.field-0; assigns = sym c.assigned_to.ensures ∙ c.in-Some-assigned_to.is; exported = c.exports.ensures.0 c.if-exports.true }
 
 pub returns-in_ok-spot-in-Some-assigned_to-clause-fault : goal.returns-in_ok-spot-in-Some-assigned_to-clause-fault
 returns-in_ok-spot-in-Some-assigned_to-clause-fault c =
-    let ss = seen module_of c.args.modules.now.entries in
+    let ss = scopes c.args.modules.now.entries in
     let n = module_of c.in-Some.other.now in
     let e = c.in_ok-spot-in-Some-assigned_to.ensures in
     let u : under (origin_of c.args.origin.now) ss ≡ Some n = ap (λ z. under z ss) (sym c.as_str.ensures.value) ∙ sym c.scope_of.ensures ∙ ap (option_map (λ s. module_of s.now)) c.in-Some.is in

@@ -1,26 +1,26 @@
 use Rattle.std.proofs.Common.{arith, ◌≡◌, length, subst, string_bytes}
 use Rattle.trees.specs.Values.{Name}
 use Rattle.names.specs.proving.Standing.{IsOffered, IsImportFault}
-use Rattle.names.specs.Scopes.{seen, module_of, origin_of}
+use Rattle.names.specs.Scopes.{origin_of, origins, scopes}
 use Rattle.names.proofs.Standings.{more_of, all_stood, seen_long}
 use Rattle.names.proofs.standing.imports_stand.Goals as goal
 
 pub loop-i-preserved : goal.loop-i-preserved
 loop-i-preserved c =
-    let ss = seen module_of c.args.modules.now.entries in
+    let ss = scopes c.args.modules.now.entries in
     let x = string_bytes c.entry_at.result.0.now in
     let N = origin_of c.entry_at.result.1.now in
     let o = subst (λ z. IsOffered ss N z) c.as_str.ensures.value c.in-Ok.ensures.ok in
-    more_of (seen origin_of c.args.imports.now.entries) (λ (i : Name × Name). IsOffered ss i.1 i.0) c.loop-i.i (x, N) c.entry_at.ensures c.loop-i.invariant o
+    more_of (origins c.args.imports.now.entries) (λ (i : Name × Name). IsOffered ss i.1 i.0) c.loop-i.i (x, N) c.entry_at.ensures c.loop-i.invariant o
 
 pub returns-in-Err-clause-fault : goal.returns-in-Err-clause-fault
 returns-in-Err-clause-fault c =
-    let ss = seen module_of c.args.modules.now.entries in
+    let ss = scopes c.args.modules.now.entries in
     let x = string_bytes c.entry_at.result.0.now in
     let N = origin_of c.entry_at.result.1.now in
     (N, x, (c.loop-i.i, c.entry_at.ensures), subst (λ z. IsImportFault ss c.args.within.now N z c.in-Err.fault) c.as_str.ensures.value c.in-Err.ensures.fault)
 
 pub returns-clause-ok : goal.returns-clause-ok
 returns-clause-ok c = λ N x s.
-    let n : c.loop-i.i ≡ length (seen origin_of c.args.imports.now.entries) = omega (arith, seen_long origin_of c.args.imports.now.entries) in
-    all_stood (seen origin_of c.args.imports.now.entries) (λ (i : Name × Name). IsOffered (seen module_of c.args.modules.now.entries) i.1 i.0) c.loop-i.i n c.loop-i.invariant (x, N) s
+    let n : c.loop-i.i ≡ length (origins c.args.imports.now.entries) = omega (arith, seen_long origin_of c.args.imports.now.entries) in
+    all_stood (origins c.args.imports.now.entries) (λ (i : Name × Name). IsOffered (scopes c.args.modules.now.entries) i.1 i.0) c.loop-i.i n c.loop-i.invariant (x, N) s
