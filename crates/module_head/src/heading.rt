@@ -10,7 +10,7 @@ ghost use Rattle.module_head.specs.HeadingReading.{tag_word_at, default_words_at
 ghost use Rattle.module_head.specs.HeadReading.{tag_default_at, export_list_at};
 
 use notation::ReadError;
-use notation::names::name;
+use kernel::decode::name_at;
 use kernel::marks::comma;
 use std::alloc::Global;
 use text::reserved::Word;
@@ -142,7 +142,7 @@ fn symbol<'a>(
                 ..
             },
             rest @ ..,
-        ] => Ok((name(alloc, text, *symbol)?, rest)),
+        ] => Ok((name_at(alloc, text, *symbol)?, rest)),
         _ => Err(ReadError::Unexpected(tokens.len())),
     }
 }

@@ -15,8 +15,7 @@ ghost use Rattle.module_head.specs.HeadReading.{import_list_at};
 
 use crate::heading::{semicolon, symbols};
 use notation::ReadError;
-use notation::names::name;
-use kernel::decode::small_number;
+use kernel::decode::{name_at, small_number};
 use kernel::marks::{close, closed, open};
 use std::alloc::Global;
 use text::reserved::Word;
@@ -208,9 +207,9 @@ fn behind_module<'a>(
             ..
         ] => {
             let rest = oid(text, tokens)?;
-            Ok((name(alloc, text, module_name)?, rest))
+            Ok((name_at(alloc, text, module_name)?, rest))
         }
-        _ => Ok((name(alloc, text, module_name)?, tokens)),
+        _ => Ok((name_at(alloc, text, module_name)?, tokens)),
     }
 }
 

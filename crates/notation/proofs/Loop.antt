@@ -4,10 +4,9 @@ use Rattle.std.proofs.lemmas.List.{append-nil}
 use Rattle.std.specs.Global.{Vec}
 use Rattle.text.specs.declared.token.Mark.TheVariants.{Colon}
 use Rattle.grammar.specs.Lexeme.{Lexeme, Ident, Number, Mark}
-use Rattle.grammar.specs.Grammar.{token, ◌∙◌}
 use Rattle.grammar.specs.Reading.{Beyond, Integer, Read, Reader, ◌>>=◌, with_front, stop, fitting, behind_commas_at, listed_at, named_at, next_comma}
-use Rattle.grammar.specs.Laws.{nowhere}
-use Rattle.grammar.specs.Lists.{named_sound}
+use Rattle.grammar.specs.Places.{small}
+use Rattle.grammar.specs.Short.{Short, short_of}
 use Rattle.grammar.specs.Loops.{Shrinks, sound_short, regroup}
 use Rattle.kernel.specs.declared.fault.ReadError.{ReadError}
 use Rattle.kernel.specs.declared.fault.ReadError.TheVariants as errors
@@ -36,11 +35,11 @@ unfolding value_at
 value_step fits zero ts = none_open fits ts
 value_step fits (suc n) ts = let e : n ≡ suc n - 1 = omega arith in ap (λ (k : ℕ). step_at fits (suc n) (value_at fits k) ts) e
 
-pub value_shrinks : (fits : ℕ → Bool) (n : ℕ) → Shrinks (value_at fits n)
+value_shrinks : (fits : ℕ → Bool) (n : ℕ) → Shrinks (value_at fits n)
 value_shrinks fits n = record { shorter = λ ts x e. sound_short (value fits n) ts (value_at fits n ts) x e (value_sound fits n ts) }
 
-pub member_shrinks : (fits : ℕ → Bool) (n : ℕ) → Shrinks (named_at (value_at fits n))
-member_shrinks fits n = record { shorter = λ ts x e. sound_short (token Ident ∙ value fits n) ts (named_at (value_at fits n) ts) x e (named_sound nowhere (value fits n) (value_at fits n) (value_sound fits n) ts) }
+pub value_short : (n : ℕ) → Short (value_at small n)
+value_short n = short_of (value_at small n) (value_shrinks small n)
 
 -- the tree of components
 together : (l : List (Named ValueSyntax)) → map (λ (f : Named Tree). (name_at f.name, f.value)) (map (former-ValueSyntax-form-at-13.map ValueSyntax Tree tree_of) l) ≡ map member_of l

@@ -1,29 +1,16 @@
 //! The names of the notation, with where they are written.
 
-ghost use Rattle.std.specs.Prelude.{◌≡◌, ◌⊎◌, None, IfOk, option_map, string_bytes, slice_range};
+ghost use Rattle.std.specs.Prelude.{◌≡◌, None, IfOk, option_map, string_bytes, slice_range};
 ghost use Rattle.text.specs.declared.token.TokenKind.TheVariants as kinds;
 ghost use Rattle.grammar.specs.Lexeme.{lexemes};
 ghost use Rattle.kernel.specs.Given.{Gives, IsTokenOf, AreTokens};
-ghost use Rattle.trees.specs.Values.{name_at};
 ghost use Rattle.notation.specs.Reading.{ref_dot_at};
 
 use kernel::ReadError;
 use kernel::decode::name_of;
 use std::alloc::{AllocError, Global};
 use text::{Mark, Token, TokenKind};
-use trees::{At, Reference};
-
-/// The name that a token is, where it is written.
-pub fn name(alloc: Global, text: &[u8], token: Token) -> Result<At<String>, AllocError>
-    requires token { IsTokenOf text.now token }
-    requires name { (token.kind ≡ kinds.Identifier) ⊎ (token.kind ≡ kinds.TypeReference) }
-    ensures { IfOk result (λ n. name_at n ≡ slice_range text.now token.span.start token.span.end) }
-{
-    Ok(At {
-        at: token.span.start,
-        it: name_of(alloc, text, token)?,
-    })
-}
+use trees::Reference;
 
 /// The name of a value, with no module's name before it.
 pub fn bare(alloc: Global, text: &[u8], token: Token) -> Result<Reference, AllocError>

@@ -1,24 +1,42 @@
 //! Reading a value from its first token on.
 
-ghost use Rattle.std.specs.Prelude.{◌≡◌, [], Some, None, MatchOption, ◌-◌, ◌<◌, ◌∷◌, length, map, IfOk, slice_range};
+ghost use Rattle.std.specs.Prelude.{◌≡◌, [], Some, None, MatchOption, ◌-◌, ◌<◌, ◌∷◌, length, IfOk, slice_range};
 ghost use Rattle.text.specs.declared.token.TokenKind.TheVariants as kinds;
 ghost use Rattle.text.specs.Items.{number_value};
 ghost use Rattle.grammar.specs.Lexeme.{lexemes, Number};
-ghost use Rattle.grammar.specs.Reading.{with_front, listed_at, named_at};
+ghost use Rattle.grammar.specs.Reading.{with_front};
 ghost use Rattle.grammar.specs.Places.{small};
-ghost use Rattle.trees.specs.Values.{tree_of, member_of};
+ghost use Rattle.trees.specs.Values.{tree_of};
 ghost use Rattle.kernel.specs.Given.{Gives, IsTokenOf, AreTokens};
-ghost use Rattle.notation.specs.Reading.{negative_at, next_number, numbers_at, two_numbers_at, items_at, fields_at, braced_at, alternative_at, step_at, value_at};
+ghost use Rattle.notation.specs.Reading.{negative_at, next_number, numbers_at, two_numbers_at, by_name_at, braced_at, alternative_at, step_at, value_at};
 
-use crate::names::{bare, name, qualified};
+use crate::names::{bare, qualified};
 use crate::numbers::{negative, positive};
 use kernel::decode::{chars_of, digits_of, name_of, small_number};
-use kernel::marks::{closed, comma};
-use kernel::{Limit, ReadError};
+use kernel::marks::closed;
+use kernel::{Limit, Listed, Part, Production, ReadError, WithName, reads_by};
 use std::alloc::Global;
+use std::marker::PhantomData;
 use text::reserved::Word;
 use text::{Mark, Token, TokenKind};
-use trees::{Named, ValueForm, ValueSyntax};
+use trees::{ValueForm, ValueSyntax};
+
+/// The values, as a production that reads itself again.
+pub struct Values;
+
+impl Production for Values {
+    ghost use Rattle.grammar.specs.Places.{small};
+    ghost use Rattle.trees.specs.Values.{Tree as ValueTree, tree_of};
+    ghost use Rattle.notation.specs.Reading.{value_at};
+
+    type Tree = ValueSyntax;
+
+    ghost Shape = { ValueTree };
+
+    ghost view = { tree_of };
+
+    ghost reader = { value_at small };
+}
 
 /// Reads the number behind a minus, which stands at a place.
 #[tactic(auto, unfolding(crate::specs::Reading::negative_at))]
@@ -192,7 +210,7 @@ fn braced<'a>(
             ..
         ] => {
             small_number(text, *number, tokens.len())?;
-            items(alloc, text, at, tokens, depth)
+            listed(alloc, text, at, true, tokens, depth)
         }
         [
             Token {
@@ -204,128 +222,54 @@ fn braced<'a>(
                 ..
             },
             ..
-        ] => items(alloc, text, at, tokens, depth),
+        ] => listed(alloc, text, at, true, tokens, depth),
         [
             Token {
                 kind: TokenKind::Identifier,
                 ..
             },
             ..
-        ] => fields(alloc, text, at, tokens, depth),
-        _ => items(alloc, text, at, tokens, depth),
+        ] => listed(alloc, text, at, false, tokens, depth),
+        _ => listed(alloc, text, at, true, tokens, depth),
     }
 }
 
-/// Reads values with commas between them, and the brace behind them.
-#[tactic(auto, unfolding(crate::specs::Reading::items_at))]
+/// Reads values with commas between them, plain or each behind a name, and the brace behind them.
+#[tactic(auto, unfolding(crate::specs::Reading::by_name_at, crate::specs::Reading::items_at, crate::specs::Reading::fields_at), using(crate::proofs::Loop::fields_tree, crate::proofs::Loop::value_short))]
 #[cycle(value)]
-fn items<'a>(
+fn listed<'a>(
     alloc: Global,
     text: &[u8],
     at: usize,
+    plain: bool,
     tokens: &'a [Token],
     depth: usize,
 ) -> Result<(ValueSyntax, &'a [Token]), ReadError>
     requires tokens { AreTokens text.now tokens.now }
-    ensures read { Gives (λ x. (tree_of x.0, lexemes text.now x.1.now)) result (items_at (value_at small depth) (lexemes text.now tokens.now)) }
+    ensures read { Gives (λ x. (tree_of x.0, lexemes text.now x.1.now)) result (by_name_at plain (value_at small depth) (lexemes text.now tokens.now)) }
     ensures rest { IfOk result (λ x. AreTokens text.now x.1.now) }
 {
-    let (values, rest) = values(alloc, text, tokens, depth)?;
-    let rest = closed(text, rest)?;
-    let form = ValueForm::Items(values);
-    Ok((ValueSyntax { at, form }, rest))
-}
-
-/// Reads values behind names with commas between them, and the brace behind them.
-#[tactic(auto, unfolding(crate::specs::Reading::fields_at), using(crate::proofs::Loop::fields_tree))]
-#[cycle(value)]
-fn fields<'a>(
-    alloc: Global,
-    text: &[u8],
-    at: usize,
-    tokens: &'a [Token],
-    depth: usize,
-) -> Result<(ValueSyntax, &'a [Token]), ReadError>
-    requires tokens { AreTokens text.now tokens.now }
-    ensures read { Gives (λ x. (tree_of x.0, lexemes text.now x.1.now)) result (fields_at (value_at small depth) (lexemes text.now tokens.now)) }
-    ensures rest { IfOk result (λ x. AreTokens text.now x.1.now) }
-{
-    let (members, rest) = members(alloc, text, tokens, depth)?;
-    let rest = closed(text, rest)?;
-    let form = ValueForm::Fields(members);
-    Ok((ValueSyntax { at, form }, rest))
-}
-
-#[tactic(auto, unfolding(grammar::specs::Reading::named_at))]
-#[cycle(value)]
-fn member<'a>(
-    alloc: Global,
-    text: &[u8],
-    tokens: &'a [Token],
-    depth: usize,
-) -> Result<(Named<ValueSyntax>, &'a [Token]), ReadError>
-    requires tokens { AreTokens text.now tokens.now }
-    ensures read { Gives (λ x. (member_of x.0, lexemes text.now x.1.now)) result (named_at (value_at small depth) (lexemes text.now tokens.now)) }
-    ensures rest { IfOk result (λ x. AreTokens text.now x.1.now) }
-{
-    match tokens {
-        [
-            first @ Token {
-                kind: TokenKind::Identifier,
-                ..
-            },
-            rest @ ..,
-        ] => {
-            let (value, rest) = value(alloc, text, rest, depth)?;
-            let name = name(alloc, text, *first)?;
-            Ok((Named { name, value }, rest))
-        }
-        _ => Err(ReadError::Unexpected(tokens.len())),
+    let part = reads_by(
+        PhantomData::<Values>,
+        |ts|
+            requires { AreTokens text.now ts.now }
+            ensures read { Gives (λ x. (tree_of x.0, lexemes text.entry.now x.1.now)) result (value_at small depth (lexemes text.entry.now ts.now)) }
+            ensures rest { IfOk result (λ x. AreTokens text.entry.now x.1.now) }
+        { value(alloc, text, ts, depth) },
+        depth,
+    );
+    if plain {
+        let (values, rest) = Listed { part }.read(alloc, text, tokens)?;
+        let rest = closed(text, rest)?;
+        let form = ValueForm::Items(values);
+        Ok((ValueSyntax { at, form }, rest))
+    } else {
+        let part = WithName { part };
+        let (fields, rest) = Listed { part }.read(alloc, text, tokens)?;
+        let rest = closed(text, rest)?;
+        let form = ValueForm::Fields(fields);
+        Ok((ValueSyntax { at, form }, rest))
     }
-}
-
-#[cycle(value)]
-fn values<'a>(
-    alloc: Global,
-    text: &[u8],
-    tokens: &'a [Token],
-    depth: usize,
-) -> Result<(Vec<ValueSyntax>, &'a [Token]), ReadError>
-    requires tokens { AreTokens text.now tokens.now }
-    ensures read { Gives (λ x. (map tree_of x.0.items, lexemes text.now x.1.now)) result (listed_at (value_at small depth) (lexemes text.now tokens.now)) }
-    ensures rest { IfOk result (λ x. AreTokens text.now x.1.now) }
-{
-    let mut values = Vec::new(alloc);
-    let (first, mut rest) = value(alloc, text, tokens, depth)?;
-    values.push(first)?;
-    while let Some(after) = comma(text, rest) {
-        let (next, after) = value(alloc, text, after, depth)?;
-        values.push(next)?;
-        rest = after;
-    }
-    Ok((values, rest))
-}
-
-#[cycle(value)]
-fn members<'a>(
-    alloc: Global,
-    text: &[u8],
-    tokens: &'a [Token],
-    depth: usize,
-) -> Result<(Vec<Named<ValueSyntax>>, &'a [Token]), ReadError>
-    requires tokens { AreTokens text.now tokens.now }
-    ensures read { Gives (λ x. (map member_of x.0.items, lexemes text.now x.1.now)) result (listed_at (named_at (value_at small depth)) (lexemes text.now tokens.now)) }
-    ensures rest { IfOk result (λ x. AreTokens text.now x.1.now) }
-{
-    let mut members = Vec::new(alloc);
-    let (first, mut rest) = member(alloc, text, tokens, depth)?;
-    members.push(first)?;
-    while let Some(after) = comma(text, rest) {
-        let (next, after) = member(alloc, text, after, depth)?;
-        members.push(next)?;
-        rest = after;
-    }
-    Ok((members, rest))
 }
 
 /// The number that comes next, and the tokens behind it, if one comes.
