@@ -8,7 +8,9 @@ use Rattle.grammar.specs.Lexeme.{Lexeme, TypeRef, Ident, Number, CString, Word, 
 use Rattle.grammar.specs.Grammar.{Grammar, token, word, only as lexeme, ◌∙◌, ◌∣◌, ◌⇒◌, optional, behind}
 use Rattle.grammar.specs.Reading.{Limit, Integer, Read, Reader, ◌>>=◌, stop}
 use Rattle.grammar.specs.Laws.{everywhere, nowhere, then_read, after_read}
-use Rattle.grammar.specs.Loops.{Shrinks, sound_short}
+use Rattle.grammar.specs.Loops.{sound_short}
+use Rattle.grammar.specs.Places.{small}
+use Rattle.grammar.specs.Short.{Short, short_of}
 use Rattle.grammar.specs.Lists.{no_lexeme, is_ident}
 use Rattle.grammar.specs.Numbers.{Past}
 use Rattle.grammar.specs.Parts.{IsKind, pick, perhaps, token_solid}
@@ -608,10 +610,10 @@ module _ (over : Limit → ℕ) (within : Limit → Type 0) (fits fits' : ℕ �
   unfolding constraint_at
   rule_constraint = rule_same (constraint fits') constraint_is_split (rule_parens rule_inside refl)
 
--- ---- what the loops need
+-- ---- no more lexemes are left than are given
 
-pub chars_shrinks : Shrinks chars_at
-chars_shrinks = record { shorter = λ ts x e. sound_short chars ts (chars_at ts) x e ((rule_chars {over = nowhere} {within = everywhere}).sound tt ts) }
+pub chars_short : Short chars_at
+chars_short = short_of chars_at (record { shorter = λ ts x e. sound_short chars ts (chars_at ts) x e ((rule_chars {over = nowhere} {within = everywhere}).sound tt ts) })
 
-pub range_shrinks : (fits : ℕ → Bool) → Shrinks (range_at fits)
-range_shrinks fits = record { shorter = λ ts x e. sound_short (range fits) ts (range_at fits ts) x e ((rule_range nowhere everywhere fits fits (λ n h. h) tt (λ n h t. h)).sound tt ts) }
+pub range_short : Short (range_at small)
+range_short = short_of (range_at small) (record { shorter = λ ts x e. sound_short (range small) ts (range_at small ts) x e ((rule_range nowhere everywhere small small (λ n h. h) tt (λ n h t. h)).sound tt ts) })

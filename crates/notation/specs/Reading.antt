@@ -1,15 +1,20 @@
 -- Reading values from left to right.
-use Rattle.std.specs.Prelude.{ℕ, zero, suc, List, [], ◌∷◌, Option, Some, None, Bool, true, false, Ok}
+use Rattle.std.specs.Prelude.{ℕ, zero, suc, List, [], ◌∷◌, Option, Some, None, Bool, true, false, Ok, option_map, string_bytes}
 use Rattle.text.specs.declared.token.Mark.TheVariants.{Comma, Colon, Dot, Minus, OpenBrace, CloseBrace}
 use Rattle.text.specs.declared.reserved.Word.TheVariants.{True, False, Null}
 use Rattle.grammar.specs.Lexeme.{Lexeme, TypeRef, Ident, Number, BString, HString, CString, Word, Mark}
 use Rattle.grammar.specs.Reading.{Read, Reader, ◌>>=◌, stop, closed_at, listed_at, named_at, fitting, opened}
+use Rattle.trees.specs.declared.place.Reference.{Reference}
 use Rattle.trees.specs.Values.{Name, Tree, yes, no, null, binary, hex, chars, reference, chosen, nothing, numbers, items, fields, trees, members}
 use Rattle.notation.specs.Value.{positive, negative}
 
 unfoldable pub negative_at : Reader Tree
 negative_at (Number n ∷ rest) = Ok (negative n, rest)
 negative_at ts = stop ts
+
+-- the module's name, if one is given, and the value's
+abbrev pub named_by : Reference → Option Name × Name
+named_by r = (option_map string_bytes r.module, string_bytes r.name)
 
 -- behind a module's name and a dot
 unfoldable pub ref_name_at : Name → Reader (Option Name × Name)

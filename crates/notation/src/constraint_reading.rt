@@ -1,43 +1,25 @@
 //! Reading a constraint from its first token on.
 
-ghost use Rattle.std.specs.Prelude.{◌≡◌, ◌<◌, Some, None, MatchOption, length, map, option_map, IfOk};
+ghost use Rattle.std.specs.Prelude.{◌≡◌, map, option_map, IfOk};
 ghost use Rattle.text.specs.declared.token.TokenKind.TheVariants as kinds;
 ghost use Rattle.grammar.specs.Lexeme.{lexemes, chars_between};
 ghost use Rattle.grammar.specs.Places.{small};
 ghost use Rattle.trees.specs.Constraints.{end_of, range_of, ranges_of, chars_of, form_of, constraint_of};
 ghost use Rattle.kernel.specs.Given.{Gives, IsTokenOf, AreTokens};
-ghost use Rattle.notation.specs.ConstraintReading.{next_or, by_or_at, last_chars_at, more_chars_at, chars_at, from_at, minus_at, end_at, some_end_at, upper_at, behind_min_at, behind_end_at, single_at, range_at, marker_at, ranges_at, size_at, from_in_at, values_in_at, inside_at, constraint_at};
+ghost use Rattle.notation.specs.ConstraintReading.{last_chars_at, more_chars_at, chars_at, from_at, minus_at, end_at, some_end_at, upper_at, behind_min_at, behind_end_at, single_at, range_at, marker_at, ranges_at, size_at, from_in_at, values_in_at, inside_at, constraint_at};
 
 use crate::names::{bare, qualified};
 use crate::numbers::{negative, positive};
-use kernel::ReadError;
+use crate::unions::by_or;
 use kernel::decode::chars_of;
 use kernel::marks::{close, open};
+use kernel::{Part, ReadError};
 use std::alloc::{AllocError, Global};
 use text::reserved::Word;
 use text::{Mark, Token, TokenKind};
 use trees::{
     At, CharsSyntax, ConstraintForm, ConstraintSyntax, EndSyntax, RangeSyntax, RangesSyntax,
 };
-
-/// The tokens behind `|` or `UNION`, if one of them is next.
-#[tactic(auto, unfolding(crate::specs::ConstraintReading::next_or))]
-fn or<'a>(text: &[u8], tokens: &'a [Token]) -> Option<&'a [Token]>
-    requires tokens { AreTokens text.now tokens.now }
-    ensures { MatchOption result (next_or (lexemes text.now tokens.now) ≡ None)
-        (λ x. (next_or (lexemes text.now tokens.now) ≡ Some (lexemes text.now x.now)) × AreTokens text.now x.now × (length x.now < length tokens.now)) }
-{
-    match tokens {
-        [
-            Token {
-                kind: TokenKind::Mark(Mark::Bar) | TokenKind::Reserved(Word::Union),
-                ..
-            },
-            rest @ ..,
-        ] => Some(rest),
-        _ => None,
-    }
-}
 
 /// The text in quotes that a token is, where it is written.
 fn quoted(alloc: Global, text: &[u8], token: Token) -> Result<At<Vec<u8>>, AllocError>
@@ -133,29 +115,39 @@ fn chars<'a>(
     }
 }
 
-/// Reads texts and ranges of characters with `|` or `UNION` between them.
-fn all_chars<'a>(
-    alloc: Global,
-    text: &[u8],
-    tokens: &'a [Token],
-) -> Result<(Vec<CharsSyntax>, &'a [Token]), ReadError>
-    requires tokens { AreTokens text.now tokens.now }
-    ensures read { Gives (λ x. (map chars_of x.0.items, lexemes text.now x.1.now)) result (by_or_at chars_at (lexemes text.now tokens.now)) }
-    ensures rest { IfOk result (λ x. AreTokens text.now x.1.now) }
-{
-    let mut parts = Vec::new(alloc);
-    let (first, mut rest) = chars(alloc, text, tokens)?;
-    parts.push(first)?;
-    while let Some(after) = or(text, rest) {
-        let (next, after) = chars(alloc, text, after)?;
-        parts.push(next)?;
-        rest = after;
+/// Texts and ranges of characters, as a part of a union.
+struct OneText;
+
+impl<'t> Part<'t> for OneText {
+    ghost use Rattle.std.specs.Prelude.{List, ℕ, Option};
+    ghost use Rattle.trees.specs.Constraints.{chars_of};
+    ghost use Rattle.notation.specs.ConstraintReading.{chars_at};
+    ghost use Rattle.grammar.specs.Short.{Short};
+
+    type Tree = CharsSyntax;
+
+    ghost Shape = { List ℕ × Option (List ℕ) };
+
+    ghost view = { chars_of };
+
+    ghost reader = { λ s. chars_at };
+
+    ghost is_ready = { λ s x. Short chars_at };
+
+    ghost is_short = { λ s x r. r };
+
+    fn read(
+        &self,
+        alloc: Global,
+        text: &[u8],
+        tokens: &'t [Token],
+    ) -> Result<(CharsSyntax, &'t [Token]), ReadError> {
+        chars(alloc, text, tokens)
     }
-    Ok((parts, rest))
 }
 
 /// Reads `FROM` and the characters behind it.
-#[tactic(auto, unfolding(crate::specs::ConstraintReading::from_at, grammar::specs::Reading::parens_at))]
+#[tactic(auto, unfolding(crate::specs::ConstraintReading::from_at, grammar::specs::Reading::parens_at), using(crate::proofs::ConstraintParts::chars_short))]
 fn from<'a>(
     alloc: Global,
     text: &[u8],
@@ -174,7 +166,7 @@ fn from<'a>(
             rest @ ..,
         ] => {
             let rest = open(text, rest)?;
-            let (parts, rest) = all_chars(alloc, text, rest)?;
+            let (parts, rest) = by_or(alloc, text, &OneText, rest)?;
             Ok((parts, close(text, rest)?))
         }
         _ => Err(ReadError::Unexpected(tokens.len())),
@@ -370,25 +362,35 @@ fn range<'a>(
     }
 }
 
-/// Reads values and ranges with `|` or `UNION` between them.
-fn range_list<'a>(
-    alloc: Global,
-    text: &[u8],
-    tokens: &'a [Token],
-) -> Result<(Vec<RangeSyntax>, &'a [Token]), ReadError>
-    requires tokens { AreTokens text.now tokens.now }
-    ensures read { Gives (λ x. (map range_of x.0.items, lexemes text.now x.1.now)) result (by_or_at (range_at small) (lexemes text.now tokens.now)) }
-    ensures rest { IfOk result (λ x. AreTokens text.now x.1.now) }
-{
-    let mut parts = Vec::new(alloc);
-    let (first, mut rest) = range(alloc, text, tokens)?;
-    parts.push(first)?;
-    while let Some(after) = or(text, rest) {
-        let (next, after) = range(alloc, text, after)?;
-        parts.push(next)?;
-        rest = after;
+/// Values and ranges, as a part of a union.
+struct OneRange;
+
+impl<'t> Part<'t> for OneRange {
+    ghost use Rattle.grammar.specs.Places.{small};
+    ghost use Rattle.trees.specs.Constraints.{RangeTree, range_of};
+    ghost use Rattle.notation.specs.ConstraintReading.{range_at};
+    ghost use Rattle.grammar.specs.Short.{Short};
+
+    type Tree = RangeSyntax;
+
+    ghost Shape = { RangeTree };
+
+    ghost view = { range_of };
+
+    ghost reader = { λ s. range_at small };
+
+    ghost is_ready = { λ s x. Short (range_at small) };
+
+    ghost is_short = { λ s x r. r };
+
+    fn read(
+        &self,
+        alloc: Global,
+        text: &[u8],
+        tokens: &'t [Token],
+    ) -> Result<(RangeSyntax, &'t [Token]), ReadError> {
+        range(alloc, text, tokens)
     }
-    Ok((parts, rest))
 }
 
 /// Reads an extension marker behind a comma, if a comma stands here: `, ...`.
@@ -422,7 +424,7 @@ fn marker<'a>(text: &[u8], tokens: &'a [Token]) -> Result<(bool, &'a [Token]), R
 }
 
 /// Reads values and ranges with `|` or `UNION` between them, and the marker behind them.
-#[tactic(auto, unfolding(crate::specs::ConstraintReading::ranges_at))]
+#[tactic(auto, unfolding(crate::specs::ConstraintReading::ranges_at), using(crate::proofs::ConstraintParts::range_short))]
 fn ranges<'a>(
     alloc: Global,
     text: &[u8],
@@ -432,7 +434,7 @@ fn ranges<'a>(
     ensures read { Gives (λ x. (ranges_of x.0, lexemes text.now x.1.now)) result (ranges_at small (lexemes text.now tokens.now)) }
     ensures rest { IfOk result (λ x. AreTokens text.now x.1.now) }
 {
-    let (ranges, rest) = range_list(alloc, text, tokens)?;
+    let (ranges, rest) = by_or(alloc, text, &OneRange, tokens)?;
     let (marker, rest) = marker(text, rest)?;
     Ok((RangesSyntax { ranges, marker }, rest))
 }

@@ -10,6 +10,7 @@ pub mod names;
 pub mod numbers;
 pub mod reading;
 pub mod refused;
+pub mod unions;
 
 pub use answer::{MAX_NESTING, value_at};
 pub use constraint_answer::{constraint_at, size_at};

@@ -1,10 +1,10 @@
 //! The names of the notation, with where they are written.
 
-ghost use Rattle.std.specs.Prelude.{◌≡◌, None, IfOk, option_map, string_bytes, slice_range};
+ghost use Rattle.std.specs.Prelude.{◌≡◌, None, IfOk, slice_range};
 ghost use Rattle.text.specs.declared.token.TokenKind.TheVariants as kinds;
 ghost use Rattle.grammar.specs.Lexeme.{lexemes};
 ghost use Rattle.kernel.specs.Given.{Gives, IsTokenOf, AreTokens};
-ghost use Rattle.notation.specs.Reading.{ref_dot_at};
+ghost use Rattle.notation.specs.Reading.{named_by, ref_dot_at};
 
 use kernel::ReadError;
 use kernel::decode::name_of;
@@ -16,8 +16,8 @@ use trees::Reference;
 pub fn bare(alloc: Global, text: &[u8], token: Token) -> Result<Reference, AllocError>
     requires token { IsTokenOf text.now token }
     requires name { token.kind ≡ kinds.Identifier }
-    ensures { IfOk result (λ r. (option_map string_bytes r.module ≡ None)
-        × (string_bytes r.name ≡ slice_range text.now token.span.start token.span.end)) }
+    ensures { IfOk result (λ r. ((named_by r).0 ≡ None)
+        × ((named_by r).1 ≡ slice_range text.now token.span.start token.span.end)) }
 {
     Ok(Reference {
         at: token.span.start,
@@ -37,7 +37,7 @@ pub fn qualified<'a>(
     requires tokens { AreTokens text.now tokens.now }
     requires before { IsTokenOf text.now module_name }
     requires name { module_name.kind ≡ kinds.TypeReference }
-    ensures read { Gives (λ x. ((option_map string_bytes x.0.module, string_bytes x.0.name), lexemes text.now x.1.now)) result
+    ensures read { Gives (λ x. (named_by x.0, lexemes text.now x.1.now)) result
         (ref_dot_at (slice_range text.now module_name.span.start module_name.span.end) (lexemes text.now tokens.now)) }
     ensures rest { IfOk result (λ x. AreTokens text.now x.1.now) }
 {

@@ -1,0 +1,54 @@
+//! Parts with `|` or `UNION` between them.
+
+ghost use Rattle.std.specs.Prelude.{◌≡◌, ◌<◌, Some, None, MatchOption, length, map, IfOk};
+ghost use Rattle.grammar.specs.Lexeme.{lexemes};
+ghost use Rattle.kernel.specs.Given.{Gives, AreTokens};
+ghost use Rattle.notation.specs.ConstraintReading.{next_or, by_or_at};
+
+use kernel::{Part, ReadError};
+use std::alloc::Global;
+use text::reserved::Word;
+use text::{Mark, Token, TokenKind};
+
+/// The tokens behind `|` or `UNION`, if one of them is next.
+#[tactic(auto, unfolding(crate::specs::ConstraintReading::next_or))]
+fn or<'a>(text: &[u8], tokens: &'a [Token]) -> Option<&'a [Token]>
+    requires tokens { AreTokens text.now tokens.now }
+    ensures { MatchOption result (next_or (lexemes text.now tokens.now) ≡ None)
+        (λ x. (next_or (lexemes text.now tokens.now) ≡ Some (lexemes text.now x.now))
+            × AreTokens text.now x.now × (length x.now < length tokens.now)) }
+{
+    match tokens {
+        [
+            Token {
+                kind: TokenKind::Mark(Mark::Bar) | TokenKind::Reserved(Word::Union),
+                ..
+            },
+            rest @ ..,
+        ] => Some(rest),
+        _ => None,
+    }
+}
+
+/// Reads one part or more with `|` or `UNION` between them.
+pub fn by_or<'t, P: Part<'t>>(
+    alloc: Global,
+    text: &[u8],
+    part: &P,
+    tokens: &'t [Token],
+) -> Result<(Vec<P::Tree>, &'t [Token]), ReadError>
+    requires ready { P.is_ready part.now text.now }
+    requires tokens { AreTokens text.now tokens.now }
+    ensures read { Gives (λ x. (map P.view x.0.items, lexemes text.now x.1.now)) result (by_or_at (P.reader part.now) (lexemes text.now tokens.now)) }
+    ensures rest { IfOk result (λ x. AreTokens text.now x.1.now) }
+{
+    let mut parts = Vec::new(alloc);
+    let (first, mut rest) = part.read(alloc, text, tokens)?;
+    parts.push(first)?;
+    while let Some(after) = or(text, rest) {
+        let (next, after) = part.read(alloc, text, after)?;
+        parts.push(next)?;
+        rest = after;
+    }
+    Ok((parts, rest))
+}
