@@ -7,7 +7,8 @@ use Rattle.grammar.specs.Grammar.{Grammar, mark, word, only as lexeme, ◌∙◌
 use Rattle.grammar.specs.Reading.{Limit, Read, Reader, ◌>>=◌, stop, listed_at}
 use Rattle.grammar.specs.Laws.{nowhere, everywhere, then_read, after_read}
 use Rattle.grammar.specs.Lists.{no_lexeme, is_ident, with_comma}
-use Rattle.grammar.specs.Loops.{Shrinks, sound_short}
+use Rattle.grammar.specs.Loops.{sound_short}
+use Rattle.grammar.specs.Short.{Short, short_of}
 use Rattle.grammar.specs.Parts.{IsKind, pick, perhaps}
 use Rattle.grammar.specs.Rules.{Rules, either, rule_token, rule_made, rule_seq, rule_behind, rule_lead, rule_pick, rule_listed, loose_optional, rule_read, made, read_again, one_at, one_is}
 use Rattle.trees.specs.Values.{Name}
@@ -215,5 +216,5 @@ module _ {over : Limit → ℕ} {within : Limit → Type 0} where
   pub rule_exports : Rules over within exports is_exports_word (either no_lexeme no_lexeme) exports_at
   rule_exports = rule_read exports_at exports_same (rule_behind rule_exports_word rule_exported)
 
-pub symbol_shrinks : Shrinks symbol_at
-symbol_shrinks = record { shorter = λ ts x e. sound_short symbol ts (symbol_at ts) x e ((rule_symbol {over = nowhere} {within = everywhere}).sound tt ts) }
+pub symbol_short : Short symbol_at
+symbol_short = short_of symbol_at (record { shorter = λ ts x e. sound_short symbol ts (symbol_at ts) x e ((rule_symbol {over = nowhere} {within = everywhere}).sound tt ts) })

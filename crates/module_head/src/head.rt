@@ -10,7 +10,7 @@ ghost use Rattle.module_head.specs.HeadReading.{begun_at, heading_at, head_at, h
 
 use crate::heading::{export_list, tag_default};
 use crate::importing::{import_list, module_ref};
-use notation::ReadError;
+use kernel::ReadError;
 use std::alloc::Global;
 use text::reserved::Word;
 use text::{Mark, Token, TokenKind};

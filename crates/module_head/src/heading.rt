@@ -9,9 +9,8 @@ ghost use Rattle.trees.specs.Values.{name_at};
 ghost use Rattle.module_head.specs.HeadingReading.{tag_word_at, default_words_at, semicolon_at, symbol_at, some_exports_at, all_exports_at, no_exports_at, exported_at, exports_at};
 ghost use Rattle.module_head.specs.HeadReading.{tag_default_at, export_list_at};
 
-use notation::ReadError;
 use kernel::decode::name_at;
-use kernel::marks::comma;
+use kernel::{Listed, Part, ReadError};
 use std::alloc::Global;
 use text::reserved::Word;
 use text::{Mark, Token, TokenKind};
@@ -124,30 +123,48 @@ pub fn semicolon<'a>(text: &[u8], tokens: &'a [Token]) -> Result<&'a [Token], Re
     }
 }
 
-/// Reads a name.
-#[tactic(auto, unfolding(crate::specs::HeadingReading::symbol_at))]
-fn symbol<'a>(
-    alloc: Global,
-    text: &[u8],
-    tokens: &'a [Token],
-) -> Result<(At<String>, &'a [Token]), ReadError>
-    requires tokens { AreTokens text.now tokens.now }
-    ensures read { Gives (λ x. (name_at x.0, lexemes text.now x.1.now)) result (symbol_at (lexemes text.now tokens.now)) }
-    ensures rest { IfOk result (λ x. AreTokens text.now x.1.now) }
-{
-    match tokens {
-        [
-            symbol @ Token {
-                kind: TokenKind::TypeReference | TokenKind::Identifier,
-                ..
-            },
-            rest @ ..,
-        ] => Ok((name_at(alloc, text, *symbol)?, rest)),
-        _ => Err(ReadError::Unexpected(tokens.len())),
+/// A name, as a part of a list.
+struct OneSymbol;
+
+impl<'t> Part<'t> for OneSymbol {
+    ghost use Rattle.grammar.specs.Short.{Short};
+    ghost use Rattle.trees.specs.Values.{Name, name_at};
+    ghost use Rattle.module_head.specs.HeadingReading.{symbol_at};
+
+    type Tree = At<String>;
+
+    ghost Shape = { Name };
+
+    ghost view = { name_at };
+
+    ghost reader = { λ s. symbol_at };
+
+    ghost is_ready = { λ s x. Short symbol_at };
+
+    ghost is_short = { λ s x r. r };
+
+    #[tactic(auto, unfolding(crate::specs::HeadingReading::symbol_at))]
+    fn read(
+        &self,
+        alloc: Global,
+        text: &[u8],
+        tokens: &'t [Token],
+    ) -> Result<(At<String>, &'t [Token]), ReadError> {
+        match tokens {
+            [
+                name @ Token {
+                    kind: TokenKind::TypeReference | TokenKind::Identifier,
+                    ..
+                },
+                rest @ ..,
+            ] => Ok((name_at(alloc, text, *name)?, rest)),
+            _ => Err(ReadError::Unexpected(tokens.len())),
+        }
     }
 }
 
 /// Reads names with commas between them.
+#[tactic(auto, using(crate::proofs::Headings::symbol_short))]
 pub fn symbols<'a>(
     alloc: Global,
     text: &[u8],
@@ -157,15 +174,7 @@ pub fn symbols<'a>(
     ensures read { Gives (λ x. (map name_at x.0.items, lexemes text.now x.1.now)) result (listed_at symbol_at (lexemes text.now tokens.now)) }
     ensures rest { IfOk result (λ x. AreTokens text.now x.1.now) }
 {
-    let mut names = Vec::new(alloc);
-    let (first, mut rest) = symbol(alloc, text, tokens)?;
-    names.push(first)?;
-    while let Some(after) = comma(text, rest) {
-        let (next, after) = symbol(alloc, text, after)?;
-        names.push(next)?;
-        rest = after;
-    }
-    Ok((names, rest))
+    Listed { part: OneSymbol }.read(alloc, text, tokens)
 }
 
 /// Reads the names that are exported, and the semicolon.

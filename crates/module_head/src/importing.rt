@@ -14,7 +14,7 @@ ghost use Rattle.module_head.specs.ImportReading.{begins_arc, begins_symbol, arc
 ghost use Rattle.module_head.specs.HeadReading.{import_list_at};
 
 use crate::heading::{semicolon, symbols};
-use notation::ReadError;
+use kernel::ReadError;
 use kernel::decode::{name_at, small_number};
 use kernel::marks::{close, closed, open};
 use std::alloc::Global;

@@ -6,7 +6,7 @@ ghost use Rattle.grammar.specs.Lexeme.{lexemes, chars_between};
 ghost use Rattle.grammar.specs.Places.{small};
 ghost use Rattle.trees.specs.Constraints.{end_of, range_of, ranges_of, chars_of, form_of, constraint_of};
 ghost use Rattle.kernel.specs.Given.{Gives, IsTokenOf, AreTokens};
-ghost use Rattle.notation.specs.ConstraintReading.{last_chars_at, more_chars_at, chars_at, from_at, minus_at, end_at, some_end_at, upper_at, behind_min_at, behind_end_at, single_at, range_at, marker_at, ranges_at, size_at, from_in_at, values_in_at, inside_at, constraint_at};
+ghost use Rattle.notation.specs.ConstraintReading.{last_chars_at, more_chars_at, from_at, minus_at, end_at, some_end_at, upper_at, behind_min_at, behind_end_at, single_at, marker_at, ranges_at, size_at, from_in_at, values_in_at, inside_at, constraint_at};
 
 use crate::names::{bare, qualified};
 use crate::numbers::{negative, positive};
@@ -92,30 +92,7 @@ fn more_chars<'a>(
     }
 }
 
-/// Reads a text or a range of characters.
-#[tactic(auto, unfolding(crate::specs::ConstraintReading::chars_at))]
-fn chars<'a>(
-    alloc: Global,
-    text: &[u8],
-    tokens: &'a [Token],
-) -> Result<(CharsSyntax, &'a [Token]), ReadError>
-    requires tokens { AreTokens text.now tokens.now }
-    ensures read { Gives (λ x. (chars_of x.0, lexemes text.now x.1.now)) result (chars_at (lexemes text.now tokens.now)) }
-    ensures rest { IfOk result (λ x. AreTokens text.now x.1.now) }
-{
-    match tokens {
-        [
-            first @ Token {
-                kind: TokenKind::CharacterString,
-                ..
-            },
-            rest @ ..,
-        ] => more_chars(alloc, text, *first, rest),
-        _ => Err(ReadError::Unexpected(tokens.len())),
-    }
-}
-
-/// Texts and ranges of characters, as a part of a union.
+/// A text or a range of characters, as a part of a union.
 struct OneText;
 
 impl<'t> Part<'t> for OneText {
@@ -136,13 +113,23 @@ impl<'t> Part<'t> for OneText {
 
     ghost is_short = { λ s x r. r };
 
+    #[tactic(auto, unfolding(crate::specs::ConstraintReading::chars_at))]
     fn read(
         &self,
         alloc: Global,
         text: &[u8],
         tokens: &'t [Token],
     ) -> Result<(CharsSyntax, &'t [Token]), ReadError> {
-        chars(alloc, text, tokens)
+        match tokens {
+            [
+                first @ Token {
+                    kind: TokenKind::CharacterString,
+                    ..
+                },
+                rest @ ..,
+            ] => more_chars(alloc, text, *first, rest),
+            _ => Err(ReadError::Unexpected(tokens.len())),
+        }
     }
 }
 
@@ -339,30 +326,7 @@ fn single<'a>(
     Ok((range, rest))
 }
 
-/// Reads a value or a range.
-#[tactic(auto, unfolding(crate::specs::ConstraintReading::range_at))]
-fn range<'a>(
-    alloc: Global,
-    text: &[u8],
-    tokens: &'a [Token],
-) -> Result<(RangeSyntax, &'a [Token]), ReadError>
-    requires tokens { AreTokens text.now tokens.now }
-    ensures read { Gives (λ x. (range_of x.0, lexemes text.now x.1.now)) result (range_at small (lexemes text.now tokens.now)) }
-    ensures rest { IfOk result (λ x. AreTokens text.now x.1.now) }
-{
-    match tokens {
-        [
-            Token {
-                kind: TokenKind::Reserved(Word::Min),
-                ..
-            },
-            rest @ ..,
-        ] => behind_min(alloc, text, rest),
-        _ => single(alloc, text, tokens),
-    }
-}
-
-/// Values and ranges, as a part of a union.
+/// A value or a range, as a part of a union.
 struct OneRange;
 
 impl<'t> Part<'t> for OneRange {
@@ -383,13 +347,23 @@ impl<'t> Part<'t> for OneRange {
 
     ghost is_short = { λ s x r. r };
 
+    #[tactic(auto, unfolding(crate::specs::ConstraintReading::range_at))]
     fn read(
         &self,
         alloc: Global,
         text: &[u8],
         tokens: &'t [Token],
     ) -> Result<(RangeSyntax, &'t [Token]), ReadError> {
-        range(alloc, text, tokens)
+        match tokens {
+            [
+                Token {
+                    kind: TokenKind::Reserved(Word::Min),
+                    ..
+                },
+                rest @ ..,
+            ] => behind_min(alloc, text, rest),
+            _ => single(alloc, text, tokens),
+        }
     }
 }
 
