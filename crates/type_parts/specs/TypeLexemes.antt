@@ -8,7 +8,7 @@ use Rattle.grammar.specs.Reading.{Limit, Reader, stop}
 use Rattle.grammar.specs.Lists.{no_lexeme}
 use Rattle.grammar.specs.Parts.{IsKind}
 use Rattle.grammar.specs.Rules.{Owes, rule_token, rule_read, is_number, one_at, one_is}
-use Rattle.type_syntax.specs.TypeReading.{string_at, identifier_at, bracket_at}
+use Rattle.type_parts.specs.PlainReading.{string_at, identifier_at, bracket_at}
 
 abbrev pub is_object_word : Lexeme → Bool
 is_object_word (Word words.Object) = true

@@ -8,8 +8,8 @@ use Rattle.trees.specs.Constraints.{constraint_of}
 use Rattle.notation.specs.ConstraintReading.{constraint_at}
 use Rattle.grammar.specs.Reading.{is_open}
 use Rattle.kernel.specs.Failing.{many_gives_up}
-use Rattle.type_syntax.proofs.Loop.{constraint_consumes}
-use Rattle.type_syntax.proofs.constrained.constraints.Goals as goal
+use Rattle.type_parts.proofs.Constraints.{constraint_consumes}
+use Rattle.type_parts.proofs.constrained.constraints.Goals as goal
 
 pub returns-in_err-next-clause-read : goal.returns-in_err-next-clause-read
 returns-in_err-next-clause-read c =

@@ -6,19 +6,18 @@ ghost use Rattle.grammar.specs.Manies.{is_begun_by};
 ghost use Rattle.grammar.specs.Places.{small};
 ghost use Rattle.grammar.specs.Reading.{many_at};
 ghost use Rattle.kernel.specs.Given.{Gives, AreTokens};
-ghost use Rattle.trees.specs.Constraints.{size_of, constraint_of};
+ghost use Rattle.trees.specs.Constraints.{constraint_of};
 ghost use Rattle.notation.specs.ConstraintReading.{constraint_at};
 ghost use Rattle.grammar.specs.Reading.{is_open, parens_at};
-ghost use Rattle.trees.specs.Types.{type_tree_of};
-ghost use Rattle.type_syntax.specs.TypeReading.{constraints_at, with_constraints_at, some_size_at, size_in_parens_at, list_size_at};
+ghost use Rattle.type_parts.specs.PlainReading.{constraints_at, some_size_at, size_in_parens_at, list_size_at};
 
+use kernel::ReadError;
 use kernel::marks::{close, open};
 use notation::constraint_reading::{constraint, size};
-use notation::{ConstraintSyntax, ReadError, SizeSyntax};
 use std::alloc::Global;
 use text::reserved::Word;
 use text::{Mark, Token, TokenKind};
-use trees::TypeSyntax;
+use trees::ConstraintSyntax;
 
 /// Whether a constraint is next.
 fn begins(text: &[u8], tokens: &[Token]) -> bool
@@ -58,37 +57,28 @@ fn constraints<'a>(
 }
 
 /// Reads the constraints behind a type (X.680, clause 49.1).
-#[tactic(auto, unfolding(crate::specs::TypeReading::with_constraints_at, crate::specs::TypeReading::constraints_at))]
-pub fn with_constraints<'a>(
+#[tactic(auto, unfolding(crate::specs::PlainReading::constraints_at))]
+pub fn behind_type<'a>(
     alloc: Global,
     text: &[u8],
-    ty: TypeSyntax,
     tokens: &'a [Token],
-) -> Result<(TypeSyntax, &'a [Token]), ReadError>
+) -> Result<(Vec<ConstraintSyntax>, &'a [Token]), ReadError>
     requires tokens { AreTokens text.now tokens.now }
-    ensures read { Gives (λ x. (type_tree_of x.0, lexemes text.now x.1.now)) result (with_constraints_at small (type_tree_of ty) (lexemes text.now tokens.now)) }
+    ensures read { Gives (λ x. (map constraint_of x.0.items, lexemes text.now x.1.now)) result (constraints_at small (lexemes text.now tokens.now)) }
     ensures rest { IfOk result (λ x. AreTokens text.now x.1.now) }
 {
-    let (constraints, rest) = constraints(alloc, text, tokens)?;
-    if constraints.is_empty() {
-        Ok((ty, rest))
-    } else {
-        Ok((
-            TypeSyntax::Constrained(Box::new(alloc, ty)?, constraints),
-            rest,
-        ))
-    }
+    constraints(alloc, text, tokens)
 }
 
 /// Reads a size.
-#[tactic(auto, unfolding(crate::specs::TypeReading::some_size_at))]
+#[tactic(auto, unfolding(crate::specs::PlainReading::some_size_at))]
 fn some_size<'a>(
     alloc: Global,
     text: &[u8],
     tokens: &'a [Token],
-) -> Result<(Option<SizeSyntax>, &'a [Token]), ReadError>
+) -> Result<(Option<ConstraintSyntax>, &'a [Token]), ReadError>
     requires tokens { AreTokens text.now tokens.now }
-    ensures read { Gives (λ x. (option_map size_of x.0, lexemes text.now x.1.now)) result (some_size_at small (lexemes text.now tokens.now)) }
+    ensures read { Gives (λ x. (option_map constraint_of x.0, lexemes text.now x.1.now)) result (some_size_at small (lexemes text.now tokens.now)) }
     ensures rest { IfOk result (λ x. AreTokens text.now x.1.now) }
 {
     let (size, rest) = size(alloc, text, tokens)?;
@@ -96,14 +86,14 @@ fn some_size<'a>(
 }
 
 /// Reads a size in parentheses.
-#[tactic(auto, unfolding(crate::specs::TypeReading::size_in_parens_at, grammar::specs::Reading::parens_at))]
+#[tactic(auto, unfolding(crate::specs::PlainReading::size_in_parens_at, grammar::specs::Reading::parens_at))]
 fn size_in_parens<'a>(
     alloc: Global,
     text: &[u8],
     tokens: &'a [Token],
-) -> Result<(Option<SizeSyntax>, &'a [Token]), ReadError>
+) -> Result<(Option<ConstraintSyntax>, &'a [Token]), ReadError>
     requires tokens { AreTokens text.now tokens.now }
-    ensures read { Gives (λ x. (option_map size_of x.0, lexemes text.now x.1.now)) result (size_in_parens_at small (lexemes text.now tokens.now)) }
+    ensures read { Gives (λ x. (option_map constraint_of x.0, lexemes text.now x.1.now)) result (size_in_parens_at small (lexemes text.now tokens.now)) }
     ensures rest { IfOk result (λ x. AreTokens text.now x.1.now) }
 {
     let rest = open(text, tokens)?;
@@ -112,14 +102,14 @@ fn size_in_parens<'a>(
 }
 
 /// Reads the size of a list, if one is given (X.680, clause 51.5).
-#[tactic(auto, unfolding(crate::specs::TypeReading::list_size_at))]
+#[tactic(auto, unfolding(crate::specs::PlainReading::list_size_at))]
 pub fn list_size<'a>(
     alloc: Global,
     text: &[u8],
     tokens: &'a [Token],
-) -> Result<(Option<SizeSyntax>, &'a [Token]), ReadError>
+) -> Result<(Option<ConstraintSyntax>, &'a [Token]), ReadError>
     requires tokens { AreTokens text.now tokens.now }
-    ensures read { Gives (λ x. (option_map size_of x.0, lexemes text.now x.1.now)) result (list_size_at small (lexemes text.now tokens.now)) }
+    ensures read { Gives (λ x. (option_map constraint_of x.0, lexemes text.now x.1.now)) result (list_size_at small (lexemes text.now tokens.now)) }
     ensures rest { IfOk result (λ x. AreTokens text.now x.1.now) }
 {
     match tokens {

@@ -11,16 +11,16 @@ use Rattle.grammar.specs.Lists.{no_lexeme, head_is}
 use Rattle.grammar.specs.Numbers.{Past}
 use Rattle.grammar.specs.Parts.{SoundReader}
 use Rattle.grammar.specs.Rules.{Rules, bor, bor_left, bor_right, is_number}
-use Rattle.trees.specs.Types.{TypeTree}
-use Rattle.type_syntax.specs.TypeGrammar.{type_of_word, one_word, TagNumber, tag_number}
-use Rattle.type_syntax.specs.TypeReading.{tag_fits, known, one_word_at, by_limit, tag_number_at}
+use Rattle.trees.specs.Types.{Plain}
+use Rattle.type_parts.specs.PlainGrammar.{type_of_word, one_word, TagNumber, tag_number}
+use Rattle.type_parts.specs.PlainReading.{tag_fits, known, one_word_at, by_limit, tag_number_at}
 
 le_same : (us : List Lexeme) → length us ≤ length us
 le_same us = omega arith
 
 -- ---- a word alone
 
-abbrev stands : Option TypeTree → Bool
+abbrev stands : Option Plain → Bool
 stands (Some t) = true
 stands None = false
 
@@ -34,7 +34,7 @@ module _ (over : Limit → ℕ) (within : Limit → Type 0) where
   word_sound [] = ([], [], refl, refl, inl refl)
   word_sound (Word w ∷ ts) = go (type_of_word w) refl
     where
-      go : (o : Option TypeTree) → type_of_word w ≡ o → Sound over one_word (Word w ∷ ts) (known o (Word w ∷ ts) ts)
+      go : (o : Option Plain) → type_of_word w ≡ o → Sound over one_word (Word w ∷ ts) (known o (Word w ∷ ts) ts)
       go (Some t) e = (Word w ∷ [], refl, (w, e, refl))
       go None e = ([], Word w ∷ ts, refl, refl, inl refl)
   word_sound (t ∷ ts) = ([], t ∷ ts, refl, refl, inl refl)
@@ -47,14 +47,14 @@ module _ (over : Limit → ℕ) (within : Limit → Type 0) where
       less : length us ≤ length (Word w ∷ us)
       less = omega arith
 
-      go : (o : Option TypeTree) → Passes within (Word w ∷ us) (known o (Word w ∷ us) us)
+      go : (o : Option Plain) → Passes within (Word w ∷ us) (known o (Word w ∷ us) us)
       go (Some t) = less
       go None = le_same (Word w ∷ us)
   word_passes (t ∷ us) = le_same (t ∷ us)
 
-  word_is : (w : Word') (x : TypeTree) (us : List Lexeme) → type_of_word w ≡ Some x → one_word_at (Word w ∷ us) ≡ Ok (x, us)
+  word_is : (w : Word') (x : Plain) (us : List Lexeme) → type_of_word w ≡ Some x → one_word_at (Word w ∷ us) ≡ Ok (x, us)
   unfolding one_word_at
-  word_is w x us e = ap (λ (o : Option TypeTree). known o (Word w ∷ us) us) e
+  word_is w x us e = ap (λ (o : Option Plain). known o (Word w ∷ us) us) e
 
   word_front : (u us : List Lexeme) → one_word.CanGoOn u → Passes within us (one_word_at (u ++ us))
   word_front u us (inl e) = subst (λ (l : List Lexeme). Passes within us (one_word_at (l ++ us))) (sym e) (word_passes us)

@@ -13,8 +13,8 @@ use Rattle.kernel.specs.declared.fault.ReadError.{ReadError}
 use Rattle.kernel.specs.declared.fault.ReadError.TheVariants as errors
 use Rattle.kernel.specs.Given.{Fails}
 use Rattle.grammar.specs.Rules.{made}
-use Rattle.type_syntax.specs.TypeGrammar.{TagNumber, application_tag, private_tag, context_tag}
-use Rattle.type_syntax.specs.TypeReading.{by_limit, bracket_at, low, low_number_at, low_end_at, tag_number_at, tag_end_at, application_at, private_at, context_at}
+use Rattle.type_parts.specs.PlainGrammar.{TagNumber, application_tag, private_tag, context_tag}
+use Rattle.type_parts.specs.PlainReading.{by_limit, bracket_at, low, low_number_at, low_end_at, tag_number_at, tag_end_at, application_at, private_at, context_at}
 
 -- ---- tags of one class and number are equal
 

@@ -6,7 +6,7 @@ use Rattle.kernel.specs.Given.{AreTokens}
 use Rattle.trees.specs.Constraints.{constraint_of}
 use Rattle.notation.specs.ConstraintReading.{constraint_at}
 use Rattle.grammar.specs.Reading.{is_open}
-use Rattle.type_syntax.proofs.constrained.constraints.Given as goal
+use Rattle.type_parts.proofs.constrained.constraints.Given as goal
 
 abbrev pub invariant-loop-alloc : goal.invariant-loop-alloc
 invariant-loop-alloc l = record {

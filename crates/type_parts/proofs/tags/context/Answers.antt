@@ -1,8 +1,8 @@
 use Rattle.std.proofs.Common.{refl}
 use Rattle.std.proofs.lemmas.Result.{err_from_is_err_and}
 use Rattle.grammar.specs.Lexeme.{lexemes}
-use Rattle.type_syntax.proofs.Tagging.{context_is, context_fails}
-use Rattle.type_syntax.proofs.tags.context.Goals as goal
+use Rattle.type_parts.proofs.Tagging.{context_is, context_fails}
+use Rattle.type_parts.proofs.tags.context.Goals as goal
 
 pub returns-in_err-number-clause-read : goal.returns-in_err-number-clause-read
 returns-in_err-number-clause-read c =

@@ -1,8 +1,8 @@
 use Rattle.std.proofs.Common.{refl}
 use Rattle.std.proofs.lemmas.Result.{err_from_is_err_and}
 use Rattle.grammar.specs.Lexeme.{lexemes}
-use Rattle.type_syntax.proofs.Tagging.{application_is, application_fails}
-use Rattle.type_syntax.proofs.tags.application.Goals as goal
+use Rattle.type_parts.proofs.Tagging.{application_is, application_fails}
+use Rattle.type_parts.proofs.tags.application.Goals as goal
 
 pub returns-in_err-number-clause-read : goal.returns-in_err-number-clause-read
 returns-in_err-number-clause-read c =

@@ -4,11 +4,11 @@ ghost use Rattle.std.specs.Prelude.{◌<◌, IfOk};
 ghost use Rattle.grammar.specs.Lexeme.{lexemes};
 ghost use Rattle.grammar.specs.Places.{small};
 ghost use Rattle.kernel.specs.Given.{Gives, AreTokens};
-ghost use Rattle.type_syntax.specs.TypeReading.{keyword_at, bracket_at, low_number_at, low_end_at, application_at, private_at, context_at, tag_at};
+ghost use Rattle.type_parts.specs.PlainReading.{keyword_at, bracket_at, low_number_at, low_end_at, application_at, private_at, context_at, tag_at};
 
 use asn_base::tag::{Class, Tag};
 use kernel::decode::number_of;
-use notation::{Limit, ReadError};
+use kernel::{Limit, ReadError};
 use text::reserved::Word;
 use text::{Mark, Token, TokenKind};
 use trees::Keyword;
@@ -17,7 +17,7 @@ use trees::Keyword;
 const LIMIT: u128 = 1 << 31;
 
 /// The tokens behind a closing bracket.
-#[tactic(auto, unfolding(crate::specs::TypeReading::bracket_at))]
+#[tactic(auto, unfolding(crate::specs::PlainReading::bracket_at))]
 fn bracket<'a>(text: &[u8], tokens: &'a [Token]) -> Result<&'a [Token], ReadError>
     requires tokens { AreTokens text.now tokens.now }
     ensures read { Gives (λ x. (tt, lexemes text.now x.now)) result (bracket_at (lexemes text.now tokens.now)) }
@@ -36,7 +36,7 @@ fn bracket<'a>(text: &[u8], tokens: &'a [Token]) -> Result<&'a [Token], ReadErro
 }
 
 /// Reads the number of a tag.
-#[tactic(auto, unfolding(crate::specs::TypeReading::low_number_at))]
+#[tactic(auto, unfolding(crate::specs::PlainReading::low_number_at))]
 fn number<'a>(text: &[u8], tokens: &'a [Token]) -> Result<(u32, &'a [Token]), ReadError>
     requires tokens { AreTokens text.now tokens.now }
     ensures read { Gives (λ x. (x.0, lexemes text.now x.1.now)) result (low_number_at (lexemes text.now tokens.now)) }
@@ -63,7 +63,7 @@ fn number<'a>(text: &[u8], tokens: &'a [Token]) -> Result<(u32, &'a [Token]), Re
 }
 
 /// Reads the number of a tag and the closing bracket.
-#[tactic(auto, unfolding(crate::specs::TypeReading::low_end_at))]
+#[tactic(auto, unfolding(crate::specs::PlainReading::low_end_at))]
 fn end<'a>(text: &[u8], tokens: &'a [Token]) -> Result<(u32, &'a [Token]), ReadError>
     requires tokens { AreTokens text.now tokens.now }
     ensures read { Gives (λ x. (x.0, lexemes text.now x.1.now)) result (low_end_at (lexemes text.now tokens.now)) }
@@ -123,7 +123,7 @@ fn context<'a>(text: &[u8], tokens: &'a [Token]) -> Result<(Tag, &'a [Token]), R
 }
 
 /// Reads a tag behind its open bracket (X.680, clause 31.2.1).
-#[tactic(auto, unfolding(crate::specs::TypeReading::tag_at))]
+#[tactic(auto, unfolding(crate::specs::PlainReading::tag_at))]
 pub fn tag<'a>(text: &[u8], tokens: &'a [Token]) -> Result<(Tag, &'a [Token]), ReadError>
     requires tokens { AreTokens text.now tokens.now }
     ensures read { Gives (λ x. (x.0, lexemes text.now x.1.now)) result (tag_at small (lexemes text.now tokens.now)) }
@@ -149,7 +149,7 @@ pub fn tag<'a>(text: &[u8], tokens: &'a [Token]) -> Result<(Tag, &'a [Token]), R
 }
 
 /// Reads the word behind a tag, if there is one.
-#[tactic(auto, unfolding(crate::specs::TypeReading::keyword_at))]
+#[tactic(auto, unfolding(crate::specs::PlainReading::keyword_at))]
 pub fn keyword<'a>(text: &[u8], tokens: &'a [Token]) -> Result<(Keyword, &'a [Token]), ReadError>
     requires tokens { AreTokens text.now tokens.now }
     ensures read { Gives (λ x. (x.0, lexemes text.now x.1.now)) result (keyword_at (lexemes text.now tokens.now)) }

@@ -1,4 +1,4 @@
-use Rattle.type_syntax.proofs.law.parts_are_read.Goals as goal
+use Rattle.type_parts.proofs.law.parts_are_read.Goals as goal
 
 pub returns : goal.returns
 returns c = record {

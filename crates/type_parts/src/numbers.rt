@@ -1,0 +1,115 @@
+//! Reading numbers.
+
+use kernel::decode::small_number;
+use kernel::{Part, ReadError};
+use notation::numbers::{negative, positive};
+use std::alloc::Global;
+use text::{Mark, Token, TokenKind};
+
+/// A number.
+#[derive(Drop)]
+pub struct Number;
+
+impl<'t> Part<'t> for Number {
+    ghost use Rattle.std.specs.Prelude.{ℕ};
+    ghost use Rattle.grammar.specs.Places.{small};
+    ghost use Rattle.grammar.specs.Rules.{number_at};
+    ghost use Rattle.type_parts.specs.Shorts.{number_short};
+
+    type Tree = u128;
+
+    ghost Shape = { ℕ };
+
+    ghost view = { λ n. n };
+
+    ghost reader = { λ _. number_at small };
+
+    ghost is_ready = { λ _ _. Unit {0} };
+
+    ghost is_short = { λ _ _ _. number_short small };
+
+    #[tactic(auto, unfolding(grammar::specs::Rules::number_at))]
+    fn read(
+        &self,
+        _alloc: Global,
+        text: &[u8],
+        tokens: &'t [Token],
+    ) -> Result<(u128, &'t [Token]), ReadError> {
+        match tokens {
+            [
+                number @ Token {
+                    kind: TokenKind::Number,
+                    ..
+                },
+                rest @ ..,
+            ] => {
+                let value = small_number(text, *number, tokens.len())?;
+                Ok((value, rest))
+            }
+            _ => Err(ReadError::Unexpected(tokens.len())),
+        }
+    }
+}
+
+/// A number, behind a minus or alone.
+#[derive(Drop)]
+pub struct Signed;
+
+impl<'t> Part<'t> for Signed {
+    ghost use Rattle.std.specs.Prelude.{ℤ};
+    ghost use Rattle.grammar.specs.Places.{small};
+    ghost use Rattle.type_parts.specs.PlainReading.{signed_at};
+    ghost use Rattle.type_parts.specs.Shorts.{signed_short};
+
+    type Tree = i128;
+
+    ghost Shape = { ℤ };
+
+    ghost view = { λ n. n };
+
+    ghost reader = { λ _. signed_at small };
+
+    ghost is_ready = { λ _ _. Unit {0} };
+
+    ghost is_short = { λ _ _ _. signed_short small };
+
+    #[tactic(auto, unfolding(crate::specs::PlainReading::signed_at, crate::specs::PlainReading::negative_at))]
+    fn read(
+        &self,
+        _alloc: Global,
+        text: &[u8],
+        tokens: &'t [Token],
+    ) -> Result<(i128, &'t [Token]), ReadError> {
+        match tokens {
+            [
+                number @ Token {
+                    kind: TokenKind::Number,
+                    ..
+                },
+                rest @ ..,
+            ] => {
+                let value = positive(text, *number, tokens.len())?;
+                Ok((value, rest))
+            }
+            [
+                Token {
+                    kind: TokenKind::Mark(Mark::Minus),
+                    ..
+                },
+                number @ Token {
+                    kind: TokenKind::Number,
+                    ..
+                },
+                rest @ ..,
+            ] => Ok((negative(text, *number), rest)),
+            [
+                Token {
+                    kind: TokenKind::Mark(Mark::Minus),
+                    ..
+                },
+                rest @ ..,
+            ] => Err(ReadError::Unexpected(rest.len())),
+            _ => Err(ReadError::Unexpected(tokens.len())),
+        }
+    }
+}
