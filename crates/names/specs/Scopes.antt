@@ -1,6 +1,7 @@
 -- Tables of names without where they lie in memory.
 use Rattle.std.specs.Prelude.{List, map, string_bytes, String}
 use Rattle.std.specs.Global.{Global}
+use Rattle.trees.specs.declared.place.At.{At}
 use Rattle.trees.specs.Values.{Name, name_at}
 use Rattle.names.specs.declared.scope.Assigned.{Assigned}
 use Rattle.names.specs.declared.scope.Origin.{Origin}
@@ -16,8 +17,8 @@ abbrev pub origin_of : Origin → Name
 origin_of o = name_at o.module
 
 -- what names are assigned
-abbrev pub meanings : List (String Global × Assigned) → List (Name × Assigned)
-meanings = seen (λ a. a)
+abbrev pub meanings : List (String Global × At Assigned) → List (Name × Assigned)
+meanings = seen (λ a. a.it)
 
 -- the modules that names are imported from
 abbrev pub origins : List (String Global × Origin) → List (Name × Name)

@@ -37,12 +37,15 @@ pub struct Gathered {
     pub tables: Tables,
 }
 
-/// What a name is assigned.
+/// What a name is assigned, and where.
 #[tactic(auto, using(crate::specs::proving::Meanings::under_seen))]
-fn meaning_in(assigned: &IndexMap<String, Assigned>, name: &str) -> Option<Assigned>
-    ensures { result ≡ under name.now (meanings assigned.now.entries) }
+fn given_in<'a>(
+    assigned: &'a IndexMap<String, At<Assigned>>,
+    name: &str,
+) -> Option<&'a At<Assigned>>
+    ensures { option_map (λ a. a.now.it) result ≡ under name.now (meanings assigned.now.entries) }
 {
-    assigned.get(name).copied()
+    assigned.get(name)
 }
 
 /// Gives a name its meaning, or refuses to give it a second one.
@@ -51,7 +54,7 @@ fn name_once(
     within: &str,
     name: &At<String>,
     meaning: Assigned,
-    assigned: &mut IndexMap<String, Assigned>,
+    assigned: &mut IndexMap<String, At<Assigned>>,
 ) -> Result<(), NameFault>
     ensures ok { OnOk result
         (meanings assigned.new.entries ≡ meanings assigned.old.entries ++ (name_at name.now, meaning) ∷ []) }
@@ -59,10 +62,14 @@ fn name_once(
     ensures fault { IfErr result (IsTwice within.now (name_at name.now) (meanings assigned.old.entries)) }
 {
     let text = name.it.as_str();
-    match meaning_in(assigned, text) {
+    match given_in(assigned, text) {
         Some(_) => Err(NameFault::Twice(spot(alloc, within, text, name.at)?)),
         None => {
-            assigned.insert(String::from_str(alloc, text)?, meaning)?;
+            let given = At {
+                at: name.at,
+                it: meaning,
+            };
+            assigned.insert(String::from_str(alloc, text)?, given)?;
             Ok(())
         }
     }
@@ -104,7 +111,7 @@ fn add_type(
     owner: usize,
     within: &str,
     given: TypeAssignment,
-    assigned: &mut IndexMap<String, Assigned>,
+    assigned: &mut IndexMap<String, At<Assigned>>,
     tables: &mut Tables,
 ) -> Result<(), NameFault>
     ensures named { OnOk result
@@ -130,7 +137,7 @@ fn add_value(
     owner: usize,
     within: &str,
     given: ValueAssignment,
-    assigned: &mut IndexMap<String, Assigned>,
+    assigned: &mut IndexMap<String, At<Assigned>>,
     tables: &mut Tables,
 ) -> Result<(), NameFault>
     ensures named { OnOk result
@@ -166,7 +173,7 @@ fn add(
     owner: usize,
     within: &str,
     given: Given,
-    assigned: &mut IndexMap<String, Assigned>,
+    assigned: &mut IndexMap<String, At<Assigned>>,
     tables: &mut Tables,
 ) -> Result<(), NameFault>
     ensures named { OnOk result
@@ -193,7 +200,7 @@ fn add_all(
     owner: usize,
     within: &str,
     givens: Vec<Given>,
-    assigned: &mut IndexMap<String, Assigned>,
+    assigned: &mut IndexMap<String, At<Assigned>>,
     tables: &mut Tables,
 ) -> Result<(), NameFault>
     requires empty { assigned.old.entries ≡ [] }
@@ -219,13 +226,13 @@ fn origin_in<'a>(imports: &'a IndexMap<String, Origin>, name: &str) -> Option<&'
     imports.get(name)
 }
 
-/// Imports a name from a module, or refuses to give it a second meaning.
+/// Imports a name from a module, or refuses to give it a second meaning. The assignments stand behind the imports.
 fn import_once(
     alloc: Global,
     within: &str,
     name: At<String>,
     from: &At<String>,
-    assigned: &IndexMap<String, Assigned>,
+    assigned: &IndexMap<String, At<Assigned>>,
     imports: &mut IndexMap<String, Origin>,
 ) -> Result<(), NameFault>
     ensures ok { OnOk result
@@ -235,9 +242,9 @@ fn import_once(
     ensures fault { IfErr result
         (IsTaken within.now (name_at name) (named_by assigned.now.entries (origins imports.old.entries))) }
 {
-    match meaning_in(assigned, name.it.as_str()) {
-        Some(_) => {
-            return Err(NameFault::Twice(spot(alloc, within, name.it.as_str(), name.at)?));
+    match given_in(assigned, name.it.as_str()) {
+        Some(given) => {
+            return Err(NameFault::Twice(spot(alloc, within, name.it.as_str(), given.at)?));
         }
         None => {}
     }
@@ -264,7 +271,7 @@ fn import_names(
     within: &str,
     names: Vec<At<String>>,
     from: &At<String>,
-    assigned: &IndexMap<String, Assigned>,
+    assigned: &IndexMap<String, At<Assigned>>,
     imports: &mut IndexMap<String, Origin>,
 ) -> Result<(), NameFault>
     requires distinct { AreDistinct (named_by assigned.now.entries (origins imports.old.entries)) }
@@ -291,7 +298,7 @@ fn import_all(
     alloc: Global,
     within: &str,
     given: Vec<Import>,
-    assigned: &IndexMap<String, Assigned>,
+    assigned: &IndexMap<String, At<Assigned>>,
     imports: &mut IndexMap<String, Origin>,
 ) -> Result<(), NameFault>
     requires distinct { AreDistinct (names_of (meanings assigned.now.entries)) }

@@ -27,11 +27,11 @@ pub struct Origin {
     pub module: At<String>,
 }
 
-/// A module's names: its assignments, its imports with their modules, and the names that it exports (all that it assigns
+/// A module's names: its assignments, each where its name is written, its imports with their modules, and the names that it exports (all that it assigns
 /// where it lists none).
 #[derive(Drop)]
 pub struct Scope {
-    pub assigned: IndexMap<String, Assigned>,
+    pub assigned: IndexMap<String, At<Assigned>>,
     pub imports: IndexMap<String, Origin>,
     pub exports: Option<Exports>,
 }
@@ -115,7 +115,10 @@ pub(crate) fn scope_of<'a>(modules: &'a IndexMap<String, Scope>, name: &str) -> 
 pub(crate) fn assigned_to(scope: &Scope, name: &str) -> Option<Assigned>
     ensures { result ≡ under name.now (module_of scope.now).assigned }
 {
-    scope.assigned.get(name).copied()
+    match scope.assigned.get(name) {
+        None => None,
+        Some(given) => Some(given.it),
+    }
 }
 
 #[tactic(auto, using(crate::specs::proving::Meanings::under_seen))]

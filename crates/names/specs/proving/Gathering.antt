@@ -1,6 +1,7 @@
 -- Modules whose names, types and values are gathered, and what is wrong with names on the way.
 use Rattle.std.specs.Prelude.{◌≡◌, ℕ, List, ◌++◌, Some, String, map, length}
 use Rattle.std.specs.Global.{Global}
+use Rattle.trees.specs.declared.place.At.{At}
 use Rattle.trees.specs.Values.{Name}
 use Rattle.trees.specs.declared.module.TagDefault.{TagDefault}
 use Rattle.trees.specs.Modules.{AssignmentTree, ModuleTree}
@@ -21,7 +22,7 @@ abbrev pub named_next : Tables → List AssignmentTree → List (Name × Assigne
 named_next t gs = named_from (length t.assignments.items) (length t.values.items) gs
 
 -- the names that are assigned and those that are imported
-abbrev pub named_by : List (String Global × Assigned) → List (Name × Name) → List Name
+abbrev pub named_by : List (String Global × At Assigned) → List (Name × Name) → List Name
 named_by as' is = names_of (meanings as') ++ names_of is
 
 -- tables, and those that have besides the assignments of module k

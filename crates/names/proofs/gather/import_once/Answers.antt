@@ -11,8 +11,8 @@ returns-in-Some-clause-fault c =
     let x = name_at c.args.name in
     let as' = meanings c.args.assigned.now.entries in
     let is = origins c.args.imports.now.entries in
-    let u : under x as' ≡ Some c.in-Some.field-0 = ap (λ z. under z as') (sym c.as_str.ensures.value) ∙ sym c.meaning_in.ensures ∙ c.in-Some.is in
-    (c.in_ok-spot-in-Some.ensures.within, c.in_ok-spot-in-Some.ensures.name ∙ c.as_str-in-Some.ensures.value, stands_left (names_of as') (names_of is) x (name_under x as' c.in-Some.field-0 u))
+    let u : under x as' ≡ Some c.in-Some.given.now.it = ap (λ z. under z as') (sym c.as_str.ensures.value) ∙ sym c.given_in.ensures ∙ ap (option_map (λ a. a.now.it)) c.in-Some.is in
+    (c.in_ok-spot-in-Some.ensures.within, c.in_ok-spot-in-Some.ensures.name ∙ c.as_str-in-Some.ensures.value, stands_left (names_of as') (names_of is) x (name_under x as' c.in-Some.given.now.it u))
 
 pub returns-in_ok-spot-in-Some-origin_in-clause-fault : goal.returns-in_ok-spot-in-Some-origin_in-clause-fault
 returns-in_ok-spot-in-Some-origin_in-clause-fault c =

@@ -1,10 +1,19 @@
-use Rattle.std.proofs.Common.{rules, sym, ap, ◌∙◌}
+use Rattle.std.proofs.Common.{rules, ◌≡◌, Some, None, option_map, sym, ap, ◌∙◌}
 use Rattle.trees.specs.Values.{name_at}
 use Rattle.names.specs.Names.{under}
 use Rattle.names.specs.Scopes.{meanings}
 use Rattle.names.proofs.Entries.{inserted}
 use Rattle.names.proofs.gather.name_once.Goals as goal
 
+pub returns-in_ok-spot-in-Some-clause-fault : goal.returns-in_ok-spot-in-Some-clause-fault
+returns-in_ok-spot-in-Some-clause-fault c =
+    let as' = meanings c.args.assigned.now.entries in
+    let e = c.in_ok-spot-in-Some.ensures in
+    let u : under (name_at c.args.name.now) as' ≡ Some c.in-Some.field-0.now.it = ap (λ z. under z as') (sym c.as_str-text.ensures.value) ∙ sym c.given_in.ensures ∙ ap (option_map (λ a. a.now.it)) c.in-Some.is in
+    (e.within, e.name ∙ c.as_str-text.ensures.value, c.in-Some.field-0.now.it, u)
+
 pub returns-in_ok-insert-in-None-clause-ok : goal.returns-in_ok-insert-in-None-clause-ok
 returns-in_ok-insert-in-None-clause-ok c =
-    inserted (λ a. a) c.args.assigned.now c.in_ok-from_str-in-None.field-0 c.args.meaning (name_at c.args.name.now) c.insert.new.self.entries (search rules) (ap (λ z. under z (meanings c.args.assigned.now.entries)) (sym c.as_str-text.ensures.value) ∙ sym c.meaning_in.ensures ∙ c.in-None.is) c.in_ok-insert-in-None.ensures.entries
+    let as' = meanings c.args.assigned.now.entries in
+    let u : under (name_at c.args.name.now) as' ≡ None = ap (λ z. under z as') (sym c.as_str-text.ensures.value) ∙ sym c.given_in.ensures ∙ ap (option_map (λ a. a.now.it)) c.in-None.is in
+    inserted (λ a. a.it) c.args.assigned.now c.in_ok-from_str-in-None.field-0 _ (name_at c.args.name.now) c.insert.new.self.entries (search rules) u c.in_ok-insert-in-None.ensures.entries
