@@ -1,15 +1,14 @@
 pub mod Circling
-pub mod Halfway
+pub mod Free
 pub mod Knowing
-pub mod ListFaults
 pub mod Marking
 pub mod Numbered
+pub mod Numbers
 pub mod Occurring
 pub mod Once
 pub mod PartKinds
 pub mod Queue
 pub mod Rising
-pub mod Sets
 pub mod Sources
 pub mod Trees
 pub mod Walks

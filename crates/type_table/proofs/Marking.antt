@@ -5,17 +5,17 @@ use Rattle.std.proofs.lemmas.Bool.{eqb-true, cases_Bool}
 use Rattle.std.proofs.lemmas.List.{length-set, get_or-replicate, length-replicate}
 use Rattle.std.proofs.lemmas.Option.{slice_get_within, slice_get-map, slice_get_read, slice_get-get_or, get_or_from_slice_get}
 use Rattle.asn_base.specs.declared.tag.Tag.{Tag}
-use Rattle.trees.specs.Constraints.{RangeTree}
 use Rattle.trees.specs.declared.types.Keyword.{Keyword}
 use Rattle.type_table.specs.declared.table.Component.{Component}
-use Rattle.type_table.specs.declared.table.ElementsKind.{ElementsKind}
-use Rattle.type_table.specs.declared.table.ListKind.{ListKind}
+use Rattle.trees.specs.declared.types.ElementsKind.{ElementsKind}
+use Rattle.trees.specs.declared.types.ListKind.{ListKind}
 use Rattle.names.specs.Modules.{StandsIn}
+use Rattle.trees.specs.Types.{Plain}
 use Rattle.type_table.specs.Seen.{part_of}
-use Rattle.type_table.specs.Table.{Plain, Part, simple, reference, tagged, members, elements, Type'}
+use Rattle.type_table.specs.Table.{Part, simple, reference, tagged, members, elements, Type'}
 use Rattle.type_table.specs.Circles.{IsPart, referred, behind_tag, member, element, Reaches, itself, onward}
-use Rattle.type_table.specs.Reach.{HasDefault, IsDefaulted, LeadsTo, IsMarked, AreUpTo, unmarked, Marks, MarksReached}
-use Rattle.type_table.specs.Tables.{alike}
+use Rattle.type_table.specs.proving.Tables.{alike}
+use Rattle.type_table.specs.proving.Reach.{HasDefault, IsDefaulted, LeadsTo, IsMarked, AreUpTo, unmarked, Marks, MarksReached}
 
 -- ---- lists
 
@@ -163,8 +163,8 @@ reference_part i j referred = refl
 tagged_part : (g : Tag) (w : Keyword) (i j : ℕ) → IsPart i (tagged g w j) → i ≡ j
 tagged_part g w i j behind_tag = refl
 
-elements_part : (e : ElementsKind) (z : Option (List RangeTree)) (i j : ℕ) → IsPart i (elements e z j) → i ≡ j
-elements_part e z i j element = refl
+elements_part : (e : ElementsKind) (i j : ℕ) → IsPart i (elements e j) → i ≡ j
+elements_part e i j element = refl
 
 simple_part : (p : Plain) (i : ℕ) → IsPart i (simple p) → ⊥
 simple_part p i h = elim h [ ]
@@ -178,8 +178,8 @@ marks_reference s j m m' w w' a = marks_alike s (λ i. i ≡ j) (λ i. IsPart i 
 pub marks_tagged : (s j : ℕ) (g : Tag) (k : Keyword) (m m' w w' : List ℕ) → Marks s (λ i. i ≡ j) m m' w w' → Marks s (λ i. IsPart i (tagged g k j)) m m' w w'
 marks_tagged s j g k m m' w w' a = marks_alike s (λ i. i ≡ j) (λ i. IsPart i (tagged g k j)) m m' w w' a (λ i h. tagged_part g k i j h) (λ i q. subst (λ z. IsPart z (tagged g k j)) (sym q) behind_tag)
 
-pub marks_elements : (s j : ℕ) (e : ElementsKind) (z : Option (List RangeTree)) (m m' w w' : List ℕ) → Marks s (λ i. i ≡ j) m m' w w' → Marks s (λ i. IsPart i (elements e z j)) m m' w w'
-marks_elements s j e z m m' w w' a = marks_alike s (λ i. i ≡ j) (λ i. IsPart i (elements e z j)) m m' w w' a (λ i h. elements_part e z i j h) (λ i q. subst (λ y. IsPart y (elements e z j)) (sym q) element)
+pub marks_elements : (s j : ℕ) (e : ElementsKind) (m m' w w' : List ℕ) → Marks s (λ i. i ≡ j) m m' w w' → Marks s (λ i. IsPart i (elements e j)) m m' w w'
+marks_elements s j e m m' w w' a = marks_alike s (λ i. i ≡ j) (λ i. IsPart i (elements e j)) m m' w w' a (λ i h. elements_part e i j h) (λ i q. subst (λ y. IsPart y (elements e j)) (sym q) element)
 
 -- ---- members, one after the other
 
@@ -187,8 +187,8 @@ pub part_at : (cs : List Component) (i : ℕ) (c : Component) → i < length cs 
 part_at cs i c l e = slice_get-map part_of cs i ∙ ap (option_map part_of) (slice_get_read cs (length cs) i c refl l e)
 
 -- the kind of the list doesn't matter
-pub member_either : (l l' : ListKind) (cs : List Part) (k : ℕ) → IsPart k (members l cs) → IsPart k (members l' cs)
-member_either l l' cs k (member n c e q) = member n c e q
+pub member_either : (l l' : ListKind) (m m' : Bool) (cs : List Part) (k : ℕ) → IsPart k (members l m cs) → IsPart k (members l' m' cs)
+member_either l l' m m' cs k (member n c e q) = member n c e q
 
 -- type j is that of one of the first n members
 pub record IsMemberBelow (cs : List Part) (n j : ℕ) : Type 0 where
@@ -231,11 +231,11 @@ members_more s n cs c m m' m'' w w' w'' e a b =
     right : (n : ℕ) (cs : List Part) (c : Part) → slice_get cs n ≡ Some c → (j : ℕ) → j ≡ c.ty → IsMemberBelow cs (n + 1) j
     right n cs c e j p = record { number = n; few = omega arith; component = c; held = e; ty = sym p }
 
-member_below : (l : ListKind) (cs : List Part) (k : ℕ) → IsPart k (members l cs) → IsMemberBelow cs (length cs) k
-member_below l cs k (member n c e q) = record { number = n; few = slice_get_within cs n c e; component = c; held = e; ty = q }
+member_below : (l : ListKind) (b : Bool) (cs : List Part) (k : ℕ) → IsPart k (members l b cs) → IsMemberBelow cs (length cs) k
+member_below l b cs k (member n c e q) = record { number = n; few = slice_get_within cs n c e; component = c; held = e; ty = q }
 
-pub members_all : (s : ℕ) (l : ListKind) (cs : List Part) (m m' w w' : List ℕ) → Marks s (λ j. IsMemberBelow cs (length cs) j) m m' w w' → Marks s (λ k. IsPart k (members l cs)) m m' w w'
-members_all s l cs m m' w w' a = marks_alike s (λ j. IsMemberBelow cs (length cs) j) (λ k. IsPart k (members l cs)) m m' w w' a (λ k p. member_below l cs k p) (λ k p. member p.number p.component p.held p.ty)
+pub members_all : (s : ℕ) (l : ListKind) (b : Bool) (cs : List Part) (m m' w w' : List ℕ) → Marks s (λ j. IsMemberBelow cs (length cs) j) m m' w w' → Marks s (λ k. IsPart k (members l b cs)) m m' w w'
+members_all s l b cs m m' w w' a = marks_alike s (λ j. IsMemberBelow cs (length cs) j) (λ k. IsPart k (members l b cs)) m m' w w' a (λ k p. member_below l b cs k p) (λ k p. member p.number p.component p.held p.ty)
 
 -- type j is that of one of the first n members, which has a DEFAULT
 pub record IsDefaultedBelow (cs : List Part) (n j : ℕ) : Type 0 where

@@ -1,21 +1,20 @@
 -- Types that are numbered keep what a table of linked types keeps.
 use Rattle.std.proofs.Common.{◌≡◌, ◌⊎◌, inl, inr, ℕ, zero, suc, ◌<◌, ◌≤◌, ◌+◌, ◌++◌, List, [], ◌∷◌, length, Some, None, refl, sym, subst, ap, ◌∙◌, length-append, arith}
-use Rattle.std.specs.Prelude.{slice_get, Option, slice_index_or}
+use Rattle.std.specs.Prelude.{slice_get, Bool, Option, slice_index_or}
 use Rattle.std.proofs.lemmas.Option.{slice_get_within, slice_get-get_or}
 use Rattle.trees.specs.Values.{Name}
 use Rattle.trees.specs.declared.module.TagDefault.{TagDefault}
-use Rattle.trees.specs.Types.{TypeTree}
+use Rattle.trees.specs.Types.{TypeTree, FormTree}
 use Rattle.names.specs.Names.{Module, Refers}
 use Rattle.type_table.specs.Table.{Type', Kind, Part, simple, reference, tagged, members, elements, behind, behind_of, Is, IsClosed, HasMembers, HasElements, IsMember, AllUnfold, IsLinked}
 use Rattle.names.specs.declared.scope.Assigned.TheVariants as assigned
-use Rattle.type_table.specs.declared.table.ListKind.{ListKind}
-use Rattle.type_table.specs.declared.table.ElementsKind.{ElementsKind}
-use Rattle.trees.specs.Constraints.{RangeTree}
+use Rattle.trees.specs.declared.types.ListKind.{ListKind}
+use Rattle.trees.specs.declared.types.ElementsKind.{ElementsKind}
 use Rattle.std.specs.List.{AllByRecursion}
 use Rattle.type_table.proofs.PartKinds.{Parts, plain, referring, tagging, listing, having, kind_parts, member_at, listed_at}
 use Rattle.names.specs.Sources.{Source}
-use Rattle.type_table.specs.Numbering.{member_sources, numbered, parts_of, all_parts, IsTop, AreTops, AreNumbered}
-use Rattle.names.specs.Distinct.{at_all}
+use Rattle.type_table.specs.Numbering.{member_sources, numbered, form_of, form_parts, parts_of, all_parts, IsTop, AreTops, AreNumbered}
+use Rattle.names.specs.proving.Distinct.{at_all}
 use Rattle.type_table.proofs.Queue.{parts_of_one}
 
 left : {X : Type 0} (xs ys : List X) (k : ℕ) (x : X) → slice_get xs k ≡ Some x → slice_get (xs ++ ys) k ≡ Some x
@@ -207,50 +206,50 @@ module _ (ms : List (Name × Module)) (hs : List (Name × TagDefault)) (gs : Lis
           let w : e.first + 0 < length ts = slice_get_within ts (e.first + 0) p.0 p.1 in
           omega (arith, w)
 
-      behind_there : (i : ℕ) (t : Type') (e : Entry ts i t) (k : Kind) (j : ℕ) → Parts ms e.top.within e.first e.source.tree k → behind k ≡ Some j → j < length ts
+      behind_there : (i : ℕ) (t : Type') (e : Entry ts i t) (k : Kind) (j : ℕ) → Parts ms e.top.within e.first (form_of e.source.tree) k → behind k ≡ Some j → j < length ts
       behind_there i t e (simple p) j (plain f) h = absurd cc
       behind_there i t e (reference z) j (referring N x r f) h = let q : z ≡ j = cc in subst (λ y. y < length ts) q (meant e.top.within x N z r)
       behind_there i t e (tagged g w n) j (tagging u f) h = let q : e.first ≡ j = cc in subst (λ y. y < length ts) q (one_there i t e (record { tree = u; assignment = e.source.assignment; place = None }) (ap (λ l. slice_get l 0) (f e.source.assignment i)))
-      behind_there i t e (members l cs) j (listing us f) h = absurd cc
-      behind_there i t e (elements y s n) j (having u f) h = absurd cc
+      behind_there i t e (members l m cs) j (listing us f) h = absurd cc
+      behind_there i t e (elements y n) j (having u f) h = absurd cc
 
       closed_on : (i j : ℕ) (o : Option Type') → slice_get ts i ≡ o → behind_of o ≡ Some j → j < length ts
       closed_on i j None e h = absurd cc
-      closed_on i j (Some t) e h = let n = entry i t e in behind_there i t n t.kind j (kind_parts ms n.top.within n.first n.source.tree t.kind n.top.kind) h
+      closed_on i j (Some t) e h = let n = entry i t e in behind_there i t n t.kind j (kind_parts ms n.top.within n.first (form_of n.source.tree) t.kind n.top.kind) h
 
-      listing_of : (M : Name) (n : ℕ) (tree : _) (l : ListKind) (cs : List Part) → Parts ms M n tree (members l cs) → (us : _) × (cs ≡ numbered n us) × ((a i : ℕ) → parts_of a i tree ≡ member_sources a i 0 us)
-      listing_of M n tree l cs (listing us f) = (us, refl, f)
+      listing_of : (M : Name) (n : ℕ) (f : FormTree) (l : ListKind) (m : Bool) (cs : List Part) → Parts ms M n f (members l m cs) → (us : _) × (cs ≡ numbered n us) × ((a i : ℕ) → form_parts a i f ≡ member_sources a i 0 us)
+      listing_of M n tree l m cs (listing us f) = (us, refl, f)
 
-      having_there : (i : ℕ) (t : Type') (e : Entry ts i t) (y : ElementsKind) (s : Option (List RangeTree)) (j : ℕ) → Parts ms e.top.within e.first e.source.tree (elements y s j) → j < length ts
-      having_there i t e y s j (having u f) = one_there i t e (record { tree = u; assignment = e.source.assignment; place = None }) (ap (λ l. slice_get l 0) (f e.source.assignment i))
+      having_there : (i : ℕ) (t : Type') (e : Entry ts i t) (y : ElementsKind) (j : ℕ) → Parts ms e.top.within e.first (form_of e.source.tree) (elements y j) → j < length ts
+      having_there i t e y j (having u f) = one_there i t e (record { tree = u; assignment = e.source.assignment; place = None }) (ap (λ l. slice_get l 0) (f e.source.assignment i))
 
       -- member n of the list that type i is
-      member_there : (i n : ℕ) (l : ListKind) (cs : List Part) (d : TagDefault) (p : Option (ℕ × ℕ)) (c : Part) → Is ts i (members l cs) d p → slice_get cs n ≡ Some c → (k : Kind) × Is ts c.ty k d (Some (i, n))
-      member_there i n l cs d p c is h =
+      member_there : (i n : ℕ) (l : ListKind) (m : Bool) (cs : List Part) (d : TagDefault) (p : Option (ℕ × ℕ)) (c : Part) → Is ts i (members l m cs) d p → slice_get cs n ≡ Some c → (k : Kind) × Is ts c.ty k d (Some (i, n))
+      member_there i n l m cs d p c is h =
           let e = entry i _ is.found in
-          let g = listing_of e.top.within e.first e.source.tree l cs (kind_parts ms e.top.within e.first e.source.tree (members l cs) e.top.kind) in
-          let m = member_at e.source.assignment i e.first 0 n g.0 c (subst (λ x. slice_get x n ≡ Some c) g.1 h) in
-          let r = e.parts n m.source (ap (λ x. slice_get x n) (g.2 e.source.assignment i) ∙ m.there) in
+          let g = listing_of e.top.within e.first (form_of e.source.tree) l m cs (kind_parts ms e.top.within e.first (form_of e.source.tree) (members l m cs) e.top.kind) in
+          let q = member_at e.source.assignment i e.first 0 n g.0 c (subst (λ x. slice_get x n ≡ Some c) g.1 h) in
+          let r = e.parts n q.source (ap (λ x. slice_get x n) (g.2 e.source.assignment i) ∙ q.there) in
           let z : 0 + n ≡ n = omega arith in
-          let place : r.0.place ≡ Some (i, n) = r.2 ∙ m.place ∙ ap (λ x. Some (i, x)) z in (
+          let place : r.0.place ≡ Some (i, n) = r.2 ∙ q.place ∙ ap (λ x. Some (i, x)) z in (
             r.0.kind,
             record {
               constraints = r.0.constraints;
               assignment = r.0.assignment;
-              found = ap (λ x. slice_get ts x) m.ty ∙ r.1 ∙ ap (λ x. Some (record { kind = r.0.kind; constraints = r.0.constraints; default = r.0.default; place = x; assignment = r.0.assignment })) place ∙ ap (λ x. Some (record { kind = r.0.kind; constraints = r.0.constraints; default = x; place = Some (i, n); assignment = r.0.assignment })) r.3;
+              found = ap (λ x. slice_get ts x) q.ty ∙ r.1 ∙ ap (λ x. Some (record { kind = r.0.kind; constraints = r.0.constraints; default = r.0.default; place = x; assignment = r.0.assignment })) place ∙ ap (λ x. Some (record { kind = r.0.kind; constraints = r.0.constraints; default = x; place = Some (i, n); assignment = r.0.assignment })) r.3;
             },
           )
 
       are_members : HasMembers ts
-      are_members i l cs d p is k z w =
+      are_members i l m cs d p is k z w =
           let there = slice_get-get_or cs k z w in
-          let m = member_there i k l cs d p (slice_index_or cs k z) is there in
-          slice_get_within ts (slice_index_or cs k z).ty _ m.1.found
+          let q = member_there i k l m cs d p (slice_index_or cs k z) is there in
+          slice_get_within ts (slice_index_or cs k z).ty _ q.1.found
 
       are_inner : HasElements ts
-      are_inner i j y s d p is =
+      are_inner i j y d p is =
           let e = entry i _ is.found in
-          having_there i _ e y s j (kind_parts ms e.top.within e.first e.source.tree (elements y s j) e.top.kind)
+          having_there i _ e y j (kind_parts ms e.top.within e.first (form_of e.source.tree) (elements y j) e.top.kind)
 
       none_in_one : (u : TypeTree) (a q i m : ℕ) (s : Source) → slice_get (record { tree = u; assignment = a; place = None } ∷ []) q ≡ Some s → s.place ≡ Some (i, m) → ⊥
       none_in_one u a zero i m s e h =
@@ -260,19 +259,19 @@ module _ (ms : List (Name × Module)) (hs : List (Name × TagDefault)) (gs : Lis
       none_in_one u a (suc q) i m s e h = absurd cc
 
       -- a part with a place is that member of a list
-      listed_on : (M : Name) (n : ℕ) (tree : TypeTree) (kind : Kind) (a k q i m : ℕ) (s : Source) → Parts ms M n tree kind → slice_get (parts_of a k tree) q ≡ Some s → s.place ≡ Some (i, m) →
-          (l : ListKind) × (cs : List Part) × (part : Part) × (kind ≡ members l cs) × (slice_get cs q ≡ Some part) × (part.ty ≡ n + q) × (i ≡ k) × (m ≡ q)
+      listed_on : (M : Name) (n : ℕ) (tree : FormTree) (kind : Kind) (a k q i m : ℕ) (s : Source) → Parts ms M n tree kind → slice_get (form_parts a k tree) q ≡ Some s → s.place ≡ Some (i, m) →
+          (l : ListKind) × (marker : Bool) × (cs : List Part) × (part : Part) × (kind ≡ members l marker cs) × (slice_get cs q ≡ Some part) × (part.ty ≡ n + q) × (i ≡ k) × (m ≡ q)
       listed_on M n tree kind a k q i m s (plain f) e h = let w : slice_get [] q ≡ Some s = ap (λ l. slice_get l q) (sym (f a k)) ∙ e in absurd cc
       listed_on M n tree kind a k q i m s (referring N x r f) e h = let w : slice_get [] q ≡ Some s = ap (λ l. slice_get l q) (sym (f a k)) ∙ e in absurd cc
       listed_on M n tree kind a k q i m s (tagging u f) e h = absurd (none_in_one u a q i m s (ap (λ l. slice_get l q) (sym (f a k)) ∙ e) h)
       listed_on M n tree kind a k q i m s (having u f) e h = absurd (none_in_one u a q i m s (ap (λ l. slice_get l q) (sym (f a k)) ∙ e) h)
-      listed_on M n tree (members l cs) a k q i m s (listing us f) e h =
+      listed_on M n tree (members l marker cs) a k q i m s (listing us f) e h =
           let r = listed_at a k n 0 q us s (ap (λ l. slice_get l q) (sym (f a k)) ∙ e) in
           let w : Some (i, m) ≡ Some (k, 0 + q) = sym h ∙ r.place in
           let x : i ≡ k = ap (owner_of 0) w in
           let y : m ≡ 0 + q = ap (number_of 0) w in
           let z : m ≡ q = omega (arith, y) in
-          (l, numbered n us, r.part, refl, r.there, r.ty, x, z)
+          (l, marker, numbered n us, r.part, refl, r.there, r.ty, x, z)
 
       is_member : (j i n : ℕ) (k : Kind) (d : TagDefault) → AllByRecursion (λ s. s.place ≡ None) roots → Is ts j k d (Some (i, n)) → IsMember ts i n j d
       is_member j i n k d none is =
@@ -286,21 +285,22 @@ module _ (ms : List (Name × Module)) (hs : List (Name × TagDefault)) (gs : Lis
                 let a = at ms hs gs 0 (length roots) g.k all.sources ts g.s all.tops g.there in
                 let y : 0 + g.k ≡ g.k = omega arith in
                 let part = subst (λ x. slice_get (parts_of g.s.assignment x g.s.tree) g.q ≡ Some s.0) y g.part in
-                let l = listed_on a.top.within (length roots + a.first) g.s.tree a.t.kind g.s.assignment g.k g.q i n s.0 (kind_parts ms a.top.within (length roots + a.first) g.s.tree a.t.kind a.top.kind) part place in
+                let l = listed_on a.top.within (length roots + a.first) (form_of g.s.tree) a.t.kind g.s.assignment g.k g.q i n s.0 (kind_parts ms a.top.within (length roots + a.first) (form_of g.s.tree) a.t.kind a.top.kind) part place in
                 let one = at_all (λ x. x.assignment ≡ g.s.assignment) (parts_of g.s.assignment g.k g.s.tree) g.q s.0 (parts_of_one (λ x. x ≡ g.s.assignment) g.s.assignment g.k g.s.tree refl) part in
                 let dd : d ≡ a.t.default = ap (tag_default_or d) (sym same) ∙ same_default (length roots + a.first) (length roots + b.first) g.s s.0 a.t b.t a.top b.top one in
-                let ty : l.2.ty ≡ j = l.5 ∙ (let z : length roots + a.first + g.q ≡ j = omega (arith, r.1, g.number) in z) in
+                let ty : l.3.ty ≡ j = l.6 ∙ (let z : length roots + a.first + g.q ≡ j = omega (arith, r.1, g.number) in z) in
                 record {
                   list = l.0;
-                  parts = l.1;
+                  marker = l.1;
+                  parts = l.2;
                   place = a.t.place;
-                  part = l.2;
+                  part = l.3;
                   is = record {
                     constraints = a.t.constraints;
                     assignment = a.t.assignment;
-                    found = ap (λ x. slice_get ts x) l.6 ∙ a.there ∙ ap (λ x. Some (record { kind = x; constraints = a.t.constraints; default = a.t.default; place = a.t.place; assignment = a.t.assignment })) l.3 ∙ ap (λ x. Some (record { kind = members l.0 l.1; constraints = a.t.constraints; default = x; place = a.t.place; assignment = a.t.assignment })) (sym dd);
+                    found = ap (λ x. slice_get ts x) l.7 ∙ a.there ∙ ap (λ x. Some (record { kind = x; constraints = a.t.constraints; default = a.t.default; place = a.t.place; assignment = a.t.assignment })) l.4 ∙ ap (λ x. Some (record { kind = members l.0 l.1 l.2; constraints = a.t.constraints; default = x; place = a.t.place; assignment = a.t.assignment })) (sym dd);
                   };
-                  there = ap (λ x. slice_get l.1 x) l.7 ∙ l.4;
+                  there = ap (λ x. slice_get l.2 x) l.8 ∙ l.5;
                   type_is = ty;
                 })
           ]

@@ -4,16 +4,17 @@ use Rattle.std.specs.Prelude.{slice_get}
 use Rattle.std.proofs.lemmas.Option.{slice_get_within}
 use Rattle.trees.specs.Values.{Name}
 use Rattle.trees.specs.declared.module.TagDefault.{TagDefault}
-use Rattle.trees.specs.Types.{TypeTree, TypeMembers, no_member, member_and, a_boolean, an_integer, an_octet_string, type_reference, a_sequence, a_null, an_object_identifier, a_utf8_string, a_numeric_string, a_printable_string, an_ia5_string, a_visible_string, a_named_integer, a_bit_string, an_enumerated, a_set, a_choice, a_sequence_of, a_set_of, a_tagged, a_constrained}
+use Rattle.trees.specs.Types.{TypeTree, a_type, FormTree, a_simple, a_reference, a_list, an_elements, a_tagged, TypeMembers, no_member, member_and}
 use Rattle.names.specs.declared.fault.NameFault.{NameFault}
 use Rattle.names.specs.declared.fault.NameFault.TheVariants as faults
 use Rattle.names.specs.declared.fault.Limit.TheVariants as limits
 use Rattle.type_table.specs.Faults.{HasUnknown, IsCircularAt, IsTableFault}
+use Rattle.names.specs.Faults.{module_told, name_told}
 use Rattle.names.specs.Names.{Module, IsApart}
 use Rattle.names.specs.Sources.{Source}
-use Rattle.type_table.specs.Numbering.{member_sources, parts_of, all_parts, IsKind, RefersToNothing, AreNumbered, Occurs, directly, inside}
+use Rattle.type_table.specs.Numbering.{form_of, member_sources, parts_of, all_parts, IsKind, RefersToNothing, AreNumbered, Occurs, directly, inside}
 use Rattle.type_table.specs.Table.{Type', Kind, AllUnfold, IsCircular}
-use Rattle.names.specs.Distinct.{left, at_all}
+use Rattle.names.specs.proving.Distinct.{left, at_all}
 use Rattle.type_table.proofs.Numbered.{at, part_there, as_long}
 use Rattle.type_table.proofs.Once.{one_table}
 use Rattle.type_table.proofs.Queue.{parts_of_one}
@@ -34,58 +35,26 @@ like_itself xs k s e = record { source = s; there = e; tree = refl; assignment =
 
 members_like : (a i j n : ℕ) (ms : TypeMembers) (k : ℕ) (s : Source) → slice_get (member_sources a i n ms) k ≡ Some s → Like (member_sources a j n ms) k s
 members_like a i j n no_member k s e = absurd cc
-members_like a i j n (member_and x t o ms) zero s e =
+members_like a i j n (member_and x t o g ms) zero s e =
     let q = some_same (record { tree = t; assignment = a; place = Some (i, n) }) s e in
     record { source = record { tree = t; assignment = a; place = Some (j, n) }; there = refl; tree = ap (λ z. z.tree) q; assignment = ap (λ z. z.assignment) q }
-members_like a i j n (member_and x t o ms) (suc k) s e =
+members_like a i j n (member_and x t o g ms) (suc k) s e =
     let r = members_like a i j (suc n) ms k s e in
     record { source = r.source; there = r.there; tree = r.tree; assignment = r.assignment }
 
 -- the parts of a type, whatever its number is
 parts_like : (a i j : ℕ) (t : TypeTree) (k : ℕ) (s : Source) → slice_get (parts_of a i t) k ≡ Some s → Like (parts_of a j t) k s
-parts_like a i j (a_sequence ms) k s e = members_like a i j 0 ms k s e
-parts_like a i j (a_set ms) k s e = members_like a i j 0 ms k s e
-parts_like a i j (a_choice ms) k s e = members_like a i j 0 ms k s e
-parts_like a i j (a_sequence_of z t) k s e = like_itself _ k s e
-parts_like a i j (a_set_of z t) k s e = like_itself _ k s e
-parts_like a i j (a_tagged g w t) k s e = like_itself _ k s e
-parts_like a i j (a_constrained t cs) k s e = parts_like a i j t k s e
-parts_like a i j a_boolean k s e = like_itself [] k s e
-parts_like a i j an_integer k s e = like_itself [] k s e
-parts_like a i j an_octet_string k s e = like_itself [] k s e
-parts_like a i j a_null k s e = like_itself [] k s e
-parts_like a i j an_object_identifier k s e = like_itself [] k s e
-parts_like a i j a_utf8_string k s e = like_itself [] k s e
-parts_like a i j a_numeric_string k s e = like_itself [] k s e
-parts_like a i j a_printable_string k s e = like_itself [] k s e
-parts_like a i j an_ia5_string k s e = like_itself [] k s e
-parts_like a i j a_visible_string k s e = like_itself [] k s e
-parts_like a i j (a_named_integer ns) k s e = like_itself [] k s e
-parts_like a i j (a_bit_string bs) k s e = like_itself [] k s e
-parts_like a i j (an_enumerated is) k s e = like_itself [] k s e
-parts_like a i j (type_reference N x) k s e = like_itself [] k s e
+parts_like a i j (a_type (a_simple p) cs) k s e = like_itself [] k s e
+parts_like a i j (a_type (a_reference N x) cs) k s e = like_itself [] k s e
+parts_like a i j (a_type (a_list l m us) cs) k s e = members_like a i j 0 us k s e
+parts_like a i j (a_type (an_elements z t) cs) k s e = like_itself _ k s e
+parts_like a i j (a_type (a_tagged g w t) cs) k s e = like_itself _ k s e
 
-nothing_not : (ms : List (Name × Module)) (M : Name) (n : ℕ) (t : TypeTree) (k : Kind) (x : Name) → IsKind ms M n t k → RefersToNothing ms M t x → ⊥
-nothing_not ms M n (type_reference N y) k x a u = u.1 a.0 a.1
-nothing_not ms M n (a_constrained t cs) k x a u = nothing_not ms M n t k x a u
-nothing_not ms M n a_boolean k x a u = u
-nothing_not ms M n an_integer k x a u = u
-nothing_not ms M n an_octet_string k x a u = u
-nothing_not ms M n a_null k x a u = u
-nothing_not ms M n an_object_identifier k x a u = u
-nothing_not ms M n a_utf8_string k x a u = u
-nothing_not ms M n a_numeric_string k x a u = u
-nothing_not ms M n a_printable_string k x a u = u
-nothing_not ms M n an_ia5_string k x a u = u
-nothing_not ms M n a_visible_string k x a u = u
-nothing_not ms M n (a_named_integer ns) k x a u = u
-nothing_not ms M n (a_bit_string bs) k x a u = u
-nothing_not ms M n (an_enumerated is) k x a u = u
-nothing_not ms M n (a_sequence us) k x a u = u
-nothing_not ms M n (a_set us) k x a u = u
-nothing_not ms M n (a_choice us) k x a u = u
-nothing_not ms M n (a_sequence_of s t) k x a u = u
-nothing_not ms M n (a_set_of s t) k x a u = u
+nothing_not : (ms : List (Name × Module)) (M : Name) (n : ℕ) (f : FormTree) (k : Kind) (x : Name) → IsKind ms M n f k → RefersToNothing ms M f x → ⊥
+nothing_not ms M n (a_simple p) k x a u = u
+nothing_not ms M n (a_reference N y) k x a u = u.1 a.0 a.1
+nothing_not ms M n (a_list l m us) k x a u = u
+nothing_not ms M n (an_elements e t) k x a u = u
 nothing_not ms M n (a_tagged g w t) k x a u = u
 
 module _ (ms : List (Name × Module)) (hs : List (Name × TagDefault)) (gs : List (ℕ × Name)) (roots : List Source) (ts : List Type') (all : AreNumbered ms hs gs roots ts) where
@@ -120,7 +89,7 @@ module _ (ms : List (Name × Module)) (hs : List (Name × TagDefault)) (gs : Lis
       let top = here.top in
       let o : top.owner ≡ u.owner = ap (λ z. z.0) (some_same (top.owner, top.assigns) (u.owner, u.assigns) (sym top.assigned ∙ ap (λ k. slice_get gs k) r.assignment ∙ u.assigned)) in
       let h : top.within ≡ M = ap (λ z. z.0) (some_same (top.within, here.t.default) (M, u.default) (sym top.header ∙ ap (λ k. slice_get hs k) o ∙ u.header)) in
-      nothing_not ms M (length roots + here.first) u.tree here.t.kind x (subst (λ z. IsKind ms M (length roots + here.first) z here.t.kind) r.tree (subst (λ z. IsKind ms z (length roots + here.first) r.source.tree here.t.kind) h top.kind)) u.unknown
+      nothing_not ms M (length roots + here.first) (form_of u.tree) here.t.kind x (subst (λ z. IsKind ms M (length roots + here.first) (form_of z) here.t.kind) r.tree (subst (λ z. IsKind ms z (length roots + here.first) (form_of r.source.tree) here.t.kind) h top.kind)) u.unknown
 
   circular_not : IsApart ms → AllUnfold ts → (M x : Name) → IsCircularAt ms hs gs roots M x → ⊥
   circular_not apart unfolds M x c =
@@ -131,15 +100,15 @@ module _ (ms : List (Name × Module)) (hs : List (Name × TagDefault)) (gs : Lis
 
   pub table_exclude : IsApart ms → length ts ≤ 65536 → AllUnfold ts → (e : NameFault) → (e ≡ faults.Memory → ⊥) → IsTableFault ms hs gs roots e → ⊥
   table_exclude apart few unfolds faults.Memory n f = n refl
-  table_exclude apart few unfolds (faults.UnknownName m y) n f = unknown_not (string_bytes m) (string_bytes y) f
-  table_exclude apart few unfolds (faults.Circular m y) n f = circular_not apart unfolds (string_bytes m) (string_bytes y) f
-  table_exclude apart few unfolds (faults.Limit limits.Types m y) n f = let g = f.more all.sources all.all in let w = slice_get_within all.sources 65536 g.0 g.1 in let l = as_long ms hs gs roots ts all in absurd (omega (arith, w, l, few))
-  table_exclude apart few unfolds (faults.Limit limits.Modules m y) n f = f
-  table_exclude apart few unfolds (faults.Limit limits.Values m y) n f = f
-  table_exclude apart few unfolds (faults.Limit limits.Members m y) n f = f
-  table_exclude apart few unfolds (faults.Limit limits.Items m y) n f = f
-  table_exclude apart few unfolds (faults.Limit limits.NamedBit m y) n f = f
-  table_exclude apart few unfolds (faults.Limit limits.Integer m y) n f = f
-  table_exclude apart few unfolds (faults.Twice m y) n f = f
-  table_exclude apart few unfolds (faults.NotExported m y) n f = f
-  table_exclude apart few unfolds (faults.UnknownModule m y) n f = f
+  table_exclude apart few unfolds (faults.UnknownName z) n f = unknown_not (module_told z) (name_told z) f
+  table_exclude apart few unfolds (faults.Circular z) n f = circular_not apart unfolds (module_told z) (name_told z) f
+  table_exclude apart few unfolds (faults.Limit limits.Types z) n f = let g = f.more all.sources all.all in let w = slice_get_within all.sources 65536 g.0 g.1 in let l = as_long ms hs gs roots ts all in absurd (omega (arith, w, l, few))
+  table_exclude apart few unfolds (faults.Limit limits.Modules z) n f = f
+  table_exclude apart few unfolds (faults.Limit limits.Values z) n f = f
+  table_exclude apart few unfolds (faults.Limit limits.Members z) n f = f
+  table_exclude apart few unfolds (faults.Limit limits.Items z) n f = f
+  table_exclude apart few unfolds (faults.Limit limits.NamedBit z) n f = f
+  table_exclude apart few unfolds (faults.Limit limits.Integer z) n f = f
+  table_exclude apart few unfolds (faults.Twice z) n f = f
+  table_exclude apart few unfolds (faults.NotExported z) n f = f
+  table_exclude apart few unfolds (faults.UnknownModule z) n f = f

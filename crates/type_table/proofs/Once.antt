@@ -3,29 +3,29 @@ use Rattle.std.proofs.Common.{◌≡◌, ℕ, suc, ◌+◌, ◌<◌, ◌≤◌, 
 use Rattle.std.specs.Prelude.{slice_get, Option}
 use Rattle.trees.specs.Values.{Name}
 use Rattle.trees.specs.declared.module.TagDefault.{TagDefault}
-use Rattle.trees.specs.Types.{TypeTree, TypeMembers, no_member, member_and, a_boolean, an_integer, an_octet_string, type_reference, a_sequence, a_null, an_object_identifier, a_utf8_string, a_numeric_string, a_printable_string, an_ia5_string, a_visible_string, a_named_integer, a_bit_string, an_enumerated, a_set, a_choice, a_sequence_of, a_set_of, a_tagged, a_constrained}
+use Rattle.trees.specs.Types.{TypeTree, a_type, FormTree, a_simple, a_reference, a_list, an_elements, a_tagged, TypeMembers, no_member, member_and}
 use Rattle.names.specs.declared.scope.Assigned.TheVariants as assigned
 use Rattle.names.specs.Names.{Module, IsApart, Refers}
 use Rattle.names.specs.Sources.{Source}
-use Rattle.type_table.specs.Numbering.{member_sources, parts_of, all_parts, IsKind, IsTop, AreTops, AreNumbered}
+use Rattle.type_table.specs.Numbering.{form_of, member_sources, parts_of, all_parts, IsKind, IsTop, AreTops, AreNumbered}
 use Rattle.type_table.specs.Table.{Type', Kind, reference}
-use Rattle.names.specs.Meanings.{meaning_found, refers_meaning}
+use Rattle.names.specs.proving.Meanings.{meaning_found, refers_meaning}
 
 -- how many types a type is written with
 abbrev mutual
   weight : TypeTree → ℕ
-  weight (a_sequence ms) = suc (weights ms)
-  weight (a_set ms) = suc (weights ms)
-  weight (a_choice ms) = suc (weights ms)
-  weight (a_sequence_of s t) = suc (weight t)
-  weight (a_set_of s t) = suc (weight t)
-  weight (a_tagged g w t) = suc (weight t)
-  weight (a_constrained t cs) = suc (weight t)
-  weight t = 1
+  weight (a_type f cs) = form_weight f
+
+  form_weight : FormTree → ℕ
+  form_weight (a_simple p) = 1
+  form_weight (a_reference N x) = 1
+  form_weight (a_list l m us) = suc (weights us)
+  form_weight (an_elements e t) = suc (weight t)
+  form_weight (a_tagged g w t) = suc (weight t)
 
   weights : TypeMembers → ℕ
   weights no_member = 0
-  weights (member_and x t o ms) = weight t + weights ms
+  weights (member_and x t o g us) = weight t + weights us
 
 abbrev total : List Source → ℕ
 total [] = 0
@@ -37,31 +37,15 @@ total_append (x ∷ xs) ys = omega (arith, total_append xs ys)
 
 members_total : (a i n : ℕ) (ms : TypeMembers) → total (member_sources a i n ms) ≡ weights ms
 members_total a i n no_member = refl
-members_total a i n (member_and x t o ms) = omega (arith, members_total a i (suc n) ms)
+members_total a i n (member_and x t o g ms) = omega (arith, members_total a i (suc n) ms)
 
 -- parts are lighter than what they are parts of
 parts_less : (a i : ℕ) (t : TypeTree) → total (parts_of a i t) < weight t
-parts_less a i (a_sequence ms) = omega (arith, members_total a i 0 ms)
-parts_less a i (a_set ms) = omega (arith, members_total a i 0 ms)
-parts_less a i (a_choice ms) = omega (arith, members_total a i 0 ms)
-parts_less a i (a_sequence_of s t) = omega arith
-parts_less a i (a_set_of s t) = omega arith
-parts_less a i (a_tagged g w t) = omega arith
-parts_less a i (a_constrained t cs) = omega (arith, parts_less a i t)
-parts_less a i a_boolean = omega arith
-parts_less a i an_integer = omega arith
-parts_less a i an_octet_string = omega arith
-parts_less a i a_null = omega arith
-parts_less a i an_object_identifier = omega arith
-parts_less a i a_utf8_string = omega arith
-parts_less a i a_numeric_string = omega arith
-parts_less a i a_printable_string = omega arith
-parts_less a i an_ia5_string = omega arith
-parts_less a i a_visible_string = omega arith
-parts_less a i (a_named_integer ns) = omega arith
-parts_less a i (a_bit_string bs) = omega arith
-parts_less a i (an_enumerated is) = omega arith
-parts_less a i (type_reference N x) = omega arith
+parts_less a i (a_type (a_simple p) cs) = omega arith
+parts_less a i (a_type (a_reference N x) cs) = omega arith
+parts_less a i (a_type (a_list l m us) cs) = omega (arith, members_total a i 0 us)
+parts_less a i (a_type (an_elements e t) cs) = omega arith
+parts_less a i (a_type (a_tagged g w t) cs) = omega arith
 
 all_less : (i : ℕ) (ss : List Source) → total (all_parts i ss) ≤ total ss
 all_less i [] = omega arith
@@ -98,28 +82,12 @@ module _ (ms : List (Name × Module)) (apart : IsApart ms) where
       let e : Some (assigned.Type i) ≡ Some (assigned.Type j) = sym (meaning_found ms M x (assigned.Type i) apart (refers_meaning ms M x N (assigned.Type i) r)) ∙ meaning_found ms M x (assigned.Type j) apart (refers_meaning ms M x N (assigned.Type j) q) in
       cc
 
-  one_kind : (M : Name) (n : ℕ) (t : TypeTree) (k l : Kind) → IsKind ms M n t k → IsKind ms M n t l → k ≡ l
-  one_kind M n a_boolean k l a b = a ∙ sym b
-  one_kind M n an_integer k l a b = a ∙ sym b
-  one_kind M n an_octet_string k l a b = a ∙ sym b
-  one_kind M n a_null k l a b = a ∙ sym b
-  one_kind M n an_object_identifier k l a b = a ∙ sym b
-  one_kind M n a_utf8_string k l a b = a ∙ sym b
-  one_kind M n a_numeric_string k l a b = a ∙ sym b
-  one_kind M n a_printable_string k l a b = a ∙ sym b
-  one_kind M n an_ia5_string k l a b = a ∙ sym b
-  one_kind M n a_visible_string k l a b = a ∙ sym b
-  one_kind M n (a_named_integer ns) k l a b = a ∙ sym b
-  one_kind M n (a_bit_string bs) k l a b = a ∙ sym b
-  one_kind M n (an_enumerated is) k l a b = a ∙ sym b
-  one_kind M n (type_reference N x) k l a b = a.2 ∙ ap reference (one_reference M x N a.0 b.0 a.1 b.1) ∙ sym b.2
-  one_kind M n (a_sequence us) k l a b = a ∙ sym b
-  one_kind M n (a_set us) k l a b = a ∙ sym b
-  one_kind M n (a_choice us) k l a b = a ∙ sym b
-  one_kind M n (a_sequence_of s t) k l a b = a ∙ sym b
-  one_kind M n (a_set_of s t) k l a b = a ∙ sym b
+  one_kind : (M : Name) (n : ℕ) (f : FormTree) (k l : Kind) → IsKind ms M n f k → IsKind ms M n f l → k ≡ l
+  one_kind M n (a_simple p) k l a b = a ∙ sym b
+  one_kind M n (a_reference N x) k l a b = a.2 ∙ ap reference (one_reference M x N a.0 b.0 a.1 b.1) ∙ sym b.2
+  one_kind M n (a_list y m us) k l a b = a ∙ sym b
+  one_kind M n (an_elements e t) k l a b = a ∙ sym b
   one_kind M n (a_tagged g w t) k l a b = a ∙ sym b
-  one_kind M n (a_constrained t cs) k l a b = one_kind M n t k l a b
 
   module _ (hs : List (Name × TagDefault)) (gs : List (ℕ × Name)) where
     one_top : (n : ℕ) (s : Source) (t u : Type') → IsTop ms hs gs n s t → IsTop ms hs gs n s u → t ≡ u
@@ -128,7 +96,7 @@ module _ (ms : List (Name × Module)) (apart : IsApart ms) where
         let h = some_same (a.within, t.default) (b.within, u.default) (sym a.header ∙ ap (λ k. slice_get hs k) o ∙ b.header) in
         let m : a.within ≡ b.within = ap (λ z. z.0) h in
         let d : t.default ≡ u.default = ap (λ z. z.1) h in
-        let k : t.kind ≡ u.kind = one_kind b.within n s.tree t.kind u.kind (subst (λ z. IsKind ms z n s.tree t.kind) m a.kind) b.kind in
+        let k : t.kind ≡ u.kind = one_kind b.within n (form_of s.tree) t.kind u.kind (subst (λ z. IsKind ms z n (form_of s.tree) t.kind) m a.kind) b.kind in
         let c : t.constraints ≡ u.constraints = a.constraints ∙ sym b.constraints in
         let p : t.place ≡ u.place = a.place ∙ sym b.place in
         let g : t.assignment ≡ u.assignment = a.assignment ∙ sym b.assignment in

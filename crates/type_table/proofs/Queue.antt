@@ -4,7 +4,7 @@ use Rattle.std.specs.Prelude.{slice_get}
 use Rattle.std.specs.List.{AllByRecursion}
 use Rattle.trees.specs.Values.{Name}
 use Rattle.trees.specs.declared.module.TagDefault.{TagDefault}
-use Rattle.trees.specs.Types.{TypeTree, TypeMembers, no_member, member_and, a_boolean, an_integer, an_octet_string, type_reference, a_sequence, a_null, an_object_identifier, a_utf8_string, a_numeric_string, a_printable_string, an_ia5_string, a_visible_string, a_named_integer, a_bit_string, an_enumerated, a_set, a_choice, a_sequence_of, a_set_of, a_tagged, a_constrained}
+use Rattle.trees.specs.Types.{TypeTree, a_type, FormTree, a_simple, a_reference, a_list, an_elements, a_tagged, TypeMembers, no_member, member_and}
 use Rattle.names.specs.declared.fault.NameFault.{NameFault}
 use Rattle.names.specs.declared.fault.NameFault.TheVariants as faults
 use Rattle.names.specs.declared.fault.Limit.TheVariants as limits
@@ -12,8 +12,9 @@ use Rattle.names.specs.Names.{Module}
 use Rattle.type_table.specs.Table.{Type'}
 use Rattle.names.specs.Sources.{Source, AllAssigned}
 use Rattle.type_table.specs.Numbering.{parts_of, member_sources, all_parts, IsTop, AreTops, AreNumbered, Occurs, directly, inside, AreMore}
-use Rattle.type_table.specs.Faults.{IsSourceFault, IsNumberingFault}
-use Rattle.names.specs.Distinct.{at_all, left, right}
+use Rattle.type_table.specs.Faults.{IsNumberingFault}
+use Rattle.type_table.specs.proving.Checks.{IsSourceFault}
+use Rattle.names.specs.proving.Distinct.{left, right, at_all}
 
 -- every type that still waits stands in an assignment
 abbrev AllOccur : List Source → List Source → Type 0
@@ -44,31 +45,15 @@ all_both P (x ∷ xs) ys a b = (a.0, all_both P xs ys a.1 b)
 
 members_of_one : (Q : ℕ → Type 0) (a i n : ℕ) (ms : TypeMembers) → Q a → AllByRecursion (λ s. Q s.assignment) (member_sources a i n ms)
 members_of_one Q a i n no_member q = tt
-members_of_one Q a i n (member_and x t o ms) q = (q, members_of_one Q a i (suc n) ms q)
+members_of_one Q a i n (member_and x t o g ms) q = (q, members_of_one Q a i (suc n) ms q)
 
 -- the parts of a type stand in its assignment
 pub parts_of_one : (Q : ℕ → Type 0) (a i : ℕ) (t : TypeTree) → Q a → AllByRecursion (λ s. Q s.assignment) (parts_of a i t)
-parts_of_one Q a i (a_sequence ms) q = members_of_one Q a i 0 ms q
-parts_of_one Q a i (a_set ms) q = members_of_one Q a i 0 ms q
-parts_of_one Q a i (a_choice ms) q = members_of_one Q a i 0 ms q
-parts_of_one Q a i (a_sequence_of s t) q = (q, tt)
-parts_of_one Q a i (a_set_of s t) q = (q, tt)
-parts_of_one Q a i (a_tagged g w t) q = (q, tt)
-parts_of_one Q a i (a_constrained t cs) q = parts_of_one Q a i t q
-parts_of_one Q a i a_boolean q = tt
-parts_of_one Q a i an_integer q = tt
-parts_of_one Q a i an_octet_string q = tt
-parts_of_one Q a i a_null q = tt
-parts_of_one Q a i an_object_identifier q = tt
-parts_of_one Q a i a_utf8_string q = tt
-parts_of_one Q a i a_numeric_string q = tt
-parts_of_one Q a i a_printable_string q = tt
-parts_of_one Q a i an_ia5_string q = tt
-parts_of_one Q a i a_visible_string q = tt
-parts_of_one Q a i (a_named_integer ns) q = tt
-parts_of_one Q a i (a_bit_string bs) q = tt
-parts_of_one Q a i (an_enumerated is) q = tt
-parts_of_one Q a i (type_reference N x) q = tt
+parts_of_one Q a i (a_type (a_simple p) cs) q = tt
+parts_of_one Q a i (a_type (a_reference N x) cs) q = tt
+parts_of_one Q a i (a_type (a_list l m us) cs) q = members_of_one Q a i 0 us q
+parts_of_one Q a i (a_type (an_elements e t) cs) q = (q, tt)
+parts_of_one Q a i (a_type (a_tagged g w t) cs) q = (q, tt)
 
 pub all_append : (i : ℕ) (xs ys : List Source) → all_parts i (xs ++ ys) ≡ all_parts i xs ++ all_parts (i + length xs) ys
 all_append i [] ys = let e : i + 0 ≡ i = omega arith in ap (λ k. all_parts k ys) (sym e)
@@ -172,15 +157,15 @@ module _ (ms : List (Name × Module)) (hs : List (Name × TagDefault)) (gs : Lis
 
   pub halfway_fault : (roots : List Source) (ts : List Type') (s : Source) (rest : List Source) (k : ℕ) (e : NameFault) → IsHalfway ms hs gs roots ts (s ∷ rest) k → k + 1 + length rest ≤ 65536 → IsSourceFault ms hs gs k (k + 1 + length rest) s e → IsNumberingFault ms hs gs roots e
   halfway_fault roots ts s rest k faults.Memory h w f = tt
-  halfway_fault roots ts s rest k (faults.UnknownName m y) h w f = record { assignment = s.assignment; owner = f.0; assigns = f.1; default = f.2; tree = s.tree; occurs = h.occur.0; assigned = f.3; header = f.4; unknown = f.5 }
-  halfway_fault roots ts s rest k (faults.Limit limits.Types m y) h w f = record { assignment = s.assignment; owner = f.0; default = f.1; more = more_than roots ts s rest k h w f.4; assigned = f.2; header = f.3 }
-  halfway_fault roots ts s rest k (faults.Limit limits.Modules m y) h w f = absurd f
-  halfway_fault roots ts s rest k (faults.Limit limits.Values m y) h w f = absurd f
-  halfway_fault roots ts s rest k (faults.Limit limits.Members m y) h w f = absurd f
-  halfway_fault roots ts s rest k (faults.Limit limits.Items m y) h w f = absurd f
-  halfway_fault roots ts s rest k (faults.Limit limits.NamedBit m y) h w f = absurd f
-  halfway_fault roots ts s rest k (faults.Limit limits.Integer m y) h w f = absurd f
-  halfway_fault roots ts s rest k (faults.Twice m y) h w f = absurd f
-  halfway_fault roots ts s rest k (faults.NotExported m y) h w f = absurd f
-  halfway_fault roots ts s rest k (faults.Circular m y) h w f = absurd f
-  halfway_fault roots ts s rest k (faults.UnknownModule m y) h w f = absurd f
+  halfway_fault roots ts s rest k (faults.UnknownName z) h w f = record { assignment = s.assignment; owner = f.0; assigns = f.1; default = f.2; tree = s.tree; occurs = h.occur.0; assigned = f.3; header = f.4; unknown = f.5 }
+  halfway_fault roots ts s rest k (faults.Limit limits.Types z) h w f = record { assignment = s.assignment; owner = f.0; default = f.1; more = more_than roots ts s rest k h w f.4; assigned = f.2; header = f.3 }
+  halfway_fault roots ts s rest k (faults.Limit limits.Modules z) h w f = absurd f
+  halfway_fault roots ts s rest k (faults.Limit limits.Values z) h w f = absurd f
+  halfway_fault roots ts s rest k (faults.Limit limits.Members z) h w f = absurd f
+  halfway_fault roots ts s rest k (faults.Limit limits.Items z) h w f = absurd f
+  halfway_fault roots ts s rest k (faults.Limit limits.NamedBit z) h w f = absurd f
+  halfway_fault roots ts s rest k (faults.Limit limits.Integer z) h w f = absurd f
+  halfway_fault roots ts s rest k (faults.Twice z) h w f = absurd f
+  halfway_fault roots ts s rest k (faults.NotExported z) h w f = absurd f
+  halfway_fault roots ts s rest k (faults.Circular z) h w f = absurd f
+  halfway_fault roots ts s rest k (faults.UnknownModule z) h w f = absurd f

@@ -1,17 +1,17 @@
 -- What ranks say of circles.
 use Rattle.std.proofs.Common.{◌≡◌, ◌⊎◌, inl, inr, ℕ, zero, suc, ◌+◌, ◌<◌, ◌≤◌, List, [], ◌∷◌, length, map, Some, None, refl, sym, subst, ap, ◌∙◌, get_or, arith}
-use Rattle.std.specs.Prelude.{slice_get, slice_index}
+use Rattle.std.specs.Prelude.{slice_get, slice_index, Bool}
 use Rattle.std.proofs.lemmas.Option.{slice_get_within}
 use Rattle.type_table.specs.declared.table.Component.{Component}
-use Rattle.type_table.specs.declared.table.ListKind.{ListKind}
+use Rattle.trees.specs.declared.types.ListKind.{ListKind}
 use Rattle.names.specs.Modules.{StandsIn}
-use Rattle.type_table.specs.Ranks.{parts, AreFrom, Rise, DefaultsAbove}
-use Rattle.type_table.specs.Reach.{HasDefault, IsDefaulted}
+use Rattle.type_table.specs.proving.Ranks.{parts, AreFrom, Rise, DefaultsAbove}
+use Rattle.type_table.specs.proving.Reach.{HasDefault, IsDefaulted}
 use Rattle.type_table.specs.Seen.{part_of}
 use Rattle.type_table.specs.Circles.{IsPart, referred, behind_tag, member, element, Reaches, itself, onward, IsDefaultCircle}
 use Rattle.type_table.specs.Table.{Part, Kind, simple, reference, tagged, members, elements, Type'}
 use Rattle.type_table.proofs.Circling.{leads_of_circle}
-use Rattle.names.specs.Distinct.{stands_map as map_get, item_at}
+use Rattle.names.specs.proving.Distinct.{stands_map as map_get, item_at}
 use Rattle.type_table.proofs.Marking.{IsDefaultedBelow, last_or}
 
 -- what is a part is among the parts
@@ -19,8 +19,8 @@ pub among : (j : ℕ) (k : Kind) → IsPart j k → StandsIn (parts k) j
 among j (simple p) h = elim h [ ]
 among j (reference k) referred = (0, refl)
 among j (tagged t w k) behind_tag = (0, refl)
-among j (members l cs) (member n c e q) = (n, map_get (λ (c : Part). c.ty) cs n c e ∙ ap Some q)
-among j (elements e s k) element = (0, refl)
+among j (members l m cs) (member n c e q) = (n, map_get (λ (c : Part). c.ty) cs n c e ∙ ap Some q)
+among j (elements e k) element = (0, refl)
 
 pub from_all : (r : ℕ) (ranks : List ℕ) (k : Kind) → ((n j : ℕ) → n < length (parts k) → slice_get (parts k) n ≡ Some j → r ≤ slice_index ranks j) → AreFrom r ranks k
 from_all r ranks k all j h = let s = among j k h in all s.0 j (slice_get_within (parts k) s.0 j s.1) s.1
@@ -57,10 +57,10 @@ reaches_up ts ranks i j rise (onward k t e p r) =
     omega (arith, a, b)
 
 -- a list whose components with a DEFAULT have higher ranks is in no circle
-pub no_circle : (ts : List Type') (ranks : List ℕ) (i : ℕ) (t : Type') (l : ListKind) (cs : List Part) → Rise ts ranks → slice_get ts i ≡ Some t → t.kind ≡ members l cs →
+pub no_circle : (ts : List Type') (ranks : List ℕ) (i : ℕ) (t : Type') (l : ListKind) (m : Bool) (cs : List Part) → Rise ts ranks → slice_get ts i ≡ Some t → t.kind ≡ members l m cs →
     DefaultsAbove (slice_index ranks i) ranks cs → IsDefaultCircle ts i → ⊥
-no_circle ts ranks i t l cs rise e k above h =
-    let d = leads_of_circle ts i t l cs e k h in
+no_circle ts ranks i t l m cs rise e k above h =
+    let d = leads_of_circle ts i t l m cs e k h in
     let a = above d.from d.defaulted in
     let b = reaches_up ts ranks d.from i rise d.reaches in
     absurd (omega (arith, a, b))

@@ -1,33 +1,41 @@
 -- Components with a DEFAULT whose types lead back to the lists that hold them (X.680, clause 25.7).
-use Rattle.std.specs.Prelude.{◌≡◌, ℕ, List, Option, Some, slice_get}
+use Rattle.std.specs.Prelude.{◌≡◌, ℕ, Bool, List, Some, slice_get}
 use Rattle.asn_base.specs.declared.tag.Tag.{Tag}
 use Rattle.trees.specs.Values.{Tree}
-use Rattle.trees.specs.Constraints.{RangeTree}
+use Rattle.trees.specs.declared.types.ListKind.{ListKind}
+use Rattle.trees.specs.declared.types.ElementsKind.{ElementsKind}
 use Rattle.trees.specs.declared.types.Keyword.{Keyword}
 use Rattle.trees.specs.Types.{default}
-use Rattle.type_table.specs.declared.table.ListKind.{ListKind}
-use Rattle.type_table.specs.declared.table.ElementsKind.{ElementsKind}
 use Rattle.type_table.specs.Table.{Part, Kind, reference, tagged, members, elements, Type'}
 
 -- type k stands directly in a type, or is the one that a reference there stands for
 pub data IsPart (k : ℕ) : Kind → Type 0 where
   referred : IsPart k (reference k)
   behind_tag : {g : Tag} {w : Keyword} → IsPart k (tagged g w k)
-  member : {l : ListKind} {cs : List Part} (n : ℕ) (c : Part) → slice_get cs n ≡ Some c → c.ty ≡ k → IsPart k (members l cs)
-  element : {e : ElementsKind} {s : Option (List RangeTree)} → IsPart k (elements e s k)
+  member : {l : ListKind} {m : Bool} {cs : List Part} (n : ℕ) (c : Part) →
+      slice_get cs n ≡ Some c →
+      c.ty ≡ k →
+      IsPart k (members l m cs)
+  element : {e : ElementsKind} → IsPart k (elements e k)
 
 -- type j is type i, or stands in it at any depth, through references too
 pub data Reaches (ts : List Type') : ℕ → ℕ → Type 0 where
   itself : {i : ℕ} → Reaches ts i i
-  onward : {i j : ℕ} (k : ℕ) (t : Type') → slice_get ts i ≡ Some t → IsPart k t.kind → Reaches ts k j → Reaches ts i j
+  onward : {i j : ℕ} (k : ℕ) (t : Type') →
+      slice_get ts i ≡ Some t →
+      IsPart k t.kind →
+      Reaches ts k j →
+      Reaches ts i j
 
--- a component with a DEFAULT has a type that leads back to the list, type i, that holds it: what the default is would depend on itself
+-- a component with a DEFAULT has a type that leads back to the list, type i, that holds it: what the default is would
+-- depend on itself
 pub record IsDefaultCircle (ts : List Type') (i : ℕ) : Type 0 where
   pub written : Type'
   pub there : slice_get ts i ≡ Some written
   pub list : ListKind
+  pub marker : Bool
   pub components : List Part
-  pub is : written.kind ≡ members list components
+  pub is : written.kind ≡ members list marker components
   pub number : ℕ
   pub component : Part
   pub held : slice_get components number ≡ Some component

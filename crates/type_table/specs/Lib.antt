@@ -1,12 +1,13 @@
+-- What has to be believed: written types by number and what they unfold to (`Table`), which number each type gets
+-- (`Numbering`), the numbers of items (`Items`), what lists have to keep (`Lists`), circles of defaults (`Circles`), what
+-- faults say (`Faults`, `ListFaults`), and how all that is seen in memory (`Seen`).
+-- What stands in `proving` only contracts inside the crates and proofs speak of.
 pub mod Table
-pub mod Cores
 pub mod Seen
 pub mod Numbering
-pub mod Faults
+pub mod Items
 pub mod Lists
-pub mod ListFaults
-pub mod Sets
 pub mod Circles
-pub mod Reach
-pub mod Ranks
-pub mod Tables
+pub mod Faults
+pub mod ListFaults
+pub mod proving

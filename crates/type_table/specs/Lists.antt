@@ -1,35 +1,65 @@
--- What the lists in written types have to keep (X.680, clauses 19.5, 20.3, 22.4, 25.7, 27.3 and 29.3).
-use Rattle.std.specs.Prelude.{◌≡◌, ◌≤◌, ℕ, zero, suc, Bool, true, false, ℤ, pos, negsuc, List, [], ◌∷◌, Option, Some, None, map, length, slice_get}
+-- What the lists in written types have to keep (X.680, clauses 19.5, 19.6, 20.3 to 20.6, 22.4, 25.7, 27.3 and 29.3), with
+-- this compiler's limits.
+use Rattle.std.specs.Prelude.{◌≡◌, ◌≤◌, ◌+◌, ℕ, ℤ, Some, List, [], ◌∷◌, ◌++◌, map, length, slice_get}
 use Rattle.asn_base.specs.Typed.{IsWithinLimit}
+use Rattle.trees.specs.declared.types.Standing.{Standing}
+use Rattle.trees.specs.declared.types.Standing.TheVariants.{Root, Addition}
 use Rattle.trees.specs.Values.{Name}
+use Rattle.trees.specs.Types.{Plain, an_integer, a_bit_string, an_enumerated}
 use Rattle.names.specs.Modules.{AreDistinct}
-use Rattle.type_table.specs.Table.{Plain, an_integer, a_bit_string, an_enumerated, Part, Kind, simple, members, Type'}
-
--- a number with its sign
-abbrev pub signed : Bool × ℕ → ℤ
-signed (false, n) = pos n
-signed (true, zero) = pos 0
-signed (true, suc n) = negsuc n
-
--- the numbers that are written behind items; the others get numbers that no item has
-abbrev pub given_numbers : List (Name × Option (Bool × ℕ)) → List ℤ
-given_numbers [] = []
-given_numbers ((x, None) ∷ is) = given_numbers is
-given_numbers ((x, Some n) ∷ is) = signed n ∷ given_numbers is
+use Rattle.type_table.specs.Items.{Item, additions_of, numbers_of}
+use Rattle.type_table.specs.Table.{Part, Kind, simple, members, Type'}
 
 abbrev pub AreWithinLimit : List ℤ → Type 0
 AreWithinLimit zs = (i : ℕ) (z : ℤ) → slice_get zs i ≡ Some z → IsWithinLimit z
 
+-- the names of root items and additions are distinct, and so are their numbers; no limit is passed
+pub record IsSoundEnumeration (root more : List Item) : Type 0 where
+  pub names : AreDistinct (map (λ i. i.0) (root ++ more))
+  pub numbers : AreDistinct (numbers_of root more)
+  pub within : AreWithinLimit (numbers_of root more)
+  pub root_few : length root ≤ 1024
+  pub more_few : length more ≤ 64
+
 -- the names of a list are distinct, and so are its numbers; no limit is passed
 abbrev pub IsSoundPlain : Plain → Type 0
-IsSoundPlain (an_integer ns) = AreDistinct (map (λ n. n.0) ns) × AreDistinct (map (λ n. signed n.1) ns) × AreWithinLimit (map (λ n. signed n.1) ns)
-IsSoundPlain (a_bit_string bs) = AreDistinct (map (λ b. b.0) bs) × AreDistinct (map (λ b. b.1) bs) × ((i : ℕ) (b : Name × ℕ) → slice_get bs i ≡ Some b → b.1 ≤ 65535)
-IsSoundPlain (an_enumerated is) = AreDistinct (map (λ i. i.0) is) × AreDistinct (given_numbers is) × AreWithinLimit (given_numbers is) × (length is ≤ 1024)
+IsSoundPlain (an_integer ns) = AreDistinct (map (λ n. n.0) ns) × AreDistinct (map (λ n. n.1) ns)
+IsSoundPlain (a_bit_string bs) =
+    AreDistinct (map (λ b. b.0) bs)
+    × AreDistinct (map (λ b. b.1) bs)
+    × ((i : ℕ) (b : Name × ℕ) → slice_get bs i ≡ Some b → b.1 ≤ 65535)
+IsSoundPlain (an_enumerated root more) = IsSoundEnumeration root (additions_of more)
 IsSoundPlain k = Unit {0}
+
+-- 1 for a member of the root
+abbrev pub in_root : Standing → ℕ
+in_root Root = 1
+in_root (Addition b) = 0
+
+-- 1 for an addition, in version brackets or not
+abbrev pub in_additions : Standing → ℕ
+in_additions Root = 0
+in_additions (Addition b) = 1
+
+-- how many members stand in the root
+abbrev pub root_count : List Part → ℕ
+root_count [] = 0
+root_count (c ∷ cs) = in_root c.standing + root_count cs
+
+-- how many are additions
+abbrev pub addition_count : List Part → ℕ
+addition_count [] = 0
+addition_count (c ∷ cs) = in_additions c.standing + addition_count cs
+
+-- the identifiers of root and additions are distinct; no limit is passed
+pub record IsSoundList (cs : List Part) : Type 0 where
+  pub names : AreDistinct (map (λ (c : Part). c.name) cs)
+  pub root_few : root_count cs ≤ 256
+  pub more_few : addition_count cs ≤ 64
 
 abbrev pub IsSoundKind : Kind → Type 0
 IsSoundKind (simple s) = IsSoundPlain s
-IsSoundKind (members l cs) = AreDistinct (map (λ (c : Part). c.name) cs) × (length cs ≤ 256)
+IsSoundKind (members l m cs) = IsSoundList cs
 IsSoundKind k = Unit {0}
 
 abbrev pub AreSound : List Type' → Type 0

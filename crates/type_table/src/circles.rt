@@ -4,8 +4,8 @@ ghost use Rattle.std.specs.Prelude.{ℕ, ◌≡◌, ◌<◌, ◌+◌, ◌↔◌,
 ghost use Rattle.type_table.specs.Seen.{types_of, part_of};
 ghost use Rattle.type_table.specs.Table.{IsClosed, HasMembers, HasElements};
 ghost use Rattle.type_table.specs.Circles.{IsDefaultCircle, NoDefaultCircles};
-ghost use Rattle.type_table.specs.Ranks.{Rise, DefaultsAbove};
-ghost use Rattle.type_table.specs.Reach.{HasParts, AreUpTo};
+ghost use Rattle.type_table.specs.proving.Ranks.{Rise, DefaultsAbove};
+ghost use Rattle.type_table.specs.proving.Reach.{HasParts, AreUpTo};
 
 use crate::ranking::ranks_of;
 use crate::ranks::{all_rise, defaults_rise, rank_at};
@@ -39,7 +39,7 @@ fn is_in_circle(
     ensures marks { OnOk result (AreUpTo (list + 1) marks.new) }
 {
     match &types[list].shape {
-        Shape::Members(_, components) => {
+        Shape::Members(_, _, components) => {
             if is_above(ranks, rise, list, components) {
                 return Ok(false);
             }

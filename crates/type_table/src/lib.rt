@@ -2,6 +2,7 @@
 #![tactic(auto)]
 
 pub mod circles;
+pub mod items;
 pub mod law;
 pub mod lists;
 pub mod number;
@@ -11,4 +12,5 @@ mod reach;
 pub mod table;
 pub mod unfolding;
 
-pub use table::{Component, ElementsKind, ListKind, Shape, Simple, Written};
+pub use items::{NumberFault, item_numbers};
+pub use table::{Component, Shape, Written};

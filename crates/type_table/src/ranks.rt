@@ -1,8 +1,8 @@
 //! Tests of ranks: they don't fall from a type to its parts, and rise at components with a DEFAULT.
 
 ghost use Rattle.std.specs.Prelude.{ℕ, ◌≡◌, ◌<◌, ◌≤◌, ◌∷◌, [], Some, length, map, slice_get, slice_index, IsTrue};
-ghost use Rattle.type_table.specs.Ranks.{parts, AreFrom, Rise, DefaultsAbove};
-ghost use Rattle.type_table.specs.Reach.{HasDefault};
+ghost use Rattle.type_table.specs.proving.Ranks.{parts, AreFrom, Rise, DefaultsAbove};
+ghost use Rattle.type_table.specs.proving.Reach.{HasDefault};
 ghost use Rattle.type_table.specs.Seen.{part_of, type_of, types_of};
 
 use crate::reach::has_default;
@@ -41,8 +41,8 @@ pub(crate) fn part(written: &Written, number: usize) -> Option<usize>
         Shape::Simple(_) => None,
         Shape::Reference(meant) => only(*meant, number),
         Shape::Tagged(_, _, inner) => only(*inner, number),
-        Shape::Members(_, components) => member_type(components, number),
-        Shape::Elements(_, _, element) => only(*element, number),
+        Shape::Members(_, _, components) => member_type(components, number),
+        Shape::Elements(_, element) => only(*element, number),
     }
 }
 
@@ -53,8 +53,8 @@ fn part_count(written: &Written) -> usize
         Shape::Simple(_) => 0,
         Shape::Reference(_) => 1,
         Shape::Tagged(_, _, _) => 1,
-        Shape::Members(_, components) => components.len(),
-        Shape::Elements(_, _, _) => 1,
+        Shape::Members(_, _, components) => components.len(),
+        Shape::Elements(_, _) => 1,
     }
 }
 

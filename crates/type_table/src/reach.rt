@@ -1,15 +1,15 @@
 //! Searches for what types lead to, through references, tags, members and elements.
 
-ghost use Rattle.std.specs.Prelude.{ℕ, ◌≡◌, ◌<◌, ◌≤◌, ◌↔◌, length, slice_get, map, IfOk, OnOk, IsTrue};
+ghost use Rattle.std.specs.Prelude.{ℕ, Bool, ◌≡◌, ◌<◌, ◌≤◌, ◌↔◌, length, slice_get, map, IfOk, OnOk, IsTrue};
 ghost use Rattle.names.specs.Modules.{StandsIn};
 ghost use Rattle.type_table.specs.Table.{Part, members};
 ghost use Rattle.type_table.specs.Seen.{part_of, type_of, types_of};
 ghost use Rattle.type_table.specs.Circles.{IsPart};
-ghost use Rattle.type_table.specs.Reach.{HasParts, HasDefault, IsDefaulted, LeadsTo, IsMarked, AreUpTo, Marks, MarksReached};
+ghost use Rattle.type_table.specs.proving.Reach.{HasParts, HasDefault, IsDefaulted, LeadsTo, IsMarked, AreUpTo, Marks, MarksReached};
 
-use crate::table::{Component, ListKind, Shape, Written};
+use crate::table::{Component, Shape, Written};
 use std::alloc::{AllocError, Global};
-use trees::PresenceSyntax;
+use trees::{ListKind, PresenceSyntax};
 
 /// Marks a type, which then waits, unless this search has marked it before.
 fn mark(
@@ -36,8 +36,8 @@ fn mark_members(
     marks: &mut [usize],
     waiting: &mut Vec<usize>,
 ) -> Result<(), AllocError>
-    requires { (l : ListKind) (k : ℕ) → IsPart k (members l (map part_of components.now)) → k < length marks.old }
-    ensures { (l : ListKind) → OnOk result (Marks search (λ k. IsPart k (members l (map part_of components.now))) marks.old marks.new waiting.old.items waiting.new.items) }
+    requires { (l : ListKind) (m : Bool) (k : ℕ) → IsPart k (members l m (map part_of components.now)) → k < length marks.old }
+    ensures { (l : ListKind) (m : Bool) → OnOk result (Marks search (λ k. IsPart k (members l m (map part_of components.now))) marks.old marks.new waiting.old.items waiting.new.items) }
 {
     for component in components {
         mark(component.ty, search, marks, waiting)?;
@@ -109,11 +109,11 @@ fn mark_parts(
             mark(*inner, search, marks, waiting)?;
             Ok(())
         }
-        Shape::Members(_, components) => {
+        Shape::Members(_, _, components) => {
             mark_members(components, search, marks, waiting)?;
             Ok(())
         }
-        Shape::Elements(_, _, element) => {
+        Shape::Elements(_, element) => {
             mark(*element, search, marks, waiting)?;
             Ok(())
         }

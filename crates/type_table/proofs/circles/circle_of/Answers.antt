@@ -1,6 +1,6 @@
 use Rattle.std.proofs.Common.{◌≡◌, ◌∙◌, length, replicate, sym, subst, ap}
 use Rattle.std.proofs.lemmas.List.{length-replicate}
-use Rattle.type_table.specs.Reach.{AreUpTo}
+use Rattle.type_table.specs.proving.Reach.{AreUpTo}
 use Rattle.type_table.specs.Seen.{types_of}
 use Rattle.type_table.proofs.Circling.{has_parts}
 use Rattle.type_table.proofs.Marking.{no_marks}

@@ -2,7 +2,7 @@ use Rattle.std.proofs.Common.{◌<◌, inl, inr, subst, arith}
 use Rattle.std.proofs.lemmas.Option.{slice_get_within}
 use Rattle.type_table.specs.Seen.{types_of}
 use Rattle.type_table.specs.Circles.{IsDefaultCircle}
-use Rattle.type_table.specs.Tables.{as_long}
+use Rattle.type_table.specs.proving.Tables.{as_long}
 use Rattle.type_table.proofs.Marking.{last_or}
 use Rattle.type_table.proofs.circles.first_circle.Goals as goal
 

@@ -2,7 +2,7 @@ use Rattle.std.proofs.Common.{arith, refl, below_more}
 use Rattle.std.proofs.lemmas.Option.{slice_get_within}
 use Rattle.type_table.specs.Seen.{type_of, types_of}
 use Rattle.type_table.proofs.Rising.{rise_here}
-use Rattle.type_table.specs.Tables.{type_at, as_long}
+use Rattle.type_table.specs.proving.Tables.{type_at, as_long}
 use Rattle.type_table.proofs.ranks.all_rise.Goals as goal
 
 pub loop-ty-preserved : goal.loop-ty-preserved

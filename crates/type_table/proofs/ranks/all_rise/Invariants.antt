@@ -1,6 +1,6 @@
 use Rattle.std.proofs.Common.{◌≡◌, ℕ, ◌<◌, Some}
 use Rattle.std.specs.Prelude.{slice_get, slice_index}
-use Rattle.type_table.specs.Ranks.{AreFrom}
+use Rattle.type_table.specs.proving.Ranks.{AreFrom}
 use Rattle.type_table.specs.Seen.{types_of}
 use Rattle.type_table.specs.Table.{Type'}
 use Rattle.type_table.proofs.ranks.all_rise.Given as goal

@@ -1,6 +1,6 @@
 use Rattle.std.proofs.Common.{◌≡◌, ℕ, ◌<◌, ◌≤◌, Some}
 use Rattle.std.specs.Prelude.{slice_get, slice_index}
-use Rattle.type_table.specs.Ranks.{parts}
+use Rattle.type_table.specs.proving.Ranks.{parts}
 use Rattle.type_table.specs.Seen.{type_of}
 use Rattle.type_table.proofs.ranks.parts_rise.Given as goal
 

@@ -1,7 +1,7 @@
 use Rattle.std.proofs.Common.{ℕ, ◌<◌, ◌∙◌, List, map, length, arith, Some, ◌≡◌}
 use Rattle.std.specs.Prelude.{slice_get}
 use Rattle.type_table.specs.Seen.{part_of, types_of}
-use Rattle.type_table.specs.Reach.{IsDefaulted, IsMarked}
+use Rattle.type_table.specs.proving.Reach.{IsDefaulted, IsMarked}
 use Rattle.type_table.proofs.Marking.{first_wait, first_marked, found, finds, up_to}
 use Rattle.type_table.proofs.reach.lead_to.Goals as goal
 

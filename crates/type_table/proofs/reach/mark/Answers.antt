@@ -1,6 +1,6 @@
 use Rattle.std.proofs.Common.{◌≡◌, set, get_or, subst, sym}
 use Rattle.std.proofs.lemmas.Option.{slice_get-get_or}
-use Rattle.type_table.specs.Reach.{Marks}
+use Rattle.type_table.specs.proving.Reach.{Marks}
 use Rattle.type_table.proofs.Marking.{marked_now}
 use Rattle.type_table.proofs.reach.mark.Goals as goal
 

@@ -1,6 +1,6 @@
 use Rattle.std.proofs.Common.{◌≡◌, refl}
 use Rattle.type_table.specs.Seen.{part_of}
-use Rattle.type_table.specs.Reach.{HasDefault}
+use Rattle.type_table.specs.proving.Reach.{HasDefault}
 use Rattle.type_table.proofs.Marking.{marks_alike}
 use Rattle.type_table.proofs.reach.mark_default.Goals as goal
 

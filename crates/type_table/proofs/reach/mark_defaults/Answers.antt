@@ -1,7 +1,7 @@
 use Rattle.std.proofs.Common.{◌≡◌, length, map, refl, subst, arith}
 use Rattle.std.proofs.lemmas.List.{length-map}
 use Rattle.type_table.specs.Seen.{part_of}
-use Rattle.type_table.specs.Reach.{Marks}
+use Rattle.type_table.specs.proving.Reach.{Marks}
 use Rattle.type_table.proofs.Marking.{IsDefaultedBelow, defaults_none, defaults_more, defaults_all, part_at}
 use Rattle.type_table.proofs.reach.mark_defaults.Goals as goal
 

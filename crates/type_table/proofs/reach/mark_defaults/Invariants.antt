@@ -1,6 +1,6 @@
 use Rattle.std.proofs.Common.{map}
 use Rattle.type_table.specs.Seen.{part_of}
-use Rattle.type_table.specs.Reach.{Marks}
+use Rattle.type_table.specs.proving.Reach.{Marks}
 use Rattle.type_table.proofs.Marking.{IsDefaultedBelow}
 use Rattle.type_table.proofs.reach.mark_defaults.Given as goal
 

@@ -1,15 +1,15 @@
-use Rattle.std.proofs.Common.{◌≡◌, length, map, refl, subst, arith}
+use Rattle.std.proofs.Common.{◌≡◌, true, length, map, refl, subst, arith}
 use Rattle.std.proofs.lemmas.List.{length-map}
-use Rattle.type_table.specs.declared.table.ListKind.TheVariants.{Sequence}
+use Rattle.trees.specs.declared.types.ListKind.TheVariants.{Sequence}
 use Rattle.type_table.specs.Seen.{part_of}
 use Rattle.type_table.specs.Circles.{member}
-use Rattle.type_table.specs.Reach.{Marks}
+use Rattle.type_table.specs.proving.Reach.{Marks}
 use Rattle.type_table.proofs.Marking.{IsMemberBelow, members_none, members_more, members_all, part_at}
 use Rattle.type_table.proofs.reach.mark_members.Goals as goal
 
 pub mark-requires : goal.mark-requires
 mark-requires c =
-    let here = c.requires Sequence c.component-item.result.ty (member c.loop-component.component-index (part_of c.component-item.result) (part_at c.args.components.now c.loop-component.component-index c.component-item.result c.loop-component-test.true c.component-item.is) refl) in
+    let here = c.requires Sequence true c.component-item.result.ty (member c.loop-component.component-index (part_of c.component-item.result) (part_at c.args.components.now c.loop-component.component-index c.component-item.result c.loop-component-test.true c.component-item.is) refl) in
     omega (arith, here, c.loop-component.invariant.long)
 
 pub loop-component-init : goal.loop-component-init
@@ -23,5 +23,5 @@ loop-component-preserved c =
 pub returns : goal.returns
 returns c =
     let all : c.loop-component.component-index ≡ length (map part_of c.args.components.now) = omega (arith, length-map c.args.components.now part_of, c.loop-component-test.false, c.loop-component.auto.component-index-end) in
-    λ l. members_all c.args.search l (map part_of c.args.components.now) c.args.marks.now c.loop-component.marks c.args.waiting.now.items c.loop-component.waiting.items
+    λ l b. members_all c.args.search l b (map part_of c.args.components.now) c.args.marks.now c.loop-component.marks c.args.waiting.now.items c.loop-component.waiting.items
     (subst (λ n. Marks c.args.search (λ j. IsMemberBelow (map part_of c.args.components.now) n j) c.args.marks.now c.loop-component.marks c.args.waiting.now.items c.loop-component.waiting.items) all c.loop-component.invariant)

@@ -1,6 +1,6 @@
 use Rattle.std.proofs.Common.{map}
 use Rattle.type_table.specs.Seen.{part_of}
-use Rattle.type_table.specs.Reach.{Marks}
+use Rattle.type_table.specs.proving.Reach.{Marks}
 use Rattle.type_table.proofs.Marking.{IsMemberBelow}
 use Rattle.type_table.proofs.reach.mark_members.Given as goal
 

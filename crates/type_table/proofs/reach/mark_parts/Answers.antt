@@ -1,9 +1,9 @@
-use Rattle.std.proofs.Common.{◌≡◌, List, ℕ, map, option_map, subst, sym, ap, ◌∙◌}
-use Rattle.trees.specs.Constraints.{size_of}
-use Rattle.type_table.specs.Seen.{part_of, plain_of, kind_of}
+use Rattle.std.proofs.Common.{◌≡◌, List, ℕ, map, subst, sym, ap, ◌∙◌}
+use Rattle.trees.specs.Types.{plain_of}
+use Rattle.type_table.specs.Seen.{part_of, kind_of}
 use Rattle.type_table.specs.Circles.{IsPart, referred, behind_tag, element}
 use Rattle.type_table.specs.Table.{Kind, simple, reference, tagged, members, elements}
-use Rattle.type_table.specs.Reach.{Marks}
+use Rattle.type_table.specs.proving.Reach.{Marks}
 use Rattle.type_table.proofs.Marking.{marks_simple, marks_reference, marks_tagged, marks_elements, member_either}
 use Rattle.type_table.proofs.reach.mark_parts.Goals as goal
 
@@ -37,16 +37,16 @@ mark-requires-in-Elements c = c.requires c.in-Elements.element (subst (λ z. IsP
 
 pub returns-in_ok-mark-in-Elements : goal.returns-in_ok-mark-in-Elements
 returns-in_ok-mark-in-Elements c =
-    of_kind c.args.search (kind_of c.args.written.now.shape) (elements c.in-Elements.field-0 (option_map size_of c.in-Elements.field-1) c.in-Elements.element) c.args.marks.now c.mark-in-Elements.new.marks c.args.waiting.now.items c.mark-in-Elements.new.waiting.items (ap kind_of c.in-Elements.is)
-    (marks_elements c.args.search c.in-Elements.element c.in-Elements.field-0 (option_map size_of c.in-Elements.field-1) c.args.marks.now c.mark-in-Elements.new.marks c.args.waiting.now.items c.mark-in-Elements.new.waiting.items c.in_ok-mark-in-Elements.ensures)
+    of_kind c.args.search (kind_of c.args.written.now.shape) (elements c.in-Elements.field-0 c.in-Elements.element) c.args.marks.now c.mark-in-Elements.new.marks c.args.waiting.now.items c.mark-in-Elements.new.waiting.items (ap kind_of c.in-Elements.is)
+    (marks_elements c.args.search c.in-Elements.element c.in-Elements.field-0 c.args.marks.now c.mark-in-Elements.new.marks c.args.waiting.now.items c.mark-in-Elements.new.waiting.items c.in_ok-mark-in-Elements.ensures)
 
 pub mark_members-requires : goal.mark_members-requires
-mark_members-requires c = λ l k p.
-    let e : kind_of c.args.written.now.shape ≡ members c.in-Members.field-0 (map part_of c.deref.result.now) = ap kind_of c.in-Members.is ∙ ap (λ x. members c.in-Members.field-0 (map part_of x)) (sym c.deref.ensures.value) in
-    c.requires k (subst (λ z. IsPart k z) (sym e) (member_either l c.in-Members.field-0 (map part_of c.deref.result.now) k p))
+mark_members-requires c = λ l m k p.
+    let e : kind_of c.args.written.now.shape ≡ members c.in-Members.field-0 c.in-Members.field-1 (map part_of c.deref.result.now) = ap kind_of c.in-Members.is ∙ ap (λ x. members c.in-Members.field-0 c.in-Members.field-1 (map part_of x)) (sym c.deref.ensures.value) in
+    c.requires k (subst (λ z. IsPart k z) (sym e) (member_either l c.in-Members.field-0 m c.in-Members.field-1 (map part_of c.deref.result.now) k p))
 
 pub returns-in_ok-mark_members-in-Members : goal.returns-in_ok-mark_members-in-Members
 returns-in_ok-mark_members-in-Members c =
-    let e : kind_of c.args.written.now.shape ≡ members c.in-Members.field-0 (map part_of c.deref.result.now) = ap kind_of c.in-Members.is ∙ ap (λ x. members c.in-Members.field-0 (map part_of x)) (sym c.deref.ensures.value) in
-    of_kind c.args.search (kind_of c.args.written.now.shape) (members c.in-Members.field-0 (map part_of c.deref.result.now)) c.args.marks.now c.mark_members.new.marks c.args.waiting.now.items c.mark_members.new.waiting.items e
-    (c.in_ok-mark_members-in-Members.ensures c.in-Members.field-0)
+    let e : kind_of c.args.written.now.shape ≡ members c.in-Members.field-0 c.in-Members.field-1 (map part_of c.deref.result.now) = ap kind_of c.in-Members.is ∙ ap (λ x. members c.in-Members.field-0 c.in-Members.field-1 (map part_of x)) (sym c.deref.ensures.value) in
+    of_kind c.args.search (kind_of c.args.written.now.shape) (members c.in-Members.field-0 c.in-Members.field-1 (map part_of c.deref.result.now)) c.args.marks.now c.mark_members.new.marks c.args.waiting.now.items c.mark_members.new.waiting.items e
+    (c.in_ok-mark_members-in-Members.ensures c.in-Members.field-0 c.in-Members.field-1)

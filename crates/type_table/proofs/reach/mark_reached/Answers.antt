@@ -1,7 +1,7 @@
 use Rattle.std.proofs.Common.{◌≡◌, ◌+◌, ◌<◌, [], ◌∷◌, length, subst, ap, ◌∙◌, arith, length-append}
 use Rattle.type_table.specs.Seen.{type_of, types_of}
-use Rattle.type_table.specs.Reach.{unmarked}
-use Rattle.type_table.specs.Tables.{type_at, as_long}
+use Rattle.type_table.specs.proving.Reach.{unmarked}
+use Rattle.type_table.specs.proving.Tables.{type_at, as_long}
 use Rattle.type_table.proofs.Marking.{IsSearching, searching_first, searching_next, searching_below, searching_last}
 use Rattle.type_table.proofs.reach.mark_reached.Goals as goal
 

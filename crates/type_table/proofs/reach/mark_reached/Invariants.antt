@@ -1,6 +1,6 @@
 use Rattle.std.proofs.Common.{◌+◌, length}
 use Rattle.type_table.specs.Seen.{types_of}
-use Rattle.type_table.specs.Reach.{unmarked}
+use Rattle.type_table.specs.proving.Reach.{unmarked}
 use Rattle.type_table.proofs.Marking.{IsSearching}
 use Rattle.type_table.proofs.reach.mark_reached.Given as goal
 

@@ -4,7 +4,7 @@ use Rattle.std.proofs.lemmas.Option.{slice_get-get_or}
 use Rattle.type_table.specs.Seen.{types_of}
 use Rattle.type_table.specs.Table.{walk, next}
 use Rattle.type_table.proofs.Knowing.{core_before, core_ended}
-use Rattle.type_table.specs.Tables.{next_at, as_long}
+use Rattle.type_table.specs.proving.Tables.{next_at, as_long}
 use Rattle.type_table.proofs.Walks.{one_more, comes_back}
 use Rattle.type_table.proofs.unfolding.core_by.Goals as goal
 

@@ -1,7 +1,7 @@
 use Rattle.std.proofs.Common.{◌≡◌, length, Some, sym, ap, ◌∙◌, arith}
 use Rattle.type_table.specs.Seen.{types_of}
 use Rattle.type_table.specs.Table.{walk, next}
-use Rattle.type_table.specs.Tables.{next_at, as_long}
+use Rattle.type_table.specs.proving.Tables.{next_at, as_long}
 use Rattle.type_table.proofs.Walks.{one_more, comes_back}
 use Rattle.type_table.proofs.unfolding.core_of.Goals as goal
 

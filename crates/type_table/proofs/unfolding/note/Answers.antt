@@ -3,7 +3,7 @@ use Rattle.std.proofs.lemmas.List.{length-set}
 use Rattle.type_table.specs.Seen.{types_of}
 use Rattle.type_table.specs.Table.{next}
 use Rattle.type_table.proofs.Knowing.{core_on, still_known, now_known, known_more}
-use Rattle.type_table.specs.Tables.{next_at, as_long}
+use Rattle.type_table.specs.proving.Tables.{next_at, as_long}
 use Rattle.type_table.proofs.unfolding.note.Goals as goal
 
 pub loop-step-init : goal.loop-step-init

@@ -1,8 +1,8 @@
 use Rattle.std.proofs.Common.{◌≡◌, ◌<◌, ℕ, length, sym, subst, arith, below_more}
-use Rattle.type_table.specs.Cores.{IsKnown, AreUnknown}
+use Rattle.type_table.specs.proving.Cores.{IsKnown, AreUnknown}
 use Rattle.type_table.specs.Seen.{types_of}
 use Rattle.type_table.proofs.Knowing.{known_first, all_known}
-use Rattle.type_table.specs.Tables.{as_long}
+use Rattle.type_table.specs.proving.Tables.{as_long}
 use Rattle.type_table.proofs.unfolding.unfold_all.Goals as goal
 
 pub loop-i-init : goal.loop-i-init

@@ -4,8 +4,8 @@ use Rattle.std.specs.Prelude.{slice_get}
 use Rattle.std.proofs.Math.Seq.{take-append_seam}
 use Rattle.std.proofs.lemmas.Option.{slice_get_within, slice_get-get_or, get_or_from_slice_get}
 use Rattle.std.proofs.lemmas.List.{length-map, length-replicate, get_or-replicate}
-use Rattle.names.specs.Distinct.{item_at}
-use Rattle.type_table.specs.Cores.{AreCores, AreUnknown}
+use Rattle.names.specs.proving.Distinct.{item_at}
+use Rattle.type_table.specs.proving.Cores.{AreCores, AreUnknown}
 use Rattle.type_table.specs.declared.table.Written.{Written}
 use Rattle.type_table.specs.Seen.{type_of, types_of}
 use Rattle.type_table.specs.Table.{Type', AllUnfold, behind, behind_of, next}

@@ -1,6 +1,6 @@
 -- Ranks of types, which don't fall from a type to its parts: by them circles are excluded.
 use Rattle.std.specs.Prelude.{◌≡◌, ◌≤◌, ◌<◌, ℕ, List, [], ◌∷◌, Some, map, slice_get, slice_index}
-use Rattle.type_table.specs.Reach.{IsDefaulted}
+use Rattle.type_table.specs.proving.Reach.{IsDefaulted}
 use Rattle.type_table.specs.Circles.{IsPart}
 use Rattle.type_table.specs.Table.{Part, Kind, simple, reference, tagged, members, elements, Type'}
 
@@ -9,8 +9,8 @@ abbrev pub parts : Kind → List ℕ
 parts (simple p) = []
 parts (reference j) = j ∷ []
 parts (tagged t w j) = j ∷ []
-parts (members l cs) = map (λ (c : Part). c.ty) cs
-parts (elements e s j) = j ∷ []
+parts (members l m cs) = map (λ (c : Part). c.ty) cs
+parts (elements e j) = j ∷ []
 
 -- no part has a lower rank than r
 abbrev pub AreFrom : ℕ → List ℕ → Kind → Type 0

@@ -1,0 +1,155 @@
+-- The least number that a list leaves free.
+use Rattle.std.proofs.Common.{◌≡◌, ◌⊎◌, inl, inr, ℕ, zero, suc, ◌+◌, ◌<◌, ◌≤◌, ◌||◌, Bool, true, false, cond, List, [], ◌∷◌, length, Some, refl, sym, subst, ap, ◌∙◌, arith}
+use Rattle.std.specs.Prelude.{slice_get, ℤ, pos, negsuc}
+use Rattle.std.specs.List.{list_any, AllByRecursion, IsDistinct}
+use Rattle.std.specs.Ordering.{int_eq}
+use Rattle.std.proofs.lemmas.Cmp.{int_eq_equiv}
+use Rattle.std.proofs.lemmas.Bool.Decides.{Decides-int_eq}
+use Rattle.std.proofs.lemmas.Map.Made.{length-le_from_is_member}
+use Rattle.names.specs.Modules.{StandsIn}
+use Rattle.type_table.specs.proving.Sets.{IsFree}
+use Rattle.type_table.specs.Items.{is_among, first_free, free}
+
+same_number : (m n : ℕ) → pos m ≡ pos n → m ≡ n
+same_number m n e = cc
+
+-- ---- being among numbers
+
+on_head : (z y : ℤ) (ys : List ℤ) (b : Bool) → int_eq z y ≡ b → (b || is_among z ys) ≡ true → (is_among z ys ≡ true → StandsIn ys z) → StandsIn (y ∷ ys) z
+on_head z y ys true e h rest = (0, ap Some (sym ((Decides-int_eq z y).0 e)))
+on_head z y ys false e h rest = let r = rest h in (suc r.0, r.1)
+
+pub among_stands : (z : ℤ) (ys : List ℤ) → is_among z ys ≡ true → StandsIn ys z
+among_stands z [] h = absurd cc
+among_stands z (y ∷ ys) h = on_head z y ys (int_eq z y) refl h (among_stands z ys)
+
+pub stands_among_at : (z : ℤ) (ys : List ℤ) (i : ℕ) → slice_get ys i ≡ Some z → is_among z ys ≡ true
+stands_among_at z [] i e = absurd cc
+stands_among_at z (y ∷ ys) zero e =
+    let q : y ≡ z = cc in
+    let t : int_eq z y ≡ true = (Decides-int_eq z y).1 (sym q) in
+    rw t refl
+stands_among_at z (y ∷ ys) (suc i) e = either (int_eq z y) (is_among z ys) (stands_among_at z ys i e)
+  where
+    either : (b c : Bool) → c ≡ true → (b || c) ≡ true
+    either true c e = refl
+    either false c e = e
+
+pub stands_among : (z : ℤ) (ys : List ℤ) → StandsIn ys z → is_among z ys ≡ true
+stands_among z ys s = stands_among_at z ys s.0 s.1
+
+pub not_among : (z : ℤ) (ys : List ℤ) → is_among z ys ≡ false → StandsIn ys z → ⊥
+not_among z ys e s = let t = stands_among z ys s in absurd cc
+
+-- ---- as many numbers in a row as a list has at most
+
+-- n, n + 1 .., k numbers
+abbrev up : ℕ → ℕ → List ℤ
+up n zero = []
+up n (suc k) = pos n ∷ up (suc n) k
+
+length_up : (n k : ℕ) → length (up n k) ≡ k
+length_up n zero = refl
+length_up n (suc k) = ap suc (length_up (suc n) k)
+
+unlike : (m n : ℕ) (b : Bool) → m < n → int_eq (pos m) (pos n) ≡ b → b ≡ false
+unlike m n true l e = let q = same_number m n ((Decides-int_eq (pos m) (pos n)).0 e) in absurd (omega (arith, l, q))
+unlike m n false l e = refl
+
+head_apart : (m n k : ℕ) → m < n → AllByRecursion (λ y. int_eq (pos m) y ≡ false) (up n k)
+head_apart m n zero l = tt
+head_apart m n (suc k) l = (unlike m n (int_eq (pos m) (pos n)) l refl, head_apart m (suc n) k (omega (arith, l)))
+
+up_distinct : (n k : ℕ) → IsDistinct int_eq (up n k)
+unfolding IsDistinct
+up_distinct n zero = tt
+up_distinct n (suc k) = (head_apart n (suc n) k (omega arith), up_distinct (suc n) k)
+
+in_up : (n k : ℕ) (z : ℤ) → StandsIn (up n k) z → (m : ℕ) × (z ≡ pos m) × (n ≤ m) × (m < n + k)
+in_up n zero z s = let e : slice_get [] s.0 ≡ Some z = s.1 in absurd cc
+in_up n (suc k) z (zero, e) = (n, (let q : pos n ≡ z = cc in sym q), omega arith, omega arith)
+in_up n (suc k) z (suc i, e) =
+    let r = in_up (suc n) k z (i, e) in
+    let a = r.2 in
+    let b = r.3 in
+    (r.0, r.1, omega (arith, a), omega (arith, b))
+
+pub row_fits : (n k : ℕ) (used : List ℤ) → ((m : ℕ) → n ≤ m → m < n + k → StandsIn used (pos m)) → k ≤ length used
+row_fits n k used h =
+    let l = length-le_from_is_member int_eq_equiv (up n k) used (up_distinct n k) (λ q e.
+        let r = in_up n k q (among_stands q (up n k) e) in
+        stands_among q used (subst (λ z. StandsIn used z) (sym r.1) (h r.0 r.2 r.3))) in
+    omega (arith, l, length_up n k)
+
+-- ---- the least number from n on that is none of these
+
+pub one_free : (used other : List ℤ) (n y z : ℕ) → ((w : ℤ) → StandsIn used w → StandsIn other w) → ((w : ℤ) → StandsIn other w → StandsIn used w) → IsFree used n y → IsFree other n z → y ≡ z
+one_free used other n y z f g a b = by (leb_or y z)
+  where
+    leb_or : (y z : ℕ) → (y ≡ z) ⊎ ((y < z) ⊎ (z < y))
+    leb_or zero zero = inl refl
+    leb_or zero (suc z) = inr (inl (omega arith))
+    leb_or (suc y) zero = inr (inr (omega arith))
+    leb_or (suc y) (suc z) = elim (leb_or y z) [
+        | inl e ↦ inl (ap suc e)
+        | inr (inl l) ↦ inr (inl (omega (arith, l)))
+        | inr (inr l) ↦ inr (inr (omega (arith, l)))
+      ]
+
+    by : (y ≡ z) ⊎ ((y < z) ⊎ (z < y)) → y ≡ z
+    by (inl e) = e
+    by (inr (inl l)) = absurd (a.unused (g (pos y) (b.taken y a.from l)))
+    by (inr (inr l)) = absurd (b.unused (f (pos z) (a.taken z b.from l)))
+
+-- numbers from n to m that are all taken
+abbrev pub AreTaken : List ℤ → ℕ → ℕ → Type 0
+AreTaken used n m = (k : ℕ) → n ≤ k → k < m → StandsIn used (pos k)
+
+pub taken_more : (used : List ℤ) (n m : ℕ) → AreTaken used n m → StandsIn used (pos m) → AreTaken used n (suc m)
+taken_more used n m h s k l r = by (k_or k m r)
+  where
+    k_or : (k m : ℕ) → k < suc m → (k < m) ⊎ (k ≡ m)
+    k_or zero zero r = inr refl
+    k_or zero (suc m) r = inl (omega arith)
+    k_or (suc k) zero r = absurd (omega (arith, r))
+    k_or (suc k) (suc m) r = elim (k_or k m (omega (arith, r))) [
+        | inl a ↦ inl (omega (arith, a))
+        | inr e ↦ inr (ap suc e)
+      ]
+
+    by : (k < m) ⊎ (k ≡ m) → StandsIn used (pos k)
+    by (inl a) = h k l a
+    by (inr e) = subst (λ z. StandsIn used (pos z)) (sym e) s
+
+-- where as many are taken as the list has, the next is free
+pub taken_all : (used : List ℤ) (n m : ℕ) → n + length used ≤ m → AreTaken used n m → StandsIn used (pos m) → ⊥
+taken_all used n m l h s =
+    let d = row_fits n (suc (length used)) used (λ k a b. taken_more used n (n + length used) (λ j c e. h j c (omega (arith, l, e))) (at used n m l h s) k a (omega (arith, b))) in
+    omega (arith, d)
+  where
+    at : (used : List ℤ) (n m : ℕ) → n + length used ≤ m → AreTaken used n m → StandsIn used (pos m) → StandsIn used (pos (n + length used))
+    at used n m l h s = elim (le_or (n + length used) m l) [
+        | inl e ↦ subst (λ z. StandsIn used (pos z)) (sym e) s
+        | inr r ↦ h (n + length used) (omega arith) r
+      ]
+      where
+        le_or : (a b : ℕ) → a ≤ b → (a ≡ b) ⊎ (a < b)
+        le_or zero zero l = inl refl
+        le_or zero (suc b) l = inr (omega arith)
+        le_or (suc a) zero l = absurd (omega (arith, l))
+        le_or (suc a) (suc b) l = elim (le_or a b (omega (arith, l))) [
+            | inl e ↦ inl (ap suc e)
+            | inr r ↦ inr (omega (arith, r))
+          ]
+
+first_on : (used : List ℤ) (n m k : ℕ) (b : Bool) → is_among (pos m) used ≡ b → n + length used ≤ m + suc k → n ≤ m → AreTaken used n m →
+    (n + length used ≤ suc m + k → n ≤ suc m → AreTaken used n (suc m) → IsFree used n (first_free k (suc m) used)) → IsFree used n (cond b (first_free k (suc m) used) m)
+first_on used n m k true e l f h go = go (omega (arith, l)) (omega (arith, f)) (taken_more used n m h (among_stands (pos m) used e))
+first_on used n m k false e l f h go = record { from = f; unused = not_among (pos m) used e; taken = h }
+
+first_is : (used : List ℤ) (n m k : ℕ) → n + length used ≤ m + k → n ≤ m → AreTaken used n m → IsFree used n (first_free k m used)
+first_is used n m zero l f h = record { from = f; unused = taken_all used n m (omega (arith, l)) h; taken = h }
+first_is used n m (suc k) l f h = first_on used n m k (is_among (pos m) used) refl l f h (λ a b t. first_is used n (suc m) k a b t)
+
+pub free_is : (used : List ℤ) (n : ℕ) → IsFree used n (free n used)
+free_is used n = first_is used n n (length used) (omega arith) (omega arith) (λ k l r. absurd (omega (arith, l, r)))

@@ -1,0 +1,136 @@
+-- The numbers of the items of enumerations (X.680, clauses 20.5 and 20.6). An item is its name, and its number if one is written.
+use Rattle.std.specs.Prelude.{◌≡◌, ◌<◌, ◌≤◌, ℕ, zero, suc, max, ℤ, pos, negsuc, Bool, cond, List, [], ◌∷◌, ◌++◌, length, Option, Some, None}
+use Rattle.std.proofs.Common.{refl}
+use Rattle.std.specs.List.{list_any}
+use Rattle.std.specs.Ordering.{int_eq}
+use Rattle.trees.specs.Values.{Name}
+use Rattle.names.specs.Modules.{StandsIn}
+
+abbrev pub Item : Type 0
+Item = Name × Option ℤ
+
+-- the items behind the marker, if there is one
+abbrev pub additions_of : Option (List Item) → List Item
+additions_of None = []
+additions_of (Some is) = is
+
+-- the numbers that are written
+abbrev pub given_numbers : List Item → List ℤ
+given_numbers [] = []
+given_numbers ((x, None) ∷ is) = given_numbers is
+given_numbers ((x, Some z) ∷ is) = z ∷ given_numbers is
+
+-- n lies above z
+abbrev pub IsAbove : ℕ → ℤ → Type 0
+IsAbove n (pos m) = m < n
+IsAbove n (negsuc m) = Unit {0}
+
+-- n is the least number from 0 that is none of `used` and lies above each of `earlier`
+pub record IsNext (used earlier : List ℤ) (n : ℕ) : Type 0 where
+  pub unused : StandsIn used (pos n) → ⊥
+  pub above : (z : ℤ) → StandsIn earlier z → IsAbove n z
+  pub least : (m : ℕ) → (StandsIn used (pos m) → ⊥) → ((z : ℤ) → StandsIn earlier z → IsAbove m z) → n ≤ m
+
+-- The numbers of root items: what is written; and for the items without a number, in order, the successive numbers from 0 that
+-- no root item has been given in writing. `earlier` are the numbers of those without one that stand before.
+pub data AreRootNumbers (given : List ℤ) : (earlier : List ℤ) → List Item → List ℤ → Type 0 where
+  no_root_item : {earlier : List ℤ} → AreRootNumbers given earlier [] []
+  root_written : {earlier : List ℤ} (x : Name) (z : ℤ) {is : List Item} {zs : List ℤ} →
+      AreRootNumbers given earlier is zs → AreRootNumbers given earlier ((x, Some z) ∷ is) (z ∷ zs)
+  root_counted : {earlier : List ℤ} (x : Name) (n : ℕ) {is : List Item} {zs : List ℤ} → IsNext given earlier n →
+      AreRootNumbers given (pos n ∷ earlier) is zs → AreRootNumbers given earlier ((x, None) ∷ is) (pos n ∷ zs)
+
+-- The numbers of additions: what is written; and for each without a number the least from 0 that no root item has, and that
+-- lies above each earlier addition's.
+pub data AreAdditionNumbers (root : List ℤ) : (earlier : List ℤ) → List Item → List ℤ → Type 0 where
+  no_addition : {earlier : List ℤ} → AreAdditionNumbers root earlier [] []
+  addition_written : {earlier : List ℤ} (x : Name) (z : ℤ) {is : List Item} {zs : List ℤ} →
+      AreAdditionNumbers root (z ∷ earlier) is zs → AreAdditionNumbers root earlier ((x, Some z) ∷ is) (z ∷ zs)
+  addition_counted : {earlier : List ℤ} (x : Name) (n : ℕ) {is : List Item} {zs : List ℤ} → IsNext root earlier n →
+      AreAdditionNumbers root (pos n ∷ earlier) is zs → AreAdditionNumbers root earlier ((x, None) ∷ is) (pos n ∷ zs)
+
+-- ---- the same, computed
+
+-- z is one of these
+abbrev pub is_among : ℤ → List ℤ → Bool
+is_among z zs = list_any (int_eq z) zs
+
+-- the first of n, n + 1 .. that is none of these, if it is among the next `turns` numbers
+abbrev pub first_free : (turns n : ℕ) → List ℤ → ℕ
+first_free zero n used = n
+first_free (suc turns) n used = cond (is_among (pos n) used) (first_free turns (suc n) used) n
+
+-- the least number from n on that is none of these: they can't take up more numbers than they are
+abbrev pub free : ℕ → List ℤ → ℕ
+free n used = first_free (length used) n used
+
+-- the number that is written, or the least from n on that is none of these
+abbrev pub number_or : ℕ → List ℤ → Option ℤ → ℤ
+number_or n used (Some z) = z
+number_or n used None = pos (free n used)
+
+-- the first number from 0 above those that were counted: n, or one more than the one that is counted now
+abbrev pub counted_to : ℕ → List ℤ → Option ℤ → ℕ
+counted_to n used (Some z) = n
+counted_to n used None = suc (free n used)
+
+abbrev pub root_from : List ℤ → ℕ → List Item → List ℤ
+root_from given n [] = []
+root_from given n (i ∷ is) = number_or n given i.1 ∷ root_from given (counted_to n given i.1) is
+
+abbrev pub root_numbers : List Item → List ℤ
+root_numbers is = root_from (given_numbers is) 0 is
+
+-- the least number from 0 above this one
+abbrev pub past : ℤ → ℕ
+past (pos n) = suc n
+past (negsuc n) = 0
+
+-- `n`: the first number from 0 above those of the additions so far
+abbrev pub additions_from : List ℤ → ℕ → List Item → List ℤ
+additions_from root n [] = []
+additions_from root n (i ∷ is) =
+    number_or n root i.1 ∷ additions_from root (max n (past (number_or n root i.1))) is
+
+-- the numbers of additions behind these root items
+abbrev pub addition_numbers : List Item → List Item → List ℤ
+addition_numbers root is = additions_from (root_numbers root) 0 is
+
+-- the numbers of root items and additions
+abbrev pub numbers_of : List Item → List Item → List ℤ
+numbers_of root more = root_numbers root ++ addition_numbers root more
+
+-- ---- rows
+
+-- the number of an item `a`, `b` ..
+abbrev bare : ℕ → Item
+bare x = (x ∷ [], None)
+
+abbrev numbered : ℕ → ℤ → Item
+numbered x z = (x ∷ [], Some z)
+
+-- `{a, b(3), c, ..., d}`: a 0, b 3, c 1, d 2
+row_root : root_numbers (bare 97 ∷ numbered 98 (pos 3) ∷ bare 99 ∷ []) ≡ pos 0 ∷ pos 3 ∷ pos 1 ∷ []
+row_root = refl
+
+row_addition : addition_numbers (bare 97 ∷ numbered 98 (pos 3) ∷ bare 99 ∷ []) (bare 100 ∷ []) ≡ pos 2 ∷ []
+row_addition = refl
+
+-- `{a, b, ..., c(1)}` has 1 twice
+row_twice : numbers_of (bare 97 ∷ bare 98 ∷ []) (numbered 99 (pos 1) ∷ []) ≡ pos 0 ∷ pos 1 ∷ pos 1 ∷ []
+row_twice = refl
+
+-- `{a, ..., b, c(0)}` has 0 twice
+row_zero : numbers_of (bare 97 ∷ []) (bare 98 ∷ numbered 99 (pos 0) ∷ []) ≡ pos 0 ∷ pos 1 ∷ pos 0 ∷ []
+row_zero = refl
+
+-- `{a(-1), b, c(0), ..., d(-7), e, f(9), g}`: b 1, e 2, g 10
+row_below_zero : root_numbers (numbered 97 (negsuc 0) ∷ bare 98 ∷ numbered 99 (pos 0) ∷ []) ≡ negsuc 0 ∷ pos 1 ∷ pos 0 ∷ []
+row_below_zero = refl
+
+row_additions : addition_numbers (numbered 97 (negsuc 0) ∷ bare 98 ∷ numbered 99 (pos 0) ∷ []) (numbered 100 (negsuc 6) ∷ bare 101 ∷ numbered 102 (pos 9) ∷ bare 103 ∷ []) ≡ negsuc 6 ∷ pos 2 ∷ pos 9 ∷ pos 10 ∷ []
+row_additions = refl
+
+-- `{a, ..., b(5), c(3), d}`: d lies above both
+row_above_all : addition_numbers (bare 97 ∷ []) (numbered 98 (pos 5) ∷ numbered 99 (pos 3) ∷ bare 100 ∷ []) ≡ pos 5 ∷ pos 3 ∷ pos 6 ∷ []
+row_above_all = refl

@@ -1,0 +1,8 @@
+-- What only contracts inside the crates and proofs speak of: cores, marks and ranks on the way, sets of numbers, what the
+-- checks of one type answer, and a table as it lies in memory.
+pub mod Cores
+pub mod Reach
+pub mod Ranks
+pub mod Sets
+pub mod Checks
+pub mod Tables
