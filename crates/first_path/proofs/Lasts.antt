@@ -1,9 +1,10 @@
 -- What notations are behind their references.
-use Rattle.std.proofs.Common.{◌≡◌, ◌↔◌, inl, inr, ℕ, Option, Some, None, refl, sym, string_bytes, subst}
+use Rattle.std.proofs.Common.{◌≡◌, ◌↔◌, inl, inr, ℕ, Option, Some, None, refl, sym, subst}
 use Rattle.std.specs.Prelude.{Result, Ok, Err, MatchResult}
 use Rattle.std.specs.Borrow.{Bor}
 use Rattle.trees.specs.Values.{Name, Tree, reference, tree_of}
 use Rattle.trees.specs.declared.value.ValueSyntax.{ValueSyntax}
+use Rattle.names.specs.Faults.{name_told}
 use Rattle.resolve.specs.Program.{Program}
 use Rattle.first_path.specs.declared.fault.ValueFault.{ValueFault}
 use Rattle.first_path.specs.declared.fault.ValueFault.TheVariants as faults
@@ -24,15 +25,14 @@ no_last p M q x K l nothing (referred i N m r a last) = nothing i r
 unnamed : (p : Program) (M : Name) (n : Tree) (q : Option Name) (x : Name) → n ≡ reference q x → ((j : ℕ) → MeansValue p M n j → ⊥) → (w : Name × Tree) → IsLast p M n w.0 w.1 → ⊥
 unnamed p M n q x e nothing w h = no_last p M q x w.0 w.1 (subst (λ t. (j : ℕ) → MeansValue p M t j → ⊥) e nothing) (subst (λ t. IsLast p M t w.0 w.1) e h)
 
-pub settled_none : (p : Program) (M : Name) (n : Tree) (fault : ValueFault) → ((j : ℕ) → MeansValue p M n j → ⊥) → NamesValue n fault → Lacks (λ (w : Name × Tree). IsLast p M n w.0 w.1) fault
+pub settled_none : (p : Program) (M : Name) (n : Tree) (fault : ValueFault) → ((j : ℕ) → MeansValue p M n j → ⊥) → NamesValue M n fault → Lacks (λ (w : Name × Tree). IsLast p M n w.0 w.1) fault
 settled_none p M n faults.Memory nothing h = inl refl
-settled_none p M n (faults.UnknownItem x) nothing h = inr (unnamed p M n None (string_bytes x) h nothing)
-settled_none p M n (faults.UnknownName x) nothing h = inr (unnamed p M n (Some h.0) (string_bytes x) h.1 nothing)
-settled_none p M n faults.Integer nothing h = absurd h
-settled_none p M n faults.NotOfType nothing h = absurd h
-settled_none p M n (faults.Circular x) nothing h = absurd h
-settled_none p M n (faults.Missing x) nothing h = absurd h
-settled_none p M n (faults.Repeated x) nothing h = absurd h
+settled_none p M n (faults.UnknownItem s) nothing h = inr (unnamed p M n None (name_told s) h.1 nothing)
+settled_none p M n (faults.UnknownName s) nothing h = inr (unnamed p M n (Some h.1.0) (name_told s) h.1.1 nothing)
+settled_none p M n (faults.NotOfType s) nothing h = absurd h
+settled_none p M n (faults.Circular s) nothing h = absurd h
+settled_none p M n (faults.Missing s) nothing h = absurd h
+settled_none p M n (faults.Repeated s) nothing h = absurd h
 
 abbrev pub Answers : Program → Name → Tree → Result (Bor Name × Bor ValueSyntax) ValueFault → Type 0
 Answers p M n r = MatchResult r (λ u. IsOnlyLast p M n u.0.now (tree_of u.1.now)) (Lacks (λ (w : Name × Tree). IsLast p M n w.0 w.1))

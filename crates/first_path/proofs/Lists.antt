@@ -41,6 +41,18 @@ all_push P (y ∷ xs) x h p = (h.0, all_push P xs x h.1 p)
 pub all_more : {X Y : Type 0} (P : Y → Type 0) (f : X → Y) (xs : List X) (k : ℕ) (x : X) → k < length xs → x ≡ get_or xs k x → AllByRecursion P (map f (take k xs)) → P (f x) → AllByRecursion P (map f (take (k + 1) xs))
 all_more P f xs k x l e h p = rw (one_taken f xs k x l e) (all_push P (map f (take k xs)) (f x) h p)
 
+all_taken : {X : Type 0} (P : X → Type 0) (xs : List X) (k : ℕ) (x : X) → slice_get xs k ≡ Some x → AllByRecursion P (take k xs) → P x → AllByRecursion P (take (suc k) xs)
+all_taken P [] k x e h p = absurd cc
+all_taken P (y ∷ xs) zero x e h p = let q : x ≡ y = cc in (subst P q p, tt)
+all_taken P (y ∷ xs) (suc k) x e h p = (h.0, all_taken P xs k x e h.1 p)
+
+-- the same for what stands in the list itself
+pub all_step : {X : Type 0} (P : X → Type 0) (xs : List X) (k : ℕ) (x : X) → slice_get xs k ≡ Some x → AllByRecursion P (take k xs) → P x → AllByRecursion P (take (k + 1) xs)
+all_step P xs k x e h p = let n : k + 1 ≡ suc k = omega arith in subst (λ j. AllByRecursion P (take j xs)) (sym n) (all_taken P xs k x e h p)
+
+pub step_all : {X : Type 0} (P : X → Type 0) (xs : List X) (k : ℕ) → length xs ≤ k → AllByRecursion P (take k xs) → AllByRecursion P xs
+step_all P xs k l h = subst (AllByRecursion P) (take_all k xs l) h
+
 pub done_all : {X Y : Type 0} (P : List Y → Type 0) (f : X → Y) (xs : List X) (k : ℕ) → length xs ≤ k → P (map f (take k xs)) → P (map f xs)
 done_all P f xs k l h = subst (λ ys. P (map f ys)) (take_all k xs l) h
 

@@ -7,7 +7,7 @@ use Rattle.std.proofs.lemmas.List.{length-map}
 use Rattle.std.proofs.lemmas.Slice.Eq.{bytes_eq-Decides}
 use Rattle.asn_base.specs.declared.schema.Component.{Component as Component'}
 use Rattle.asn_base.specs.Seen.{component_of}
-use Rattle.trees.specs.Values.{Name, member_of}
+use Rattle.trees.specs.Values.{Name, name_at, member_of}
 use Rattle.trees.specs.declared.value.Named.{Named}
 use Rattle.trees.specs.declared.value.ValueSyntax.{ValueSyntax}
 use Rattle.names.specs.Modules.{StandsIn, StandsTwice, AreDistinct}
@@ -18,15 +18,15 @@ pub component_texts : (cs : List Component') → component_names (map component_
 component_texts [] = refl
 component_texts (c ∷ cs) = ap (λ xs. string_bytes c.name ∷ xs) (component_texts cs)
 
-pub field_texts : (fs : List (Named ValueSyntax)) → field_names (map member_of fs) ≡ map (λ f. string_bytes f.name) fs
+pub field_texts : (fs : List (Named ValueSyntax)) → field_names (map member_of fs) ≡ map (λ f. name_at f.name) fs
 field_texts [] = refl
-field_texts (f ∷ fs) = ap (λ xs. string_bytes f.name ∷ xs) (field_texts fs)
+field_texts (f ∷ fs) = ap (λ xs. name_at f.name ∷ xs) (field_texts fs)
 
 pub component_named : (cs : List Component') (k : ℕ) (c : Component') (x : Name) → k < length cs → c ≡ get_or cs k c → x ≡ string_bytes (get_or cs k c).name → slice_get (component_names (map component_of cs)) k ≡ Some x
 component_named cs k c x l e q = ap (λ xs. slice_get xs k) (component_texts cs) ∙ seen_here (λ c. string_bytes c.name) cs k c l e ∙ ap (λ z. Some (string_bytes z.name)) e ∙ ap Some (sym q)
 
-pub field_named : (fs : List (Named ValueSyntax)) (k : ℕ) (f : Named ValueSyntax) (x : Name) → k < length fs → f ≡ get_or fs k f → x ≡ string_bytes (get_or fs k f).name → slice_get (field_names (map member_of fs)) k ≡ Some x
-field_named fs k f x l e q = ap (λ xs. slice_get xs k) (field_texts fs) ∙ seen_here (λ f. string_bytes f.name) fs k f l e ∙ ap (λ z. Some (string_bytes z.name)) e ∙ ap Some (sym q)
+pub field_named : (fs : List (Named ValueSyntax)) (k : ℕ) (f : Named ValueSyntax) (x : Name) → k < length fs → f ≡ get_or fs k f → x ≡ name_at (get_or fs k f).name → slice_get (field_names (map member_of fs)) k ≡ Some x
+field_named fs k f x l e q = ap (λ xs. slice_get xs k) (field_texts fs) ∙ seen_here (λ f. name_at f.name) fs k f l e ∙ ap (λ z. Some (name_at z.name)) e ∙ ap Some (sym q)
 
 pub some_name : (x y : Name) → Some x ≡ Some y → x ≡ y
 some_name x y e = cc
@@ -60,11 +60,11 @@ is_component cs x b e h = subst (λ xs. StandsIn xs x) (sym (component_texts cs)
 pub no_component : (cs : List Component') (x : Name) (b : Bool) → b ≡ list_any (λ c. bytes_eq (string_bytes c.name) x) cs → b ≡ false → StandsIn (component_names (map component_of cs)) x → ⊥
 no_component cs x b e h s = any_out (λ c. string_bytes c.name) x cs (sym e ∙ h) s.0 (ap (λ xs. slice_get xs s.0) (sym (component_texts cs)) ∙ s.1)
 
-pub is_field : (fs : List (Named ValueSyntax)) (x : Name) (b : Bool) → b ≡ list_any (λ f. bytes_eq (string_bytes f.name) x) fs → b ≡ true → StandsIn (field_names (map member_of fs)) x
-is_field fs x b e h = subst (λ xs. StandsIn xs x) (sym (field_texts fs)) (any_in (λ f. string_bytes f.name) x fs (sym e ∙ h))
+pub is_field : (fs : List (Named ValueSyntax)) (x : Name) (b : Bool) → b ≡ list_any (λ f. bytes_eq (name_at f.name) x) fs → b ≡ true → StandsIn (field_names (map member_of fs)) x
+is_field fs x b e h = subst (λ xs. StandsIn xs x) (sym (field_texts fs)) (any_in (λ f. name_at f.name) x fs (sym e ∙ h))
 
-pub no_field : (fs : List (Named ValueSyntax)) (x : Name) (b : Bool) → b ≡ list_any (λ f. bytes_eq (string_bytes f.name) x) fs → b ≡ false → StandsIn (field_names (map member_of fs)) x → ⊥
-no_field fs x b e h s = any_out (λ f. string_bytes f.name) x fs (sym e ∙ h) s.0 (ap (λ xs. slice_get xs s.0) (sym (field_texts fs)) ∙ s.1)
+pub no_field : (fs : List (Named ValueSyntax)) (x : Name) (b : Bool) → b ≡ list_any (λ f. bytes_eq (name_at f.name) x) fs → b ≡ false → StandsIn (field_names (map member_of fs)) x → ⊥
+no_field fs x b e h s = any_out (λ f. name_at f.name) x fs (sym e ∙ h) s.0 (ap (λ xs. slice_get xs s.0) (sym (field_texts fs)) ∙ s.1)
 
 below_or_at : (j k : ℕ) → j < k + 1 → (j < k) ⊎ (j ≡ k)
 below_or_at zero zero l = inr refl
@@ -131,14 +131,14 @@ at_taken f [] (suc k) i x l e = absurd cc
 at_taken f (h ∷ ks) (suc k) zero x l e = e
 at_taken f (h ∷ ks) (suc k) (suc i) x l e = at_taken f ks k i x (omega (arith, l)) e
 
-pub twice : (fs : List (Named ValueSyntax)) (k : ℕ) (n : Name) (b : Bool) → b ≡ list_any (λ f. bytes_eq (string_bytes f.name) n) (take k fs) → b ≡ true → slice_get (field_names (map member_of fs)) k ≡ Some n → StandsTwice (field_names (map member_of fs)) n
+pub twice : (fs : List (Named ValueSyntax)) (k : ℕ) (n : Name) (b : Bool) → b ≡ list_any (λ f. bytes_eq (name_at f.name) n) (take k fs) → b ≡ true → slice_get (field_names (map member_of fs)) k ≡ Some n → StandsTwice (field_names (map member_of fs)) n
 twice fs k n b e h g =
-    let s = any_in (λ f. string_bytes f.name) n (take k fs) (sym e ∙ h) in
-    let t = taken_at (λ f. string_bytes f.name) fs k s.0 n s.1 in
+    let s = any_in (λ f. name_at f.name) n (take k fs) (sym e ∙ h) in
+    let t = taken_at (λ f. name_at f.name) fs k s.0 n s.1 in
     record { first = s.0; second = k; apart = t.0; here = ap (λ xs. slice_get xs s.0) (field_texts fs) ∙ t.1; there = g }
 
-pub new_at : (fs : List (Named ValueSyntax)) (k : ℕ) (n : Name) (b : Bool) → b ≡ list_any (λ f. bytes_eq (string_bytes f.name) n) (take k fs) → b ≡ false → IsNewAt (field_names (map member_of fs)) k n
-new_at fs k n b e h i l g = any_out (λ f. string_bytes f.name) n (take k fs) (sym e ∙ h) i (at_taken (λ f. string_bytes f.name) fs k i n l (ap (λ xs. slice_get xs i) (sym (field_texts fs)) ∙ g))
+pub new_at : (fs : List (Named ValueSyntax)) (k : ℕ) (n : Name) (b : Bool) → b ≡ list_any (λ f. bytes_eq (name_at f.name) n) (take k fs) → b ≡ false → IsNewAt (field_names (map member_of fs)) k n
+new_at fs k n b e h i l g = any_out (λ f. name_at f.name) n (take k fs) (sym e ∙ h) i (at_taken (λ f. name_at f.name) fs k i n l (ap (λ xs. slice_get xs i) (sym (field_texts fs)) ∙ g))
 
 -- ---- names in the same order
 
@@ -168,20 +168,20 @@ same_all_on (x ∷ xs) (y ∷ ys) e h =
 pub same_all : (cs : List Component') (fs : List (Named ValueSyntax)) (k : ℕ) → AreSameFirst (component_names (map component_of cs)) (field_names (map member_of fs)) k → length cs ≡ length fs → length cs ≤ k → component_names (map component_of cs) ≡ field_names (map member_of fs)
 same_all cs fs k h e l =
     let a = ap length (component_texts cs) ∙ length-map cs (λ c. string_bytes c.name) in
-    let b = ap length (field_texts fs) ∙ length-map fs (λ f. string_bytes f.name) in
+    let b = ap length (field_texts fs) ∙ length-map fs (λ f. name_at f.name) in
     same_all_on (component_names (map component_of cs)) (field_names (map member_of fs)) (omega (arith, a, b, e)) (λ j d. h j (omega (arith, a, d, l)))
 
 pub other_long : (cs : List Component') (fs : List (Named ValueSyntax)) → (length cs ≡ length fs → ⊥) → component_names (map component_of cs) ≡ field_names (map member_of fs) → ⊥
 other_long cs fs n e =
     let a = ap length (component_texts cs) ∙ length-map cs (λ c. string_bytes c.name) in
-    let b = ap length (field_texts fs) ∙ length-map fs (λ f. string_bytes f.name) in
+    let b = ap length (field_texts fs) ∙ length-map fs (λ f. name_at f.name) in
     n (sym a ∙ ap length e ∙ b)
 
 pub component_count : (cs : List Component') → length (component_names (map component_of cs)) ≡ length cs
 component_count cs = ap length (component_texts cs) ∙ length-map cs (λ c. string_bytes c.name)
 
 pub field_count : (fs : List (Named ValueSyntax)) → length (field_names (map member_of fs)) ≡ length fs
-field_count fs = ap length (field_texts fs) ∙ length-map fs (λ f. string_bytes f.name)
+field_count fs = ap length (field_texts fs) ∙ length-map fs (λ f. name_at f.name)
 
 pub unequal : (a b : Name) (xs ys : List Name) (k : ℕ) → slice_get xs k ≡ Some a → slice_get ys k ≡ Some b → true ≡ not (bytes_eq a b) → xs ≡ ys → ⊥
 unequal a b xs ys k e f g h =
@@ -191,8 +191,8 @@ unequal a b xs ys k e f g h =
     absurd cc
 
 -- a component and a field at one place have one name, where all have
-pub named_alike : (cs : List Component') (fs : List (Named ValueSyntax)) (i : ℕ) (c : Component') (f : Named ValueSyntax) → i < length cs → c ≡ get_or cs i c → i < length fs → f ≡ get_or fs i f → component_names (map component_of cs) ≡ field_names (map member_of fs) → string_bytes c.name ≡ string_bytes f.name
+pub named_alike : (cs : List Component') (fs : List (Named ValueSyntax)) (i : ℕ) (c : Component') (f : Named ValueSyntax) → i < length cs → c ≡ get_or cs i c → i < length fs → f ≡ get_or fs i f → component_names (map component_of cs) ≡ field_names (map member_of fs) → string_bytes c.name ≡ name_at f.name
 named_alike cs fs i c f l e k g h =
     let a = component_named cs i c (string_bytes c.name) l e (ap (λ z. string_bytes z.name) e) in
-    let b = field_named fs i f (string_bytes f.name) k g (ap (λ z. string_bytes z.name) g) in
-    some_name (string_bytes c.name) (string_bytes f.name) (sym a ∙ ap (λ zs. slice_get zs i) h ∙ b)
+    let b = field_named fs i f (name_at f.name) k g (ap (λ z. name_at z.name) g) in
+    some_name (string_bytes c.name) (name_at f.name) (sym a ∙ ap (λ zs. slice_get zs i) h ∙ b)

@@ -1,48 +1,42 @@
 -- Trees of notations.
-use Rattle.std.proofs.Common.{◌≡◌, ℕ, zero, suc, ◌+◌, ◌<◌, List, [], ◌∷◌, ◌++◌, length, map, take, Option, Some, None, refl, sym, ap, ◌∙◌, option_map, string_bytes, subst, get_or}
-use Rattle.std.specs.Prelude.{slice_get, Vec, String}
+use Rattle.std.proofs.Common.{◌≡◌, ℕ, zero, suc, ◌+◌, ◌<◌, List, [], ◌∷◌, ◌++◌, length, map, take, Some, refl, ap, ◌∙◌, option_map, string_bytes, subst, get_or}
+use Rattle.std.specs.Prelude.{slice_get, Vec}
 use Rattle.std.specs.Global.{Global}
-use Rattle.trees.specs.Values.{Name, Tree, reference, Members, members, member_of, tree_of, layer}
+use Rattle.trees.specs.Values.{Name, Tree, reference, members, member_of, name_at, tree_of, value_layer}
 use Rattle.trees.specs.Values as trees
+use Rattle.trees.specs.declared.place.Reference.{Reference}
 use Rattle.trees.specs.declared.value.Named.{Named}
+use Rattle.trees.specs.declared.value.ValueForm.TheVariants as forms
 use Rattle.trees.specs.declared.value.ValueSyntax.{ValueSyntax}
-use Rattle.trees.specs.declared.value.ValueSyntax.TheVariants as values
-use Rattle.trees.specs.declared.value.ValueSyntax.TheOpen as open_
-use Rattle.trees.specs.declared.value.ValueSyntax.TheShapes.{former-ValueSyntax-Fields-0-at-2}
-use Rattle.trees.specs.declared.value.ValueSyntax.TheFolds.{fold-roll-ValueSyntax}
+use Rattle.trees.specs.declared.value.ValueSyntax.TheOpen.{ValueSyntax-F}
+use Rattle.trees.specs.declared.value.ValueSyntax.TheViews.{out-ValueSyntax}
+use Rattle.trees.specs.declared.value.ValueSyntax.TheFolds.{fold_out-ValueSyntax, map-ValueSyntax}
 use Rattle.first_path.specs.FirstPath.{IsFirstNotation, AreFirstFields}
 use Rattle.first_path.specs.Notations.{named, fields_in}
 use Rattle.first_path.proofs.Lists.{one_taken, seen_here}
 
-same_members : (xs : List (Named ValueSyntax)) → map (λ f. (string_bytes f.name, f.value)) (map (former-ValueSyntax-Fields-0-at-2.map ValueSyntax Tree tree_of) xs) ≡ map member_of xs
+abbrev named_tree : Named ValueSyntax → Named Tree
+named_tree f = record { name = f.name; value = tree_of f.value }
+
+same_members : (xs : List (Named ValueSyntax)) → map (λ (f : Named Tree). (name_at f.name, f.value)) (map named_tree xs) ≡ map member_of xs
 same_members [] = refl
 same_members (x ∷ xs) = ap (λ ys. member_of x ∷ ys) (same_members xs)
 
-pub fields_layer : (v : Vec (Named ValueSyntax) Global) → tree_of (values.Fields v) ≡ trees.fields (members (map member_of v.items))
-fields_layer v = ap tree_of (sym (values.rolls-Fields v)) ∙ fold-roll-ValueSyntax Tree layer (open_.Fields _) ∙ ap (λ ms. trees.fields (members ms)) (same_members v.items)
+pub fields_layer : (n : ValueSyntax) (v : Vec (Named ValueSyntax) Global) → (out-ValueSyntax n).form ≡ forms.Fields v → tree_of n ≡ trees.fields (members (map member_of v.items))
+fields_layer n v e = fold_out-ValueSyntax Tree value_layer n ∙ go (out-ValueSyntax n) e
+  where
+    go : (x : ValueSyntax-F ValueSyntax) → x.form ≡ forms.Fields v → value_layer (map-ValueSyntax ValueSyntax Tree tree_of x) ≡ trees.fields (members (map member_of v.items))
+    go x g = rw g (ap (λ ms. trees.fields (members ms)) (same_members v.items))
 
-named_members : (ms : List (Name × Tree)) → named (members ms) ≡ ms
+pub named_members : (ms : List (Name × Tree)) → named (members ms) ≡ ms
 named_members [] = refl
 named_members (m ∷ ms) = ap (λ zs. m ∷ zs) (named_members ms)
 
-pub fields_tree : (v : Vec (Named ValueSyntax) Global) → fields_in (tree_of (values.Fields v)) ≡ Some (map member_of v.items)
-fields_tree v = ap fields_in (fields_layer v) ∙ ap Some (named_members (map member_of v.items))
+pub fields_tree : (n : ValueSyntax) (v : Vec (Named ValueSyntax) Global) → (out-ValueSyntax n).form ≡ forms.Fields v → fields_in (tree_of n) ≡ Some (map member_of v.items)
+fields_tree n v e = ap fields_in (fields_layer n v e) ∙ ap Some (named_members (map member_of v.items))
 
-none_tree : (x : String Global) → tree_of (values.Reference None x) ≡ reference None (string_bytes x)
-none_tree x = ap tree_of (sym (values.rolls-Reference None x)) ∙ fold-roll-ValueSyntax Tree layer (open_.Reference None x)
-
-some_tree : (q x : String Global) → tree_of (values.Reference (Some q) x) ≡ reference (Some (string_bytes q)) (string_bytes x)
-some_tree q x = ap tree_of (sym (values.rolls-Reference (Some q) x)) ∙ fold-roll-ValueSyntax Tree layer (open_.Reference (Some q) x)
-
-pub alone : (q : Option (String Global)) (x y : String Global) (n : ValueSyntax) → n ≡ values.Reference q x → q ≡ None → string_bytes y ≡ string_bytes x → tree_of n ≡ reference None (string_bytes y)
-alone q x y n e f g = ap tree_of (e ∙ ap (λ p. values.Reference p x) f) ∙ none_tree x ∙ ap (reference None) (sym g)
-
-pub behind_other : (q x y : String Global) (n : ValueSyntax) → n ≡ values.Reference (Some q) x → string_bytes y ≡ string_bytes x → (p : Name) × (tree_of n ≡ reference (Some p) (string_bytes y))
-behind_other q x y n e g = (string_bytes q, ap tree_of e ∙ some_tree q x ∙ ap (reference (Some (string_bytes q))) (sym g))
-
-pub reference_tree : (q : Option (String Global)) (x : String Global) → tree_of (values.Reference q x) ≡ reference (option_map string_bytes q) (string_bytes x)
-reference_tree None x = none_tree x
-reference_tree (Some q) x = some_tree q x
+pub reference_tree : (n : ValueSyntax) (r : Reference) → (out-ValueSyntax n).form ≡ forms.Reference r → tree_of n ≡ reference (option_map string_bytes r.module) (string_bytes r.name)
+reference_tree n r e = rw (fold_out-ValueSyntax Tree value_layer n) (rw e refl)
 
 fields_push : (fs : List (Name × Tree)) (f : Name × Tree) → AreFirstFields (members fs) → IsFirstNotation f.1 → AreFirstFields (members (fs ++ f ∷ []))
 fields_push [] f h n = (n, tt)

@@ -1,5 +1,5 @@
 -- Types of the table, and the types of the schema that they are.
-use Rattle.std.proofs.Common.{◌≡◌, ◌⊎◌, inl, inr, ℕ, suc, ◌+◌, ◌<◌, List, [], ◌∷◌, ◌++◌, length, map, Some, None, refl, sym, ap, ◌∙◌, arith, subst}
+use Rattle.std.proofs.Common.{◌≡◌, ◌⊎◌, inl, inr, ℕ, Bool, true, false, suc, ◌+◌, ◌<◌, List, [], ◌∷◌, ◌++◌, length, map, Some, None, refl, sym, ap, ◌∙◌, arith, subst}
 use Rattle.std.specs.Prelude.{slice_get, IsSomeAnd, Vec, Result, Ok, Err, IfOk}
 use Rattle.std.specs.Global.{Global}
 use Rattle.std.specs.List.{AllZip, AllByRecursion}
@@ -15,17 +15,17 @@ use Rattle.asn_base.specs.declared.schema.Core.{Core}
 use Rattle.asn_base.specs.declared.schema.Core.TheVariants as cores
 use Rattle.asn_base.specs.declared.schema.Resolved.{Resolved as Resolved'}
 use Rattle.trees.specs.declared.types.NamedNumber.{NamedNumber}
-use Rattle.trees.specs.Types.{number_of}
-use Rattle.type_table.specs.declared.table.Simple.{Simple}
-use Rattle.type_table.specs.declared.table.Simple.TheVariants as simples
+use Rattle.trees.specs.Types.{an_integer, number_of, plain_of}
+use Rattle.trees.specs.declared.types.Simple.{Simple}
+use Rattle.trees.specs.declared.types.Simple.TheVariants as simples
 use Rattle.type_table.specs.declared.table.Shape.{Shape}
 use Rattle.type_table.specs.declared.table.Shape.TheVariants as shapes
-use Rattle.type_table.specs.declared.table.ListKind.{ListKind}
-use Rattle.type_table.specs.declared.table.ListKind.TheVariants as lists
-use Rattle.type_table.specs.Seen.{kind_of, plain_of}
+use Rattle.trees.specs.declared.types.ListKind.{ListKind}
+use Rattle.trees.specs.declared.types.ListKind.TheVariants as lists
+use Rattle.type_table.specs.Seen.{kind_of}
 use Rattle.names.specs.Modules as twice
 use Rattle.type_table.specs.Lists.{AreSound, IsSoundKind}
-use Rattle.type_table.specs.Table.{an_integer, Part, Kind, simple, reference, tagged, members, elements, Type', behind, behind_of, IsLinked}
+use Rattle.type_table.specs.Table.{Part, Kind, simple, reference, tagged, members, elements, Type', behind, behind_of, IsLinked}
 use Rattle.first_path.specs.FirstPath.{IsBasic, Unfolds, IsFirstMember, IsFirstKind, IsFirstType, PartsInside}
 use Rattle.first_path.specs.Resolving.{IsComponent, IsKind, boolean, integer, octet_string, sequence, IsUniversal, IsTypeOf, AreTypes}
 use Rattle.first_path.proofs.Lists.{all_at, all_by_index, get_push, some_below}
@@ -52,19 +52,20 @@ pub type_ok : {E : Type 0} (ts : List Type') (i : ℕ) (t : Type') (n : ℕ) (co
 type_ok ts i t n core (Ok x) u k h = type_is ts i t n core x u k h.0 h.1
 type_ok ts i t n core (Err e) u k h = tt
 
-no_other : (ts : List Type') (k : Kind) → IsFirstKind ts k → behind k ≡ None → (IsBasic k → ⊥) → ((ps : List Part) → k ≡ members lists.Sequence ps → ⊥) → ⊥
+no_other : (ts : List Type') (k : Kind) → IsFirstKind ts k → behind k ≡ None → (IsBasic k → ⊥) → ((ps : List Part) → k ≡ members lists.Sequence false ps → ⊥) → ⊥
 no_other ts (simple s) f e nb ns = nb f
 no_other ts (reference j) f e nb ns = absurd cc
 no_other ts (tagged g w j) f e nb ns = f
-no_other ts (members lists.Sequence cs) f e nb ns = ns cs refl
-no_other ts (members lists.Set cs) f e nb ns = f
-no_other ts (members lists.Choice cs) f e nb ns = f
-no_other ts (elements x s j) f e nb ns = f
+no_other ts (members lists.Sequence false cs) f e nb ns = ns cs refl
+no_other ts (members lists.Sequence true cs) f e nb ns = f
+no_other ts (members lists.Set b cs) f e nb ns = f
+no_other ts (members lists.Choice b cs) f e nb ns = f
+no_other ts (elements x j) f e nb ns = f
 
 first_unfolded : (ts : List Type') (i : ℕ) (t : Type') → AllByRecursion (IsFirstType ts) ts → Unfolds ts i t → IsFirstKind ts t.kind
 first_unfolded ts i t a u = (all_at (IsFirstType ts) ts u.number t a u.there).kind
 
-pub one_or_other : (ts : List Type') (i : ℕ) (t : Type') → AllByRecursion (IsFirstType ts) ts → Unfolds ts i t → (IsBasic t.kind → ⊥) → ((ps : List Part) → t.kind ≡ members lists.Sequence ps → ⊥) → ⊥
+pub one_or_other : (ts : List Type') (i : ℕ) (t : Type') → AllByRecursion (IsFirstType ts) ts → Unfolds ts i t → (IsBasic t.kind → ⊥) → ((ps : List Part) → t.kind ≡ members lists.Sequence false ps → ⊥) → ⊥
 one_or_other ts i t a u nb ns = no_other ts t.kind (first_unfolded ts i t a u) (sym (ap behind_of u.there) ∙ u.core.ends) nb ns
 
 -- the types of a front of the table
@@ -140,11 +141,11 @@ none_twice (x ∷ xs) d = (
 component_names : (ts : List Type') (ps : List Part) (cs : List Component) → AllByRecursion (IsFirstMember ts) ps → twice.AreDistinct (map (λ p. p.name) ps) → AllZip IsComponent ps cs → AreNames (map (λ c. c.name) cs)
 component_names ts ps cs f d z = subst AreNames (sym (same_names ps cs z)) (record { identifiers = all_identifiers ts ps f; distinct = none_twice (map (λ p. p.name) ps) d })
 
-first_stage : (ts : List Type') (s : List Resolved) (k : Kind) (n : ℕ) (c : kinds.Kind) → AreTypes ts s → IsKind k n c → IsFirstKind ts k → IsSoundKind k → ((l : ListKind) (ps : List Part) → k ≡ members l ps → (j : ℕ) (p : Part) → slice_get ps j ≡ Some p → p.ty < length ts) → IsOfFirstStage s c
+first_stage : (ts : List Type') (s : List Resolved) (k : Kind) (n : ℕ) (c : kinds.Kind) → AreTypes ts s → IsKind k n c → IsFirstKind ts k → IsSoundKind k → ((l : ListKind) (b : Bool) (ps : List Part) → k ≡ members l b ps → (j : ℕ) (p : Part) → slice_get ps j ≡ Some p → p.ty < length ts) → IsOfFirstStage s c
 first_stage ts s k n c a boolean f o inside = tt
 first_stage ts s k n c a (integer u) f o inside = u
 first_stage ts s k n c a (octet_string u) f o inside = u
-first_stage ts s k n c a (sequence {ps} {cs} z) f o inside = let l = AllZip-long IsComponent ps cs z in (refl, record { few = omega (arith, l, o.1); names = component_names ts ps cs f o.0 z; members = simple_members ts s ps cs a (inside lists.Sequence ps refl) f z })
+first_stage ts s k n c a (sequence {ps} {cs} z) f o inside = let l = AllZip-long IsComponent ps cs z in (refl, record { few = omega (arith, l, o.1); names = component_names ts ps cs f o.0 z; members = simple_members ts s ps cs a (inside lists.Sequence false ps refl) f z })
 
 pub all_accepted : (ts : List Type') (s : List Resolved) → IsLinked ts → AllByRecursion (IsFirstType ts) ts → AreSound ts → AreTypes ts s → IsAccepted s
 all_accepted ts s w f o a = all_by_index (IsAcceptedType s) s (λ i r e. go i r (a.each i r e))
@@ -156,8 +157,8 @@ all_accepted ts s w f o a = all_by_index (IsAcceptedType s) s (λ i r e. go i r 
           tagged = omega (arith, one);
           few_tags = omega (arith, one);
           kind = first_stage ts s h.behind.kind h.universal r.kind a h.kind (first_unfolded ts i h.behind f h.unfolds) (o h.unfolds.number h.behind h.unfolds.there)
-              (λ l ps e. (let p = parts_inside ts h.unfolds.number h.behind w h.unfolds.there in inside_of l ps h.behind.kind e p));
+              (λ l b ps e. (let p = parts_inside ts h.unfolds.number h.behind w h.unfolds.there in inside_of l b ps h.behind.kind e p));
         }
       where
-        inside_of : (l : ListKind) (ps : List Part) (k : Kind) → k ≡ members l ps → PartsInside ts k → (j : ℕ) (p : Part) → slice_get ps j ≡ Some p → p.ty < length ts
-        inside_of l ps k e p = subst (PartsInside ts) e p
+        inside_of : (l : ListKind) (b : Bool) (ps : List Part) (k : Kind) → k ≡ members l b ps → PartsInside ts k → (j : ℕ) (p : Part) → slice_get ps j ≡ Some p → p.ty < length ts
+        inside_of l b ps k e p = subst (PartsInside ts) e p

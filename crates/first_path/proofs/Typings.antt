@@ -13,12 +13,13 @@ use Rattle.asn_base.specs.Abstract.{AbstractValue, abstract, row_of_options}
 use Rattle.asn_base.specs.Types.{Kind, a_sequence, Component, Resolved, Is}
 use Rattle.asn_base.specs.Accepted.{IsSimple}
 use Rattle.asn_base.specs.Seen.{component_of, kind_of, resolved_of}
-use Rattle.trees.specs.Values.{Name, Tree, member_of, tree_of}
+use Rattle.trees.specs.Values.{Name, Tree, member_of, name_at, tree_of}
 use Rattle.trees.specs.declared.value.Named.{Named}
 use Rattle.trees.specs.declared.value.ValueSyntax.{ValueSyntax}
 use Rattle.resolve.specs.Program.{Program}
 use Rattle.first_path.specs.declared.fault.ValueFault.{ValueFault}
-use Rattle.first_path.specs.Notations.{IsLast, IsOnlyLast, IsLeaf, Notation, leaf, sequence, Fields, no_field, field, Lacks, fields_in}
+use Rattle.first_path.specs.Notations.{IsLast, IsOnlyLast, IsLeaf, truth, whole_number, bit_text, hex_text, Notation, leaf, sequence, Fields, no_field, field, Lacks, fields_in}
+use Rattle.first_path.specs.Wrong.{IsOther}
 use Rattle.first_path.proofs.Lists.{one_taken, same_name}
 
 abbrev pub IsNoSequence : Kind → Type 0
@@ -40,6 +41,16 @@ is_same s t g f k l i j = ap (kind_or k) (sym i.found ∙ j.found)
 leaf_of : (p : Program) (s : List Resolved) (M K : Name) (t : ℕ) (g : List Tag) (k : Kind) (n l : Tree) (v : AbstractValue) → IsOnlyLast p M n K l → Is s t g k → IsNoSequence k → Notation p s M t n v → IsLeaf k l v
 leaf_of q s M K t g k n l v i j p (leaf {K = H} {tags = f} {k = o} {l = h} w u x) = subst (λ y. IsLeaf y l v) (is_same s t f g o k u j) (subst (λ y. IsLeaf o y v) (i.only H h w).1 x)
 leaf_of q s M K t g k n l v i j p (sequence {tags = f} {e = b} {cs = cs} w u x y) = absurd (subst IsNoSequence (is_same s t g f k (a_sequence b cs) j u) p)
+
+-- a notation of another kind is no value of the type
+pub other_lacks : (k : Kind) (n : Tree) (fault : ValueFault) → IsOther k n → Lacks (IsLeaf k n) fault
+other_lacks k n fault o = inr (λ v l. none k n v o l)
+  where
+    none : (k : Kind) (n : Tree) (v : AbstractValue) → IsOther k n → IsLeaf k n v → ⊥
+    none k n v o (truth e) = let f = sym o ∙ e in cc
+    none k n v o (whole_number e) = let f = sym o ∙ e in cc
+    none k n v o (bit_text e a) = o.0 _ e a.digits_of
+    none k n v o (hex_text e a) = o.1 _ e a.digits_of
 
 pub lacks_leaf : (p : Program) (s : List Resolved) (M K : Name) (t : ℕ) (g : List Tag) (k : Kind) (n l : Tree) (fault : ValueFault) → IsOnlyLast p M n K l → Is s t g k → IsNoSequence k → Lacks (IsLeaf k l) fault → Lacks (Notation p s M t n) fault
 lacks_leaf q s M K t g k n l fault i j p (inl e) = inl e
@@ -144,7 +155,7 @@ lacks_at m s M cs fs i c f fault l e k g (inr z) =
     inr (λ r h. (let p = fields_at m s M (map component_of cs) (map member_of fs) r i (component_of c) (member_of f) h (component_at cs i c l e) (named_at fs i f k g) in z p.1.0 p.1.1))
 
 pub stand_more : (m : Program) (s : List Resolved) (M : Name) (cs : List Component') (fs : List (Named ValueSyntax)) (i : ℕ) (c : Component') (f : Named ValueSyntax) (old new : List (Option Value)) (v : Value) → i < length cs → c ≡ get_or cs i c → i < length fs → f ≡ get_or fs i f
-    → Stand m s M (map component_of (take i cs)) (map member_of (take i fs)) (map (option_map abstract) old) → new ≡ old ++ Some v ∷ [] → string_bytes c.name ≡ string_bytes f.name → Notation m s M c.ty.index (tree_of f.value) (abstract v)
+    → Stand m s M (map component_of (take i cs)) (map member_of (take i fs)) (map (option_map abstract) old) → new ≡ old ++ Some v ∷ [] → string_bytes c.name ≡ name_at f.name → Notation m s M c.ty.index (tree_of f.value) (abstract v)
     → Stand m s M (map component_of (take (i + 1) cs)) (map member_of (take (i + 1) fs)) (map (option_map abstract) new)
 stand_more m s M cs fs i c f old new v l e k g h o n d =
     let q = ap (map (option_map abstract)) o ∙ map-append (option_map abstract) old (Some v ∷ []) in

@@ -4,12 +4,13 @@ use Rattle.std.specs.Prelude.{slice_get, slice_index_or, MatchOption}
 use Rattle.trees.specs.Values.{Name}
 use Rattle.std.proofs.lemmas.Option.{slice_get_within}
 use Rattle.trees.specs.Types.{mandatory}
+use Rattle.trees.specs.declared.types.Standing.TheVariants.{Root}
 use Rattle.type_table.specs.Table as table
-use Rattle.type_table.specs.Table.{Part, Kind, simple, reference, tagged, members, elements, Type', next, IsCore, IsCircular, IsLinked}
+use Rattle.type_table.specs.Table.{Part, Kind, simple, reference, tagged, members, elements, Type', next, IsCore, IsLinked}
 use Rattle.asn_base.specs.Names.{is_identifier, IsIdentifier}
 use Rattle.first_path.specs.Walks.{onward, walk, EndsAt}
-use Rattle.first_path.specs.FirstPath.{IsBasic, Unfolds, IsFirstMember, IsFirstKind, IsFirstType, PartsInside}
-use Rattle.first_path.proofs.Walks.{below, ends_unique}
+use Rattle.first_path.specs.FirstPath.{IsBasic, Unfolds, IsFirstMember, PartsInside}
+use Rattle.first_path.proofs.Walks.{ends_unique}
 
 some_same : {X : Type 0} (x y : X) → Some x ≡ Some y → x ≡ y
 some_same x y e = cc
@@ -25,9 +26,6 @@ same_walk ts (suc k) i = onward_same ts k (next ts i) (λ j. same_walk ts k j)
 core_ends : (ts : List Type') (i c : ℕ) → IsCore ts i c → EndsAt (next ts) i c
 core_ends ts i c h = record { steps = h.steps; leads = sym (same_walk ts h.steps i) ∙ h.leads; ends = h.ends }
 
-pub core_inside : (ts : List Type') (i c : ℕ) → IsLinked ts → i < length ts → IsCore ts i c → c < length ts
-core_inside ts i c w l h = let e = core_ends ts i c h in below (next ts) (length ts) e.steps i c w.closed l e.leads
-
 pub unfolds_once : (ts : List Type') (i : ℕ) (t u : Type') → Unfolds ts i t → Unfolds ts i u → t ≡ u
 unfolds_once ts i t u a b =
     let e = ends_unique (next ts) i a.number b.number (core_ends ts i a.number a.core) (core_ends ts i b.number b.core) in
@@ -39,9 +37,9 @@ is_name e f h = subst IsIdentifier f (sym e ∙ h)
 pub is_no_name : {r : Bool} {a b : Name} → r ≡ is_identifier a → a ≡ b → r ≡ false → IsIdentifier b → ⊥
 is_no_name e f h n = let g : true ≡ false = sym (subst IsIdentifier (sym f) n) ∙ sym e ∙ h in cc
 
-pub member_match : {X : Type 0} (ts : List Type') (c : Part) (t : Type') (r : Option X) → IsIdentifier c.name → c.presence ≡ mandatory → Unfolds ts c.ty t → MatchOption r (IsBasic t.kind) (λ _. IsBasic t.kind → ⊥) → MatchOption r (IsFirstMember ts c) (λ _. IsFirstMember ts c → ⊥)
-member_match ts c t None n e u h = record { named = n; stands = e; behind = t; unfolds = u; basic = h }
-member_match ts c t (Some x) n e u h = λ m. h (subst (λ v. IsBasic v.kind) (unfolds_once ts c.ty m.behind t m.unfolds u) m.basic)
+pub member_match : {X : Type 0} (ts : List Type') (c : Part) (t : Type') (r : Option X) → IsIdentifier c.name → c.standing ≡ Root → c.presence ≡ mandatory → Unfolds ts c.ty t → MatchOption r (IsBasic t.kind) (λ _. IsBasic t.kind → ⊥) → MatchOption r (IsFirstMember ts c) (λ _. IsFirstMember ts c → ⊥)
+member_match ts c t None n o e u h = record { named = n; root = o; stands = e; behind = t; unfolds = u; basic = h }
+member_match ts c t (Some x) n o e u h = λ m. h (subst (λ v. IsBasic v.kind) (unfolds_once ts c.ty m.behind t m.unfolds u) m.basic)
 
 read_back : (cs : List Part) (k : ℕ) (c : Part) → slice_get cs k ≡ Some c → slice_index_or cs k c ≡ c
 read_back [] k c e = absurd cc
@@ -53,16 +51,9 @@ pub parts_inside : (ts : List Type') (i : ℕ) (t : Type') → IsLinked ts → s
 parts_inside ts i t w e = go t.kind refl
   where
     go : (k : Kind) → t.kind ≡ k → PartsInside ts k
-    go (members l cs) f = λ n c g. (let a = w.parts i l cs t.default t.place (record { constraints = t.constraints; assignment = t.assignment; found = e ∙ ap (λ k. Some (record { kind = k; constraints = t.constraints; default = t.default; place = t.place; assignment = t.assignment })) f }) in
+    go (members l b cs) f = λ n c g. (let a = w.parts i l b cs t.default t.place (record { constraints = t.constraints; assignment = t.assignment; found = e ∙ ap (λ k. Some (record { kind = k; constraints = t.constraints; default = t.default; place = t.place; assignment = t.assignment })) f }) in
         subst (λ p. p.ty < length ts) (read_back cs n c g) (a n c (slice_get_within cs n c g)))
     go (simple s) f = tt
     go (reference j) f = tt
     go (tagged g u j) f = tt
-    go (elements x s j) f = tt
-
-pub type_match : {X : Type 0} (ts : List Type') (t : Type') (r : Option X) → t.constraints ≡ [] → MatchOption r (IsFirstKind ts t.kind) (λ _. IsFirstKind ts t.kind → ⊥) → MatchOption r (IsFirstType ts t) (λ _. IsFirstType ts t → ⊥)
-type_match ts t None e h = record { kind = h; bare = e }
-type_match ts t (Some x) e h = λ f. h f.kind
-
-pub no_circle : (ts : List Type') (i : ℕ) → ((s : List Type') (j c : ℕ) → IsCore s j c → IsCircular s j → ⊥) → IsLinked ts → i < length ts → IsCircular ts i → ⊥
-no_circle ts i n w l b = let u = w.unfolds i l in n ts i u.0 u.1 b
+    go (elements x j) f = tt

@@ -6,7 +6,8 @@ use Rattle.asn_base.specs.declared.schema.Component.{Component as Component'}
 use Rattle.asn_base.specs.Abstract.{AbstractValue}
 use Rattle.asn_base.specs.Types.{Kind, Component, Resolved, Is}
 use Rattle.asn_base.specs.Seen.{component_of}
-use Rattle.trees.specs.Values.{Name, Tree, member_of}
+use Rattle.trees.specs.Values.{Name, Tree, member_of, reference}
+use Rattle.names.specs.Faults.{module_told, name_told}
 use Rattle.trees.specs.declared.value.Named.{Named}
 use Rattle.trees.specs.declared.value.ValueSyntax.{ValueSyntax}
 use Rattle.resolve.specs.Program.{Program}
@@ -15,7 +16,7 @@ use Rattle.first_path.specs.declared.fault.ValueFault.TheVariants as faults
 use Rattle.first_path.specs.Walks.{walk, EndsAt, ComesBack, Reaches}
 use Rattle.first_path.specs.Walks as walks
 use Rattle.first_path.specs.Notations.{IsOnlyLast, MeansValue, NamesValue, RefersTo, Notation, Fields, no_field, field, Lacks, listed, AreReferred}
-use Rattle.first_path.specs.Wrong.{LeadsTo, there, onward, IsBehind, itself, IsLost, IsKindFault, IsWrong, of_kind, component_names, field_names, HaveValues}
+use Rattle.first_path.specs.Wrong.{LeadsTo, there, onward, IsBehind, itself, IsDeadEnd, IsLost, IsKindFault, IsWrong, of_kind, component_names, field_names, HaveValues}
 use Rattle.first_path.proofs.Names.{at_taken}
 use Rattle.first_path.proofs.Typings.{Stand}
 
@@ -46,29 +47,34 @@ pub last_back : (p : Program) (os : List (Option ℕ)) (i : ℕ) (r : Result ℕ
 last_back p os i (Ok c) a h = tt
 last_back p os i (Err c) a h = back_on p os a h.steps c (listed os c) refl h.back
 
--- a name that means no value, behind references
-names_lost : (p : Program) (M : Name) (n : Tree) (K : Name) (l : Tree) (f : ValueFault) → IsBehind p M n K l → ((j : ℕ) → MeansValue p K l j → ⊥) → NamesValue l f → IsLost p M n f
-names_lost p M n K l faults.Memory b z h = tt
-names_lost p M n K l (faults.UnknownItem x) b z h = record { within = K; behind = subst (λ t. IsBehind p M n K t) h b; nothing = λ j m. z j (subst (λ t. MeansValue p K t j) (sym h) m) }
-names_lost p M n K l (faults.UnknownName x) b z h = (h.0, record { within = K; behind = subst (λ t. IsBehind p M n K t) h.1 b; nothing = λ j m. z j (subst (λ t. MeansValue p K t j) (sym h.1) m) })
-names_lost p M n K l faults.Integer b z h = absurd h
-names_lost p M n K l (faults.Circular x) b z h = absurd h
-names_lost p M n K l faults.NotOfType b z h = absurd h
-names_lost p M n K l (faults.Missing x) b z h = absurd h
-names_lost p M n K l (faults.Repeated x) b z h = absurd h
+dead_end : (p : Program) (M : Name) (n : Tree) (K : Name) (l : Tree) (N : Name) (q : Option Name) (x : Name) → IsBehind p M n K l → ((j : ℕ) → MeansValue p K l j → ⊥) → N ≡ K → l ≡ reference q x → IsDeadEnd p M n N q x
+dead_end p M n K l N q x b z e f = record {
+  behind = subst (λ m. IsBehind p M n m (reference q x)) (sym e) (subst (λ t. IsBehind p M n K t) f b);
+  nothing = λ j m. z j (subst (λ t. MeansValue p K t j) (sym f) (subst (λ m. MeansValue p m (reference q x) j) e m));
+}
 
-pub lost_behind : {V : Type 0} (p : Program) (M : Name) (n : Tree) (K : Name) (l : Tree) (r : Result V ValueFault) → IsBehind p M n K l → ((j : ℕ) → MeansValue p K l j → ⊥) → IfErr r (NamesValue l) → IfErr r (IsLost p M n)
+-- a name that means no value, behind references
+names_lost : (p : Program) (M : Name) (n : Tree) (K : Name) (l : Tree) (f : ValueFault) → IsBehind p M n K l → ((j : ℕ) → MeansValue p K l j → ⊥) → NamesValue K l f → IsLost p M n f
+names_lost p M n K l faults.Memory b z h = tt
+names_lost p M n K l (faults.UnknownItem s) b z h = dead_end p M n K l (module_told s) None (name_told s) b z h.0 h.1
+names_lost p M n K l (faults.UnknownName s) b z h = (h.1.0, dead_end p M n K l (module_told s) (Some h.1.0) (name_told s) b z h.0 h.1.1)
+names_lost p M n K l (faults.Circular s) b z h = absurd h
+names_lost p M n K l (faults.NotOfType s) b z h = absurd h
+names_lost p M n K l (faults.Missing s) b z h = absurd h
+names_lost p M n K l (faults.Repeated s) b z h = absurd h
+
+pub lost_behind : {V : Type 0} (p : Program) (M : Name) (n : Tree) (K : Name) (l : Tree) (r : Result V ValueFault) → IsBehind p M n K l → ((j : ℕ) → MeansValue p K l j → ⊥) → IfErr r (NamesValue K l) → IfErr r (IsLost p M n)
 lost_behind p M n K l (Ok v) b z h = tt
 lost_behind p M n K l (Err f) b z h = names_lost p M n K l f b z h
 
-pub lost_here : {V : Type 0} (p : Program) (M : Name) (n : Tree) (r : Result V ValueFault) → ((j : ℕ) → (None ≡ Some j ↔ MeansValue p M n j)) → IfErr r (NamesValue n) → IfErr r (IsLost p M n)
+pub lost_here : {V : Type 0} (p : Program) (M : Name) (n : Tree) (r : Result V ValueFault) → ((j : ℕ) → (None ≡ Some j ↔ MeansValue p M n j)) → IfErr r (NamesValue M n) → IfErr r (IsLost p M n)
 lost_here p M n r h f = lost_behind p M n M n r itself (λ j m. (let e = (h j).1 m in absurd cc)) f
 
 -- ---- kinds
 
-pub err_wrong : {V : Type 0} (p : Program) (s : List Resolved) (M K : Name) (t : ℕ) (g : List Tag) (k : Kind) (n l : Tree) (r : Result V ValueFault) → IsOnlyLast p M n K l → Is s t g k → IfErr r (IsKindFault k l) → IfErr r (IsWrong p s M t n)
-err_wrong p s M K t g k n l (Ok v) i j h = tt
-err_wrong p s M K t g k n l (Err e) i j h = of_kind i.last j h
+pub err_wrong : {V : Type 0} (p : Program) (s : List Resolved) (M x K : Name) (t : ℕ) (g : List Tag) (k : Kind) (n l : Tree) (r : Result V ValueFault) → IsOnlyLast p M n K l → Is s t g k → IfErr r (IsKindFault K x k l) → IfErr r (IsWrong p s M x t n)
+err_wrong p s M x K t g k n l (Ok v) i j h = tt
+err_wrong p s M x K t g k n l (Err e) i j h = of_kind i.last j h
 
 -- ---- components
 

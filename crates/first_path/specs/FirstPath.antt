@@ -1,13 +1,14 @@
 -- The programs that this compiler takes today.
-use Rattle.std.specs.Prelude.{◌≡◌, ◌<◌, ⊤, ℕ, List, [], length, Some, slice_get}
+use Rattle.std.specs.Prelude.{◌≡◌, ◌<◌, ⊤, ℕ, false, List, [], length, Some, slice_get}
 use Rattle.std.specs.List.{AllByRecursion}
 use Rattle.asn_base.specs.Names.{IsIdentifier}
 use Rattle.trees.specs.Values as trees
 use Rattle.trees.specs.Values.{Name, Tree, Members, no_member, member_and}
 use Rattle.trees.specs.declared.module.TagDefault.TheVariants.{Explicit}
-use Rattle.trees.specs.Types.{mandatory}
-use Rattle.type_table.specs.declared.table.ListKind.TheVariants.{Sequence}
-use Rattle.type_table.specs.Table.{a_boolean, an_integer, an_octet_string, Part, Kind, simple, reference, members, Type', IsCore}
+use Rattle.trees.specs.Types.{a_boolean, an_integer, an_octet_string, mandatory}
+use Rattle.trees.specs.declared.types.ListKind.TheVariants.{Sequence}
+use Rattle.trees.specs.declared.types.Standing.TheVariants.{Root}
+use Rattle.type_table.specs.Table.{Part, Kind, simple, reference, members, Type', IsCore}
 use Rattle.resolve.specs.Program.{Program}
 
 -- BOOLEAN, INTEGER with no named numbers, and OCTET STRING
@@ -23,18 +24,19 @@ pub record Unfolds (ts : List Type') (i : ℕ) (t : Type') : Type 0 where
   pub core : IsCore ts i number
   pub there : slice_get ts number ≡ Some t
 
--- a member that must stand, of one of these types, with an identifier
+-- a member of the root that must stand, of one of these types, with an identifier
 pub record IsFirstMember (ts : List Type') (c : Part) : Type 0 where
   pub named : IsIdentifier c.name
+  pub root : c.standing ≡ Root
   pub stands : c.presence ≡ mandatory
   pub behind : Type'
   pub unfolds : Unfolds ts c.ty behind
   pub basic : IsBasic behind.kind
 
--- one of them, a reference, or a SEQUENCE of such members
+-- one of them, a reference, or a SEQUENCE of such members without an extension marker
 abbrev pub IsFirstKind : List Type' → Kind → Type 0
 IsFirstKind ts (reference j) = ⊤
-IsFirstKind ts (members Sequence cs) = AllByRecursion (IsFirstMember ts) cs
+IsFirstKind ts (members Sequence false cs) = AllByRecursion (IsFirstMember ts) cs
 IsFirstKind ts k = IsBasic k
 
 -- with no constraint behind it
@@ -47,7 +49,7 @@ abbrev mutual
   pub IsFirstNotation : Tree → Type 0
   IsFirstNotation trees.yes = ⊤
   IsFirstNotation trees.no = ⊤
-  IsFirstNotation (trees.number minus n) = ⊤
+  IsFirstNotation (trees.number n) = ⊤
   IsFirstNotation (trees.binary ds) = ⊤
   IsFirstNotation (trees.hex ds) = ⊤
   IsFirstNotation (trees.reference q x) = ⊤
@@ -67,5 +69,5 @@ pub record IsFirstPath (p : Program) : Type 0 where
 
 -- the members of a list are types of the table
 abbrev pub PartsInside : List Type' → Kind → Type 0
-PartsInside ts (members l cs) = (k : ℕ) (c : Part) → slice_get cs k ≡ Some c → c.ty < length ts
+PartsInside ts (members l marker cs) = (k : ℕ) (c : Part) → slice_get cs k ≡ Some c → c.ty < length ts
 PartsInside ts k = ⊤

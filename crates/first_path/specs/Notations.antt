@@ -1,13 +1,14 @@
 -- The value that a notation stands for under a type (X.680, 13.2, 17, 18.3, 19.9, 23.3 and 25.18).
-use Rattle.std.specs.Prelude.{◌≡◌, ◌↔◌, ⊤, ℕ, zero, suc, ◌+◌, ◌*◌, ◌<◌, ℤ, pos, negsuc, Bool, true, false, List, [], ◌∷◌, ◌++◌, length, take, drop, replicate, Option, Some, None, slice_get, slice_index, ◌⊎◌, string_bytes}
+use Rattle.std.specs.Prelude.{◌≡◌, ◌↔◌, ⊤, ℕ, zero, suc, ◌+◌, ◌*◌, ◌<◌, ℤ, Bool, true, false, List, [], ◌∷◌, ◌++◌, length, take, drop, replicate, Option, Some, None, slice_get, slice_index, ◌⊎◌}
 use Rattle.std.specs.Int.Digits.{number_from_digits, AllBelowBase}
 use Rattle.asn_base.specs.declared.tag.Tag.{Tag}
 use Rattle.asn_base.specs.Abstract.{AbstractValue, boolean, integer, octets, fields, Row, end, present}
 use Rattle.asn_base.specs.Types.{Kind, a_boolean, an_integer, an_octet_string, a_sequence, Component, Constraint, Resolved, Is}
-use Rattle.asn_base.specs.Typed.{IsWithinLimit}
 use Rattle.trees.specs.Values.{Name, Tree, yes, no, null, number, binary, hex, chars, reference, chosen, nothing, numbers, items, Members, no_member, member_and}
 use Rattle.trees.specs.Values as trees
+use Rattle.trees.specs.declared.place.Spot.{Spot}
 use Rattle.names.specs.declared.scope.Assigned.TheVariants as assigned
+use Rattle.names.specs.Faults.{module_told, name_told}
 use Rattle.names.specs.Names.{Refers}
 use Rattle.resolve.specs.Program.{Program}
 use Rattle.names.specs.Sources.{Value}
@@ -76,8 +77,8 @@ truth_in yes = Some true
 truth_in no = Some false
 truth_in n = None
 
-abbrev pub number_in : Tree → Option (Bool × ℕ)
-number_in (number minus n) = Some (minus, n)
+abbrev pub number_in : Tree → Option ℤ
+number_in (number n) = Some n
 number_in n = None
 
 abbrev pub binary_in : Tree → Option (List ℕ)
@@ -97,12 +98,6 @@ fields_in (trees.fields ms) = Some (named ms)
 fields_in nothing = Some []
 fields_in n = None
 
--- a number with its sign
-abbrev pub signed : Bool → ℕ → ℤ
-signed false n = pos n
-signed true zero = pos 0
-signed true (suc n) = negsuc n
-
 -- digits in groups of `most`, the last one filled with zeros, each an octet: its number, the first digit the highest
 pub record AreOctets (base most : ℕ) (digits os : List ℕ) : Type 0 where
   pub digits_of : AllBelowBase base digits
@@ -114,7 +109,7 @@ pub record AreOctets (base most : ℕ) (digits os : List ℕ) : Type 0 where
 -- a notation that is no reference, as a value of a kind that holds no others
 pub data IsLeaf : Kind → Tree → AbstractValue → Type 0 where
   truth : {n : Tree} {b : Bool} → truth_in n ≡ Some b → IsLeaf a_boolean n (boolean b)
-  whole_number : {c : Constraint} {n : Tree} {p : Bool × ℕ} → number_in n ≡ Some p → IsWithinLimit (signed p.0 p.1) → IsLeaf (an_integer c) n (integer (signed p.0 p.1))
+  whole_number : {c : Constraint} {n : Tree} {z : ℤ} → number_in n ≡ Some z → IsLeaf (an_integer c) n (integer z)
   bit_text : {c : Constraint} {n : Tree} {ds os : List ℕ} → binary_in n ≡ Some ds → AreOctets 2 8 ds os → IsLeaf (an_octet_string c) n (octets os)
   hex_text : {c : Constraint} {n : Tree} {ds os : List ℕ} → hex_in n ≡ Some ds → AreOctets 16 2 ds os → IsLeaf (an_octet_string c) n (octets os)
 
@@ -131,12 +126,16 @@ mutual
     field : {M : Name} {c : Component} {cs : List Component} {f : Name × Tree} {fs : List (Name × Tree)} {v : AbstractValue} {r : Row} → c.name ≡ f.0
         → Notation p s M c.type f.1 v → Fields p s M cs fs r → Fields p s M (c ∷ cs) (f ∷ fs) (present v r)
 
--- The notation is a name, which the fault tells: alone, or behind a module's name.
-abbrev pub NamesValue : Tree → ValueFault → Type 0
-NamesValue n faults.Memory = ⊤
-NamesValue n (faults.UnknownItem x) = n ≡ reference None (string_bytes x)
-NamesValue n (faults.UnknownName x) = (q : Name) × (n ≡ reference (Some q) (string_bytes x))
-NamesValue n fault = ⊥
+-- it tells this name in this module
+abbrev pub Tells : (M x : Name) → Spot → Type 0
+Tells M x s = (module_told s ≡ M) × (name_told s ≡ x)
+
+-- The notation, read in module M, is a name, which the fault tells: alone, or behind a module's name.
+abbrev pub NamesValue : Name → Tree → ValueFault → Type 0
+NamesValue M n faults.Memory = ⊤
+NamesValue M n (faults.UnknownItem s) = (module_told s ≡ M) × (n ≡ reference None (name_told s))
+NamesValue M n (faults.UnknownName s) = (module_told s ≡ M) × ((q : Name) × (n ≡ reference (Some q) (name_told s)))
+NamesValue M n fault = ⊥
 
 -- what is answered in place of a value: memory ran out, or there is no such value
 abbrev pub Lacks : {V : Type 0} → (V → Type 0) → ValueFault → Type 0

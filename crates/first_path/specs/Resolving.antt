@@ -5,8 +5,9 @@ use Rattle.asn_base.specs.declared.tag.Tag.{Tag}
 use Rattle.asn_base.specs.declared.tag.Class.TheVariants as classes
 use Rattle.asn_base.specs.Types.{Component, Resolved, mandatory}
 use Rattle.asn_base.specs.Types as kinds
-use Rattle.type_table.specs.declared.table.ListKind.TheVariants.{Sequence}
-use Rattle.type_table.specs.Table.{a_boolean, an_integer, an_octet_string, Part, Kind, simple, members, Type'}
+use Rattle.trees.specs.Types.{a_boolean, an_integer, an_octet_string}
+use Rattle.trees.specs.declared.types.ListKind.TheVariants.{Sequence}
+use Rattle.type_table.specs.Table.{Part, Kind, simple, members, Type'}
 use Rattle.first_path.specs.FirstPath.{Unfolds}
 
 -- a member, as it is written, and as a component: its type has the same number (X.680, 25)
@@ -20,7 +21,7 @@ pub data IsKind : Kind → ℕ → kinds.Kind → Type 0 where
   boolean : IsKind (simple a_boolean) 1 kinds.a_boolean
   integer : {c : kinds.Constraint} → c ≡ kinds.any_number → IsKind (simple (an_integer [])) 2 (kinds.an_integer c)
   octet_string : {c : kinds.Constraint} → c ≡ kinds.any_size → IsKind (simple an_octet_string) 4 (kinds.an_octet_string c)
-  sequence : {ps : List Part} {cs : List Component} → AllZip IsComponent ps cs → IsKind (members Sequence ps) 16 (kinds.a_sequence false cs)
+  sequence : {ps : List Part} {cs : List Component} → AllZip IsComponent ps cs → IsKind (members Sequence false ps) 16 (kinds.a_sequence false cs)
 
 -- one tag, universal, with this number
 pub record IsUniversal (n : ℕ) (tags : List Tag) : Type 0 where

@@ -5,6 +5,7 @@ ghost use Rattle.first_path.specs.declared.fault.ValueFault.TheVariants.{Memory 
 
 use std::alloc::{AllocError, AllocFailed};
 use thiserror::Error;
+use trees::Spot;
 
 /// A construct of the notation that this compiler leaves out today.
 #[derive(Clone, Copy, Debug, PartialEq, Eq)]
@@ -18,6 +19,7 @@ pub enum Construct {
     BitString,
     Null,
     ObjectIdentifier,
+    RelativeOid,
     Enumerated,
     Utf8String,
     NumericString,
@@ -31,6 +33,9 @@ pub enum Construct {
     SequenceOf,
     SetOf,
     Tag,
+    /// The extension marker of a SEQUENCE or of a constraint.
+    Marker,
+    /// A constraint without an extension marker.
     Constraint,
     /// A member's name that is no identifier, which no text gives.
     Name,
@@ -54,38 +59,36 @@ pub enum ProgramFault {
     /// There was not enough memory.
     #[error("1 Memory")]
     Memory,
-    /// In this module, in the assignment of this name, a construct stands that is left out; no name where it is the tag default.
-    #[error("21 OutOfProfile: {1}.{2}")]
-    OutOfProfile(Construct, String, String),
+    /// Here, in the assignment of this name, a construct stands that is left out; no name where it is the tag default.
+    #[error("21 OutOfProfile: {1}")]
+    OutOfProfile(Construct, Spot),
 }
 
-/// Why a notation stands for no value of a type.
+/// Why a notation stands for no value of a type. The place is that of the value or of the component that is wrong.
 #[derive(Debug, Drop, Error)]
 pub enum ValueFault {
     /// There was not enough memory.
     #[error("1 Memory")]
     Memory,
-    /// A number is not from -2^127 to 2^127 - 1.
-    #[error("2 Limit(Integer)")]
-    Integer,
     /// A value's name, behind a module's name, that means no value.
     #[error("31 UnknownName: {0}")]
-    UnknownName(String),
+    UnknownName(Spot),
     /// The name of a value that comes back to itself by references alone.
     #[error("33 Circular: {0}")]
-    Circular(String),
-    /// The notation is of another kind than the type, or its components stand in another order.
+    Circular(Spot),
+    /// The notation is of another kind than the type, or its components stand in another order. The name is that of the
+    /// component which has this notation, and empty where it is the whole value.
     #[error("60 NotOfType")]
-    NotOfType,
+    NotOfType(Spot),
     /// A name that is neither a component of the type nor a value.
     #[error("62 UnknownItem: {0}")]
-    UnknownItem(String),
+    UnknownItem(Spot),
     /// A component without a value.
     #[error("63 Missing: {0}")]
-    Missing(String),
+    Missing(Spot),
     /// A component with more than one value.
     #[error("64 Repeated: {0}")]
-    Repeated(String),
+    Repeated(Spot),
 }
 
 impl<T: Drop> From<AllocFailed<T>> for ValueFault {

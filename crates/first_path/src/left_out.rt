@@ -1,33 +1,53 @@
 //! The programs that this compiler takes today.
 
-ghost use Rattle.std.specs.Prelude.{◌≡◌, ◌<◌, ⊤, ℕ, MatchOption, MatchResult, IfErr, IfSome, OnOk, length, map, Some, slice_get};
+ghost use Rattle.std.specs.Prelude.{◌≡◌, ◌<◌, ℕ, MatchOption, MatchResult, IfErr, IfSome, OnOk, false, length, map, Some, slice_get};
 ghost use Rattle.std.specs.List.{AllByRecursion};
+ghost use Rattle.trees.specs.Constraints.{constraint_of};
+ghost use Rattle.trees.specs.Types.{plain_of};
 ghost use Rattle.trees.specs.Values.{members, member_of, tree_of, Name, Tree};
-ghost use Rattle.names.specs.Sources.{Value, header_of, value_of};
-ghost use Rattle.type_table.specs.Seen.{kind_of, part_of, plain_of, type_of, types_of};
-ghost use Rattle.type_table.specs.Table.{IsLinked, Type', simple, members as list_of, Part};
-ghost use Rattle.type_table.specs.declared.table.ListKind.TheVariants as lists;
 ghost use Rattle.trees.specs.declared.module.TagDefault.{TagDefault as TagDefault'};
 ghost use Rattle.trees.specs.declared.module.TagDefault.TheVariants as defaults;
+ghost use Rattle.trees.specs.declared.types.ListKind.TheVariants as lists;
+ghost use Rattle.names.specs.Modules.{StandsIn};
+ghost use Rattle.names.specs.Sources.{Value, header_of};
+ghost use Rattle.type_table.specs.Seen.{kind_of, part_of, type_of};
+ghost use Rattle.type_table.specs.Table.{Type', simple, members as list_of, Part};
 ghost use Rattle.first_path.specs.FirstPath.{IsBasic, IsFirstMember, IsFirstKind, IsFirstType, IsFirstNotation, AreFirstFields, IsFirstPath, PartsInside};
 ghost use Rattle.first_path.specs.LeftOut as out;
 ghost use Rattle.first_path.specs.LeftOut.{plain_construct, core_construct, tags_construct, IsPartOut, IsKindOut, IsTypeOut, IsNotationOut, IsOutsideFault, TellsAssignment, TellsModule};
-ghost use Rattle.names.specs.Modules.{StandsIn};
 
 use crate::fault::{Construct, ProgramFault};
 use crate::program::{assigned, header_at, type_at, value_at};
 use crate::resolving::unfolded;
 use asn_base::name::is_identifier;
+use asn_base::strings::StringKind;
 use names::Header;
-use type_table::{Component, ElementsKind, ListKind, Shape, Simple, Written};
+use names::fault::spot;
 use resolve::Linked;
-use names::ValueAt;
 use std::alloc::Global;
-use trees::{Named, PresenceSyntax, TagDefault, ValueSyntax};
+use trees::{
+    At, ConstraintForm, ConstraintSyntax, ElementsKind, ListKind, Named, PresenceSyntax, Simple,
+    Standing, TagDefault, ValueForm, ValueSyntax,
+};
+use type_table::{Component, Shape, Written};
+
+/// The construct that a string type is.
+fn string_construct(kind: StringKind) -> Construct
+    ensures { result ≡ out.string_construct kind }
+{
+    match kind {
+        StringKind::Numeric => Construct::NumericString,
+        StringKind::Printable => Construct::PrintableString,
+        StringKind::Ia5 => Construct::Ia5String,
+        StringKind::Visible => Construct::VisibleString,
+    }
+}
 
 /// The construct that a type which holds no other is, where it is left out.
 fn outside_simple(held: &Simple) -> Option<Construct>
-    ensures first { MatchOption result (IsBasic (simple (plain_of held.now))) (λ _. IsBasic (simple (plain_of held.now)) → ⊥) }
+    ensures first { MatchOption result
+        (IsBasic (simple (plain_of held.now)))
+        (λ _. IsBasic (simple (plain_of held.now)) → ⊥) }
     ensures construct { IfSome result (λ c. plain_construct (plain_of held.now) ≡ Some c) }
 {
     match held {
@@ -42,12 +62,10 @@ fn outside_simple(held: &Simple) -> Option<Construct>
         Simple::BitString(_) => Some(Construct::BitString),
         Simple::Null => Some(Construct::Null),
         Simple::ObjectIdentifier => Some(Construct::ObjectIdentifier),
+        Simple::RelativeOid => Some(Construct::RelativeOid),
         Simple::Enumerated(_) => Some(Construct::Enumerated),
         Simple::Utf8String => Some(Construct::Utf8String),
-        Simple::NumericString => Some(Construct::NumericString),
-        Simple::PrintableString => Some(Construct::PrintableString),
-        Simple::Ia5String => Some(Construct::Ia5String),
-        Simple::VisibleString => Some(Construct::VisibleString),
+        Simple::Restricted(kind) => Some(string_construct(*kind)),
     }
 }
 
@@ -74,30 +92,37 @@ fn elements_construct(kind: ElementsKind) -> Construct
 
 /// The construct that a member's type is behind its references, where it is left out there.
 fn outside_core(shape: &Shape) -> Option<Construct>
-    ensures first { MatchOption result (IsBasic (kind_of shape.now)) (λ _. IsBasic (kind_of shape.now) → ⊥) }
+    ensures first { MatchOption result
+        (IsBasic (kind_of shape.now))
+        (λ _. IsBasic (kind_of shape.now) → ⊥) }
     ensures construct { IfSome result (λ c. core_construct (kind_of shape.now) ≡ Some c) }
 {
     match shape {
         Shape::Simple(simple) => outside_simple(simple),
         Shape::Reference(_) | Shape::Tagged(_, _, _) => Some(Construct::Tag),
-        Shape::Members(kind, _) => Some(list_construct(*kind)),
-        Shape::Elements(kind, _, _) => Some(elements_construct(*kind)),
+        Shape::Members(kind, _, _) => Some(list_construct(*kind)),
+        Shape::Elements(kind, _) => Some(elements_construct(*kind)),
     }
 }
 
 /// The construct in a member that is left out.
-fn outside_part(types: &[Written], part: &Component) -> Option<Construct>
-    requires linked { IsLinked (types_of types.now) }
-    requires inside { part.now.ty < length types.now }
-    ensures first { MatchOption result (IsFirstMember (types_of types.now) (part_of part.now)) (λ _. IsFirstMember (types_of types.now) (part_of part.now) → ⊥) }
-    ensures construct { IfSome result (IsPartOut (types_of types.now) (part_of part.now)) }
+fn outside_part(linked: &Linked, part: &Component) -> Option<Construct>
+    requires inside { part.now.ty < length linked.now.types }
+    ensures first { MatchOption result
+        (IsFirstMember linked.now.types (part_of part.now))
+        (λ _. IsFirstMember linked.now.types (part_of part.now) → ⊥) }
+    ensures construct { IfSome result (IsPartOut linked.now.types (part_of part.now)) }
 {
-    if !is_identifier(part.name.as_str()) {
+    if !is_identifier(part.name.it.as_str()) {
         return Some(Construct::Name);
+    }
+    match part.standing {
+        Standing::Root => {}
+        Standing::Addition(_) => return Some(Construct::Marker),
     }
     match &part.presence {
         PresenceSyntax::Mandatory => {
-            let core = unfolded(types, part.ty);
+            let core = unfolded(linked, part.ty);
             outside_core(&core.shape)
         }
         PresenceSyntax::Optional => Some(Construct::Optional),
@@ -105,61 +130,136 @@ fn outside_part(types: &[Written], part: &Component) -> Option<Construct>
     }
 }
 
+/// Where a member's type begins, or its default value; the member's name, where it is OPTIONAL.
+fn place_of(linked: &Linked, part: &Component) -> usize
+    requires inside { part.now.ty < length linked.now.types }
+{
+    match &part.presence {
+        PresenceSyntax::Mandatory => type_at(linked, part.ty).at,
+        PresenceSyntax::Optional => part.name.at,
+        PresenceSyntax::Default(value) => value.at,
+    }
+}
+
 /// The first construct in members that is left out.
-fn outside_parts(types: &[Written], parts: &[Component]) -> Option<Construct>
-    requires linked { IsLinked (types_of types.now) }
-    requires inside { PartsInside (types_of types.now) (list_of lists.Sequence (map part_of parts.now)) }
-    ensures first { MatchOption result (AllByRecursion (IsFirstMember (types_of types.now)) (map part_of parts.now)) (λ _. AllByRecursion (IsFirstMember (types_of types.now)) (map part_of parts.now) → ⊥) }
-    ensures construct { IfSome result (λ c. (q : Part) × StandsIn (map part_of parts.now) q × IsPartOut (types_of types.now) q c) }
+fn outside_parts(linked: &Linked, parts: &[Component]) -> Option<At<Construct>>
+    requires inside { PartsInside linked.now.types (list_of lists.Sequence false (map part_of parts.now)) }
+    ensures first { MatchOption result
+        (AllByRecursion (IsFirstMember linked.now.types) (map part_of parts.now))
+        (λ _. AllByRecursion (IsFirstMember linked.now.types) (map part_of parts.now) → ⊥) }
+    ensures construct { IfSome result (λ c. (q : Part)
+        × StandsIn (map part_of parts.now) q
+        × IsPartOut linked.now.types q c.it) }
 {
     for part in parts {
-        if let Some(construct) = outside_part(types, part) {
-            return Some(construct);
+        if let Some(construct) = outside_part(linked, part) {
+            return Some(At {
+                at: place_of(linked, part),
+                it: construct,
+            });
         }
     }
     None
 }
 
-/// The construct that stands at a type, where it is left out.
-fn outside_shape(types: &[Written], shape: &Shape) -> Option<Construct>
-    requires linked { IsLinked (types_of types.now) }
-    requires inside { PartsInside (types_of types.now) (kind_of shape.now) }
-    ensures first { MatchOption result (IsFirstKind (types_of types.now) (kind_of shape.now)) (λ _. IsFirstKind (types_of types.now) (kind_of shape.now) → ⊥) }
-    ensures construct { IfSome result (IsKindOut (types_of types.now) (kind_of shape.now)) }
+/// The construct that is left out at a list of members. `at` is the place where the list begins.
+fn outside_list(
+    linked: &Linked,
+    at: usize,
+    kind: ListKind,
+    marker: bool,
+    parts: &[Component],
+) -> Option<At<Construct>>
+    requires inside { PartsInside linked.now.types (list_of kind marker (map part_of parts.now)) }
+    ensures first { MatchOption result
+        (IsFirstKind linked.now.types (list_of kind marker (map part_of parts.now)))
+        (λ _. IsFirstKind linked.now.types (list_of kind marker (map part_of parts.now)) → ⊥) }
+    ensures construct { IfSome result (λ c. IsKindOut linked.now.types (list_of kind marker (map part_of parts.now)) c.it) }
 {
-    match shape {
-        Shape::Simple(simple) => outside_simple(simple),
-        Shape::Reference(_) => None,
-        Shape::Tagged(_, _, _) => Some(Construct::Tag),
-        Shape::Members(kind, parts) => match kind {
-            ListKind::Sequence => outside_parts(types, parts.as_slice()),
-            ListKind::Set => Some(Construct::Set),
-            ListKind::Choice => Some(Construct::Choice),
+    let construct = match kind {
+        ListKind::Sequence => {
+            if !marker {
+                return outside_parts(linked, parts);
+            }
+            Construct::Marker
+        }
+        ListKind::Set => Construct::Set,
+        ListKind::Choice => Construct::Choice,
+    };
+    Some(At { at, it: construct })
+}
+
+/// The construct that stands at a type, where it is left out. `at` is the place where the type begins.
+fn outside_shape(linked: &Linked, at: usize, shape: &Shape) -> Option<At<Construct>>
+    requires inside { PartsInside linked.now.types (kind_of shape.now) }
+    ensures first { MatchOption result
+        (IsFirstKind linked.now.types (kind_of shape.now))
+        (λ _. IsFirstKind linked.now.types (kind_of shape.now) → ⊥) }
+    ensures construct { IfSome result (λ c. IsKindOut linked.now.types (kind_of shape.now) c.it) }
+{
+    let construct = match shape {
+        Shape::Reference(_) => return None,
+        Shape::Simple(simple) => match outside_simple(simple) {
+            None => return None,
+            Some(construct) => construct,
         },
-        Shape::Elements(kind, _, _) => Some(elements_construct(*kind)),
+        Shape::Members(kind, marker, parts) => {
+            return outside_list(linked, at, *kind, *marker, parts.as_slice());
+        }
+        Shape::Tagged(_, _, _) => Construct::Tag,
+        Shape::Elements(kind, _) => elements_construct(*kind),
+    };
+    Some(At { at, it: construct })
+}
+
+/// The construct that a constraint is.
+fn constraint_construct(constraint: &ConstraintSyntax) -> Construct
+    ensures { result ≡ out.constraint_construct (constraint_of constraint.now) }
+{
+    let marker = match &constraint.form {
+        ConstraintForm::Values(ranges) | ConstraintForm::Size(ranges) => ranges.marker,
+        ConstraintForm::From(_) => false,
+    };
+    if marker {
+        Construct::Marker
+    } else {
+        Construct::Constraint
     }
 }
 
 /// The construct in a written type that is left out.
-fn outside_type(types: &[Written], written: &Written) -> Option<Construct>
-    requires linked { IsLinked (types_of types.now) }
-    requires inside { PartsInside (types_of types.now) (kind_of written.now.shape) }
-    ensures first { MatchOption result (IsFirstType (types_of types.now) (type_of written.now)) (λ _. IsFirstType (types_of types.now) (type_of written.now) → ⊥) }
-    ensures construct { IfSome result (IsTypeOut (types_of types.now) (type_of written.now)) }
+fn outside_type(linked: &Linked, written: &Written) -> Option<At<Construct>>
+    requires inside { PartsInside linked.now.types (kind_of written.now.shape) }
+    ensures first { MatchOption result
+        (IsFirstType linked.now.types (type_of written.now))
+        (λ _. IsFirstType linked.now.types (type_of written.now) → ⊥) }
+    ensures construct { IfSome result (λ c. IsTypeOut linked.now.types (type_of written.now) c.it) }
 {
-    if !written.constraints.is_empty() {
-        return Some(Construct::Constraint);
+    if let Some(construct) = outside_shape(linked, written.at, &written.shape) {
+        return Some(construct);
     }
-    outside_shape(types, &written.shape)
+    if written.constraints.is_empty() {
+        return None;
+    }
+    let first = &written.constraints[0];
+    Some(At {
+        at: first.at,
+        it: constraint_construct(first),
+    })
 }
 
 /// The first type in which something is left out.
-fn check_types(types: &[Written]) -> Result<(), (usize, Construct)>
-    requires linked { IsLinked (types_of types.now) }
-    ensures { MatchResult result (λ _. AllByRecursion (IsFirstType (types_of types.now)) (types_of types.now)) (λ e. (t : Type') × (slice_get (types_of types.now) e.0 ≡ Some t) × (IsFirstType (types_of types.now) t → ⊥) × IsTypeOut (types_of types.now) t e.1) }
+fn check_types(linked: &Linked) -> Result<(), (usize, At<Construct>)>
+    ensures { MatchResult result
+        (λ _. AllByRecursion (IsFirstType linked.now.types) linked.now.types)
+        (λ e. (t : Type')
+        × (slice_get linked.now.types e.0 ≡ Some t)
+        × (IsFirstType linked.now.types t → ⊥)
+        × IsTypeOut linked.now.types t e.1.it) }
 {
-    for number in 0..types.len() {
-        if let Some(construct) = outside_type(types, &types[number]) {
+    linked.whole();
+    for number in 0..linked.types().len() {
+        if let Some(construct) = outside_type(linked, type_at(linked, number)) {
             return Err((number, construct));
         }
     }
@@ -168,28 +268,38 @@ fn check_types(types: &[Written]) -> Result<(), (usize, Construct)>
 
 /// The construct in a notation that is left out.
 #[cycle(outside)]
-fn outside_notation(notation: &ValueSyntax) -> Option<Construct>
-    ensures first { MatchOption result (IsFirstNotation (tree_of notation.now)) (λ _. IsFirstNotation (tree_of notation.now) → ⊥) }
-    ensures construct { IfSome result (IsNotationOut (tree_of notation.now)) }
+fn outside_notation(notation: &ValueSyntax) -> Option<At<Construct>>
+    ensures first { MatchOption result
+        (IsFirstNotation (tree_of notation.now))
+        (λ _. IsFirstNotation (tree_of notation.now) → ⊥) }
+    ensures construct { IfSome result (λ c. IsNotationOut (tree_of notation.now) c.it) }
 {
-    match notation {
-        ValueSyntax::True | ValueSyntax::False | ValueSyntax::Number(_, _) => None,
-        ValueSyntax::BinaryString(_) | ValueSyntax::HexString(_) => None,
-        ValueSyntax::Reference(_, _) | ValueSyntax::Empty => None,
-        ValueSyntax::Null => Some(Construct::NullValue),
-        ValueSyntax::CharacterString(_) => Some(Construct::CharacterString),
-        ValueSyntax::Chosen(_, _) => Some(Construct::Alternative),
-        ValueSyntax::Numbers(_) => Some(Construct::Numbers),
-        ValueSyntax::Items(_) => Some(Construct::Items),
-        ValueSyntax::Fields(fields) => outside_fields(fields.as_slice()),
-    }
+    let construct = match &notation.form {
+        ValueForm::True | ValueForm::False | ValueForm::Number(_) => return None,
+        ValueForm::BinaryString(_) | ValueForm::HexString(_) => return None,
+        ValueForm::Reference(_) | ValueForm::Empty => return None,
+        ValueForm::Null => Construct::NullValue,
+        ValueForm::CharacterString(_) => Construct::CharacterString,
+        ValueForm::Chosen(_, _) => Construct::Alternative,
+        ValueForm::Numbers(_) => Construct::Numbers,
+        ValueForm::Items(_) => Construct::Items,
+        ValueForm::Fields(fields) => return outside_fields(fields.as_slice()),
+    };
+    Some(At {
+        at: notation.at,
+        it: construct,
+    })
 }
 
 /// The first construct in the components of a notation that is left out.
 #[cycle(outside)]
-fn outside_fields(fields: &[Named<ValueSyntax>]) -> Option<Construct>
-    ensures first { MatchOption result (AreFirstFields (members (map member_of fields.now))) (λ _. AreFirstFields (members (map member_of fields.now)) → ⊥) }
-    ensures construct { IfSome result (λ c. (f : Name × Tree) × StandsIn (map member_of fields.now) f × IsNotationOut f.1 c) }
+fn outside_fields(fields: &[Named<ValueSyntax>]) -> Option<At<Construct>>
+    ensures first { MatchOption result
+        (AreFirstFields (members (map member_of fields.now)))
+        (λ _. AreFirstFields (members (map member_of fields.now)) → ⊥) }
+    ensures construct { IfSome result (λ c. (f : Name × Tree)
+        × StandsIn (map member_of fields.now) f
+        × IsNotationOut f.1 c.it) }
 {
     for field in fields {
         if let Some(construct) = outside_notation(&field.value) {
@@ -200,11 +310,16 @@ fn outside_fields(fields: &[Named<ValueSyntax>]) -> Option<Construct>
 }
 
 /// The first value in which something is left out.
-fn check_values(values: &[ValueAt]) -> Result<(), (usize, Construct)>
-    ensures { MatchResult result (λ _. AllByRecursion (λ (v : Value). IsFirstNotation v.notation) (map value_of values.now)) (λ e. (v : Value) × (slice_get (map value_of values.now) e.0 ≡ Some v) × (IsFirstNotation v.notation → ⊥) × IsNotationOut v.notation e.1) }
+fn check_values(linked: &Linked) -> Result<(), (usize, At<Construct>)>
+    ensures { MatchResult result
+        (λ _. AllByRecursion (λ (v : Value). IsFirstNotation v.notation) linked.now.values)
+        (λ e. (v : Value)
+        × (slice_get linked.now.values e.0 ≡ Some v)
+        × (IsFirstNotation v.notation → ⊥)
+        × IsNotationOut v.notation e.1.it) }
 {
-    for number in 0..values.len() {
-        if let Some(construct) = outside_notation(&values[number].syntax) {
+    for number in 0..linked.values().len() {
+        if let Some(construct) = outside_notation(&value_at(linked, number).syntax) {
             return Err((number, construct));
         }
     }
@@ -225,7 +340,12 @@ fn outside_default(default: TagDefault) -> Option<Construct>
 
 /// The first module whose tag default is left out.
 fn check_headers(headers: &[Header]) -> Result<(), (usize, Construct)>
-    ensures { MatchResult result (λ _. AllByRecursion (λ (h : Name × TagDefault'). h.1 ≡ defaults.Explicit) (map header_of headers.now)) (λ e. (h : Name × TagDefault') × (slice_get (map header_of headers.now) e.0 ≡ Some h) × (h.1 ≡ defaults.Explicit → ⊥) × (tags_construct h.1 ≡ Some e.1)) }
+    ensures { MatchResult result
+        (λ _. AllByRecursion (λ (h : Name × TagDefault'). h.1 ≡ defaults.Explicit) (map header_of headers.now))
+        (λ e. (h : Name × TagDefault')
+        × (slice_get (map header_of headers.now) e.0 ≡ Some h)
+        × (h.1 ≡ defaults.Explicit → ⊥)
+        × (tags_construct h.1 ≡ Some e.1)) }
 {
     for number in 0..headers.len() {
         if let Some(construct) = outside_default(headers[number].default) {
@@ -240,17 +360,15 @@ fn out_of_profile(
     alloc: Global,
     linked: &Linked,
     number: usize,
-    construct: Construct,
+    left: At<Construct>,
 ) -> ProgramFault
     requires inside { number < length linked.now.assignments }
-    ensures { TellsAssignment linked.now number construct result }
+    ensures { TellsAssignment linked.now number left.it result }
 {
     let (within, name) = assigned(linked, number);
-    let module = String::from_str(alloc, within);
-    let name = String::from_str(alloc, name);
-    match (module, name) {
-        (Ok(module), Ok(name)) => ProgramFault::OutOfProfile(construct, module, name),
-        _ => ProgramFault::Memory,
+    match spot(alloc, within, name, left.at) {
+        Ok(spot) => ProgramFault::OutOfProfile(left.it, spot),
+        Err(_) => ProgramFault::Memory,
     }
 }
 
@@ -258,8 +376,8 @@ fn out_of_profile(
 fn tags_otherwise(alloc: Global, header: &Header, construct: Construct) -> ProgramFault
     ensures { TellsModule header.now construct result }
 {
-    match String::from_str(alloc, header.name.as_str()) {
-        Ok(module) => ProgramFault::OutOfProfile(construct, module, String::new(alloc)),
+    match spot(alloc, header.name.it.as_str(), "", header.name.at) {
+        Ok(spot) => ProgramFault::OutOfProfile(construct, spot),
         Err(_) => ProgramFault::Memory,
     }
 }
@@ -276,18 +394,18 @@ pub fn check_program(alloc: Global, linked: &Linked) -> Result<(), ProgramFault>
             return Err(tags_otherwise(alloc, header_at(linked, number), construct));
         }
     }
-    match check_types(linked.types()) {
+    match check_types(linked) {
         Ok(()) => {}
-        Err((number, construct)) => {
+        Err((number, left)) => {
             let assignment = type_at(linked, number).assignment;
-            return Err(out_of_profile(alloc, linked, assignment, construct));
+            return Err(out_of_profile(alloc, linked, assignment, left));
         }
     }
-    match check_values(linked.values()) {
+    match check_values(linked) {
         Ok(()) => Ok(()),
-        Err((number, construct)) => {
+        Err((number, left)) => {
             let assignment = value_at(linked, number).assignment;
-            Err(out_of_profile(alloc, linked, assignment, construct))
+            Err(out_of_profile(alloc, linked, assignment, left))
         }
     }
 }

@@ -8,6 +8,7 @@ mod left_out;
 mod notations;
 mod program;
 mod resolving;
+mod schema;
 mod scope;
 mod typing;
 
@@ -15,5 +16,6 @@ pub use fault::{Construct, ProgramFault, ValueFault};
 pub use left_out::check_program;
 pub use program::notation_at;
 pub use resolving::table_types;
+pub use schema::FirstSchema;
 pub use scope::Scope;
 pub use typing::typed;

@@ -6,40 +6,30 @@ ghost use Rattle.first_path.specs.Notations.{truth_in, number_in, binary_in, hex
 ghost use Rattle.first_path.specs.Wrong.{IsLost};
 
 use crate::fault::ValueFault;
-use crate::program::{assigned, meant, notation_at, value_at};
+use crate::program::{assigned, assignment_at, meant, notation_at, value_at};
 use crate::scope::Scope;
+use names::fault::spot;
 use std::alloc::{AllocError, Global};
-use trees::{Named, ValueSyntax};
+use trees::{Named, ValueForm, ValueSyntax};
 
 /// The truth value that a notation is.
 pub fn truth_in(notation: &ValueSyntax) -> Option<bool>
     ensures { result ≡ truth_in (tree_of notation.now) }
 {
-    match notation {
-        ValueSyntax::True => Some(true),
-        ValueSyntax::False => Some(false),
-        ValueSyntax::Null | ValueSyntax::Number(_, _) | ValueSyntax::Reference(_, _) => None,
-        ValueSyntax::BinaryString(_)
-        | ValueSyntax::HexString(_)
-        | ValueSyntax::CharacterString(_) => None,
-        ValueSyntax::Chosen(_, _) | ValueSyntax::Empty | ValueSyntax::Numbers(_) => None,
-        ValueSyntax::Items(_) | ValueSyntax::Fields(_) => None,
+    match &notation.form {
+        ValueForm::True => Some(true),
+        ValueForm::False => Some(false),
+        _ => None,
     }
 }
 
-/// The number that a notation is: whether a minus stands before it, and its digits' value.
-pub fn number_in(notation: &ValueSyntax) -> Option<(bool, u128)>
+/// The number that a notation is.
+pub fn number_in(notation: &ValueSyntax) -> Option<i128>
     ensures { result ≡ number_in (tree_of notation.now) }
 {
-    match notation {
-        ValueSyntax::Number(minus, number) => Some((*minus, *number)),
-        ValueSyntax::True | ValueSyntax::False | ValueSyntax::Null | ValueSyntax::Reference(_, _) =>
-            None,
-        ValueSyntax::BinaryString(_)
-        | ValueSyntax::HexString(_)
-        | ValueSyntax::CharacterString(_) => None,
-        ValueSyntax::Chosen(_, _) | ValueSyntax::Empty | ValueSyntax::Numbers(_) => None,
-        ValueSyntax::Items(_) | ValueSyntax::Fields(_) => None,
+    match &notation.form {
+        ValueForm::Number(number) => Some(*number),
+        _ => None,
     }
 }
 
@@ -47,14 +37,9 @@ pub fn number_in(notation: &ValueSyntax) -> Option<(bool, u128)>
 pub fn binary_in(notation: &ValueSyntax) -> Option<&[u8]>
     ensures { option_map (λ d. d.now) result ≡ binary_in (tree_of notation.now) }
 {
-    match notation {
-        ValueSyntax::BinaryString(digits) => Some(digits.as_slice()),
-        ValueSyntax::True | ValueSyntax::False | ValueSyntax::Null | ValueSyntax::Reference(_, _) =>
-            None,
-        ValueSyntax::Number(_, _) | ValueSyntax::HexString(_) | ValueSyntax::CharacterString(_) =>
-            None,
-        ValueSyntax::Chosen(_, _) | ValueSyntax::Empty | ValueSyntax::Numbers(_) => None,
-        ValueSyntax::Items(_) | ValueSyntax::Fields(_) => None,
+    match &notation.form {
+        ValueForm::BinaryString(digits) => Some(digits.as_slice()),
+        _ => None,
     }
 }
 
@@ -62,64 +47,58 @@ pub fn binary_in(notation: &ValueSyntax) -> Option<&[u8]>
 pub fn hex_in(notation: &ValueSyntax) -> Option<&[u8]>
     ensures { option_map (λ d. d.now) result ≡ hex_in (tree_of notation.now) }
 {
-    match notation {
-        ValueSyntax::HexString(digits) => Some(digits.as_slice()),
-        ValueSyntax::True | ValueSyntax::False | ValueSyntax::Null | ValueSyntax::Reference(_, _) =>
-            None,
-        ValueSyntax::Number(_, _)
-        | ValueSyntax::BinaryString(_)
-        | ValueSyntax::CharacterString(_) => None,
-        ValueSyntax::Chosen(_, _) | ValueSyntax::Empty | ValueSyntax::Numbers(_) => None,
-        ValueSyntax::Items(_) | ValueSyntax::Fields(_) => None,
+    match &notation.form {
+        ValueForm::HexString(digits) => Some(digits.as_slice()),
+        _ => None,
     }
 }
 
 /// The components that a notation names in braces.
-#[tactic(auto, using(crate::proofs::Notated::fields_tree))]
 pub fn fields_in(notation: &ValueSyntax) -> Option<&[Named<ValueSyntax>]>
     ensures { option_map (λ fs. map member_of fs.now) result ≡ fields_in (tree_of notation.now) }
 {
-    match notation {
-        ValueSyntax::Fields(fields) => Some(fields.as_slice()),
-        ValueSyntax::Empty => Some(&[]),
-        ValueSyntax::True | ValueSyntax::False | ValueSyntax::Null | ValueSyntax::Reference(_, _) =>
-            None,
-        ValueSyntax::Number(_, _) | ValueSyntax::BinaryString(_) | ValueSyntax::HexString(_) =>
-            None,
-        ValueSyntax::CharacterString(_) | ValueSyntax::Chosen(_, _) | ValueSyntax::Numbers(_) =>
-            None,
-        ValueSyntax::Items(_) => None,
+    match &notation.form {
+        ValueForm::Fields(fields) => Some(fields.as_slice()),
+        ValueForm::Empty => Some(&[]),
+        _ => None,
     }
 }
 
-/// The notation, where it is no reference.
-fn plain<'a>(notation: &'a ValueSyntax) -> Result<&'a ValueSyntax, ValueFault>
+/// The notation, read in a module, where it is no reference.
+fn plain<'a>(
+    alloc: Global,
+    within: &str,
+    notation: &'a ValueSyntax,
+) -> Result<&'a ValueSyntax, ValueFault>
     ensures same { IfOk result (λ u. (tree_of u.now ≡ tree_of notation.now) × IsOwn (tree_of notation.now)) }
-    ensures fault { IfErr result (NamesValue (tree_of notation.now)) }
+    ensures fault { IfErr result (NamesValue within.now (tree_of notation.now)) }
 {
-    match notation {
-        ValueSyntax::Reference(None, name) => Err(ValueFault::UnknownItem(name.clone()?)),
-        ValueSyntax::Reference(Some(_), name) => Err(ValueFault::UnknownName(name.clone()?)),
-        ValueSyntax::True | ValueSyntax::False | ValueSyntax::Null | ValueSyntax::Number(_, _) =>
-            Ok(notation),
-        ValueSyntax::BinaryString(_) | ValueSyntax::HexString(_) => Ok(notation),
-        ValueSyntax::CharacterString(_) | ValueSyntax::Chosen(_, _) => Ok(notation),
-        ValueSyntax::Empty | ValueSyntax::Numbers(_) => Ok(notation),
-        ValueSyntax::Items(_) | ValueSyntax::Fields(_) => Ok(notation),
+    match &notation.form {
+        ValueForm::Reference(reference) => {
+            let told = spot(alloc, within, reference.name.as_str(), reference.at)?;
+            match &reference.module {
+                None => Err(ValueFault::UnknownItem(told)),
+                Some(_) => Err(ValueFault::UnknownName(told)),
+            }
+        }
+        _ => Ok(notation),
     }
 }
 
 /// The notation itself, read in a module, where it refers to no value.
 fn settled<'a>(
+    alloc: Global,
     scope: &Scope,
     within: &'a str,
     notation: &'a ValueSyntax,
 ) -> Result<(&'a str, &'a ValueSyntax), ValueFault>
     requires nothing { (j : ℕ) → MeansValue scope.now within.now (tree_of notation.now) j → ⊥ }
-    ensures last { MatchResult result (λ u. IsOnlyLast scope.now within.now (tree_of notation.now) u.0.now (tree_of u.1.now)) (Lacks (λ (w : Name × Tree). IsLast scope.now within.now (tree_of notation.now) w.0 w.1)) }
-    ensures fault { IfErr result (NamesValue (tree_of notation.now)) }
+    ensures last { MatchResult result
+        (λ u. IsOnlyLast scope.now within.now (tree_of notation.now) u.0.now (tree_of u.1.now))
+        (Lacks (λ (w : Name × Tree). IsLast scope.now within.now (tree_of notation.now) w.0 w.1)) }
+    ensures fault { IfErr result (NamesValue within.now (tree_of notation.now)) }
 {
-    match plain(notation) {
+    match plain(alloc, within, notation) {
         Ok(own) => Ok((within, own)),
         Err(fault) => Err(fault),
     }
@@ -132,22 +111,25 @@ pub fn behind_all<'a>(
     within: &'a str,
     notation: &'a ValueSyntax,
 ) -> Result<(&'a str, &'a ValueSyntax), ValueFault>
-    ensures last { MatchResult result (λ u. IsOnlyLast scope.now within.now (tree_of notation.now) u.0.now (tree_of u.1.now)) (Lacks (λ (w : Name × Tree). IsLast scope.now within.now (tree_of notation.now) w.0 w.1)) }
+    ensures last { MatchResult result
+        (λ u. IsOnlyLast scope.now within.now (tree_of notation.now) u.0.now (tree_of u.1.now))
+        (Lacks (λ (w : Name × Tree). IsLast scope.now within.now (tree_of notation.now) w.0 w.1)) }
     ensures fault { IfErr result (IsLost scope.now within.now (tree_of notation.now)) }
 {
     let linked = scope.program();
     match meant(linked, within, notation) {
-        None => settled(scope, within, notation),
+        None => settled(alloc, scope, within, notation),
         Some(start) => match scope.last(start) {
             Ok(end) => {
                 let (module, last) = notation_at(linked, end);
-                settled(scope, module, last)
+                settled(alloc, scope, module, last)
             }
             Err(place) => {
                 linked.whole();
                 let value = value_at(linked, place);
-                let (_, name) = assigned(linked, value.assignment);
-                Err(ValueFault::Circular(String::from_str(alloc, name)?))
+                let (module, name) = assigned(linked, value.assignment);
+                let at = assignment_at(linked, value.assignment).name.at;
+                Err(ValueFault::Circular(spot(alloc, module, name, at)?))
             }
         },
     }

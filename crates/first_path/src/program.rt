@@ -7,11 +7,10 @@ ghost use Rattle.type_table.specs.Seen.{type_of};
 ghost use Rattle.resolve.specs.Sound.{IsAssignment};
 ghost use Rattle.first_path.specs.Notations.{IsValueAt, MeansValue, RefersTo};
 
-use names::Header;
-use names::{Assigned, Assignment, ValueAt};
+use names::{Assigned, Assignment, Header, ValueAt};
 use resolve::Linked;
+use trees::{ValueForm, ValueSyntax};
 use type_table::Written;
-use trees::ValueSyntax;
 
 /// A module by its number.
 pub fn header_at(linked: &Linked, number: usize) -> &Header
@@ -22,7 +21,7 @@ pub fn header_at(linked: &Linked, number: usize) -> &Header
 }
 
 /// An assignment by its number.
-fn assignment_at(linked: &Linked, number: usize) -> &Assignment
+pub fn assignment_at(linked: &Linked, number: usize) -> &Assignment
     requires inside { number < length linked.now.assignments }
     ensures { slice_get linked.now.assignments number ≡ Some (assignment_of result.now) }
 {
@@ -53,7 +52,7 @@ pub fn assigned(linked: &Linked, number: usize) -> (&str, &str)
     linked.whole();
     let assignment = assignment_at(linked, number);
     let header = header_at(linked, assignment.module);
-    (header.name.as_str(), assignment.name.as_str())
+    (header.name.it.as_str(), assignment.name.it.as_str())
 }
 
 /// The module in which a value's notation is read, and the notation.
@@ -73,21 +72,15 @@ pub fn meant(linked: &Linked, within: &str, notation: &ValueSyntax) -> Option<us
     ensures inside { IfSome result (λ j. j < length linked.now.values) }
 {
     linked.whole();
-    match notation {
-        ValueSyntax::Reference(owner, name) => {
-            match linked.refers(within, owner, name.as_str()) {
+    match &notation.form {
+        ValueForm::Reference(reference) => {
+            match linked.refers(within, &reference.module, reference.name.as_str()) {
                 Some(Assigned::Value(number)) => Some(number),
                 Some(Assigned::Type(_)) => None,
                 None => None,
             }
         }
-        ValueSyntax::True | ValueSyntax::False | ValueSyntax::Null | ValueSyntax::Number(_, _) =>
-            None,
-        ValueSyntax::BinaryString(_)
-        | ValueSyntax::HexString(_)
-        | ValueSyntax::CharacterString(_) => None,
-        ValueSyntax::Chosen(_, _) | ValueSyntax::Empty | ValueSyntax::Numbers(_) => None,
-        ValueSyntax::Items(_) | ValueSyntax::Fields(_) => None,
+        _ => None,
     }
 }
 

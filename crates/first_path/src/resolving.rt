@@ -1,34 +1,32 @@
 //! The types of a program as types of a schema.
 
-ghost use Rattle.std.specs.Prelude.{◌≡◌, ◌<◌, ℕ, IfOk, MatchOption, List, length, map};
+ghost use Rattle.std.specs.Prelude.{◌≡◌, ◌<◌, ℕ, IfOk, MatchOption, List, false, length, map};
 ghost use Rattle.std.specs.List.{AllByRecursion, AllZip};
 ghost use Rattle.asn_base.specs.Accepted.{IsAccepted};
 ghost use Rattle.asn_base.specs.Seen.{component_of, resolved_of, types_of as resolved_types_of, kind_of as core_kind_of};
-ghost use Rattle.type_table.specs.Seen.{kind_of, part_of, type_of, types_of};
+ghost use Rattle.type_table.specs.Seen.{kind_of, part_of, type_of};
 ghost use Rattle.type_table.specs.Lists.{AreSound};
-ghost use Rattle.type_table.specs.Table.{IsLinked, Part as Part', members};
-ghost use Rattle.type_table.specs.declared.table.ListKind.TheVariants as lists;
+ghost use Rattle.type_table.specs.Table.{Part as Part', members};
+ghost use Rattle.trees.specs.declared.types.ListKind.TheVariants as lists;
 ghost use Rattle.first_path.specs.FirstPath.{IsBasic, IsFirstType, Unfolds};
 ghost use Rattle.first_path.specs.Resolving.{AreTypes, IsComponent, IsKind, IsTypeOf, IsUniversal};
 
+use crate::program::type_at;
 use asn_base::constraint::Constraint;
 use asn_base::schema::{Component, Core, Presence, Resolved, TypeId};
 use asn_base::tag::{Class, Tag};
-use type_table::unfolding::{core_of, not_both};
-use type_table::{Component as Part, ListKind, Shape, Simple, Written};
+use resolve::Linked;
 use std::alloc::{AllocError, Global};
+use trees::{ListKind, Simple};
+use type_table::{Component as Part, Shape, Written};
 
 /// What a type is behind its references and tags.
-pub fn unfolded(types: &[Written], number: usize) -> &Written
-    requires linked { IsLinked (types_of types.now) }
-    requires there { number < length types.now }
-    ensures { Unfolds (types_of types.now) number (type_of result.now) }
+pub fn unfolded(linked: &Linked, number: usize) -> &Written
+    requires { number < length linked.now.types }
+    ensures { Unfolds linked.now.types number (type_of result.now) }
 {
-    not_both();
-    match core_of(types, number) {
-        Ok(core) => &types[core],
-        Err(_) => unreachable!(),
-    }
+    let core = linked.core(TypeId { index: number });
+    type_at(linked, core.index)
 }
 
 /// What BOOLEAN, INTEGER and OCTET STRING are in a schema, with the numbers of their tags.
@@ -47,23 +45,26 @@ fn basic_core(shape: &Shape) -> Option<(Core, u32)>
             }
             Simple::OctetString => Some((Core::OctetString(Constraint::any_size()), 4)),
             Simple::BitString(_) | Simple::Null | Simple::ObjectIdentifier => None,
-            Simple::Enumerated(_) | Simple::Utf8String | Simple::NumericString => None,
-            Simple::PrintableString | Simple::Ia5String | Simple::VisibleString => None,
+            Simple::RelativeOid | Simple::Enumerated(_) | Simple::Utf8String => None,
+            Simple::Restricted(_) => None,
         },
         Shape::Reference(_) | Shape::Tagged(_, _, _) => None,
-        Shape::Members(_, _) | Shape::Elements(_, _, _) => None,
+        Shape::Members(_, _, _) | Shape::Elements(_, _) => None,
     }
 }
 
-/// The members of a SEQUENCE.
+/// The members of a SEQUENCE without an extension marker.
 fn sequence_parts(shape: &Shape) -> Option<&[Part]>
-    ensures { MatchOption result ((ps : List Part') → kind_of shape.now ≡ members lists.Sequence ps → ⊥) (λ ps. kind_of shape.now ≡ members lists.Sequence (map part_of ps.now)) }
+    ensures { MatchOption result
+        ((ps : List Part') → kind_of shape.now ≡ members lists.Sequence false ps → ⊥)
+        (λ ps. kind_of shape.now ≡ members lists.Sequence false (map part_of ps.now)) }
 {
     match shape {
-        Shape::Members(ListKind::Sequence, parts) => Some(parts.as_slice()),
-        Shape::Members(ListKind::Set, _) | Shape::Members(ListKind::Choice, _) => None,
+        Shape::Members(ListKind::Sequence, false, parts) => Some(parts.as_slice()),
+        Shape::Members(ListKind::Sequence, true, _) => None,
+        Shape::Members(ListKind::Set, _, _) | Shape::Members(ListKind::Choice, _, _) => None,
         Shape::Simple(_) | Shape::Reference(_) => None,
-        Shape::Tagged(_, _, _) | Shape::Elements(_, _, _) => None,
+        Shape::Tagged(_, _, _) | Shape::Elements(_, _) => None,
     }
 }
 
@@ -74,7 +75,7 @@ fn components(alloc: Global, parts: &[Part]) -> Result<Vec<Component>, AllocErro
     let mut components = Vec::new(alloc);
     for part in parts {
         components.push(Component {
-            name: part.name.clone()?,
+            name: part.name.it.clone()?,
             ty: TypeId { index: part.ty },
             presence: Presence::Mandatory,
         })?;
@@ -94,13 +95,12 @@ fn universal(alloc: Global, number: u32, core: Core) -> Result<Resolved, AllocEr
 }
 
 /// The resolved type that a type of the table stands for.
-fn resolved(alloc: Global, types: &[Written], number: usize) -> Result<Resolved, AllocError>
-    requires linked { IsLinked (types_of types.now) }
-    requires first { AllByRecursion (IsFirstType (types_of types.now)) (types_of types.now) }
-    requires there { number < length types.now }
-    ensures { IfOk result (λ r. IsTypeOf (types_of types.now) number (resolved_of r)) }
+fn resolved(alloc: Global, linked: &Linked, number: usize) -> Result<Resolved, AllocError>
+    requires first { AllByRecursion (IsFirstType linked.now.types) linked.now.types }
+    requires there { number < length linked.now.types }
+    ensures { IfOk result (λ r. IsTypeOf linked.now.types number (resolved_of r)) }
 {
-    let written = unfolded(types, number);
+    let written = unfolded(linked, number);
     match basic_core(&written.shape) {
         Some((core, tag)) => universal(alloc, tag, core),
         None => match sequence_parts(&written.shape) {
@@ -113,17 +113,16 @@ fn resolved(alloc: Global, types: &[Written], number: usize) -> Result<Resolved,
     }
 }
 
-/// The types of a table, each by its number.
-pub fn table_types(alloc: Global, types: &[Written]) -> Result<Vec<Resolved>, AllocError>
-    requires linked { IsLinked (types_of types.now) }
-    requires first { AllByRecursion (IsFirstType (types_of types.now)) (types_of types.now) }
-    requires sound { AreSound (types_of types.now) }
-    ensures types { IfOk result (λ v. AreTypes (types_of types.now) (resolved_types_of v.items)) }
+/// The types of a program, each by its number.
+pub fn table_types(alloc: Global, linked: &Linked) -> Result<Vec<Resolved>, AllocError>
+    requires first { AllByRecursion (IsFirstType linked.now.types) linked.now.types }
+    requires sound { AreSound linked.now.types }
+    ensures types { IfOk result (λ v. AreTypes linked.now.types (resolved_types_of v.items)) }
     ensures accepted { IfOk result (λ v. IsAccepted (resolved_types_of v.items)) }
 {
     let mut all = Vec::new(alloc);
-    for number in 0..types.len() {
-        all.push(resolved(alloc, types, number)?)?;
+    for number in 0..linked.types().len() {
+        all.push(resolved(alloc, linked, number)?)?;
     }
     Ok(all)
 }

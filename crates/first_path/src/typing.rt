@@ -1,12 +1,11 @@
 //! The value that a notation stands for under a type.
 
-ghost use Rattle.std.specs.Prelude.{◌≡◌, ◌<◌, ℕ, length, slice_get, Some, IsSomeAnd, map, IfOk, IfErr, MatchOption, option_map, IfSome, true, false, bytes_eq, string_bytes};
+ghost use Rattle.std.specs.Prelude.{◌≡◌, ◌<◌, ℕ, length, slice_get, Some, IsSomeAnd, map, IfOk, IfErr, MatchOption, option_map, IfSome, true, false, bytes_eq, string_bytes, []};
 ghost use Rattle.asn_base.specs.Abstract.{abstract, row_of_options};
-ghost use Rattle.asn_base.specs.Types.{a_boolean, an_integer, an_octet_string, Constraint as Constraint'};
-ghost use Rattle.asn_base.specs.Typed.{IsWithinLimit};
-ghost use Rattle.trees.specs.Values.{tree_of, member_of, Name};
-ghost use Rattle.first_path.specs.Notations.{IsLeaf, Notation, Fields, Lacks, signed};
-ghost use Rattle.first_path.specs.Wrong.{component_names, field_names, AreIn, IsDisorder, IsKindFault, IsWrong, AreWrong};
+ghost use Rattle.asn_base.specs.Types.{a_boolean, an_integer, an_octet_string, Constraint as Constraint', Kind as Kind'};
+ghost use Rattle.trees.specs.Values.{tree_of, member_of, name_at, Name, Tree};
+ghost use Rattle.first_path.specs.Notations.{IsLeaf, Notation, Fields, Lacks};
+ghost use Rattle.first_path.specs.Wrong.{component_names, field_names, AreIn, IsDisorder, IsKindFault, IsOther, IsWrong, AreWrong};
 ghost use Rattle.names.specs.Modules.{StandsIn, StandsTwice, AreDistinct};
 ghost use Rattle.std.specs.List.{AllByRecursion, list_any};
 ghost use Rattle.asn_base.specs.Accepted.{IsAccepted, IsAcceptedType, IsSimpleMember, IsSimple};
@@ -19,78 +18,76 @@ use crate::scope::Scope;
 use asn_base::law::{abstract_values, schemas_grow};
 use asn_base::schema::{Component, Core, Resolved, Schema, TypeId};
 use asn_base::value::Value;
+use names::fault::spot;
 use std::alloc::{AllocError, Global};
 use trees::{Named, ValueSyntax};
 
-/// A number with its sign, where it is within the limit.
-fn with_sign(minus: bool, number: u128) -> Option<i128>
-    ensures { MatchOption result (IsWithinLimit (signed minus number) → ⊥) (λ z. (z ≡ signed minus number) × IsWithinLimit (signed minus number)) }
-{
-    if minus {
-        if number == 0 {
-            return Some(0);
-        }
-        if number > 170141183460469231731687303715884105728 {
-            return None;
-        }
-        Some(-1 - ((number - 1) as i128))
-    } else if number >= 170141183460469231731687303715884105728 {
-        None
-    } else {
-        Some(number as i128)
-    }
-}
-
 /// The truth value that a notation is.
-fn truth(notation: &ValueSyntax) -> Result<Value, ValueFault>
-    ensures value { IfOk result (λ v. IsLeaf a_boolean (tree_of notation.now) (abstract v)) }
-    ensures none { IfErr result (Lacks (IsLeaf a_boolean (tree_of notation.now))) }
-    ensures fault { IfErr result (IsKindFault a_boolean (tree_of notation.now)) }
+fn truth(notation: &ValueSyntax) -> Option<Value>
+    ensures { MatchOption result
+        (IsOther a_boolean (tree_of notation.now))
+        (λ v. IsLeaf a_boolean (tree_of notation.now) (abstract v)) }
 {
     abstract_values();
     match truth_in(notation) {
-        None => Err(ValueFault::NotOfType),
-        Some(value) => Ok(Value::Bool(value)),
+        None => None,
+        Some(value) => Some(Value::Bool(value)),
     }
 }
 
 /// The number that a notation is.
-fn integer(notation: &ValueSyntax) -> Result<Value, ValueFault>
-    ensures value { (c : Constraint') → IfOk result (λ v. IsLeaf (an_integer c) (tree_of notation.now) (abstract v)) }
-    ensures none { (c : Constraint') → IfErr result (Lacks (IsLeaf (an_integer c) (tree_of notation.now))) }
-    ensures fault { (c : Constraint') → IfErr result (IsKindFault (an_integer c) (tree_of notation.now)) }
+fn integer(notation: &ValueSyntax) -> Option<Value>
+    ensures { (c : Constraint') → MatchOption result
+        (IsOther (an_integer c) (tree_of notation.now))
+        (λ v. IsLeaf (an_integer c) (tree_of notation.now) (abstract v)) }
 {
     abstract_values();
     match number_in(notation) {
-        None => Err(ValueFault::NotOfType),
-        Some(told) => match with_sign(told.0, told.1) {
-            None => Err(ValueFault::Integer),
-            Some(value) => Ok(Value::Int(value)),
-        },
+        None => None,
+        Some(value) => Some(Value::Int(value)),
     }
 }
 
 /// The octets that a notation is.
-fn octet_string(alloc: Global, notation: &ValueSyntax) -> Result<Value, ValueFault>
-    ensures value { (c : Constraint') → IfOk result (λ v. IsLeaf (an_octet_string c) (tree_of notation.now) (abstract v)) }
-    ensures none { (c : Constraint') → IfErr result (Lacks (IsLeaf (an_octet_string c) (tree_of notation.now))) }
-    ensures fault { (c : Constraint') → IfErr result (IsKindFault (an_octet_string c) (tree_of notation.now)) }
+fn octet_string(alloc: Global, notation: &ValueSyntax) -> Result<Option<Value>, AllocError>
+    ensures { (c : Constraint') → IfOk result (λ o. MatchOption o
+        (IsOther (an_octet_string c) (tree_of notation.now))
+        (λ v. IsLeaf (an_octet_string c) (tree_of notation.now) (abstract v))) }
 {
     abstract_values();
     if let Some(digits) = binary_in(notation) {
         if !are_below(digits, 2) {
-            return Err(ValueFault::NotOfType);
+            return Ok(None);
         }
-        return Ok(Value::Octets(bit_octets(alloc, digits)?));
+        return Ok(Some(Value::Octets(bit_octets(alloc, digits)?)));
     }
     match hex_in(notation) {
-        None => Err(ValueFault::NotOfType),
+        None => Ok(None),
         Some(digits) => {
             if !are_below(digits, 16) {
-                return Err(ValueFault::NotOfType);
+                return Ok(None);
             }
-            Ok(Value::Octets(hex_octets(alloc, digits)?))
+            Ok(Some(Value::Octets(hex_octets(alloc, digits)?)))
         }
+    }
+}
+
+/// The value of a type that holds no others, where the notation is of the type's kind.
+fn leaf(alloc: Global, core: &Core, notation: &ValueSyntax) -> Result<Option<Value>, AllocError>
+    requires simple { IsSimple (kind_of core.now) }
+    ensures { IfOk result (λ o. MatchOption o
+        (IsOther (kind_of core.now) (tree_of notation.now))
+        (λ v. IsLeaf (kind_of core.now) (tree_of notation.now) (abstract v))) }
+{
+    match core {
+        Core::Boolean => Ok(truth(notation)),
+        Core::Integer(_) => Ok(integer(notation)),
+        Core::OctetString(_) => octet_string(alloc, notation),
+        Core::Enumerated(_) | Core::BitString(_) | Core::NamedBits(_) => unreachable!(),
+        Core::Null | Core::ObjectIdentifier | Core::RelativeOid => unreachable!(),
+        Core::Utf8String(_) | Core::RestrictedString(_, _, _) => unreachable!(),
+        Core::Sequence(_, _) | Core::Set(_, _) => unreachable!(),
+        Core::SequenceOf(_, _) | Core::SetOf(_, _) | Core::Choice(_) => unreachable!(),
     }
 }
 
@@ -103,9 +100,9 @@ fn is_component(components: &[Component], name: &str) -> bool
 
 /// Whether a field has this name.
 fn is_field(fields: &[Named<ValueSyntax>], name: &str) -> bool
-    ensures { result ≡ list_any (λ f. bytes_eq (string_bytes f.name) name.now) fields.now }
+    ensures { result ≡ list_any (λ f. bytes_eq (name_at f.name) name.now) fields.now }
 {
-    fields.iter().any(|f| f.name.as_str() == name)
+    fields.iter().any(|f| f.name.it.as_str() == name)
 }
 
 /// The first field whose name no component has.
@@ -114,7 +111,7 @@ fn unknown_field(components: &[Component], fields: &[Named<ValueSyntax>]) -> Opt
     ensures found { MatchOption result (AreIn (field_names (map member_of fields.now)) (component_names (map component_of components.now))) (λ k. (x : Name) → slice_get (field_names (map member_of fields.now)) k ≡ Some x → StandsIn (component_names (map component_of components.now)) x → ⊥) }
 {
     for k in 0..fields.len() {
-        if !is_component(components, fields[k].name.as_str()) {
+        if !is_component(components, fields[k].name.it.as_str()) {
             return Some(k);
         }
     }
@@ -127,7 +124,7 @@ fn repeated_field(fields: &[Named<ValueSyntax>]) -> Option<usize>
     ensures found { MatchOption result (AreDistinct (field_names (map member_of fields.now))) (λ k. (x : Name) → slice_get (field_names (map member_of fields.now)) k ≡ Some x → StandsTwice (field_names (map member_of fields.now)) x) }
 {
     for k in 0..fields.len() {
-        if is_field(&fields[..k], fields[k].name.as_str()) {
+        if is_field(&fields[..k], fields[k].name.it.as_str()) {
             return Some(k);
         }
     }
@@ -157,49 +154,70 @@ fn are_in_order(components: &[Component], fields: &[Named<ValueSyntax>]) -> bool
         return false;
     }
     for k in 0..components.len() {
-        if components[k].name.as_str() != fields[k].name.as_str() {
+        if components[k].name.as_str() != fields[k].name.it.as_str() {
             return false;
         }
     }
     true
 }
 
-/// What is wrong with fields that don't have the components' names in their order.
+/// What is wrong with fields that don't have the components' names in their order, in a module; `at` is the place of the
+/// value that has them.
 fn disorder(
+    alloc: Global,
+    within: &str,
+    at: usize,
     components: &[Component],
     fields: &[Named<ValueSyntax>],
 ) -> Result<ValueFault, AllocError>
     requires differs { component_names (map component_of components.now) ≡ field_names (map member_of fields.now) → ⊥ }
-    ensures { IfOk result (IsDisorder (component_names (map component_of components.now)) (field_names (map member_of fields.now))) }
+    ensures { IfOk result (IsDisorder within.now
+        (component_names (map component_of components.now))
+        (field_names (map member_of fields.now))) }
 {
     if let Some(k) = unknown_field(components, fields) {
-        return Ok(ValueFault::UnknownItem(fields[k].name.clone()?));
+        let name = &fields[k].name;
+        let told = spot(alloc, within, name.it.as_str(), name.at)?;
+        return Ok(ValueFault::UnknownItem(told));
     }
     if let Some(k) = repeated_field(fields) {
-        return Ok(ValueFault::Repeated(fields[k].name.clone()?));
+        let name = &fields[k].name;
+        let told = spot(alloc, within, name.it.as_str(), name.at)?;
+        return Ok(ValueFault::Repeated(told));
     }
     if let Some(k) = missing_component(components, fields) {
-        return Ok(ValueFault::Missing(components[k].name.clone()?));
+        let told = spot(alloc, within, components[k].name.as_str(), at)?;
+        return Ok(ValueFault::Missing(told));
     }
-    Ok(ValueFault::NotOfType)
+    Ok(ValueFault::NotOfType(spot(alloc, within, "", at)?))
 }
 
-/// The value of a type that holds no others.
-fn typed_leaf(alloc: Global, core: &Core, notation: &ValueSyntax) -> Result<Value, ValueFault>
+/// The fault that a notation at a place of a module's text is of another kind than the type. The name is told.
+fn not_of_type(alloc: Global, within: &str, name: &str, at: usize) -> ValueFault
+    ensures { (k : Kind') (n : Tree) → IsOther k n → IsKindFault within.now name.now k n result }
+{
+    match spot(alloc, within, name, at) {
+        Ok(told) => ValueFault::NotOfType(told),
+        Err(_) => ValueFault::Memory,
+    }
+}
+
+/// The value of a type that holds no others, its notation, which is no reference, read in a module. A fault tells the name.
+fn typed_leaf(
+    alloc: Global,
+    core: &Core,
+    within: &str,
+    name: &str,
+    notation: &ValueSyntax,
+) -> Result<Value, ValueFault>
     requires simple { IsSimple (kind_of core.now) }
     ensures value { IfOk result (λ v. IsLeaf (kind_of core.now) (tree_of notation.now) (abstract v)) }
     ensures none { IfErr result (Lacks (IsLeaf (kind_of core.now) (tree_of notation.now))) }
-    ensures fault { IfErr result (IsKindFault (kind_of core.now) (tree_of notation.now)) }
+    ensures fault { IfErr result (IsKindFault within.now name.now (kind_of core.now) (tree_of notation.now)) }
 {
-    match core {
-        Core::Boolean => truth(notation),
-        Core::Integer(_) => integer(notation),
-        Core::OctetString(_) => octet_string(alloc, notation),
-        Core::Enumerated(_) | Core::BitString(_) | Core::NamedBits(_) => unreachable!(),
-        Core::Null | Core::ObjectIdentifier | Core::RelativeOid => unreachable!(),
-        Core::Utf8String(_) | Core::RestrictedString(_, _, _) => unreachable!(),
-        Core::Sequence(_, _) | Core::Set(_, _) => unreachable!(),
-        Core::SequenceOf(_, _) | Core::SetOf(_, _) | Core::Choice(_) => unreachable!(),
+    match leaf(alloc, core, notation)? {
+        Some(value) => Ok(value),
+        None => Err(not_of_type(alloc, within, name, notation.at)),
     }
 }
 
@@ -208,30 +226,32 @@ fn typed_component(
     alloc: Global,
     scope: &Scope,
     schema: &Schema,
-    id: TypeId,
+    component: &Component,
     within: &str,
     notation: &ValueSyntax,
 ) -> Result<Value, ValueFault>
-    requires simple { IsSomeAnd (slice_get schema.now id.index) (λ r. IsSimple r.kind) }
-    ensures value { IfOk result (λ v. Notation scope.now schema.now within.now id.index (tree_of notation.now) (abstract v)) }
-    ensures none { IfErr result (Lacks (Notation scope.now schema.now within.now id.index (tree_of notation.now))) }
-    ensures fault { IfErr result (IsWrong scope.now schema.now within.now id.index (tree_of notation.now)) }
+    requires simple { IsSomeAnd (slice_get schema.now component.now.ty.index) (λ r. IsSimple r.kind) }
+    ensures value { IfOk result (λ v. Notation scope.now schema.now within.now component.now.ty.index (tree_of notation.now) (abstract v)) }
+    ensures none { IfErr result (Lacks (Notation scope.now schema.now within.now component.now.ty.index (tree_of notation.now))) }
+    ensures fault { IfErr result (IsWrong scope.now schema.now within.now (string_bytes component.now.name) component.now.ty.index (tree_of notation.now)) }
 {
     match behind_all(alloc, scope, within, notation) {
-        Ok((_, last)) => {
-            let resolved = schema.get(id);
-            typed_leaf(alloc, &resolved.core, last)
+        Ok((module, last)) => {
+            let resolved = schema.get(component.ty);
+            typed_leaf(alloc, &resolved.core, module, component.name.as_str(), last)
         }
         Err(fault) => Err(fault),
     }
 }
 
-/// The values of components that hold no others, whose names stand in their order, the notations read in a module.
+/// The values of components that hold no others, whose names stand in their order, the notations read in a module. `at` is
+/// the place of the value that has them.
 fn typed_fields(
     alloc: Global,
     scope: &Scope,
     schema: &Schema,
     within: &str,
+    at: usize,
     components: &[Component],
     fields: &[Named<ValueSyntax>],
 ) -> Result<Vec<Option<Value>>, ValueFault>
@@ -241,13 +261,13 @@ fn typed_fields(
     ensures fault { IfErr result (AreWrong scope.now schema.now within.now (map component_of components.now) (map member_of fields.now)) }
 {
     if !are_in_order(components, fields) {
-        return Err(disorder(components, fields)?);
+        return Err(disorder(alloc, within, at, components, fields)?);
     }
     let mut values = Vec::new(alloc);
     for i in 0..components.len() {
         let component = &components[i];
         let field = &fields[i];
-        match typed_component(alloc, scope, schema, component.ty, within, &field.value) {
+        match typed_component(alloc, scope, schema, component, within, &field.value) {
             Ok(value) => values.push(Some(value))?,
             Err(fault) => return Err(fault),
         }
@@ -279,7 +299,7 @@ pub fn typed(
     requires accepted { IsAccepted schema.now }
     ensures value { IfOk result (λ v. Notation scope.now schema.now within.now id.index (tree_of notation.now) (abstract v)) }
     ensures none { IfErr result (Lacks (Notation scope.now schema.now within.now id.index (tree_of notation.now))) }
-    ensures fault { IfErr result (IsWrong scope.now schema.now within.now id.index (tree_of notation.now)) }
+    ensures fault { IfErr result (IsWrong scope.now schema.now within.now [] id.index (tree_of notation.now)) }
 {
     abstract_values();
     let (module, last) = match behind_all(alloc, scope, within, notation) {
@@ -289,12 +309,13 @@ pub fn typed(
     let resolved = type_at(schema, id);
     match &resolved.core {
         Core::Sequence(_, components) => match fields_in(last) {
-            None => Err(ValueFault::NotOfType),
+            None => Err(not_of_type(alloc, module, "", last.at)),
             Some(fields) => match typed_fields(
                 alloc,
                 scope,
                 schema,
                 module,
+                last.at,
                 components.as_slice(),
                 fields,
             ) {
@@ -302,9 +323,9 @@ pub fn typed(
                 Err(fault) => Err(fault),
             },
         },
-        Core::Boolean => typed_leaf(alloc, &resolved.core, last),
-        Core::Integer(_) => typed_leaf(alloc, &resolved.core, last),
-        Core::OctetString(_) => typed_leaf(alloc, &resolved.core, last),
+        Core::Boolean => typed_leaf(alloc, &resolved.core, module, "", last),
+        Core::Integer(_) => typed_leaf(alloc, &resolved.core, module, "", last),
+        Core::OctetString(_) => typed_leaf(alloc, &resolved.core, module, "", last),
         Core::Enumerated(_) | Core::BitString(_) | Core::NamedBits(_) => unreachable!(),
         Core::Null | Core::ObjectIdentifier | Core::RelativeOid => unreachable!(),
         Core::Utf8String(_) | Core::RestrictedString(_, _, _) => unreachable!(),

@@ -1,12 +1,11 @@
-use Rattle.type_table.specs.Seen.{type_of, types_of}
-use Rattle.first_path.proofs.Lists.{seen_here}
+use Rattle.type_table.specs.Seen.{type_of}
+use Rattle.first_path.specs.FirstPath.{IsFirstType}
+use Rattle.first_path.proofs.Lists.{all_step}
 use Rattle.first_path.proofs.Unfoldings.{parts_inside}
 use Rattle.first_path.proofs.left_out.check_types.Goals as goal
 
-pub outside_type-requires-clause-inside : goal.outside_type-requires-clause-inside
-outside_type-requires-clause-inside c =
-    parts_inside (types_of c.args.types.now) c.loop-number.number (type_of c.index-types-number.result) c.requires.linked
-    (seen_here type_of c.args.types.now c.loop-number.number c.index-types-number.result c.loop-number-test.true c.index-types-number.is)
+pub outside_type-requires : goal.outside_type-requires
+outside_type-requires c = record { inside = parts_inside c.args.linked.now.types c.loop-number.number (type_of c.type_at.result.now) c.whole.ensures.linked c.type_at.ensures }
 
-pub returns-in-Some : goal.returns-in-Some
-returns-in-Some c = (type_of c.index-types-number.result, seen_here type_of c.args.types.now c.loop-number.number c.index-types-number.result c.loop-number-test.true c.index-types-number.is, c.in-Some.ensures.first, c.in-Some.ensures.construct)
+pub loop-number-preserved : goal.loop-number-preserved
+loop-number-preserved c = all_step (IsFirstType c.args.linked.now.types) c.args.linked.now.types c.loop-number.number (type_of c.type_at.result.now) c.type_at.ensures c.loop-number.invariant c.in_default.ensures.first

@@ -1,8 +1,7 @@
-use Rattle.std.proofs.Common.{map, take}
+use Rattle.std.proofs.Common.{take}
 use Rattle.std.specs.List.{AllByRecursion}
-use Rattle.type_table.specs.Seen.{type_of, types_of}
 use Rattle.first_path.specs.FirstPath.{IsFirstType}
 use Rattle.first_path.proofs.left_out.check_types.Given as goal
 
 abbrev pub invariant-loop-number : goal.invariant-loop-number
-invariant-loop-number l = AllByRecursion (IsFirstType (types_of l.types)) (map type_of (take l.number l.types))
+invariant-loop-number l = AllByRecursion (IsFirstType l.linked.types) (take l.number l.linked.types)

@@ -23,8 +23,8 @@ returns-in-Ok-clause-last c =
     let at = subst (λ p. IsValueAt p c.in-Ok.end N m) c.program-linked.ensures c.notation_at.ensures in
     answers_same p M n N m c.settled-in-Ok.result (same_behind p M n c.in-Some.start c.in-Ok.end N m means c.in-Ok.ensures.same at) c.settled-in-Ok.ensures.last
 
-pub returns-in_ok-from_str-in-Err-clause-last : goal.returns-in_ok-from_str-in-Err-clause-last
-returns-in_ok-from_str-in-Err-clause-last c =
+pub returns-in_ok-spot-in-Err-clause-last : goal.returns-in_ok-spot-in-Err-clause-last
+returns-in_ok-spot-in-Err-clause-last c =
     let p = c.args.scope.now in
     let M = c.args.within.now in
     let n = tree_of c.args.notation.now in

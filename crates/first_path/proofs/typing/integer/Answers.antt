@@ -8,9 +8,8 @@ use Rattle.std.specs.Int.{w128}
 use Rattle.std.proofs.lemmas.Int.{to_z-of_z}
 use Rattle.first_path.proofs.typing.integer.Goals as goal
 
-pub returns-in-Some-with_sign-clause-value : goal.returns-in-Some-with_sign-clause-value
-returns-in-Some-with_sign-clause-value c k =
-    let z = c.in-Some-with_sign.ensures.0 in
-    let f : SFits w128 c.in-Some-with_sign.value = search rules in
-    subst (IsLeaf (an_integer k) (tree_of c.args.notation.now)) (sym (c.abstract_values.ensures.int _ ∙ ap integer (to_z-of_z w128 c.in-Some-with_sign.value f ∙ z)))
-    (whole_number {p = c.in-Some.told} (sym c.number_in.ensures ∙ c.in-Some.is) c.in-Some-with_sign.ensures.1)
+pub returns-in-Some : goal.returns-in-Some
+returns-in-Some c k =
+    let f : SFits w128 c.in-Some.value = search rules in
+    subst (IsLeaf (an_integer k) (tree_of c.args.notation.now)) (sym (c.abstract_values.ensures.int _ ∙ ap integer (to_z-of_z w128 c.in-Some.value f)))
+    (whole_number (sym c.number_in.ensures ∙ c.in-Some.is))

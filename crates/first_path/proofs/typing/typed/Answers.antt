@@ -1,5 +1,6 @@
-use Rattle.std.proofs.Common.{false, sym, ap, ◌∙◌, subst, map, option_map}
+use Rattle.std.proofs.Common.{false, sym, ap, ◌∙◌, subst, map, option_map, []}
 use Rattle.asn_base.specs.Seen.{kind_of, component_of}
+use Rattle.asn_base.specs.Types.{a_sequence}
 use Rattle.trees.specs.Values.{tree_of, member_of}
 use Rattle.first_path.specs.Notations.{Notation, sequence}
 use Rattle.first_path.proofs.Typings.{IsNoSequence, ok_leaf, err_leaf, lacks_last, lacks_fields_in, lacks_fields, is_sequence}
@@ -76,7 +77,7 @@ pub returns-in-None-clause-fault : goal.returns-in-None-clause-fault
 returns-in-None-clause-fault c =
     let r = c.type_at-resolved.result.now in
     of_kind c.in-Ok.ensures.last.last (is_sequence c.args.schema.now c.args.id.index r c.in-Sequence.field-0 c.in-Sequence.components c.type_at-resolved.ensures.is c.in-Sequence.is)
-    (sym c.fields_in.ensures ∙ ap (option_map (λ fs. map member_of fs.now)) c.in-None.is)
+    (c.not_of_type.ensures (a_sequence c.in-Sequence.field-0 (map component_of c.in-Sequence.components.items)) (tree_of (c.in-Ok.last.1).now) (sym c.fields_in.ensures ∙ ap (option_map (λ fs. map member_of fs.now)) c.in-None.is))
 
 pub returns-in-Err-typed_fields-clause-fault : goal.returns-in-Err-typed_fields-clause-fault
 returns-in-Err-typed_fields-clause-fault c =
@@ -87,17 +88,17 @@ returns-in-Err-typed_fields-clause-fault c =
 pub returns-in-Boolean-clause-fault : goal.returns-in-Boolean-clause-fault
 returns-in-Boolean-clause-fault c =
     let r = c.type_at-resolved.result.now in
-    err_wrong c.args.scope.now c.args.schema.now c.args.within.now (c.in-Ok.last.0).now c.args.id.index r.tags.items (kind_of r.core) (tree_of c.args.notation.now) (tree_of (c.in-Ok.last.1).now) c.typed_leaf.result
+    err_wrong c.args.scope.now c.args.schema.now c.args.within.now [] (c.in-Ok.last.0).now c.args.id.index r.tags.items (kind_of r.core) (tree_of c.args.notation.now) (tree_of (c.in-Ok.last.1).now) c.typed_leaf.result
     c.in-Ok.ensures.last (record { found = c.type_at-resolved.ensures.is }) c.typed_leaf.ensures.fault
 
 pub returns-in-Integer-clause-fault : goal.returns-in-Integer-clause-fault
 returns-in-Integer-clause-fault c =
     let r = c.type_at-resolved.result.now in
-    err_wrong c.args.scope.now c.args.schema.now c.args.within.now (c.in-Ok.last.0).now c.args.id.index r.tags.items (kind_of r.core) (tree_of c.args.notation.now) (tree_of (c.in-Ok.last.1).now) c.typed_leaf-in-Integer.result
+    err_wrong c.args.scope.now c.args.schema.now c.args.within.now [] (c.in-Ok.last.0).now c.args.id.index r.tags.items (kind_of r.core) (tree_of c.args.notation.now) (tree_of (c.in-Ok.last.1).now) c.typed_leaf-in-Integer.result
     c.in-Ok.ensures.last (record { found = c.type_at-resolved.ensures.is }) c.typed_leaf-in-Integer.ensures.fault
 
 pub returns-in-OctetString-clause-fault : goal.returns-in-OctetString-clause-fault
 returns-in-OctetString-clause-fault c =
     let r = c.type_at-resolved.result.now in
-    err_wrong c.args.scope.now c.args.schema.now c.args.within.now (c.in-Ok.last.0).now c.args.id.index r.tags.items (kind_of r.core) (tree_of c.args.notation.now) (tree_of (c.in-Ok.last.1).now) c.typed_leaf-in-OctetString.result
+    err_wrong c.args.scope.now c.args.schema.now c.args.within.now [] (c.in-Ok.last.0).now c.args.id.index r.tags.items (kind_of r.core) (tree_of c.args.notation.now) (tree_of (c.in-Ok.last.1).now) c.typed_leaf-in-OctetString.result
     c.in-Ok.ensures.last (record { found = c.type_at-resolved.ensures.is }) c.typed_leaf-in-OctetString.ensures.fault
