@@ -1,16 +1,14 @@
 -- Where more numbers are allowed, more types are.
-use Rattle.std.proofs.Common.{◌≡◌, ◌^◌, ℕ, zero, suc, inl, inr, Bool, true, false, List, Option, Some, None, refl}
-use Rattle.std.specs.Prelude.{nat_lt}
+use Rattle.std.proofs.Common.{◌≡◌, ℕ, zero, suc, inl, inr, Bool, true, List}
 use Rattle.grammar.specs.Lexeme.{Lexeme}
-use Rattle.grammar.specs.Grammar.{Grammar, number_of, ◌∙◌, ◌∣◌, ◌⇒◌, many, optional, behind, listed, braces, cut_off}
-use Rattle.grammar.specs.Grows.{Grows, same_grows, number_grows, seq_grows, made_grows, either_grows, many_grows, behind_grows, listed_grows, braces_grows}
-use Rattle.grammar.specs.Rules.{bor}
+use Rattle.grammar.specs.Grammar.{Grammar, number_of, ◌∙◌, ◌∣◌, ◌⇒◌, many, optional, behind, listed, braces, parens, cut_off, opens, addition}
+use Rattle.grammar.specs.Grows.{Grows, same_grows, number_grows, seq_grows, made_grows, either_grows, many_grows, behind_grows, listed_grows, braces_grows, optional_grows, parens_grows, opens_grows, extensible_grows, rootless_grows, addition_grows}
 use Rattle.notation.specs.ConstraintGrammar.{size, constraint}
-use Rattle.grammar.specs.Grammar.{parens}
 use Rattle.trees.specs.Values.{Tree}
 use Rattle.notation.specs.Value.{value}
 use Rattle.trees.specs.Types.{TypeTree}
-use Rattle.type_syntax.specs.TypeGrammar.{opens, members, choice, signed, integer, bit_string, enumerated, tag_number, tag_end, tag, tagged, one_type, list, type_with, type}
+use Rattle.type_parts.specs.PlainGrammar.{signed, item, integer, bit_string, enumerated, simple, tag_number, tag_end, tag}
+use Rattle.type_syntax.specs.TypeGrammar.{member, alternative, members, choice, tagged, one_type, list, type_with, type}
 
 same : {A : Type 0} {a : Grammar A} → Grows a a
 same {A} {a} = same_grows a
@@ -34,25 +32,16 @@ in_list : {A : Type 0} {a a' : Grammar A} → Grows a a' → Grows (listed a) (l
 in_list {A} {a} {a'} g = listed_grows a a' g
 
 in_parens : {A : Type 0} {a a' : Grammar A} → Grows a a' → Grows (parens a) (parens a')
-in_parens g = made (seq same (seq g same))
+in_parens {A} {a} {a'} g = parens_grows a a' g
 
 any_number : {A : Type 0} {a a' : Grammar A} → Grows a a' → Grows (many a) (many a')
 any_number {A} {a} {a'} g = many_grows a a' g
 
 perhaps : {A : Type 0} {a a' : Grammar A} → Grows a a' → Grows (optional a) (optional a')
-perhaps {A} {a} {a'} g = record { is = is; on = on }
-  where
-    is : (o : Option A) (u : List Lexeme) → (optional a).Is o u → (optional a').Is o u
-    is None u h = h
-    is (Some x) u h = g.is x u h
-
-    on : (u : List Lexeme) → (optional a).CanGoOn u → (optional a').CanGoOn u
-    on u (inl e) = inl e
-    on u (inr h) = inr (g.on u h)
+perhaps {A} {a} {a'} g = optional_grows a a' g
 
 opened : {A : Type 0} {a a' : Grammar A} (n : ℕ) → Grows a a' → Grows (opens n a) (opens n a')
-opened zero g = same
-opened (suc n) g = g
+opened {A} {a} {a'} n g = opens_grows n a a' g
 
 module _ (fits fits' : ℕ → Bool) (grows : (n : ℕ) → fits n ≡ true → fits' n ≡ true) (few more : ℕ → Bool) (grows_tags : (n : ℕ) → few n ≡ true → more n ≡ true) (constraints : Grows (constraint fits) (constraint fits')) (sizes : Grows (size fits) (size fits')) where
   number : Grows (number_of fits) (number_of fits')
@@ -80,11 +69,20 @@ module _ (fits fits' : ℕ → Bool) (grows : (n : ℕ) → fits n ≡ true → 
       tagged_grows : Grows (tagged few n t) (tagged more n t')
       tagged_grows = opened n (back (made (seq tags (seq same gt))))
 
-      members_grow : Grows (members n t v) (members n t' v')
-      members_grow = made (opened n (in_braces (perhaps (in_list (seq same (seq gt (made (perhaps (either same (made (back gv)))))))))))
+      component_grows : Grows (member t v) (member t' v')
+      component_grows = seq same (seq gt (made (perhaps (either same (made (back gv))))))
 
-      choices : Grows (choice n t) (choice n t')
-      choices = made (seq same (opened n (in_braces (in_list (seq same (made gt))))))
+      members_grow : Grows (members fits n t v) (members fits' n t' v')
+      members_grow = made (opened n (in_braces (perhaps (rootless_grows (member t v) (member t' v') (addition fits (member t v)) (addition fits' (member t' v')) component_grows (addition_grows fits fits' grows (member t v) (member t' v') component_grows)))))
+
+      alternative_grows : Grows (alternative t) (alternative t')
+      alternative_grows = seq same (made gt)
+
+      choices : Grows (choice fits n t) (choice fits' n t')
+      choices = made (seq same (opened n (in_braces (extensible_grows (alternative t) (alternative t') (addition fits (alternative t)) (addition fits' (alternative t')) alternative_grows (addition_grows fits fits' grows (alternative t) (alternative t') alternative_grows)))))
+
+      item_grows : Grows (item fits) (item fits')
+      item_grows = seq same (perhaps (in_parens signed_number))
 
       integers : Grows (integer fits n) (integer fits' n)
       integers = made (seq same (perhaps (opened n (in_braces (in_list (seq same (in_parens signed_number)))))))
@@ -93,10 +91,13 @@ module _ (fits fits' : ℕ → Bool) (grows : (n : ℕ) → fits n ≡ true → 
       bits = made (seq same (seq same (perhaps (opened n (in_braces (in_list (seq same (in_parens number))))))))
 
       items : Grows (enumerated fits n) (enumerated fits' n)
-      items = made (seq same (opened n (in_braces (in_list (seq same (perhaps (in_parens signed_number)))))))
+      items = made (seq same (opened n (in_braces (extensible_grows (item fits) (item fits') (item fits) (item fits') item_grows item_grows))))
+
+      simples : Grows (simple fits n) (simple fits' n)
+      simples = either same (either same (either same (either integers (either bits items))))
 
       one_grows : Grows (one_type fits n t) (one_type fits' n t')
-      one_grows = either same (either same (either same (either same (either integers (either bits (either items choices))))))
+      one_grows = either (made simples) (either same choices)
 
       list_grows : Grows (list fits n t) (list fits' n t')
       list_grows = made (seq same (seq (perhaps (either sizes (in_parens sizes))) (opened n (back gt))))

@@ -1,39 +1,41 @@
 -- What is owed for types, of what is owed for the types and values inside.
-use Rattle.std.proofs.Common.{◌≡◌, ℕ, ◌+◌, ◌≤◌, inl, inr, Bool, true, false, List, [], ◌∷◌, ◌++◌, Option, Some, None, Ok, Err, refl, sym, ap, ◌∙◌ as ◌⋆◌, append_assoc}
+use Rattle.std.proofs.Common.{◌≡◌, ℕ, ◌+◌, ◌≤◌, inl, inr, Bool, true, false, List, [], ◌∷◌, ◌++◌, Option, Some, Ok, Err, refl, sym, ap, ◌∙◌ as ◌⋆◌, append_assoc}
 use Rattle.text.specs.declared.token.Mark.TheVariants.{OpenBrace, OpenParenthesis, OpenBracket, Dot}
 use Rattle.text.specs.declared.reserved.Word.TheVariants as words
 use Rattle.asn_base.specs.declared.tag.Tag.{Tag}
-use Rattle.grammar.specs.Lexeme.{Lexeme, TypeRef, Ident, Word, Mark}
-use Rattle.grammar.specs.Grammar.{Grammar, ◌∙◌, ◌∣◌, ◌⇒◌, many, optional, behind, listed}
-use Rattle.grammar.specs.Reading.{Limit, Nesting, Integer, TagNumber as TagLimit, Read, Reader, ◌>>=◌, opened, closed_at, listed_at, named_at}
+use Rattle.grammar.specs.Lexeme.{Lexeme, TypeRef, Word, Mark}
+use Rattle.grammar.specs.Grammar.{Grammar, ◌∙◌, ◌∣◌, ◌⇒◌, many, optional, behind, opens, extensible, rootless, addition}
+use Rattle.grammar.specs.Reading.{Limit, Nesting, Integer, Read, Reader, ◌>>=◌, named_at, is_open, parens_at, inside_at, braces_at, extensible_at, rootless_at, addition_at}
+use Rattle.grammar.specs.Extensions.{FitsBrackets, rule_extensible, rule_rootless, rule_addition}
 use Rattle.grammar.specs.Laws.{then_read, after_read}
-use Rattle.grammar.specs.Lists.{no_lexeme, is_ident, with_comma}
+use Rattle.grammar.specs.Lists.{no_lexeme, is_ident}
 use Rattle.grammar.specs.Numbers.{Past}
 use Rattle.grammar.specs.Parts.{pick, perhaps}
 use Rattle.notation.specs.Laws.{goes_on}
 use Rattle.grammar.specs.Parens.{rule_parens}
-use Rattle.grammar.specs.Rules.{Owes, OwesLoosely, Rules, Same, Ruled, asked, either, rule_token, rule_made, rule_seq, rule_behind, rule_tail, rule_lead, rule_pick, rule_listed, loose_optional, loose_many, loose_made, rule_read, rule_tests, rule_same, is_number, made, one_at}
+use Rattle.grammar.specs.Rules.{Owes, OwesLoosely, Rules, Same, asked, either, rule_made, rule_seq, rule_behind, rule_tail, rule_lead, rule_pick, loose_optional, loose_many, loose_made, rule_read, rule_tests, rule_same, is_number, made, one_at}
+use Rattle.grammar.specs.Openings.{loosely, loose_read, rule_both, rule_named, after_made, IsOpenable, opened_by, is_lbrace, inside, rule_opens, rule_inside, rule_inside_loose, rule_in_braces}
 use Rattle.trees.specs.Values.{Name, Tree}
-use Rattle.trees.specs.Constraints.{RangeTree, ConstraintTree}
+use Rattle.trees.specs.Constraints.{ConstraintTree}
 use Rattle.notation.specs.ConstraintGrammar.{size, constraint}
-use Rattle.grammar.specs.Grammar.{parens}
 use Rattle.notation.specs.ConstraintReading.{is_size, size_at, constraint_at}
-use Rattle.grammar.specs.Reading.{is_open, parens_at}
 use Rattle.trees.specs.declared.types.Keyword.{Keyword}
-use Rattle.trees.specs.Types.{PresenceTree, mandatory, optional as may_be_absent, default, TypeTree, an_object_identifier, an_octet_string, a_choice, a_tagged, TypeMembers, type_members}
-use Rattle.type_syntax.specs.TypeGrammar.{opens, members_of, with_members, list_of, present, constrained, sequence_or_set, keyword, presence, member, alternative, members, choice, tag, tagged, one_type, type_with}
+use Rattle.trees.specs.declared.types.ListKind.TheVariants as lists
+use Rattle.trees.specs.Types.{PresenceTree, mandatory, optional as may_be_absent, default, TypeTree, a_type, FormTree, a_simple, a_tagged}
+use Rattle.type_parts.specs.PlainGrammar.{present, keyword, presence, simple, list_size, ref, tag}
+use Rattle.type_parts.specs.PlainReading.{keyword_at, default_at, presence_at, tag_at, one_word_at, simple_at, constraints_at, some_size_at, size_in_parens_at, list_size_at}
+use Rattle.type_parts.specs.TypeLexemes.{is_choice_word, is_sequence_word, is_set_word, is_of_word, of_word_one, is_optional_word, is_default_word, is_open_bracket, open_bracket_one, is_application_word, is_private_word, is_dot, rule_choice_word, rule_sequence_word, rule_set_word, rule_optional_word, rule_default_word}
+use Rattle.type_parts.specs.TypeWords.{TagRule}
+use Rattle.type_parts.specs.TypeParts.{is_keyword, loose_keyword, ref_read, ref_same, rule_ref, simple_starts, rule_simple, rule_tag}
+use Rattle.grammar.specs.Single.{is_closed, is_typeref}
+use Rattle.type_syntax.specs.TypeGrammar.{Component, Listing, of_listing, list_kind, listing_of, list_of, constrained, sequence_or_set, member, alternative, members, choice, tagged, one_type, type_with}
 use Rattle.type_syntax.specs.TypeLaws.{type_ends}
-use Rattle.type_syntax.specs.TypeReading.{tag_fits, identifier_at, string_at, one_word_at, keyword_at, default_at, presence_at, component_at, bare_at, list_in_at, some_members_at, members_at, body_at, alternatives_at, choice_at, tag_at, inside_tag_at, tagged_at, object_at, octets_at, one_type_at, constraints_at, with_constraints_at, plain_at, some_size_at, size_in_parens_at, list_size_at, of_at, list_at, structure_at, behind_at, type_step}
-use Rattle.grammar.specs.Single.{is_closed, closed_is, is_typeref}
-use Rattle.type_syntax.proofs.TypeLexemes.{is_object_word, is_octet_word, is_bit_word, is_integer_word, is_enumerated_word, is_choice_word, is_sequence_word, is_set_word, is_of_word, of_word_one, is_optional_word, is_default_word, is_open_bracket, open_bracket_one, is_application_word, is_private_word, is_dot, rule_object_word, rule_octet_word, rule_choice_word, rule_optional_word, rule_default_word, rule_string, rule_identifier}
-use Rattle.type_syntax.proofs.TypeWords.{is_type_word, rule_one_word, TagRule}
-use Rattle.type_syntax.proofs.TypeParts.{close_apart, rule_list_in, which_read, rule_which, is_keyword, loose_keyword, ref_read, ref_same, rule_ref, integer_read, integer_same, rule_integer, bits_read, bits_same, rule_bit_string, items_read, items_same, rule_enumerated, rule_tag}
-use Rattle.grammar.specs.Openings.{loosely, loose_read, rule_both, rule_named, after_made, after_some, opened_made, IsOpenable, opened_by, is_lbrace, inside, rule_opens, rule_braces}
+use Rattle.type_syntax.specs.TypeReading.{component_at, bare_at, is_listing, listing_at, body_at, alternatives_at, choice_at, inside_tag_at, tagged_at, plain_form_at, one_type_at, with_constraints_at, plain_at, of_at, list_at, structure_at, behind_at, type_step}
 
 -- ---- what a type begins with, and what goes on with it
 
 abbrev pub one_starts : Lexeme → Bool
-one_starts = either is_type_word (either is_object_word (either is_octet_word (either is_typeref (either is_integer_word (either is_bit_word (either is_enumerated_word is_choice_word))))))
+one_starts = either is_typeref (either is_choice_word simple_starts)
 
 abbrev pub is_which : Lexeme → Bool
 is_which = either is_sequence_word is_set_word
@@ -45,6 +47,17 @@ abbrev one_ends : Lexeme → Bool
 one_ends (Mark OpenBrace) = true
 one_ends (Mark Dot) = true
 one_ends t = false
+
+abbrev which_read : Reader Bool
+which_read = pick is_sequence_word (λ ts. one_at is_sequence_word ts >>= λ x. Ok (false, x.1)) (λ ts. one_at is_set_word ts >>= λ x. Ok (true, x.1))
+
+set_no_sequence : (t : Lexeme) → is_set_word t ≡ true → is_sequence_word t ≡ false
+set_no_sequence (Word words.Sequence) e = absurd cc
+set_no_sequence t e = refl
+
+module _ {s f : Type 0} {over : Limit → ℕ} {within : Limit → Type 0} where
+  rule_which : Owes s f over within sequence_or_set is_which (either no_lexeme no_lexeme) which_read
+  rule_which = rule_pick (rule_made (λ _. false) rule_sequence_word) (rule_made (λ _. true) rule_set_word) set_no_sequence
 
 -- ---- what members are made of
 
@@ -71,53 +84,16 @@ presence_same value (Word words.Optional ∷ ts) = refl
 presence_same value (Word words.Default ∷ ts) = default_same (value ts)
 presence_same value (t ∷ ts) = refl
 
-component_same : (read : Reader TypeTree) (value : Reader Tree) (ts : List Lexeme) → then_read (λ p. p) read (presence_at value) ts ≡ component_at read value ts
-unfolding component_at
-component_same read value ts = refl
-
-abbrev Members : Type 0
-Members = List (Name × (TypeTree × PresenceTree))
-
-abbrev in_braces : Reader TypeTree → Reader Tree → Reader (Option Members)
-in_braces read value = then_read (λ (p : Option Members × Unit {0}). p.0) (perhaps is_ident (listed_at (named_at (component_at read value)))) closed_at
-
-members_same : (read : Reader TypeTree) (value : Reader Tree) (ts : List Lexeme) → made members_of (in_braces read value ts) ≡ members_at read value ts
-unfolding members_at some_members_at list_in_at
-members_same read value [] = after_made members_of (λ (p : Option Members × Unit {0}). p.0) (Ok (None, [])) closed_at
-members_same read value (Ident x ∷ ts) =
-    after_made members_of (λ (p : Option Members × Unit {0}). p.0) (made (λ (x : Members). Some x) (listed_at (named_at (component_at read value)) (Ident x ∷ ts))) closed_at
-    ⋆ after_some (λ (p : Option Members × Unit {0}). members_of p.0) (listed_at (named_at (component_at read value)) (Ident x ∷ ts)) closed_at
-    ⋆ sym (after_made type_members (λ (p : Members × Unit {0}). p.0) (listed_at (named_at (component_at read value)) (Ident x ∷ ts)) closed_at)
-members_same read value (t ∷ ts) = after_made members_of (λ (p : Option Members × Unit {0}). p.0) (Ok (None, t ∷ ts)) closed_at
-
-abbrev body_read : ℕ → Reader TypeTree → Reader Tree → Reader TypeMembers
-body_read n read value ts = opened_by is_lbrace n (in_braces read value) ts >>= λ x. Ok (members_of x.0, x.1)
-
-body_same : (n : ℕ) (read : Reader TypeTree) (value : Reader Tree) (ts : List Lexeme) → body_read n read value ts ≡ body_at n read value ts
-unfolding body_at
-body_same n read value [] = refl
-body_same n read value (Mark OpenBrace ∷ ts) = opened_made n (Mark OpenBrace ∷ ts) members_of (in_braces read value ts) ⋆ ap (opened n (Mark OpenBrace ∷ ts)) (members_same read value ts)
-body_same n read value (t ∷ ts) = refl
-
-abbrev pub choice_read : ℕ → Reader TypeTree → Reader TypeTree
-choice_read n read = then_read (λ (p : Unit {0} × Members). a_choice (type_members p.1)) (one_at is_choice_word) (opened_by is_lbrace n (list_in_at (named_at (bare_at read))))
-
-choice_same : (n : ℕ) (read : Reader TypeTree) (ts : List Lexeme) → choice_read n read (Word words.Choice ∷ ts) ≡ choice_at n read ts
-unfolding choice_at alternatives_at
-choice_same n read [] = refl
-choice_same n read (Mark OpenBrace ∷ ts) = opened_made n (Mark OpenBrace ∷ ts) (λ (l : Members). a_choice (type_members l)) (list_in_at (named_at (bare_at read)) ts)
-choice_same n read (t ∷ ts) = refl
-
 -- ---- tags and elements
 
 abbrev tag_tree : Tag × (Keyword × TypeTree) → TypeTree
-tag_tree p = a_tagged p.0 p.1.0 p.1.1
+tag_tree p = a_type (a_tagged p.0 p.1.0 p.1.1) []
 
 inside_same : (fits : ℕ → Bool) (read : Reader TypeTree) (ts : List Lexeme) → then_read tag_tree (tag_at fits) (then_read (λ p. p) keyword_at read) ts ≡ inside_tag_at fits read ts
 unfolding inside_tag_at
 inside_same fits read ts = go (tag_at fits ts)
   where
-    go : (r : Read Tag) → after_read tag_tree r (then_read (λ p. p) keyword_at read) ≡ (r >>= λ g. keyword_at g.1 >>= λ k. read k.1 >>= λ t. Ok (a_tagged g.0 k.0 t.0, t.1))
+    go : (r : Read Tag) → after_read tag_tree r (then_read (λ p. p) keyword_at read) ≡ (r >>= λ g. keyword_at g.1 >>= λ k. read k.1 >>= λ t. Ok (a_type (a_tagged g.0 k.0 t.0) [], t.1))
     go (Ok g) = after_made (λ (y : Keyword × TypeTree). tag_tree (g.0, y)) (λ (p : Keyword × TypeTree). p) (keyword_at g.1) read
     go (Err e) = refl
 
@@ -151,51 +127,73 @@ of_apart : (t : Lexeme) → is_of_word t ≡ true → size_ends t ≡ false
 of_apart (Word words.Of) e = refl
 of_apart t e = absurd cc
 
+-- ---- lists
+
+component_read : (read : Reader TypeTree) (value : Reader Tree) (ts : List Lexeme) → then_read (λ p. p) read (presence_at value) ts ≡ component_at read value ts
+unfolding component_at
+component_read read value ts = refl
+
+abbrev body_read : (ℕ → Bool) → ℕ → Reader TypeTree → Reader Tree → Reader Listing
+body_read fits n read value ts = braces_at n (listing_at fits (named_at (component_at read value))) ts >>= λ l. Ok (listing_of l.0, l.1)
+
+body_same : (fits : ℕ → Bool) (n : ℕ) (read : Reader TypeTree) (value : Reader Tree) (ts : List Lexeme) → body_read fits n read value ts ≡ body_at fits n read value ts
+unfolding body_at
+body_same fits n read value ts = refl
+
+listing_same : (fits : ℕ → Bool) (part : Reader (Name × Component)) (ts : List Lexeme) → perhaps is_listing (rootless_at part (addition_at fits part)) ts ≡ listing_at fits part ts
+unfolding listing_at
+listing_same fits part ts = refl
+
+alternatives_same : (fits : ℕ → Bool) (read : Reader TypeTree) (ts : List Lexeme) → extensible_at (named_at (bare_at read)) (addition_at fits (named_at (bare_at read))) ts ≡ alternatives_at fits read ts
+unfolding alternatives_at
+alternatives_same fits read ts = refl
+
+abbrev choice_read : (ℕ → Bool) → ℕ → Reader TypeTree → Reader FormTree
+choice_read fits n read = then_read (λ (p : Unit {0} × Listing). of_listing lists.Choice p.1) (one_at is_choice_word) (braces_at n (alternatives_at fits read))
+
+choice_same : (fits : ℕ → Bool) (n : ℕ) (read : Reader TypeTree) (ts : List Lexeme) → choice_read fits n read (Word words.Choice ∷ ts) ≡ choice_at fits n read ts
+unfolding choice_at
+choice_same fits n read ts = refl
+
 -- ---- the readers of types
 
 module _ (fits : ℕ → Bool) (n : ℕ) (read : Reader TypeTree) (value : Reader Tree) where
-  abbrev one_read : Reader TypeTree
-  one_read =
-      pick is_type_word one_word_at
-      (pick is_object_word (then_read (λ (p : Unit {0} × Unit {0}). an_object_identifier) (one_at is_object_word) identifier_at)
-      (pick is_octet_word (then_read (λ (p : Unit {0} × Unit {0}). an_octet_string) (one_at is_octet_word) string_at)
-      (pick is_typeref ref_read (pick is_integer_word (integer_read fits n) (pick is_bit_word (bits_read fits n) (pick is_enumerated_word (items_read fits n) (choice_read n read)))))))
+  abbrev form_read : Reader FormTree
+  form_read ts = simple_at fits n ts >>= λ s. Ok (a_simple s.0, s.1)
+
+  abbrev one_read : Reader FormTree
+  one_read = pick is_typeref ref_read (pick is_choice_word (choice_read fits n read) form_read)
 
   one_same : (ts : List Lexeme) → one_read ts ≡ one_type_at fits n read ts
-  unfolding one_type_at one_word_at object_at octets_at
+  unfolding one_type_at plain_form_at
   one_same [] = refl
-  one_same (Word words.Object ∷ ts) = refl
-  one_same (Word words.Octet ∷ ts) = refl
-  one_same (Word words.Integer ∷ ts) = integer_same fits n ts
-  one_same (Word words.Bit ∷ ts) = bits_same fits n ts
-  one_same (Word words.Enumerated ∷ ts) = items_same fits n ts
-  one_same (Word words.Choice ∷ ts) = choice_same n read ts
+  one_same (Word words.Choice ∷ ts) = choice_same fits n read ts
   one_same (TypeRef x ∷ ts) = ref_same x ts
   one_same (t ∷ ts) = refl
 
   abbrev Rest : Type 0
   Rest = Bool → TypeTree
 
-  abbrev set_or_not : TypeMembers × List ConstraintTree → Rest
-  set_or_not p set = constrained (with_members set p.0, p.1)
+  abbrev set_or_not : Listing × List ConstraintTree → Rest
+  set_or_not p set = constrained (of_listing (list_kind set) p.0, p.1)
 
-  abbrev list_or_not : Option (List RangeTree) × TypeTree → Rest
+  abbrev list_or_not : Option ConstraintTree × TypeTree → Rest
   list_or_not p set = list_of set p.0 p.1
 
   abbrev rest_read : Reader Rest
-  rest_read = pick is_lbrace (then_read set_or_not (body_at n read value) (constraints_at fits)) (then_read list_or_not (list_size_at fits) (of_at fits n read))
+  rest_read = pick is_lbrace (then_read set_or_not (body_at fits n read value) (constraints_at fits)) (then_read list_or_not (list_size_at fits) (of_at fits n read))
 
   rest_same : (set : Bool) (ts : List Lexeme) → made (λ (g : Rest). g set) (rest_read ts) ≡ behind_at fits n read value set ts
   unfolding behind_at structure_at list_at with_constraints_at
   rest_same set [] = after_made (λ (g : Rest). g set) list_or_not (list_size_at fits []) (of_at fits n read)
-  rest_same set (Mark OpenBrace ∷ ts) = after_made (λ (g : Rest). g set) set_or_not (body_at n read value (Mark OpenBrace ∷ ts)) (constraints_at fits)
+  rest_same set (Mark OpenBrace ∷ ts) = after_made (λ (g : Rest). g set) set_or_not (body_at fits n read value (Mark OpenBrace ∷ ts)) (constraints_at fits)
   rest_same set (t ∷ ts) = after_made (λ (g : Rest). g set) list_or_not (list_size_at fits (t ∷ ts)) (of_at fits n read)
 
   abbrev type_read : Reader TypeTree
   type_read = pick is_open_bracket (tagged_at fits n read) (pick one_starts (then_read constrained (one_type_at fits n read) (constraints_at fits)) (then_read (λ (p : Bool × Rest). p.1 p.0) which_read rest_read))
 
   type_same : (ts : List Lexeme) → type_read ts ≡ type_step fits n read value ts
-  unfolding type_step plain_at with_constraints_at one_type_at one_word_at
+  unfolding type_step plain_at with_constraints_at one_type_at plain_form_at simple_at one_word_at
   type_same [] = refl
   type_same (Mark OpenBracket ∷ ts) = refl
   type_same (Word words.Sequence ∷ ts) = rest_same false ts
@@ -205,17 +203,17 @@ module _ (fits : ℕ → Bool) (n : ℕ) (read : Reader TypeTree) (value : Reade
 -- ---- the grammar, with one front for all that SEQUENCE or SET begins
 
 module _ (fits tags : ℕ → Bool) (m : ℕ) (t : Grammar TypeTree) (v : Grammar Tree) where
-  abbrev of_members : TypeMembers × List ConstraintTree → Bool → TypeTree
-  of_members p set = constrained (with_members set p.0, p.1)
+  abbrev of_members : Listing × List ConstraintTree → Bool → TypeTree
+  of_members p set = constrained (of_listing (list_kind set) p.0, p.1)
 
-  abbrev of_element : Option (List RangeTree) × TypeTree → Bool → TypeTree
+  abbrev of_element : Option ConstraintTree × TypeTree → Bool → TypeTree
   of_element p set = list_of set p.0 p.1
 
   abbrev split : Grammar TypeTree
   split =
       tagged tags m t
       ∣ (one_type fits m t ∙ many (constraint fits)) ⇒ constrained
-      ∣ (sequence_or_set ∙ ((members m t v ∙ many (constraint fits)) ⇒ of_members ∣ (optional (size fits ∣ parens (size fits)) ∙ opens m (behind (Word words.Of) t)) ⇒ of_element)) ⇒ (λ p. p.1 p.0)
+      ∣ (sequence_or_set ∙ ((members fits m t v ∙ many (constraint fits)) ⇒ of_members ∣ (list_size fits ∙ opens m (behind (Word words.Of) t)) ⇒ of_element)) ⇒ (λ p. p.1 p.0)
 
   type_is_split : Same split (type_with fits tags m t v)
   type_is_split = record { to = record { is = to_is; on = to_on }; back = record { is = back_is; on = back_on } }
@@ -224,7 +222,7 @@ module _ (fits tags : ℕ → Bool) (m : ℕ) (t : Grammar TypeTree) (v : Gramma
       to_is x u (inl h) = inl h
       to_is x u (inr (inl (p, d, (a, b, q, ha, hb)))) = inr (inl (p, d, (a, b, q, inl ha, hb)))
       to_is x u (inr (inr (p, d, (a, b, q, ha, inl (r, e, (a', b', q', hm, hc)))))) =
-          inr (inl ((with_members p.0 r.0, r.1), d ⋆ ap (λ (g : Bool → TypeTree). g p.0) e, (a ++ a', b', q ⋆ ap (λ (l : List Lexeme). a ++ l) q' ⋆ sym (append_assoc a a' b'), inr ((p.0, r.0), refl, (a, a', refl, ha, hm)), hc)))
+          inr (inl ((of_listing (list_kind p.0) r.0, r.1), d ⋆ ap (λ (g : Bool → TypeTree). g p.0) e, (a ++ a', b', q ⋆ ap (λ (l : List Lexeme). a ++ l) q' ⋆ sym (append_assoc a a' b'), inr ((p.0, r.0), refl, (a, a', refl, ha, hm)), hc)))
       to_is x u (inr (inr (p, d, (a, b, q, ha, inr (r, e, h))))) = inr (inr ((p.0, r), d ⋆ ap (λ (g : Bool → TypeTree). g p.0) e, (a, b, q, ha, h)))
 
       to_on : (u : List Lexeme) → split.CanGoOn u → (type_with fits tags m t v).CanGoOn u
@@ -234,14 +232,14 @@ module _ (fits tags : ℕ → Bool) (m : ℕ) (t : Grammar TypeTree) (v : Gramma
       to_on u (inr (inr (inl h))) = inr (inr (inl h))
       to_on u (inr (inr (inr (k, a, b, q, ha, inl (inl hm))))) = inr (inl (inl (inr (inr (k, a, b, q, ha, hm)))))
       to_on u (inr (inr (inr (k, a, b, q, ha, inl (inr (ms, a', b', q', hm, hc)))))) =
-          inr (inl (inr (with_members k ms, a ++ a', b', q ⋆ ap (λ (l : List Lexeme). a ++ l) q' ⋆ sym (append_assoc a a' b'), inr ((k, ms), refl, (a, a', refl, ha, hm)), hc)))
+          inr (inl (inr (of_listing (list_kind k) ms, a ++ a', b', q ⋆ ap (λ (l : List Lexeme). a ++ l) q' ⋆ sym (append_assoc a a' b'), inr ((k, ms), refl, (a, a', refl, ha, hm)), hc)))
       to_on u (inr (inr (inr (k, a, b, q, ha, inr h)))) = inr (inr (inr (k, a, b, q, ha, h)))
 
       back_is : (x : TypeTree) (u : List Lexeme) → (type_with fits tags m t v).Is x u → split.Is x u
       back_is x u (inl h) = inl h
       back_is x u (inr (inl (p, d, (a, b, q, inl h, hc)))) = inr (inl (p, d, (a, b, q, h, hc)))
       back_is x u (inr (inl (p, d, (a, b, q, inr (r, e, (a', b', q', hw, hm)), hc)))) =
-          inr (inr ((r.0, of_members (r.1, p.1)), d ⋆ ap (λ (y : TypeTree). constrained (y, p.1)) e, (a', b' ++ b, q ⋆ ap (λ (l : List Lexeme). l ++ b) q' ⋆ append_assoc a' b' b, hw, inl ((r.1, p.1), refl, (b', b, refl, hm, hc)))))
+          inr (inr ((r.0, of_members (r.1, p.1)), d ⋆ ap (λ (y : FormTree). constrained (y, p.1)) e, (a', b' ++ b, q ⋆ ap (λ (l : List Lexeme). l ++ b) q' ⋆ append_assoc a' b' b, hw, inl ((r.1, p.1), refl, (b', b, refl, hm, hc)))))
       back_is x u (inr (inr (p, d, (a, b, q, hw, h)))) = inr (inr ((p.0, of_element p.1), d, (a, b, q, hw, inr (p.1, refl, h))))
 
       back_on : (u : List Lexeme) → (type_with fits tags m t v).CanGoOn u → split.CanGoOn u
@@ -257,40 +255,13 @@ module _ (fits tags : ℕ → Bool) (m : ℕ) (t : Grammar TypeTree) (v : Gramma
 
 -- ---- what begins one part begins no other
 
-rest_no_word : (t : Lexeme) → either is_object_word (either is_octet_word (either is_typeref (either is_integer_word (either is_bit_word (either is_enumerated_word is_choice_word))))) t ≡ true → is_type_word t ≡ false
-rest_no_word (Word words.Boolean) e = absurd cc
-rest_no_word (Word words.Null) e = absurd cc
-rest_no_word (Word words.Utf8String) e = absurd cc
-rest_no_word (Word words.NumericString) e = absurd cc
-rest_no_word (Word words.PrintableString) e = absurd cc
-rest_no_word (Word words.Ia5String) e = absurd cc
-rest_no_word (Word words.VisibleString) e = absurd cc
-rest_no_word (Word words.Iso646String) e = absurd cc
-rest_no_word t e = refl
+simple_no_choice : (t : Lexeme) → simple_starts t ≡ true → is_choice_word t ≡ false
+simple_no_choice (Word words.Choice) e = absurd cc
+simple_no_choice t e = refl
 
-rest_no_object : (t : Lexeme) → either is_octet_word (either is_typeref (either is_integer_word (either is_bit_word (either is_enumerated_word is_choice_word)))) t ≡ true → is_object_word t ≡ false
-rest_no_object (Word words.Object) e = absurd cc
-rest_no_object t e = refl
-
-rest_no_octet : (t : Lexeme) → either is_typeref (either is_integer_word (either is_bit_word (either is_enumerated_word is_choice_word))) t ≡ true → is_octet_word t ≡ false
-rest_no_octet (Word words.Octet) e = absurd cc
-rest_no_octet t e = refl
-
-rest_no_typeref : (t : Lexeme) → either is_integer_word (either is_bit_word (either is_enumerated_word is_choice_word)) t ≡ true → is_typeref t ≡ false
+rest_no_typeref : (t : Lexeme) → either is_choice_word simple_starts t ≡ true → is_typeref t ≡ false
 rest_no_typeref (TypeRef x) e = absurd cc
 rest_no_typeref t e = refl
-
-rest_no_integer : (t : Lexeme) → either is_bit_word (either is_enumerated_word is_choice_word) t ≡ true → is_integer_word t ≡ false
-rest_no_integer (Word words.Integer) e = absurd cc
-rest_no_integer t e = refl
-
-rest_no_bit : (t : Lexeme) → either is_enumerated_word is_choice_word t ≡ true → is_bit_word t ≡ false
-rest_no_bit (Word words.Bit) e = absurd cc
-rest_no_bit t e = refl
-
-choice_no_enumerated : (t : Lexeme) → is_choice_word t ≡ true → is_enumerated_word t ≡ false
-choice_no_enumerated (Word words.Enumerated) e = absurd cc
-choice_no_enumerated t e = refl
 
 which_no_plain : (t : Lexeme) → is_which t ≡ true → one_starts t ≡ false
 which_no_plain (Word words.Sequence) e = refl
@@ -325,7 +296,7 @@ list_no_brace t e = refl
 abbrev none : Lexeme → Bool
 none = no_lexeme
 
-one_ends_are : (t : Lexeme) → one_ends t ≡ false → either none (either none (either none (either (either none (either is_dot none)) (either (either none (either is_lbrace none)) (either (either none (either is_lbrace none)) (either none none)))))) t ≡ false
+one_ends_are : (t : Lexeme) → one_ends t ≡ false → either (either none (either is_dot none)) (either none is_lbrace) t ≡ false
 one_ends_are (Mark OpenBrace) e = absurd cc
 one_ends_are (Mark Dot) e = absurd cc
 one_ends_are t e = refl
@@ -350,18 +321,18 @@ module _ {s f : Type 0} {over : Limit → ℕ} {within : Limit → Type 0} {v : 
 
 module _ {s f : Type 0} {over : Limit → ℕ} {within : Limit → Type 0} {t : Grammar TypeTree} {v : Grammar Tree} {value_starts : Lexeme → Bool} {read : Reader TypeTree} {value : Reader Tree} where
   pub rule_member : Owes s f over within t type_starts type_ends read → Owes s f over within v value_starts goes_on value → Owes s f over within (member t v) is_ident member_ends (named_at (component_at read value))
-  rule_member kt kv = rule_named (loosely (rule_read (component_at read value) (component_same read value) (rule_both t (presence v) (rule_tail (λ p. p) kt (loose_presence kv) presence_apart))))
-
-  rule_in_braces : Owes s f over within t type_starts type_ends read → Owes s f over within v value_starts goes_on value → Owes s f over within (inside (optional (listed (member t v)))) (either is_ident is_closed) no_lexeme (in_braces read value)
-  rule_in_braces kt kv = rule_lead (λ p. p.0) (loose_optional (rule_listed (rule_member kt kv) refl)) (rule_token closed_is) (close_apart (either is_ident (with_comma member_ends)) refl)
+  rule_member kt kv = rule_named (loosely (rule_read (component_at read value) (component_read read value) (rule_both t (presence v) (rule_tail (λ p. p) kt (loose_presence kv) presence_apart))))
 
 module _ {s f : Type 0} {over : Limit → ℕ} {within : Limit → Type 0} {t : Grammar TypeTree} {read : Reader TypeTree} where
   pub rule_alternative : Owes s f over within t type_starts type_ends read → Owes s f over within (alternative t) is_ident type_ends (named_at (bare_at read))
   unfolding bare_at
   rule_alternative kt = rule_named (loosely (rule_made (λ t. (t, mandatory)) kt))
 
-  rule_alternatives : Owes s f over within t type_starts type_ends read → Owes s f over within (inside (listed (alternative t))) is_ident no_lexeme (list_in_at (named_at (bare_at read)))
-  rule_alternatives kt = rule_list_in (rule_alternative kt) refl refl
+member_fits : FitsBrackets is_ident member_ends
+member_fits = record { comma = refl; close = refl; bracket = refl; number = λ n. refl }
+
+alternative_fits : FitsBrackets is_ident type_ends
+alternative_fits = record { comma = refl; close = refl; bracket = refl; number = λ n. refl }
 
 -- ---- what is owed for types
 
@@ -376,32 +347,72 @@ module _ (over : Limit → ℕ) (within : Limit → Type 0) (fits fits' : ℕ �
     unfolding constraints_at
     loose_constraints = loose_many (asked (constraints)) (λ t e. refl)
 
-    loose_size : OwesLoosely s f over within (optional (size fits' ∣ parens (size fits'))) (either is_size is_open) size_ends (list_size_at fits)
+    loose_size : OwesLoosely s f over within (list_size fits') (either is_size is_open) size_ends (list_size_at fits)
     loose_size = loose_read (list_size_at fits) (size_same fits) (loose_optional (rule_pick (asked rule_size) (rule_parens (asked rule_size) refl) open_no_size))
 
   rule_inside_tag : {s f : Type 0} {t : Grammar TypeTree} {read : Reader TypeTree} → Owes s f over within t type_starts type_ends read → Owes s f over within ((tag tags ∙ (keyword ∙ t)) ⇒ tag_tree) (either is_application_word (either is_private_word is_number)) type_ends (inside_tag_at fits read)
   rule_inside_tag {s} {f} {t} {read} kt =
       rule_read (inside_tag_at fits read) (inside_same fits read) (rule_seq tag_tree (asked (rule_tag over within fits fits' grows past tags tag_rule room)) (rule_both keyword t (rule_lead (λ p. p) loose_keyword kt type_no_keyword)) (λ t e. refl))
 
+  module _ {s f : Type 0} {t : Grammar TypeTree} {v : Grammar Tree} {value_starts : Lexeme → Bool} {read : Reader TypeTree} {value : Reader Tree} where
+    rule_members : Owes s f over within t type_starts type_ends read → Owes s f over within v value_starts goes_on value
+        → Owes s f over within (inside (optional (rootless (member t v) (addition fits' (member t v))))) (either is_listing is_closed) no_lexeme (inside_at (listing_at fits (named_at (component_at read value))))
+    rule_members kt kv =
+        rule_inside_loose (loose_read (listing_at fits (named_at (component_at read value))) (listing_same fits (named_at (component_at read value)))
+        (loose_optional (rule_rootless (rule_member kt kv) (rule_addition over within fits fits' grows past room (rule_member kt kv) member_fits) refl refl refl))) refl
+
+  module _ {s f : Type 0} {t : Grammar TypeTree} {read : Reader TypeTree} where
+    rule_alternatives : Owes s f over within t type_starts type_ends read → Owes s f over within (inside (extensible (alternative t) (addition fits' (alternative t)))) is_ident no_lexeme (inside_at (alternatives_at fits read))
+    rule_alternatives kt =
+        rule_inside (rule_read (alternatives_at fits read) (alternatives_same fits read)
+        (rule_extensible (rule_alternative kt) (rule_addition over within fits fits' grows past room (rule_alternative kt) alternative_fits) refl refl refl)) refl
+
   -- n: how many more things may be open for the reader, and m for the grammar
   module _ (s f : Type 0) (n m : ℕ) (fit : s → m ≡ over Nesting + n) (deep : f → within Nesting → m ≤ n) (t : Grammar TypeTree) (v : Grammar Tree) (value_starts : Lexeme → Bool) (read read0 : Reader TypeTree) (value value0 : Reader Tree)
       (kt : IsOpenable n → Owes s f over within t type_starts type_ends read) (kv : IsOpenable n → Owes s f over within v value_starts goes_on value) (kt0 : Owes ⊥ f over within t type_starts type_ends read0) (kv0 : Owes ⊥ f over within v value_starts goes_on value0) where
-    rule_body : Owes s f over within (members m t v) is_lbrace no_lexeme (body_at n read value)
-    rule_body = rule_read (body_at n read value) (body_same n read value) (rule_made members_of (rule_braces (optional (listed (member t v))) n m fit deep (λ q. ((rule_in_braces kt0 kv0).finds q).part) (λ o. rule_in_braces (kt o) (kv o))))
+    rule_body : Owes s f over within (members fits' m t v) is_lbrace no_lexeme (body_at fits n read value)
+    rule_body =
+        rule_read (body_at fits n read value) (body_same fits n read value)
+        (rule_made listing_of (rule_in_braces (optional (rootless (member t v) (addition fits' (member t v)))) (listing_at fits (named_at (component_at read value))) n m fit deep (λ q. ((rule_members kt0 kv0).finds q).part) (λ o. rule_members (kt o) (kv o))))
 
-    rule_choice : Owes s f over within (choice m t) is_choice_word no_lexeme (choice_read n read)
-    rule_choice = rule_seq (λ p. a_choice (type_members p.1)) rule_choice_word (rule_braces (listed (alternative t)) n m fit deep (λ q. ((rule_alternatives kt0).finds q).part) (λ o. rule_alternatives (kt o))) (λ t e. refl)
+    rule_choice : Owes s f over within (choice fits' m t) is_choice_word no_lexeme (choice_read fits n read)
+    rule_choice =
+        rule_seq (λ p. of_listing lists.Choice p.1) rule_choice_word
+        (rule_in_braces (extensible (alternative t) (addition fits' (alternative t))) (alternatives_at fits read) n m fit deep (λ q. ((rule_alternatives kt0).finds q).part) (λ o. rule_alternatives (kt o))) (λ t e. refl)
+
+    abbrev first_form : Grammar FormTree
+    first_form = simple fits' m ⇒ a_simple
+
+    rule_form : Owes s f over within (choice fits' m t ∣ first_form) (either is_choice_word simple_starts) (either none is_lbrace) (pick is_choice_word (choice_read fits n read) (form_read fits n read value))
+    rule_form = rule_pick rule_choice (rule_made a_simple (rule_simple over within fits fits' grows past tags tag_rule room s f n m fit deep)) simple_no_choice
+
+    one_turned : Same (ref ∣ (choice fits' m t ∣ first_form)) (one_type fits' m t)
+    one_turned = record { to = record { is = λ x u h. to_is x u h; on = λ u h. to_on u h }; back = record { is = λ x u h. back_is x u h; on = λ u h. back_on u h } }
+      where
+        to_is : (x : FormTree) (u : List Lexeme) → (ref ∣ (choice fits' m t ∣ first_form)).Is x u → (one_type fits' m t).Is x u
+        to_is x u (inl h) = inr (inl h)
+        to_is x u (inr (inl h)) = inr (inr h)
+        to_is x u (inr (inr h)) = inl h
+
+        to_on : (u : List Lexeme) → (ref ∣ (choice fits' m t ∣ first_form)).CanGoOn u → (one_type fits' m t).CanGoOn u
+        to_on u (inl h) = inr (inl h)
+        to_on u (inr (inl h)) = inr (inr h)
+        to_on u (inr (inr h)) = inl h
+
+        back_is : (x : FormTree) (u : List Lexeme) → (one_type fits' m t).Is x u → (ref ∣ (choice fits' m t ∣ first_form)).Is x u
+        back_is x u (inl h) = inr (inr h)
+        back_is x u (inr (inl h)) = inl h
+        back_is x u (inr (inr h)) = inr (inl h)
+
+        back_on : (u : List Lexeme) → (one_type fits' m t).CanGoOn u → (ref ∣ (choice fits' m t ∣ first_form)).CanGoOn u
+        back_on u (inl h) = inr (inr h)
+        back_on u (inr (inl h)) = inl h
+        back_on u (inr (inr h)) = inr (inl h)
 
     rule_one : Owes s f over within (one_type fits' m t) one_starts one_ends (one_type_at fits n read)
     rule_one =
         rule_tests one_starts one_ends (λ t e. e) one_ends_are (rule_read (one_type_at fits n read) (one_same fits n read value)
-        (rule_pick (asked (rule_one_word over within))
-        (rule_pick (rule_seq (λ _. an_object_identifier) rule_object_word rule_identifier (λ t e. refl))
-        (rule_pick (rule_seq (λ _. an_octet_string) rule_octet_word rule_string (λ t e. refl))
-        (rule_pick rule_ref
-        (rule_pick (rule_integer over within fits fits' grows past tags tag_rule room s f n m fit deep)
-        (rule_pick (rule_bit_string over within fits fits' grows past tags tag_rule room s f n m fit deep)
-        (rule_pick (rule_enumerated over within fits fits' grows past tags tag_rule room s f n m fit deep) rule_choice choice_no_enumerated) rest_no_bit) rest_no_integer) rest_no_typeref) rest_no_octet) rest_no_object) rest_no_word))
+        (rule_same (one_type fits' m t) one_turned (rule_pick rule_ref rule_form rest_no_typeref)))
 
     rule_tagged : Owes s f over within (tagged tags m t) is_open_bracket type_ends (tagged_at fits n read)
     rule_tagged = rule_read (tagged_at fits n read) (tagged_same fits n read) (rule_opens (Mark OpenBracket) is_open_bracket refl open_bracket_one ((tag tags ∙ (keyword ∙ t)) ⇒ tag_tree) n m fit deep (λ q. ((rule_inside_tag kt0).finds q).part) (λ o. rule_inside_tag (kt o)))

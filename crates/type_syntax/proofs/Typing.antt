@@ -17,10 +17,11 @@ use Rattle.grammar.specs.Reading.{is_open}
 use Rattle.notation.specs.Value.{value}
 use Rattle.notation.specs.Reading.{value_at}
 use Rattle.type_syntax.specs.TypeGrammar.{type}
-use Rattle.type_syntax.specs.TypeReading.{tag_fits, type_at}
-use Rattle.type_syntax.specs.PartLaws.{PartLaws}
+use Rattle.type_parts.specs.PlainReading.{tag_fits}
+use Rattle.type_parts.specs.PartLaws.{PartLaws}
+use Rattle.type_syntax.specs.TypeReading.{type_at}
 use Rattle.type_syntax.specs.TypeLaws.{type_ends, Allows}
-use Rattle.type_syntax.proofs.TypeWords.{TagRule}
+use Rattle.type_parts.specs.TypeWords.{TagRule}
 use Rattle.type_syntax.proofs.TypeSteps.{type_starts, rule_step}
 use Rattle.type_syntax.proofs.TypeGrows.{types_grow}
 

@@ -1,5 +1,5 @@
 pub use Rattle.trees.specs.Types
+pub use Rattle.type_parts.specs.PlainReading
 pub mod TypeGrammar
 pub mod TypeReading
-pub mod PartLaws
 pub mod TypeLaws

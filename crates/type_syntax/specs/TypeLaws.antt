@@ -9,7 +9,8 @@ use Rattle.grammar.specs.Places.{Limits, any, small, tag_small, Within}
 use Rattle.notation.specs.Laws.{ValueLaws}
 use Rattle.grammar.specs.Rules.{Owes}
 use Rattle.type_syntax.specs.TypeGrammar.{type}
-use Rattle.type_syntax.specs.TypeReading.{tag_fits, type_at}
+use Rattle.type_parts.specs.PlainReading.{tag_fits}
+use Rattle.type_syntax.specs.TypeReading.{type_at}
 
 -- a type goes on with one of these: a brace of named numbers, a name behind a module's name, a constraint
 abbrev pub type_ends : Lexeme → Bool
