@@ -12,7 +12,10 @@ use Rattle.trees.specs.Modules.{ImportTree}
 
 abbrev pub default_words : Grammar TagDefault
 default_words =
-    ((word Explicit ⇒ (λ _. defaults.Explicit) ∣ word Implicit ⇒ (λ _. defaults.Implicit) ∣ word Automatic ⇒ (λ _. defaults.Automatic)) ∙ word Tags)
+    ((word Explicit ⇒ (λ _. defaults.Explicit)
+    ∣ word Implicit ⇒ (λ _. defaults.Implicit)
+    ∣ word Automatic ⇒ (λ _. defaults.Automatic))
+    ∙ word Tags)
     ⇒ (λ p. p.0)
 
 -- EXPLICIT, where no default is written
@@ -90,7 +93,9 @@ module _ (fits : ℕ → Bool) where
 
   -- a module as far as BEGIN
   abbrev pub heading : Grammar (Name × TagDefault)
-  heading = module_ref ∙ behind (Word Definitions) ((tag_default ∙ behind (Mark Assign) (word Begin)) ⇒ (λ p. p.0))
+  heading =
+      module_ref
+      ∙ behind (Word Definitions) ((tag_default ∙ behind (Mark Assign) (word Begin)) ⇒ (λ p. p.0))
 
   abbrev pub head : Grammar HeadTree
   head = ((heading ∙ export_list) ∙ import_list) ⇒ head_of

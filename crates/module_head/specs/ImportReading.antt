@@ -59,11 +59,17 @@ module _ (fits : ℕ → Bool) where
   from_module_at ts = stop ts
 
   unfoldable pub import_from_at : Reader ImportTree
-  import_from_at ts = listed_at symbol_at ts >>= λ xs. from_module_at xs.1 >>= λ m. Ok (record { names = xs.0; from = m.0 }, m.1)
+  import_from_at ts = do
+    xs ← listed_at symbol_at ts
+    m ← from_module_at xs.1
+    Ok (record { names = xs.0; from = m.0 }, m.1)
+
+  abbrev pub imports_from_at : Reader (List ImportTree)
+  imports_from_at ts = many_at begins_symbol import_from_at (length ts) ts
 
   -- behind IMPORTS
   unfoldable pub imported_at : Reader (List ImportTree)
-  imported_at ts = many_at begins_symbol import_from_at (length ts) ts >>= λ is. semicolon_at is.1 >>= λ s. Ok (is.0, s.1)
+  imported_at ts = imports_from_at ts >>= λ is. semicolon_at is.1 >>= λ s. Ok (is.0, s.1)
 
   unfoldable pub imports_at : Reader (List ImportTree)
   imports_at (Word Imports ∷ rest) = imported_at rest

@@ -1,10 +1,10 @@
 //! Reading a module's head.
 
 ghost use Rattle.std.specs.Prelude.{IfOk};
-ghost use Rattle.grammar.specs.Lexeme.{lexemes};
 ghost use Rattle.grammar.specs.Places.{small};
 ghost use Rattle.grammar.specs.Single.{definitions_at, assign_at, begin_at};
-ghost use Rattle.kernel.specs.Given.{Gives, AreTokens};
+ghost use Rattle.notation.specs.Reads.{ReadsAs, SkipsAs};
+ghost use Rattle.kernel.specs.Given.{AreTokens};
 ghost use Rattle.trees.specs.Values.{name_at};
 ghost use Rattle.module_head.specs.HeadReading.{begun_at, heading_at, head_at, head_tree_of};
 
@@ -30,7 +30,7 @@ pub struct ModuleHead {
 #[tactic(auto, unfolding(grammar::specs::Single::definitions_at))]
 fn definitions<'a>(text: &[u8], tokens: &'a [Token]) -> Result<&'a [Token], ReadError>
     requires tokens { AreTokens text.now tokens.now }
-    ensures read { Gives (λ x. (tt, lexemes text.now x.now)) result (definitions_at (lexemes text.now tokens.now)) }
+    ensures read { SkipsAs definitions_at text.now tokens.now result }
     ensures rest { IfOk result (λ x. AreTokens text.now x.now) }
 {
     match tokens {
@@ -49,7 +49,7 @@ fn definitions<'a>(text: &[u8], tokens: &'a [Token]) -> Result<&'a [Token], Read
 #[tactic(auto, unfolding(grammar::specs::Single::assign_at))]
 pub fn assign<'a>(text: &[u8], tokens: &'a [Token]) -> Result<&'a [Token], ReadError>
     requires tokens { AreTokens text.now tokens.now }
-    ensures read { Gives (λ x. (tt, lexemes text.now x.now)) result (assign_at (lexemes text.now tokens.now)) }
+    ensures read { SkipsAs assign_at text.now tokens.now result }
     ensures rest { IfOk result (λ x. AreTokens text.now x.now) }
 {
     match tokens {
@@ -68,7 +68,7 @@ pub fn assign<'a>(text: &[u8], tokens: &'a [Token]) -> Result<&'a [Token], ReadE
 #[tactic(auto, unfolding(grammar::specs::Single::begin_at))]
 fn begin<'a>(text: &[u8], tokens: &'a [Token]) -> Result<&'a [Token], ReadError>
     requires tokens { AreTokens text.now tokens.now }
-    ensures read { Gives (λ x. (tt, lexemes text.now x.now)) result (begin_at (lexemes text.now tokens.now)) }
+    ensures read { SkipsAs begin_at text.now tokens.now result }
     ensures rest { IfOk result (λ x. AreTokens text.now x.now) }
 {
     match tokens {
@@ -87,7 +87,7 @@ fn begin<'a>(text: &[u8], tokens: &'a [Token]) -> Result<&'a [Token], ReadError>
 #[tactic(auto, unfolding(crate::specs::HeadReading::begun_at))]
 fn begun<'a>(text: &[u8], tokens: &'a [Token]) -> Result<(TagDefault, &'a [Token]), ReadError>
     requires tokens { AreTokens text.now tokens.now }
-    ensures read { Gives (λ x. (x.0, lexemes text.now x.1.now)) result (begun_at (lexemes text.now tokens.now)) }
+    ensures read { ReadsAs (λ x. x) begun_at text.now tokens.now result }
     ensures rest { IfOk result (λ x. AreTokens text.now x.1.now) }
 {
     let (tag_default, rest) = tag_default(text, tokens)?;
@@ -103,7 +103,7 @@ fn heading<'a>(
     tokens: &'a [Token],
 ) -> Result<((At<String>, TagDefault), &'a [Token]), ReadError>
     requires tokens { AreTokens text.now tokens.now }
-    ensures read { Gives (λ x. ((name_at x.0.0, x.0.1), lexemes text.now x.1.now)) result (heading_at small (lexemes text.now tokens.now)) }
+    ensures read { ReadsAs (λ x. (name_at x.0, x.1)) (heading_at small) text.now tokens.now result }
     ensures rest { IfOk result (λ x. AreTokens text.now x.1.now) }
 {
     let (name, rest) = module_ref(alloc, text, tokens)?;
@@ -120,7 +120,7 @@ pub fn head<'a>(
     tokens: &'a [Token],
 ) -> Result<(ModuleHead, &'a [Token]), ReadError>
     requires tokens { AreTokens text.now tokens.now }
-    ensures read { Gives (λ x. (head_tree_of x.0, lexemes text.now x.1.now)) result (head_at small (lexemes text.now tokens.now)) }
+    ensures read { ReadsAs head_tree_of (head_at small) text.now tokens.now result }
     ensures rest { IfOk result (λ x. AreTokens text.now x.1.now) }
 {
     let ((name, tag_default), rest) = heading(alloc, text, tokens)?;

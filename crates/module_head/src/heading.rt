@@ -1,9 +1,9 @@
 //! Reading the head of a module: its default for tags and its exports.
 
 ghost use Rattle.std.specs.Prelude.{map, option_map, IfOk};
-ghost use Rattle.grammar.specs.Lexeme.{lexemes};
 ghost use Rattle.grammar.specs.Reading.{listed_at};
-ghost use Rattle.kernel.specs.Given.{Gives, AreTokens};
+ghost use Rattle.notation.specs.Reads.{ReadsAs, SkipsAs};
+ghost use Rattle.kernel.specs.Given.{AreTokens};
 ghost use Rattle.grammar.specs.Single.{tags_at};
 ghost use Rattle.trees.specs.Values.{name_at};
 ghost use Rattle.module_head.specs.HeadingReading.{tag_word_at, default_words_at, semicolon_at, symbol_at, some_exports_at, all_exports_at, no_exports_at, exported_at, exports_at};
@@ -20,7 +20,7 @@ use trees::{At, TagDefault};
 #[tactic(auto, unfolding(grammar::specs::Single::tags_at))]
 fn tags<'a>(text: &[u8], tokens: &'a [Token]) -> Result<&'a [Token], ReadError>
     requires tokens { AreTokens text.now tokens.now }
-    ensures read { Gives (λ x. (tt, lexemes text.now x.now)) result (tags_at (lexemes text.now tokens.now)) }
+    ensures read { SkipsAs tags_at text.now tokens.now result }
     ensures rest { IfOk result (λ x. AreTokens text.now x.now) }
 {
     match tokens {
@@ -39,7 +39,7 @@ fn tags<'a>(text: &[u8], tokens: &'a [Token]) -> Result<&'a [Token], ReadError>
 #[tactic(auto, unfolding(crate::specs::HeadingReading::tag_word_at))]
 fn tag_word<'a>(text: &[u8], tokens: &'a [Token]) -> Result<(TagDefault, &'a [Token]), ReadError>
     requires tokens { AreTokens text.now tokens.now }
-    ensures read { Gives (λ x. (x.0, lexemes text.now x.1.now)) result (tag_word_at (lexemes text.now tokens.now)) }
+    ensures read { ReadsAs (λ x. x) tag_word_at text.now tokens.now result }
     ensures rest { IfOk result (λ x. AreTokens text.now x.1.now) }
 {
     match tokens {
@@ -75,7 +75,7 @@ fn default_words<'a>(
     tokens: &'a [Token],
 ) -> Result<(TagDefault, &'a [Token]), ReadError>
     requires tokens { AreTokens text.now tokens.now }
-    ensures read { Gives (λ x. (x.0, lexemes text.now x.1.now)) result (default_words_at (lexemes text.now tokens.now)) }
+    ensures read { ReadsAs (λ x. x) default_words_at text.now tokens.now result }
     ensures rest { IfOk result (λ x. AreTokens text.now x.1.now) }
 {
     let (tag_default, rest) = tag_word(text, tokens)?;
@@ -89,7 +89,7 @@ pub fn tag_default<'a>(
     tokens: &'a [Token],
 ) -> Result<(TagDefault, &'a [Token]), ReadError>
     requires tokens { AreTokens text.now tokens.now }
-    ensures read { Gives (λ x. (x.0, lexemes text.now x.1.now)) result (tag_default_at (lexemes text.now tokens.now)) }
+    ensures read { ReadsAs (λ x. x) tag_default_at text.now tokens.now result }
     ensures rest { IfOk result (λ x. AreTokens text.now x.1.now) }
 {
     match tokens {
@@ -108,7 +108,7 @@ pub fn tag_default<'a>(
 #[tactic(auto, unfolding(crate::specs::HeadingReading::semicolon_at))]
 pub fn semicolon<'a>(text: &[u8], tokens: &'a [Token]) -> Result<&'a [Token], ReadError>
     requires tokens { AreTokens text.now tokens.now }
-    ensures read { Gives (λ x. (tt, lexemes text.now x.now)) result (semicolon_at (lexemes text.now tokens.now)) }
+    ensures read { SkipsAs semicolon_at text.now tokens.now result }
     ensures rest { IfOk result (λ x. AreTokens text.now x.now) }
 {
     match tokens {
@@ -171,7 +171,7 @@ pub fn symbols<'a>(
     tokens: &'a [Token],
 ) -> Result<(Vec<At<String>>, &'a [Token]), ReadError>
     requires tokens { AreTokens text.now tokens.now }
-    ensures read { Gives (λ x. (map name_at x.0.items, lexemes text.now x.1.now)) result (listed_at symbol_at (lexemes text.now tokens.now)) }
+    ensures read { ReadsAs (λ x. map name_at x.items) (listed_at symbol_at) text.now tokens.now result }
     ensures rest { IfOk result (λ x. AreTokens text.now x.1.now) }
 {
     Listed { part: OneSymbol }.read(alloc, text, tokens)
@@ -185,7 +185,7 @@ fn some_exports<'a>(
     tokens: &'a [Token],
 ) -> Result<(Option<Vec<At<String>>>, &'a [Token]), ReadError>
     requires tokens { AreTokens text.now tokens.now }
-    ensures read { Gives (λ x. (option_map (λ xs. map name_at xs.items) x.0, lexemes text.now x.1.now)) result (some_exports_at (lexemes text.now tokens.now)) }
+    ensures read { ReadsAs (option_map (λ xs. map name_at xs.items)) some_exports_at text.now tokens.now result }
     ensures rest { IfOk result (λ x. AreTokens text.now x.1.now) }
 {
     let (names, rest) = symbols(alloc, text, tokens)?;
@@ -200,7 +200,7 @@ fn exported<'a>(
     tokens: &'a [Token],
 ) -> Result<(Option<Vec<At<String>>>, &'a [Token]), ReadError>
     requires tokens { AreTokens text.now tokens.now }
-    ensures read { Gives (λ x. (option_map (λ xs. map name_at xs.items) x.0, lexemes text.now x.1.now)) result (exported_at (lexemes text.now tokens.now)) }
+    ensures read { ReadsAs (option_map (λ xs. map name_at xs.items)) exported_at text.now tokens.now result }
     ensures rest { IfOk result (λ x. AreTokens text.now x.1.now) }
 {
     match tokens {
@@ -230,7 +230,7 @@ fn exports<'a>(
     tokens: &'a [Token],
 ) -> Result<(Option<Vec<At<String>>>, &'a [Token]), ReadError>
     requires tokens { AreTokens text.now tokens.now }
-    ensures read { Gives (λ x. (option_map (λ xs. map name_at xs.items) x.0, lexemes text.now x.1.now)) result (exports_at (lexemes text.now tokens.now)) }
+    ensures read { ReadsAs (option_map (λ xs. map name_at xs.items)) exports_at text.now tokens.now result }
     ensures rest { IfOk result (λ x. AreTokens text.now x.1.now) }
 {
     match tokens {
@@ -253,7 +253,7 @@ pub fn export_list<'a>(
     tokens: &'a [Token],
 ) -> Result<(Option<Vec<At<String>>>, &'a [Token]), ReadError>
     requires tokens { AreTokens text.now tokens.now }
-    ensures read { Gives (λ x. (option_map (λ xs. map name_at xs.items) x.0, lexemes text.now x.1.now)) result (export_list_at (lexemes text.now tokens.now)) }
+    ensures read { ReadsAs (option_map (λ xs. map name_at xs.items)) export_list_at text.now tokens.now result }
     ensures rest { IfOk result (λ x. AreTokens text.now x.1.now) }
 {
     match tokens {

@@ -1,16 +1,16 @@
 //! Reading the imports of a module.
 
-ghost use Rattle.std.specs.Prelude.{◌≡◌, map, length, IfOk, slice_range};
+ghost use Rattle.std.specs.Prelude.{◌≡◌, map, IfOk};
 ghost use Rattle.text.specs.declared.token.TokenKind.TheVariants as kinds;
 ghost use Rattle.grammar.specs.Lexeme.{lexemes};
-ghost use Rattle.grammar.specs.Reading.{many_at};
 ghost use Rattle.grammar.specs.Manies.{is_begun_by};
 ghost use Rattle.grammar.specs.Places.{small};
-ghost use Rattle.kernel.specs.Given.{Gives, IsTokenOf, AreTokens};
+ghost use Rattle.notation.specs.Reads.{ReadsAs, SkipsAs, name_in};
+ghost use Rattle.kernel.specs.Given.{IsTokenOf, AreTokens};
 ghost use Rattle.grammar.specs.Rules.{number_at};
 ghost use Rattle.trees.specs.Values.{name_at};
 ghost use Rattle.trees.specs.Modules.{import_of};
-ghost use Rattle.module_head.specs.ImportReading.{begins_arc, begins_symbol, arc_number_at, behind_arc_at, arc_at, more_arcs_at, arcs_at, oid_at, behind_module_at, module_ref_at, from_module_at, import_from_at, imported_at, imports_at};
+ghost use Rattle.module_head.specs.ImportReading.{begins_arc, begins_symbol, arc_number_at, behind_arc_at, arc_at, more_arcs_at, arcs_at, oid_at, behind_module_at, module_ref_at, from_module_at, import_from_at, imports_from_at, imported_at, imports_at};
 ghost use Rattle.module_head.specs.HeadReading.{import_list_at};
 
 use crate::heading::{semicolon, symbols};
@@ -26,7 +26,7 @@ use trees::{At, Import};
 #[tactic(auto, unfolding(grammar::specs::Rules::number_at))]
 fn number<'a>(text: &[u8], tokens: &'a [Token]) -> Result<(u128, &'a [Token]), ReadError>
     requires tokens { AreTokens text.now tokens.now }
-    ensures read { Gives (λ x. (x.0, lexemes text.now x.1.now)) result (number_at small (lexemes text.now tokens.now)) }
+    ensures read { ReadsAs (λ x. x) (number_at small) text.now tokens.now result }
     ensures rest { IfOk result (λ x. AreTokens text.now x.1.now) }
 {
     match tokens {
@@ -48,7 +48,7 @@ fn number<'a>(text: &[u8], tokens: &'a [Token]) -> Result<(u128, &'a [Token]), R
 #[tactic(auto, unfolding(crate::specs::ImportReading::arc_number_at, grammar::specs::Reading::parens_at))]
 fn arc_number<'a>(text: &[u8], tokens: &'a [Token]) -> Result<&'a [Token], ReadError>
     requires tokens { AreTokens text.now tokens.now }
-    ensures read { Gives (λ x. (tt, lexemes text.now x.now)) result (arc_number_at small (lexemes text.now tokens.now)) }
+    ensures read { SkipsAs (arc_number_at small) text.now tokens.now result }
     ensures rest { IfOk result (λ x. AreTokens text.now x.now) }
 {
     let rest = open(text, tokens)?;
@@ -61,7 +61,7 @@ fn arc_number<'a>(text: &[u8], tokens: &'a [Token]) -> Result<&'a [Token], ReadE
 #[tactic(auto, unfolding(crate::specs::ImportReading::behind_arc_at))]
 fn behind_arc<'a>(text: &[u8], tokens: &'a [Token]) -> Result<&'a [Token], ReadError>
     requires tokens { AreTokens text.now tokens.now }
-    ensures read { Gives (λ x. (tt, lexemes text.now x.now)) result (behind_arc_at small (lexemes text.now tokens.now)) }
+    ensures read { SkipsAs (behind_arc_at small) text.now tokens.now result }
     ensures rest { IfOk result (λ x. AreTokens text.now x.now) }
 {
     match tokens {
@@ -80,7 +80,7 @@ fn behind_arc<'a>(text: &[u8], tokens: &'a [Token]) -> Result<&'a [Token], ReadE
 #[tactic(auto, unfolding(crate::specs::ImportReading::arc_at))]
 fn arc<'a>(text: &[u8], tokens: &'a [Token]) -> Result<&'a [Token], ReadError>
     requires tokens { AreTokens text.now tokens.now }
-    ensures read { Gives (λ x. (tt, lexemes text.now x.now)) result (arc_at small (lexemes text.now tokens.now)) }
+    ensures read { SkipsAs (arc_at small) text.now tokens.now result }
     ensures rest { IfOk result (λ x. AreTokens text.now x.now) }
 {
     match tokens {
@@ -141,7 +141,7 @@ fn is_symbol(text: &[u8], tokens: &[Token]) -> bool
 #[tactic(auto, unfolding(crate::specs::ImportReading::more_arcs_at))]
 fn more_arcs<'a>(text: &[u8], tokens: &'a [Token]) -> Result<&'a [Token], ReadError>
     requires tokens { AreTokens text.now tokens.now }
-    ensures read { Gives (λ x. (tt, lexemes text.now x.now)) result (more_arcs_at small (lexemes text.now tokens.now)) }
+    ensures read { SkipsAs (more_arcs_at small) text.now tokens.now result }
     ensures rest { IfOk result (λ x. AreTokens text.now x.now) }
 {
     let mut rest = tokens;
@@ -155,7 +155,7 @@ fn more_arcs<'a>(text: &[u8], tokens: &'a [Token]) -> Result<&'a [Token], ReadEr
 #[tactic(auto, unfolding(crate::specs::ImportReading::arcs_at))]
 fn arcs<'a>(text: &[u8], tokens: &'a [Token]) -> Result<&'a [Token], ReadError>
     requires tokens { AreTokens text.now tokens.now }
-    ensures read { Gives (λ x. (tt, lexemes text.now x.now)) result (arcs_at small (lexemes text.now tokens.now)) }
+    ensures read { SkipsAs (arcs_at small) text.now tokens.now result }
     ensures rest { IfOk result (λ x. AreTokens text.now x.now) }
 {
     let rest = arc(text, tokens)?;
@@ -166,7 +166,7 @@ fn arcs<'a>(text: &[u8], tokens: &'a [Token]) -> Result<&'a [Token], ReadError>
 #[tactic(auto, unfolding(crate::specs::ImportReading::oid_at))]
 fn oid<'a>(text: &[u8], tokens: &'a [Token]) -> Result<&'a [Token], ReadError>
     requires tokens { AreTokens text.now tokens.now }
-    ensures read { Gives (λ x. (tt, lexemes text.now x.now)) result (oid_at small (lexemes text.now tokens.now)) }
+    ensures read { SkipsAs (oid_at small) text.now tokens.now result }
     ensures rest { IfOk result (λ x. AreTokens text.now x.now) }
 {
     match tokens {
@@ -195,7 +195,8 @@ fn behind_module<'a>(
     requires tokens { AreTokens text.now tokens.now }
     requires before { IsTokenOf text.now module_name }
     requires name { module_name.kind ≡ kinds.TypeReference }
-    ensures read { Gives (λ x. (name_at x.0, lexemes text.now x.1.now)) result (behind_module_at small (slice_range text.now module_name.span.start module_name.span.end) (lexemes text.now tokens.now)) }
+    ensures read { ReadsAs name_at (behind_module_at small (name_in text.now module_name))
+        text.now tokens.now result }
     ensures rest { IfOk result (λ x. AreTokens text.now x.1.now) }
 {
     match tokens {
@@ -221,7 +222,7 @@ pub fn module_ref<'a>(
     tokens: &'a [Token],
 ) -> Result<(At<String>, &'a [Token]), ReadError>
     requires tokens { AreTokens text.now tokens.now }
-    ensures read { Gives (λ x. (name_at x.0, lexemes text.now x.1.now)) result (module_ref_at small (lexemes text.now tokens.now)) }
+    ensures read { ReadsAs name_at (module_ref_at small) text.now tokens.now result }
     ensures rest { IfOk result (λ x. AreTokens text.now x.1.now) }
 {
     match tokens {
@@ -244,7 +245,7 @@ fn from_module<'a>(
     tokens: &'a [Token],
 ) -> Result<(At<String>, &'a [Token]), ReadError>
     requires tokens { AreTokens text.now tokens.now }
-    ensures read { Gives (λ x. (name_at x.0, lexemes text.now x.1.now)) result (from_module_at small (lexemes text.now tokens.now)) }
+    ensures read { ReadsAs name_at (from_module_at small) text.now tokens.now result }
     ensures rest { IfOk result (λ x. AreTokens text.now x.1.now) }
 {
     match tokens {
@@ -267,7 +268,7 @@ fn import_from<'a>(
     tokens: &'a [Token],
 ) -> Result<(Import, &'a [Token]), ReadError>
     requires tokens { AreTokens text.now tokens.now }
-    ensures read { Gives (λ x. (import_of x.0, lexemes text.now x.1.now)) result (import_from_at small (lexemes text.now tokens.now)) }
+    ensures read { ReadsAs import_of (import_from_at small) text.now tokens.now result }
     ensures rest { IfOk result (λ x. AreTokens text.now x.1.now) }
 {
     let (names, rest) = symbols(alloc, text, tokens)?;
@@ -282,7 +283,7 @@ fn many<'a>(
     tokens: &'a [Token],
 ) -> Result<(Vec<Import>, &'a [Token]), ReadError>
     requires tokens { AreTokens text.now tokens.now }
-    ensures read { Gives (λ x. (map import_of x.0.items, lexemes text.now x.1.now)) result (many_at begins_symbol (import_from_at small) (length (lexemes text.now tokens.now)) (lexemes text.now tokens.now)) }
+    ensures read { ReadsAs (λ x. map import_of x.items) (imports_from_at small) text.now tokens.now result }
     ensures rest { IfOk result (λ x. AreTokens text.now x.1.now) }
 {
     let mut imports = Vec::new(alloc);
@@ -303,7 +304,7 @@ fn imported<'a>(
     tokens: &'a [Token],
 ) -> Result<(Vec<Import>, &'a [Token]), ReadError>
     requires tokens { AreTokens text.now tokens.now }
-    ensures read { Gives (λ x. (map import_of x.0.items, lexemes text.now x.1.now)) result (imported_at small (lexemes text.now tokens.now)) }
+    ensures read { ReadsAs (λ x. map import_of x.items) (imported_at small) text.now tokens.now result }
     ensures rest { IfOk result (λ x. AreTokens text.now x.1.now) }
 {
     let (imports, rest) = many(alloc, text, tokens)?;
@@ -318,7 +319,7 @@ fn imports<'a>(
     tokens: &'a [Token],
 ) -> Result<(Vec<Import>, &'a [Token]), ReadError>
     requires tokens { AreTokens text.now tokens.now }
-    ensures read { Gives (λ x. (map import_of x.0.items, lexemes text.now x.1.now)) result (imports_at small (lexemes text.now tokens.now)) }
+    ensures read { ReadsAs (λ x. map import_of x.items) (imports_at small) text.now tokens.now result }
     ensures rest { IfOk result (λ x. AreTokens text.now x.1.now) }
 {
     match tokens {
@@ -341,7 +342,7 @@ pub fn import_list<'a>(
     tokens: &'a [Token],
 ) -> Result<(Vec<Import>, &'a [Token]), ReadError>
     requires tokens { AreTokens text.now tokens.now }
-    ensures read { Gives (λ x. (map import_of x.0.items, lexemes text.now x.1.now)) result (import_list_at small (lexemes text.now tokens.now)) }
+    ensures read { ReadsAs (λ x. map import_of x.items) (import_list_at small) text.now tokens.now result }
     ensures rest { IfOk result (λ x. AreTokens text.now x.1.now) }
 {
     match tokens {

@@ -4,8 +4,9 @@ use Rattle.text.specs.declared.token.Mark.{Mark as Mark'}
 use Rattle.text.specs.declared.token.Mark.TheVariants.{Caret, Less, Exclamation, At, Ampersand, Ellipsis}
 use Rattle.text.specs.declared.reserved.Word.{Word as Word'}
 use Rattle.text.specs.declared.reserved.Word.TheVariants as words
-use Rattle.grammar.specs.Lexeme.{Lexeme, Word, Mark}
-use Rattle.grammar.specs.Places.{Limits, Limited, Ends, PassesLimit}
+use Rattle.text.specs.declared.token.Token.{Token}
+use Rattle.grammar.specs.Lexeme.{Lexeme, Word, Mark, lexemes}
+use Rattle.grammar.specs.Places.{Limits, Limited, bounded, free, IsRead, Ends, PassesLimit}
 use Rattle.notation.specs.declared.fault.SyntaxFault.{SyntaxFault}
 use Rattle.notation.specs.declared.fault.SyntaxFault.TheVariants as faults
 use Rattle.kernel.specs.Given.{limit_of}
@@ -66,6 +67,10 @@ is_refused_at None = false
 -- the fault of a place where nothing goes on so
 abbrev pub unexpected : List Lexeme → ℕ → SyntaxFault
 unexpected ts i = if is_refused_at (slice_get ts i) then faults.OutOfProfile i else faults.Unexpected i
+
+-- From the token at a place as far as end the tokens are this, where n more things may be open.
+abbrev pub IsThere : {A : Type 0} → Limited A → ℕ → List ℕ → List Token → ℕ → A → ℕ → Type 0
+IsThere g n x ts place v end = IsRead (g (bounded n)) (free g) (lexemes x ts) place v end
 
 -- A fault stands at its place: of what a grammar says of the lexemes from start on, within these limits.
 abbrev pub Stands : {A : Type 0} → Limited A → List Lexeme → ℕ → Limits → SyntaxFault → Type 0

@@ -50,7 +50,8 @@ module _ (fits : ℕ → Bool) where
   abbrev pub range : Grammar RangeTree
   range =
       end ⇒ only
-      ∣ ((end ⇒ Some ∣ word Min ⇒ (λ _. None)) ∙ behind (Mark Range) (end ⇒ Some ∣ word Max ⇒ (λ _. None))) ⇒ (λ p. between p.0 p.1)
+      ∣ ((end ⇒ Some ∣ word Min ⇒ (λ _. None)) ∙ behind (Mark Range) (end ⇒ Some ∣ word Max ⇒ (λ _. None)))
+      ⇒ (λ p. between p.0 p.1)
 
   abbrev pub ranges : Grammar RangesTree
   ranges = (by_or range ∙ marker) ⇒ marked

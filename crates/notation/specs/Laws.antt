@@ -42,7 +42,8 @@ pub record ValueLaws : Type 0 where
   pub sound_higher : (n : ℕ) (ts : List Lexeme) → Sound higher (value small n) ts (value_at small n ts)
   pub sound_deeper : (n : ℕ) (ts : List Lexeme) → Sound deeper (value small (suc n)) ts (value_at small n ts)
   -- a are the reader's limits, b the grammar's
-  pub finds : (a b : Limits) → Finds (λ l. Within l b a) (value b.number b.nesting) (starts b.number) goes_on (value_at a.number a.nesting)
+  pub finds : (a b : Limits)
+      → Finds (λ l. Within l b a) (value b.number b.nesting) (starts b.number) goes_on (value_at a.number a.nesting)
   pub grows : (fits fits' : ℕ → Bool)
       → ((n : ℕ) → fits n ≡ true → fits' n ≡ true)
       → (n : ℕ) → Grows (value fits n) (value fits' n)

@@ -6,3 +6,4 @@ pub mod Reading
 pub mod ConstraintReading
 pub mod Answer
 pub mod Laws
+pub mod Reads

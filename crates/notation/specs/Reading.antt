@@ -60,7 +60,8 @@ by_name_at false read ts = fields_at read ts
 -- fits: the test that numbers with no minus meet
 module _ (fits : ℕ → Bool) where
   unfoldable pub numbers_at : Reader (List ℕ)
-  numbers_at (Number n ∷ rest) = fitting (fits n) (Number n ∷ rest) (numbers_at rest >>= λ ns. Ok (n ∷ ns.0, ns.1))
+  numbers_at (Number n ∷ rest) =
+      fitting (fits n) (Number n ∷ rest) (numbers_at rest >>= λ ns. Ok (n ∷ ns.0, ns.1))
   numbers_at ts = Ok ([], ts)
 
   -- behind two numbers in braces
@@ -83,7 +84,8 @@ module _ (fits : ℕ → Bool) where
   braced_at read ts = items_at read ts
 
   unfoldable pub alternative_at : ℕ → Reader Tree → List ℕ → Reader Tree
-  alternative_at n read x (Mark Colon ∷ rest) = opened n (Mark Colon ∷ rest) (read rest >>= λ v. Ok (chosen x v.0, v.1))
+  alternative_at n read x (Mark Colon ∷ rest) =
+      opened n (Mark Colon ∷ rest) (read rest >>= λ v. Ok (chosen x v.0, v.1))
   alternative_at n read x ts = Ok (reference None x, ts)
 
   -- n: how many more braces and alternatives may be open; read reads a value inside

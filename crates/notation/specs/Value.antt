@@ -34,7 +34,8 @@ module _ (fits : ℕ → Bool) where
   nested value =
       (token Ident ∙ behind (Mark Colon) value) ⇒ (λ p. chosen p.0 p.1)
       ∣ (mark OpenBrace ∙ mark CloseBrace) ⇒ (λ _. nothing)
-      ∣ braces (number_of fits ∙ (number_of fits ∙ many (number_of fits))) ⇒ (λ p. numbers (p.0 ∷ p.1.0 ∷ p.1.1))
+      ∣ braces (number_of fits ∙ (number_of fits ∙ many (number_of fits)))
+      ⇒ (λ p. numbers (p.0 ∷ p.1.0 ∷ p.1.1))
       ∣ braces (listed value) ⇒ (λ vs. items (trees vs))
       ∣ braces (listed (token Ident ∙ value)) ⇒ (λ ms. fields (members ms))
 

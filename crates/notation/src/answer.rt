@@ -2,11 +2,11 @@
 
 ghost use Rattle.std.specs.Prelude.{◌≡◌, ◌-◌, ◌≤◌, ℕ, length, IfOk, IfErr, MatchResult};
 ghost use Rattle.grammar.specs.Lexeme.{lexemes};
-ghost use Rattle.grammar.specs.Places.{bounded, free, IsRead};
+ghost use Rattle.grammar.specs.Places.{bounded};
 ghost use Rattle.trees.specs.Values.{Tree, tree_of};
 ghost use Rattle.notation.specs.Value.{values};
 ghost use Rattle.kernel.specs.Given.{IsLexed};
-ghost use Rattle.notation.specs.Answer.{Stands};
+ghost use Rattle.notation.specs.Answer.{IsThere, Stands};
 
 use crate::fault::SyntaxFault;
 use crate::reading::value;
@@ -44,9 +44,9 @@ pub fn value_at(
     requires place { place ≤ length tokens.now }
     requires room { opened ≤ 128 }
     // What is answered is the value there.
-    ensures found { IfOk result (λ x. IsRead (values (bounded (128 - opened))) (free values) (lexemes text.now tokens.now) place (tree_of x.0) x.1) }
+    ensures found { IfOk result (λ x. IsThere values (128 - opened) text.now tokens.now place (tree_of x.0) x.1) }
     // A value that is there is answered, unless memory runs out.
-    ensures only { (v : Tree) (end : ℕ) → IsRead (values (bounded (128 - opened))) (free values) (lexemes text.now tokens.now) place v end
+    ensures only { (v : Tree) (end : ℕ) → IsThere values (128 - opened) text.now tokens.now place v end
         → MatchResult result (λ x. (tree_of x.0 ≡ v) × (x.1 ≡ end)) (λ f. f ≡ SyntaxFault.Memory) }
     // A fault stands at its place.
     ensures fault { IfErr result (Stands values (lexemes text.now tokens.now) place (bounded (128 - opened))) }

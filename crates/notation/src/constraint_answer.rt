@@ -1,12 +1,12 @@
 //! The constraint, or the size, from a place on.
 
-ghost use Rattle.std.specs.Prelude.{◌≡◌, ◌≤◌, ℕ, List, length, IfOk, IfErr, MatchResult};
+ghost use Rattle.std.specs.Prelude.{◌≡◌, ◌≤◌, ℕ, length, IfOk, IfErr, MatchResult};
 ghost use Rattle.grammar.specs.Lexeme.{lexemes};
-ghost use Rattle.grammar.specs.Places.{bounded, free, IsRead};
+ghost use Rattle.grammar.specs.Places.{bounded};
 ghost use Rattle.trees.specs.Constraints.{ConstraintTree, constraint_of};
 ghost use Rattle.notation.specs.ConstraintGrammar.{constraint, size, flat};
 ghost use Rattle.kernel.specs.Given.{IsLexed};
-ghost use Rattle.notation.specs.Answer.{Stands};
+ghost use Rattle.notation.specs.Answer.{IsThere, Stands};
 
 use crate::constraint_reading::{constraint, size};
 use crate::fault::SyntaxFault;
@@ -39,9 +39,9 @@ pub fn constraint_at(
     requires text { IsLexed text.now tokens.now }
     requires place { place ≤ length tokens.now }
     // What is answered is the constraint there.
-    ensures found { IfOk result (λ x. IsRead (flat constraint (bounded 0)) (free (flat constraint)) (lexemes text.now tokens.now) place (constraint_of x.0) x.1) }
+    ensures found { IfOk result (λ x. IsThere (flat constraint) 0 text.now tokens.now place (constraint_of x.0) x.1) }
     // A constraint that is there is answered, unless memory runs out.
-    ensures only { (v : ConstraintTree) (end : ℕ) → IsRead (flat constraint (bounded 0)) (free (flat constraint)) (lexemes text.now tokens.now) place v end
+    ensures only { (v : ConstraintTree) (end : ℕ) → IsThere (flat constraint) 0 text.now tokens.now place v end
         → MatchResult result (λ x. (constraint_of x.0 ≡ v) × (x.1 ≡ end)) (λ f. f ≡ SyntaxFault.Memory) }
     // A fault stands at its place.
     ensures fault { IfErr result (Stands (flat constraint) (lexemes text.now tokens.now) place (bounded 0)) }
@@ -77,9 +77,9 @@ pub fn size_at(
     requires text { IsLexed text.now tokens.now }
     requires place { place ≤ length tokens.now }
     // What is answered is the size there.
-    ensures found { IfOk result (λ x. IsRead (flat size (bounded 0)) (free (flat size)) (lexemes text.now tokens.now) place (constraint_of x.0) x.1) }
+    ensures found { IfOk result (λ x. IsThere (flat size) 0 text.now tokens.now place (constraint_of x.0) x.1) }
     // A size that is there is answered, unless memory runs out.
-    ensures only { (v : ConstraintTree) (end : ℕ) → IsRead (flat size (bounded 0)) (free (flat size)) (lexemes text.now tokens.now) place v end
+    ensures only { (v : ConstraintTree) (end : ℕ) → IsThere (flat size) 0 text.now tokens.now place v end
         → MatchResult result (λ x. (constraint_of x.0 ≡ v) × (x.1 ≡ end)) (λ f. f ≡ SyntaxFault.Memory) }
     // A fault stands at its place.
     ensures fault { IfErr result (Stands (flat size) (lexemes text.now tokens.now) place (bounded 0)) }

@@ -2,10 +2,10 @@
 
 ghost use Rattle.std.specs.Prelude.{◌≡◌, map, option_map, IfOk};
 ghost use Rattle.text.specs.declared.token.TokenKind.TheVariants as kinds;
-ghost use Rattle.grammar.specs.Lexeme.{lexemes, chars_between};
 ghost use Rattle.grammar.specs.Places.{small};
 ghost use Rattle.trees.specs.Constraints.{end_of, range_of, ranges_of, chars_of, form_of, constraint_of};
-ghost use Rattle.kernel.specs.Given.{Gives, IsTokenOf, AreTokens};
+ghost use Rattle.notation.specs.Reads.{ReadsAs, text_in};
+ghost use Rattle.kernel.specs.Given.{IsTokenOf, AreTokens};
 ghost use Rattle.notation.specs.ConstraintReading.{last_chars_at, more_chars_at, from_at, minus_at, end_at, some_end_at, upper_at, behind_min_at, behind_end_at, single_at, marker_at, ranges_at, size_at, from_in_at, values_in_at, inside_at, constraint_at};
 
 use crate::names::{bare, qualified};
@@ -25,7 +25,7 @@ use trees::{
 fn quoted(alloc: Global, text: &[u8], token: Token) -> Result<At<Vec<u8>>, AllocError>
     requires token { IsTokenOf text.now token }
     requires chars { token.kind ≡ kinds.CharacterString }
-    ensures { IfOk result (λ c. c.it.items ≡ chars_between text.now token.span.start token.span.end) }
+    ensures { IfOk result (λ c. c.it.items ≡ text_in text.now token) }
 {
     Ok(At {
         at: token.span.start,
@@ -44,7 +44,7 @@ fn last_chars<'a>(
     requires tokens { AreTokens text.now tokens.now }
     requires before { IsTokenOf text.now first }
     requires chars { first.kind ≡ kinds.CharacterString }
-    ensures read { Gives (λ x. (chars_of x.0, lexemes text.now x.1.now)) result (last_chars_at (chars_between text.now first.span.start first.span.end) (lexemes text.now tokens.now)) }
+    ensures read { ReadsAs chars_of (last_chars_at (text_in text.now first)) text.now tokens.now result }
     ensures rest { IfOk result (λ x. AreTokens text.now x.1.now) }
 {
     match tokens {
@@ -74,7 +74,7 @@ fn more_chars<'a>(
     requires tokens { AreTokens text.now tokens.now }
     requires before { IsTokenOf text.now first }
     requires chars { first.kind ≡ kinds.CharacterString }
-    ensures read { Gives (λ x. (chars_of x.0, lexemes text.now x.1.now)) result (more_chars_at (chars_between text.now first.span.start first.span.end) (lexemes text.now tokens.now)) }
+    ensures read { ReadsAs chars_of (more_chars_at (text_in text.now first)) text.now tokens.now result }
     ensures rest { IfOk result (λ x. AreTokens text.now x.1.now) }
 {
     match tokens {
@@ -141,7 +141,7 @@ fn from<'a>(
     tokens: &'a [Token],
 ) -> Result<(Vec<CharsSyntax>, &'a [Token]), ReadError>
     requires tokens { AreTokens text.now tokens.now }
-    ensures read { Gives (λ x. (map chars_of x.0.items, lexemes text.now x.1.now)) result (from_at (lexemes text.now tokens.now)) }
+    ensures read { ReadsAs (λ x. map chars_of x.items) from_at text.now tokens.now result }
     ensures rest { IfOk result (λ x. AreTokens text.now x.1.now) }
 {
     match tokens {
@@ -168,7 +168,7 @@ fn negative_end<'a>(
     tokens: &'a [Token],
 ) -> Result<(EndSyntax, &'a [Token]), ReadError>
     requires tokens { AreTokens text.now tokens.now }
-    ensures read { Gives (λ x. (end_of x.0, lexemes text.now x.1.now)) result (minus_at (lexemes text.now tokens.now)) }
+    ensures read { ReadsAs end_of minus_at text.now tokens.now result }
     ensures rest { IfOk result (λ x. AreTokens text.now x.1.now) }
 {
     match tokens {
@@ -194,7 +194,7 @@ fn end<'a>(
     tokens: &'a [Token],
 ) -> Result<(EndSyntax, &'a [Token]), ReadError>
     requires tokens { AreTokens text.now tokens.now }
-    ensures read { Gives (λ x. (end_of x.0, lexemes text.now x.1.now)) result (end_at small (lexemes text.now tokens.now)) }
+    ensures read { ReadsAs end_of (end_at small) text.now tokens.now result }
     ensures rest { IfOk result (λ x. AreTokens text.now x.1.now) }
 {
     let [first, rest @ ..] = tokens else {
@@ -227,7 +227,7 @@ fn some_end<'a>(
     tokens: &'a [Token],
 ) -> Result<(Option<EndSyntax>, &'a [Token]), ReadError>
     requires tokens { AreTokens text.now tokens.now }
-    ensures read { Gives (λ x. (option_map end_of x.0, lexemes text.now x.1.now)) result (some_end_at small (lexemes text.now tokens.now)) }
+    ensures read { ReadsAs (option_map end_of) (some_end_at small) text.now tokens.now result }
     ensures rest { IfOk result (λ x. AreTokens text.now x.1.now) }
 {
     let (end, rest) = end(alloc, text, tokens)?;
@@ -242,7 +242,7 @@ fn upper<'a>(
     tokens: &'a [Token],
 ) -> Result<(Option<EndSyntax>, &'a [Token]), ReadError>
     requires tokens { AreTokens text.now tokens.now }
-    ensures read { Gives (λ x. (option_map end_of x.0, lexemes text.now x.1.now)) result (upper_at small (lexemes text.now tokens.now)) }
+    ensures read { ReadsAs (option_map end_of) (upper_at small) text.now tokens.now result }
     ensures rest { IfOk result (λ x. AreTokens text.now x.1.now) }
 {
     match tokens {
@@ -265,7 +265,7 @@ fn behind_min<'a>(
     tokens: &'a [Token],
 ) -> Result<(RangeSyntax, &'a [Token]), ReadError>
     requires tokens { AreTokens text.now tokens.now }
-    ensures read { Gives (λ x. (range_of x.0, lexemes text.now x.1.now)) result (behind_min_at small (lexemes text.now tokens.now)) }
+    ensures read { ReadsAs range_of (behind_min_at small) text.now tokens.now result }
     ensures rest { IfOk result (λ x. AreTokens text.now x.1.now) }
 {
     match tokens {
@@ -292,7 +292,7 @@ fn behind_end<'a>(
     tokens: &'a [Token],
 ) -> Result<(RangeSyntax, &'a [Token]), ReadError>
     requires tokens { AreTokens text.now tokens.now }
-    ensures read { Gives (λ x. (range_of x.0, lexemes text.now x.1.now)) result (behind_end_at small (end_of first) (lexemes text.now tokens.now)) }
+    ensures read { ReadsAs range_of (behind_end_at small (end_of first)) text.now tokens.now result }
     ensures rest { IfOk result (λ x. AreTokens text.now x.1.now) }
 {
     match tokens {
@@ -318,7 +318,7 @@ fn single<'a>(
     tokens: &'a [Token],
 ) -> Result<(RangeSyntax, &'a [Token]), ReadError>
     requires tokens { AreTokens text.now tokens.now }
-    ensures read { Gives (λ x. (range_of x.0, lexemes text.now x.1.now)) result (single_at small (lexemes text.now tokens.now)) }
+    ensures read { ReadsAs range_of (single_at small) text.now tokens.now result }
     ensures rest { IfOk result (λ x. AreTokens text.now x.1.now) }
 {
     let (first, rest) = end(alloc, text, tokens)?;
@@ -371,7 +371,7 @@ impl<'t> Part<'t> for OneRange {
 #[tactic(auto, unfolding(crate::specs::ConstraintReading::marker_at, crate::specs::ConstraintReading::ellipsis_at))]
 fn marker<'a>(text: &[u8], tokens: &'a [Token]) -> Result<(bool, &'a [Token]), ReadError>
     requires tokens { AreTokens text.now tokens.now }
-    ensures read { Gives (λ x. (x.0, lexemes text.now x.1.now)) result (marker_at (lexemes text.now tokens.now)) }
+    ensures read { ReadsAs (λ x. x) marker_at text.now tokens.now result }
     ensures rest { IfOk result (λ x. AreTokens text.now x.1.now) }
 {
     match tokens {
@@ -405,7 +405,7 @@ fn ranges<'a>(
     tokens: &'a [Token],
 ) -> Result<(RangesSyntax, &'a [Token]), ReadError>
     requires tokens { AreTokens text.now tokens.now }
-    ensures read { Gives (λ x. (ranges_of x.0, lexemes text.now x.1.now)) result (ranges_at small (lexemes text.now tokens.now)) }
+    ensures read { ReadsAs ranges_of (ranges_at small) text.now tokens.now result }
     ensures rest { IfOk result (λ x. AreTokens text.now x.1.now) }
 {
     let (ranges, rest) = by_or(alloc, text, &OneRange, tokens)?;
@@ -421,7 +421,7 @@ pub fn size<'a>(
     tokens: &'a [Token],
 ) -> Result<(ConstraintSyntax, &'a [Token]), ReadError>
     requires tokens { AreTokens text.now tokens.now }
-    ensures read { Gives (λ x. (constraint_of x.0, lexemes text.now x.1.now)) result (size_at small (lexemes text.now tokens.now)) }
+    ensures read { ReadsAs constraint_of (size_at small) text.now tokens.now result }
     ensures rest { IfOk result (λ x. AreTokens text.now x.1.now) }
 {
     match tokens {
@@ -434,10 +434,9 @@ pub fn size<'a>(
         ] => {
             let rest = open(text, rest)?;
             let (sizes, rest) = ranges(alloc, text, rest)?;
-            let rest = close(text, rest)?;
             let form = ConstraintForm::Size(sizes);
             let at = word.span.start;
-            Ok((ConstraintSyntax { at, form }, rest))
+            Ok((ConstraintSyntax { at, form }, close(text, rest)?))
         }
         _ => Err(ReadError::Unexpected(tokens.len())),
     }
@@ -451,7 +450,7 @@ fn from_in<'a>(
     tokens: &'a [Token],
 ) -> Result<(ConstraintForm, &'a [Token]), ReadError>
     requires tokens { AreTokens text.now tokens.now }
-    ensures read { Gives (λ x. (form_of x.0, lexemes text.now x.1.now)) result (from_in_at small (lexemes text.now tokens.now)) }
+    ensures read { ReadsAs form_of (from_in_at small) text.now tokens.now result }
     ensures rest { IfOk result (λ x. AreTokens text.now x.1.now) }
 {
     let (inside, rest) = from(alloc, text, tokens)?;
@@ -466,7 +465,7 @@ fn values_in<'a>(
     tokens: &'a [Token],
 ) -> Result<(ConstraintForm, &'a [Token]), ReadError>
     requires tokens { AreTokens text.now tokens.now }
-    ensures read { Gives (λ x. (form_of x.0, lexemes text.now x.1.now)) result (values_in_at small (lexemes text.now tokens.now)) }
+    ensures read { ReadsAs form_of (values_in_at small) text.now tokens.now result }
     ensures rest { IfOk result (λ x. AreTokens text.now x.1.now) }
 {
     let (inside, rest) = ranges(alloc, text, tokens)?;
@@ -481,7 +480,7 @@ fn inside<'a>(
     tokens: &'a [Token],
 ) -> Result<(ConstraintForm, &'a [Token]), ReadError>
     requires tokens { AreTokens text.now tokens.now }
-    ensures read { Gives (λ x. (form_of x.0, lexemes text.now x.1.now)) result (inside_at small (lexemes text.now tokens.now)) }
+    ensures read { ReadsAs form_of (inside_at small) text.now tokens.now result }
     ensures rest { IfOk result (λ x. AreTokens text.now x.1.now) }
 {
     match tokens {
@@ -514,7 +513,7 @@ pub fn constraint<'a>(
     tokens: &'a [Token],
 ) -> Result<(ConstraintSyntax, &'a [Token]), ReadError>
     requires tokens { AreTokens text.now tokens.now }
-    ensures read { Gives (λ x. (constraint_of x.0, lexemes text.now x.1.now)) result (constraint_at small (lexemes text.now tokens.now)) }
+    ensures read { ReadsAs constraint_of (constraint_at small) text.now tokens.now result }
     ensures rest { IfOk result (λ x. AreTokens text.now x.1.now) }
 {
     match tokens {
@@ -526,9 +525,9 @@ pub fn constraint<'a>(
             rest @ ..,
         ] => {
             let (form, rest) = inside(alloc, text, rest)?;
-            let rest = close(text, rest)?;
             let at = first.span.start;
-            Ok((ConstraintSyntax { at, form }, rest))
+            let constraint = ConstraintSyntax { at, form };
+            Ok((constraint, close(text, rest)?))
         }
         _ => Err(ReadError::Unexpected(tokens.len())),
     }

@@ -20,17 +20,26 @@ ghost use Rattle.grammar.specs.Grows.{Grows};
 
 /// A list of lexemes is one value at most.
 pub fn one_value()
-    ensures { (ts : List Lexeme) (v w : Tree) → (free values).Is v ts → (free values).Is w ts → v ≡ w }
+    ensures { (ts : List Lexeme) (v w : Tree)
+        → (free values).Is v ts
+        → (free values).Is w ts
+        → v ≡ w }
 {}
 
 /// A list of lexemes is one constraint at most.
 pub fn one_constraint()
-    ensures { (ts : List Lexeme) (v w : ConstraintTree) → (constraint any).Is v ts → (constraint any).Is w ts → v ≡ w }
+    ensures { (ts : List Lexeme) (v w : ConstraintTree)
+        → (constraint any).Is v ts
+        → (constraint any).Is w ts
+        → v ≡ w }
 {}
 
 /// A list of lexemes is one size at most.
 pub fn one_size()
-    ensures { (ts : List Lexeme) (v w : ConstraintTree) → (size any).Is v ts → (size any).Is w ts → v ≡ w }
+    ensures { (ts : List Lexeme) (v w : ConstraintTree)
+        → (size any).Is v ts
+        → (size any).Is w ts
+        → v ≡ w }
 {}
 
 /// One fault at most stands where a value is read, want of memory apart.
@@ -66,13 +75,17 @@ pub fn one_size_fault()
 /// What is read as a constraint is one, each constraint is read, and a fault is the first one.
 pub fn constraints_are_read()
     ensures read { Ruled constraint is_open constraint_at }
-    ensures grows { (fits fits' : ℕ → Bool) → ((n : ℕ) → fits n ≡ true → fits' n ≡ true) → Grows (constraint fits) (constraint fits') }
+    ensures grows { (fits fits' : ℕ → Bool)
+        → ((n : ℕ) → fits n ≡ true → fits' n ≡ true)
+        → Grows (constraint fits) (constraint fits') }
 {}
 
 /// What is read as a size is one, each size is read, and a fault is the first one.
 pub fn sizes_are_read()
     ensures read { Ruled size is_size size_at }
-    ensures grows { (fits fits' : ℕ → Bool) → ((n : ℕ) → fits n ≡ true → fits' n ≡ true) → Grows (size fits) (size fits') }
+    ensures grows { (fits fits' : ℕ → Bool)
+        → ((n : ℕ) → fits n ≡ true → fits' n ≡ true)
+        → Grows (size fits) (size fits') }
 {}
 
 /// What is read as a value is one, each value is read, and a fault is the first one.

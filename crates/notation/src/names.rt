@@ -1,9 +1,9 @@
 //! The names of the notation, with where they are written.
 
-ghost use Rattle.std.specs.Prelude.{◌≡◌, None, IfOk, slice_range};
+ghost use Rattle.std.specs.Prelude.{◌≡◌, None, IfOk};
 ghost use Rattle.text.specs.declared.token.TokenKind.TheVariants as kinds;
-ghost use Rattle.grammar.specs.Lexeme.{lexemes};
-ghost use Rattle.kernel.specs.Given.{Gives, IsTokenOf, AreTokens};
+ghost use Rattle.notation.specs.Reads.{ReadsAs, name_in};
+ghost use Rattle.kernel.specs.Given.{IsTokenOf, AreTokens};
 ghost use Rattle.notation.specs.Reading.{named_by, ref_dot_at};
 
 use kernel::ReadError;
@@ -17,7 +17,7 @@ pub fn bare(alloc: Global, text: &[u8], token: Token) -> Result<Reference, Alloc
     requires token { IsTokenOf text.now token }
     requires name { token.kind ≡ kinds.Identifier }
     ensures { IfOk result (λ r. ((named_by r).0 ≡ None)
-        × ((named_by r).1 ≡ slice_range text.now token.span.start token.span.end)) }
+        × ((named_by r).1 ≡ name_in text.now token)) }
 {
     Ok(Reference {
         at: token.span.start,
@@ -37,8 +37,7 @@ pub fn qualified<'a>(
     requires tokens { AreTokens text.now tokens.now }
     requires before { IsTokenOf text.now module_name }
     requires name { module_name.kind ≡ kinds.TypeReference }
-    ensures read { Gives (λ x. (named_by x.0, lexemes text.now x.1.now)) result
-        (ref_dot_at (slice_range text.now module_name.span.start module_name.span.end) (lexemes text.now tokens.now)) }
+    ensures read { ReadsAs named_by (ref_dot_at (name_in text.now module_name)) text.now tokens.now result }
     ensures rest { IfOk result (λ x. AreTokens text.now x.1.now) }
 {
     match tokens {

@@ -2,8 +2,8 @@
 
 ghost use Rattle.std.specs.Prelude.{◌≡◌, MatchResult, pos, neg_ℤ, true, false};
 ghost use Rattle.text.specs.declared.token.TokenKind.TheVariants as kinds;
-ghost use Rattle.text.specs.Items.{number_value};
 ghost use Rattle.grammar.specs.Places.{small};
+ghost use Rattle.notation.specs.Reads.{number_in};
 ghost use Rattle.kernel.specs.Given.{IsTokenOf};
 
 use kernel::decode::{number_of, small_number};
@@ -15,10 +15,10 @@ pub fn positive(text: &[u8], token: Token, left: usize) -> Result<i128, ReadErro
     requires token { IsTokenOf text.now token }
     requires number { token.kind ≡ kinds.Number }
     ensures { MatchResult result
-        (λ n. (n ≡ pos (number_value text.now token.span.start token.span.end))
-            × (small (number_value text.now token.span.start token.span.end) ≡ true))
+        (λ n. (n ≡ pos (number_in text.now token))
+            × (small (number_in text.now token) ≡ true))
         (λ e. (e ≡ ReadError.Limit Limit.Integer left)
-            × (small (number_value text.now token.span.start token.span.end) ≡ false)) }
+            × (small (number_in text.now token) ≡ false)) }
 {
     match small_number(text, token, left) {
         Ok(number) => Ok(number as i128),
@@ -30,7 +30,7 @@ pub fn positive(text: &[u8], token: Token, left: usize) -> Result<i128, ReadErro
 pub fn negative(text: &[u8], token: Token) -> i128
     requires token { IsTokenOf text.now token }
     requires number { token.kind ≡ kinds.Number }
-    ensures { result ≡ neg_ℤ (pos (number_value text.now token.span.start token.span.end)) }
+    ensures { result ≡ neg_ℤ (pos (number_in text.now token)) }
 {
     let number = number_of(text, token);
     if number == 0 {

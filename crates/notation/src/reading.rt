@@ -1,13 +1,13 @@
 //! Reading a value from its first token on.
 
-ghost use Rattle.std.specs.Prelude.{◌≡◌, [], Some, None, MatchOption, ◌-◌, ◌<◌, ◌∷◌, length, IfOk, slice_range};
+ghost use Rattle.std.specs.Prelude.{◌≡◌, [], Some, None, MatchOption, ◌-◌, ◌<◌, ◌∷◌, length, IfOk};
 ghost use Rattle.text.specs.declared.token.TokenKind.TheVariants as kinds;
-ghost use Rattle.text.specs.Items.{number_value};
 ghost use Rattle.grammar.specs.Lexeme.{lexemes, Number};
 ghost use Rattle.grammar.specs.Reading.{with_front};
 ghost use Rattle.grammar.specs.Places.{small};
 ghost use Rattle.trees.specs.Values.{tree_of};
-ghost use Rattle.kernel.specs.Given.{Gives, IsTokenOf, AreTokens};
+ghost use Rattle.notation.specs.Reads.{ReadsAs, name_in, number_in};
+ghost use Rattle.kernel.specs.Given.{IsTokenOf, AreTokens};
 ghost use Rattle.notation.specs.Reading.{negative_at, next_number, numbers_at, two_numbers_at, by_name_at, braced_at, alternative_at, step_at, value_at};
 
 use crate::names::{bare, qualified};
@@ -46,7 +46,7 @@ fn negative_value<'a>(
     tokens: &'a [Token],
 ) -> Result<(ValueSyntax, &'a [Token]), ReadError>
     requires tokens { AreTokens text.now tokens.now }
-    ensures read { Gives (λ x. (tree_of x.0, lexemes text.now x.1.now)) result (negative_at (lexemes text.now tokens.now)) }
+    ensures read { ReadsAs tree_of negative_at text.now tokens.now result }
     ensures rest { IfOk result (λ x. AreTokens text.now x.1.now) }
 {
     match tokens {
@@ -77,7 +77,8 @@ fn alternative<'a>(
     requires tokens { AreTokens text.now tokens.now }
     requires before { IsTokenOf text.now name }
     requires name { name.kind ≡ kinds.Identifier }
-    ensures read { Gives (λ x. (tree_of x.0, lexemes text.now x.1.now)) result (alternative_at small depth (value_at small (depth - 1)) (slice_range text.now name.span.start name.span.end) (lexemes text.now tokens.now)) }
+    ensures read { ReadsAs tree_of (alternative_at small depth (value_at small (depth - 1)) (name_in text.now name))
+        text.now tokens.now result }
     ensures rest { IfOk result (λ x. AreTokens text.now x.1.now) }
 {
     let at = name.span.start;
@@ -114,7 +115,7 @@ pub fn value<'a>(
     depth: usize,
 ) -> Result<(ValueSyntax, &'a [Token]), ReadError>
     requires tokens { AreTokens text.now tokens.now }
-    ensures read { Gives (λ x. (tree_of x.0, lexemes text.now x.1.now)) result (value_at small depth (lexemes text.now tokens.now)) }
+    ensures read { ReadsAs tree_of (value_at small depth) text.now tokens.now result }
     ensures rest { IfOk result (λ x. AreTokens text.now x.1.now) }
 {
     step(alloc, text, tokens, depth)
@@ -129,7 +130,7 @@ fn step<'a>(
     depth: usize,
 ) -> Result<(ValueSyntax, &'a [Token]), ReadError>
     requires tokens { AreTokens text.now tokens.now }
-    ensures read { Gives (λ x. (tree_of x.0, lexemes text.now x.1.now)) result (step_at small depth (value_at small (depth - 1)) (lexemes text.now tokens.now)) }
+    ensures read { ReadsAs tree_of (step_at small depth (value_at small (depth - 1))) text.now tokens.now result }
     ensures rest { IfOk result (λ x. AreTokens text.now x.1.now) }
 {
     let [first, rest @ ..] = tokens else {
@@ -173,7 +174,7 @@ fn braced<'a>(
     depth: usize,
 ) -> Result<(ValueSyntax, &'a [Token]), ReadError>
     requires tokens { AreTokens text.now tokens.now }
-    ensures read { Gives (λ x. (tree_of x.0, lexemes text.now x.1.now)) result (braced_at small (value_at small depth) (lexemes text.now tokens.now)) }
+    ensures read { ReadsAs tree_of (braced_at small (value_at small depth)) text.now tokens.now result }
     ensures rest { IfOk result (λ x. AreTokens text.now x.1.now) }
 {
     match tokens {
@@ -246,14 +247,14 @@ fn listed<'a>(
     depth: usize,
 ) -> Result<(ValueSyntax, &'a [Token]), ReadError>
     requires tokens { AreTokens text.now tokens.now }
-    ensures read { Gives (λ x. (tree_of x.0, lexemes text.now x.1.now)) result (by_name_at plain (value_at small depth) (lexemes text.now tokens.now)) }
+    ensures read { ReadsAs tree_of (by_name_at plain (value_at small depth)) text.now tokens.now result }
     ensures rest { IfOk result (λ x. AreTokens text.now x.1.now) }
 {
     let part = reads_by(
         PhantomData::<Values>,
         |ts|
             requires { AreTokens text.now ts.now }
-            ensures read { Gives (λ x. (tree_of x.0, lexemes text.entry.now x.1.now)) result (value_at small depth (lexemes text.entry.now ts.now)) }
+            ensures read { ReadsAs tree_of (value_at small depth) text.entry.now ts.now result }
             ensures rest { IfOk result (λ x. AreTokens text.entry.now x.1.now) }
         { value(alloc, text, ts, depth) },
         depth,
@@ -277,8 +278,9 @@ fn listed<'a>(
 fn next_number<'a>(text: &[u8], tokens: &'a [Token]) -> Option<(Token, &'a [Token])>
     requires tokens { AreTokens text.now tokens.now }
     ensures { MatchOption result (next_number (lexemes text.now tokens.now) ≡ None)
-        (λ x. (lexemes text.now tokens.now ≡ Number (number_value text.now x.0.span.start x.0.span.end) ∷ lexemes text.now x.1.now)
-        × (x.0.kind ≡ kinds.Number) × IsTokenOf text.now x.0 × AreTokens text.now x.1.now × (length x.1.now < length tokens.now)) }
+        (λ x. (lexemes text.now tokens.now ≡ Number (number_in text.now x.0) ∷ lexemes text.now x.1.now)
+            × (x.0.kind ≡ kinds.Number) × IsTokenOf text.now x.0
+            × AreTokens text.now x.1.now × (length x.1.now < length tokens.now)) }
 {
     match tokens {
         [
@@ -303,7 +305,7 @@ fn two_numbers<'a>(
     tokens: &'a [Token],
 ) -> Result<(ValueSyntax, &'a [Token]), ReadError>
     requires tokens { AreTokens text.now tokens.now }
-    ensures read { Gives (λ x. (tree_of x.0, lexemes text.now x.1.now)) result (two_numbers_at small first second (lexemes text.now tokens.now)) }
+    ensures read { ReadsAs tree_of (two_numbers_at small first second) text.now tokens.now result }
     ensures rest { IfOk result (λ x. AreTokens text.now x.1.now) }
 {
     let (numbers, rest) = numbers(alloc, text, first, second, tokens)?;
@@ -320,7 +322,8 @@ fn numbers<'a>(
     tokens: &'a [Token],
 ) -> Result<(Vec<u128>, &'a [Token]), ReadError>
     requires tokens { AreTokens text.now tokens.now }
-    ensures read { Gives (λ x. (x.0.items, lexemes text.now x.1.now)) result (with_front (first ∷ second ∷ []) (numbers_at small (lexemes text.now tokens.now))) }
+    ensures read { ReadsAs (λ x. x.items) (λ ts. with_front (first ∷ second ∷ []) (numbers_at small ts))
+        text.now tokens.now result }
     ensures rest { IfOk result (λ x. AreTokens text.now x.1.now) }
 {
     let mut numbers = Vec::new(alloc);

@@ -1,6 +1,6 @@
 //! The words and marks of constructs that this compiler leaves out.
 
-ghost use Rattle.std.specs.Prelude.{◌≡◌, ℕ, List, slice_get};
+ghost use Rattle.std.specs.Prelude.{◌≡◌, ℕ, List};
 ghost use Rattle.grammar.specs.Lexeme.{lexeme_at, lexemes};
 ghost use Rattle.notation.specs.Answer.{is_refused, is_refused_word, is_refused_mark, unexpected};
 

@@ -2,7 +2,8 @@
 
 ghost use Rattle.std.specs.Prelude.{◌≡◌, ◌<◌, Some, None, MatchOption, length, map, IfOk};
 ghost use Rattle.grammar.specs.Lexeme.{lexemes};
-ghost use Rattle.kernel.specs.Given.{Gives, AreTokens};
+ghost use Rattle.notation.specs.Reads.{ReadsAs};
+ghost use Rattle.kernel.specs.Given.{AreTokens};
 ghost use Rattle.notation.specs.ConstraintReading.{next_or, by_or_at};
 
 use kernel::{Part, ReadError};
@@ -39,7 +40,7 @@ pub fn by_or<'t, P: Part<'t>>(
 ) -> Result<(Vec<P::Tree>, &'t [Token]), ReadError>
     requires ready { P.is_ready part.now text.now }
     requires tokens { AreTokens text.now tokens.now }
-    ensures read { Gives (λ x. (map P.view x.0.items, lexemes text.now x.1.now)) result (by_or_at (P.reader part.now) (lexemes text.now tokens.now)) }
+    ensures read { ReadsAs (λ x. map P.view x.items) (by_or_at (P.reader part.now)) text.now tokens.now result }
     ensures rest { IfOk result (λ x. AreTokens text.now x.1.now) }
 {
     let mut parts = Vec::new(alloc);

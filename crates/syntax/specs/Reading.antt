@@ -34,6 +34,9 @@ module _ (fits : ℕ → Bool) where
   assignment_at n (Ident x ∷ rest) = value_assigned_at n x rest
   assignment_at n ts = stop ts
 
+  abbrev pub many_assignments_at : ℕ → Reader (List AssignmentTree)
+  many_assignments_at n ts = many_at begins_assignment (assignment_at n) (length ts) ts
+
   -- behind the head of a module
   unfoldable pub assignments_at : ℕ → Reader (List AssignmentTree)
-  assignments_at n ts = many_at begins_assignment (assignment_at n) (length ts) ts >>= λ xs. end_at xs.1 >>= λ e. Ok (xs.0, e.1)
+  assignments_at n ts = many_assignments_at n ts >>= λ xs. end_at xs.1 >>= λ e. Ok (xs.0, e.1)

@@ -12,15 +12,24 @@ use Rattle.module_head.specs.Heading.{HeadTree, head}
 
 -- a module, of its head and its assignments
 abbrev pub module_of : HeadTree → List AssignmentTree → ModuleTree
-module_of h xs = record { name = h.name; tag_default = h.tag_default; exports = h.exports; imports = h.imports; assignments = xs }
+module_of h xs = record {
+  name = h.name;
+  tag_default = h.tag_default;
+  exports = h.exports;
+  imports = h.imports;
+  assignments = xs;
+}
 
 -- A limit on numbers, or on the numbers of tags, is a test that they meet.
 abbrev pub assignment : (ℕ → Bool) → (ℕ → Bool) → ℕ → Grammar AssignmentTree
 assignment fits tags n =
     (token TypeRef ∙ behind (Mark Assign) (type fits tags n)) ⇒ (λ p. assigns_type p.0 p.1)
-    ∣ (token Ident ∙ (type fits tags n ∙ behind (Mark Assign) (value fits n))) ⇒ (λ p. assigns_value p.0 p.1.0 p.1.1)
+    ∣ (token Ident ∙ (type fits tags n ∙ behind (Mark Assign) (value fits n)))
+    ⇒ (λ p. assigns_value p.0 p.1.0 p.1.1)
 
 -- A module within limits that allow one or more things to be open at one place: where an object identifier's braces are
 -- open, at the head, nothing else is.
 abbrev pub module_text : Limited ModuleTree
-module_text a = (head a.number ∙ ((many (assignment a.number a.tag a.nesting) ∙ word End) ⇒ (λ p. p.0))) ⇒ (λ p. module_of p.0 p.1)
+module_text a =
+    (head a.number ∙ ((many (assignment a.number a.tag a.nesting) ∙ word End) ⇒ (λ p. p.0)))
+    ⇒ (λ p. module_of p.0 p.1)

@@ -1,15 +1,15 @@
 //! Reading a module from its first token on.
 
-ghost use Rattle.std.specs.Prelude.{◌≡◌, map, length, IfOk, Ok, slice_range, string_bytes};
+ghost use Rattle.std.specs.Prelude.{◌≡◌, map, IfOk, Ok};
 ghost use Rattle.text.specs.declared.token.TokenKind.TheVariants as kinds;
 ghost use Rattle.grammar.specs.Lexeme.{lexemes};
-ghost use Rattle.grammar.specs.Reading.{many_at};
 ghost use Rattle.grammar.specs.Manies.{is_begun_by};
 ghost use Rattle.grammar.specs.Places.{small};
-ghost use Rattle.kernel.specs.Given.{Gives, IsTokenOf, AreTokens};
+ghost use Rattle.notation.specs.Reads.{ReadsAs, SkipsAs, name_in};
+ghost use Rattle.kernel.specs.Given.{IsTokenOf, AreTokens};
 ghost use Rattle.trees.specs.Modules.{assignment_of, module_tree_of};
 ghost use Rattle.grammar.specs.Single.{end_at};
-ghost use Rattle.syntax.specs.Reading.{type_assigned_at, value_assigned_at, begins_assignment, assignment_at, assignments_at};
+ghost use Rattle.syntax.specs.Reading.{type_assigned_at, value_assigned_at, begins_assignment, assignment_at, many_assignments_at, assignments_at};
 ghost use Rattle.syntax.specs.ModuleReading.{module_at};
 
 use module_head::head::{assign, head};
@@ -26,7 +26,7 @@ use type_syntax::types::type_syntax;
 #[tactic(auto, unfolding(grammar::specs::Single::end_at))]
 fn end<'a>(text: &[u8], tokens: &'a [Token]) -> Result<&'a [Token], ReadError>
     requires tokens { AreTokens text.now tokens.now }
-    ensures read { Gives (λ x. (tt, lexemes text.now x.now)) result (end_at (lexemes text.now tokens.now)) }
+    ensures read { SkipsAs end_at text.now tokens.now result }
     ensures rest { IfOk result (λ x. AreTokens text.now x.now) }
 {
     match tokens {
@@ -52,7 +52,8 @@ fn type_assignment<'a>(
     requires tokens { AreTokens text.now tokens.now }
     requires before { IsTokenOf text.now name }
     requires name { name.kind ≡ kinds.TypeReference }
-    ensures read { Gives (λ x. (assignment_of x.0, lexemes text.now x.1.now)) result (type_assigned_at small depth (slice_range text.now name.span.start name.span.end) (lexemes text.now tokens.now)) }
+    ensures read { ReadsAs assignment_of (type_assigned_at small depth (name_in text.now name))
+        text.now tokens.now result }
     ensures rest { IfOk result (λ x. AreTokens text.now x.1.now) }
 {
     let rest = assign(text, tokens)?;
@@ -72,7 +73,8 @@ fn value_assignment<'a>(
     requires tokens { AreTokens text.now tokens.now }
     requires before { IsTokenOf text.now name }
     requires name { name.kind ≡ kinds.Identifier }
-    ensures read { Gives (λ x. (assignment_of x.0, lexemes text.now x.1.now)) result (value_assigned_at small depth (slice_range text.now name.span.start name.span.end) (lexemes text.now tokens.now)) }
+    ensures read { ReadsAs assignment_of (value_assigned_at small depth (name_in text.now name))
+        text.now tokens.now result }
     ensures rest { IfOk result (λ x. AreTokens text.now x.1.now) }
 {
     let (syntax, rest) = type_syntax(alloc, text, tokens, depth)?;
@@ -98,7 +100,7 @@ fn assignment<'a>(
     depth: usize,
 ) -> Result<(Assignment, &'a [Token]), ReadError>
     requires tokens { AreTokens text.now tokens.now }
-    ensures read { Gives (λ x. (assignment_of x.0, lexemes text.now x.1.now)) result (assignment_at small depth (lexemes text.now tokens.now)) }
+    ensures read { ReadsAs assignment_of (assignment_at small depth) text.now tokens.now result }
     ensures rest { IfOk result (λ x. AreTokens text.now x.1.now) }
 {
     match tokens {
@@ -144,7 +146,7 @@ fn many<'a>(
     depth: usize,
 ) -> Result<(Vec<Assignment>, &'a [Token]), ReadError>
     requires tokens { AreTokens text.now tokens.now }
-    ensures read { Gives (λ x. (map assignment_of x.0.items, lexemes text.now x.1.now)) result (many_at begins_assignment (assignment_at small depth) (length (lexemes text.now tokens.now)) (lexemes text.now tokens.now)) }
+    ensures read { ReadsAs (λ x. map assignment_of x.items) (many_assignments_at small depth) text.now tokens.now result }
     ensures rest { IfOk result (λ x. AreTokens text.now x.1.now) }
 {
     type_syntax::law::types_are_read();
@@ -167,7 +169,7 @@ fn assignments<'a>(
     depth: usize,
 ) -> Result<(Vec<Assignment>, &'a [Token]), ReadError>
     requires tokens { AreTokens text.now tokens.now }
-    ensures read { Gives (λ x. (map assignment_of x.0.items, lexemes text.now x.1.now)) result (assignments_at small depth (lexemes text.now tokens.now)) }
+    ensures read { ReadsAs (λ x. map assignment_of x.items) (assignments_at small depth) text.now tokens.now result }
     ensures rest { IfOk result (λ x. AreTokens text.now x.1.now) }
 {
     let (assignments, rest) = many(alloc, text, tokens, depth)?;
@@ -183,7 +185,7 @@ pub fn module<'a>(
     depth: usize,
 ) -> Result<(Module, &'a [Token]), ReadError>
     requires tokens { AreTokens text.now tokens.now }
-    ensures read { Gives (λ x. (module_tree_of x.0, lexemes text.now x.1.now)) result (module_at small depth (lexemes text.now tokens.now)) }
+    ensures read { ReadsAs module_tree_of (module_at small depth) text.now tokens.now result }
     ensures rest { IfOk result (λ x. AreTokens text.now x.1.now) }
 {
     let (head, rest) = head(alloc, text, tokens)?;

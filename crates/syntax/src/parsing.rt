@@ -21,7 +21,7 @@ use trees::Module;
 ///
 /// In go a text and its tokens, as [`text::lex`] gives them. Out comes the module as it is written
 /// (X.680, clause 13.1): a name, behind it an object identifier or none, `DEFINITIONS`, a default for tags or none,
-/// `::=`, `BEGIN`, exports and imports if there are any, assignments of types (extension markers apart) and values,
+/// `::=`, `BEGIN`, exports and imports if there are any, assignments of types and values,
 /// and `END`.
 ///
 /// # Errors
@@ -37,7 +37,8 @@ use trees::Module;
 pub fn parse(alloc: Global, text: &[u8], tokens: &[Token]) -> Result<Module, SyntaxFault>
     requires { IsLexed text.now tokens.now }
     // What is answered is the module that the tokens are.
-    ensures found { IfOk result (λ m. (module_text (bounded 128)).Is (module_tree_of m) (lexemes text.now tokens.now)) }
+    ensures found { IfOk result (λ m.
+        (module_text (bounded 128)).Is (module_tree_of m) (lexemes text.now tokens.now)) }
     // The module that the tokens are is answered, unless memory runs out.
     ensures only { (m : ModuleTree) → (module_text (bounded 128)).Is m (lexemes text.now tokens.now)
         → MatchResult result (λ x. module_tree_of x ≡ m) (λ f. f ≡ SyntaxFault.Memory) }
@@ -63,7 +64,10 @@ pub fn parse(alloc: Global, text: &[u8], tokens: &[Token]) -> Result<Module, Syn
 
 /// A list of lexemes is one module at most.
 pub fn one_module()
-    ensures { (ts : List Lexeme) (m n : ModuleTree) → (free module_text).Is m ts → (free module_text).Is n ts → m ≡ n }
+    ensures { (ts : List Lexeme) (m n : ModuleTree)
+        → (free module_text).Is m ts
+        → (free module_text).Is n ts
+        → m ≡ n }
 {
     module_head::law::heads_are_read();
     type_syntax::law::types_are_read();
