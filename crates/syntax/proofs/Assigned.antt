@@ -11,7 +11,7 @@ use Rattle.notation.specs.Laws.{starts}
 use Rattle.notation.specs.Value.{value}
 use Rattle.module_head.specs.HeadLaws.{HeadLaws}
 use Rattle.type_syntax.specs.TypeLaws.{Allows, TypeLaws}
-use Rattle.type_syntax.specs.TypeReading.{tag_fits}
+use Rattle.type_syntax.specs.PlainReading.{tag_fits}
 use Rattle.type_syntax.specs.TypeGrammar.{type}
 use Rattle.syntax.specs.Syntax.{assignment}
 use Rattle.syntax.specs.Reading.{begins_assignment, assignment_at}

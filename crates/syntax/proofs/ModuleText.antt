@@ -14,7 +14,7 @@ use Rattle.grammar.specs.Answers.{joined, joined_first, joined_second, Reads}
 use Rattle.grammar.specs.Parts.{SoundReader, token_sound, token_finds, token_solid, seq_finds, open_finds, open_solid}
 use Rattle.grammar.specs.Rules.{Rules, either, no_left, no_right, bor_left, bor_right}
 use Rattle.type_syntax.specs.TypeLaws.{Allows}
-use Rattle.type_syntax.specs.TypeReading.{tag_fits}
+use Rattle.type_syntax.specs.PlainReading.{tag_fits}
 use Rattle.trees.specs.Modules.{AssignmentTree, ModuleTree}
 use Rattle.module_head.specs.Heading.{HeadTree, head}
 use Rattle.syntax.specs.Syntax.{assignment, module_of, module_text}

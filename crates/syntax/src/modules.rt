@@ -12,9 +12,9 @@ ghost use Rattle.grammar.specs.Single.{end_at};
 ghost use Rattle.syntax.specs.Reading.{type_assigned_at, value_assigned_at, begins_assignment, assignment_at, many_assignments_at, assignments_at};
 ghost use Rattle.syntax.specs.ModuleReading.{module_at};
 
+use kernel::ReadError;
+use kernel::decode::name_at;
 use module_head::head::{assign, head};
-use notation::ReadError;
-use kernel::decode::name_of;
 use notation::reading::value;
 use std::alloc::Global;
 use text::reserved::Word;
@@ -58,7 +58,7 @@ fn type_assignment<'a>(
 {
     let rest = assign(text, tokens)?;
     let (syntax, rest) = type_syntax(alloc, text, rest, depth)?;
-    let name = name_of(alloc, text, name)?;
+    let name = name_at(alloc, text, name)?;
     Ok((Assignment::Type(TypeAssignment { name, syntax }), rest))
 }
 
@@ -80,7 +80,7 @@ fn value_assignment<'a>(
     let (syntax, rest) = type_syntax(alloc, text, tokens, depth)?;
     let rest = assign(text, rest)?;
     let (value, rest) = value(alloc, text, rest, depth)?;
-    let name = name_of(alloc, text, name)?;
+    let name = name_at(alloc, text, name)?;
     Ok((
         Assignment::Value(ValueAssignment {
             name,
@@ -146,7 +146,8 @@ fn many<'a>(
     depth: usize,
 ) -> Result<(Vec<Assignment>, &'a [Token]), ReadError>
     requires tokens { AreTokens text.now tokens.now }
-    ensures read { ReadsAs (λ x. map assignment_of x.items) (many_assignments_at small depth) text.now tokens.now result }
+    ensures read { ReadsAs (λ x. map assignment_of x.items) (many_assignments_at small depth)
+        text.now tokens.now result }
     ensures rest { IfOk result (λ x. AreTokens text.now x.1.now) }
 {
     type_syntax::law::types_are_read();
