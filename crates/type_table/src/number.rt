@@ -13,11 +13,127 @@ ghost use Rattle.type_table.specs.Numbering.{member_sources, inner_source, numbe
 ghost use Rattle.type_table.specs.Seen.{types_of, kind_of, part_of, type_of, form_seen};
 ghost use Rattle.type_table.specs.proving.Checks.{IsNothing, IsUnknown, IsTypesLimit, IsSourceFault};
 
-use crate::table::Written;
+use crate::table::{Component, Shape, Written};
 use names::fault::spot;
-use names::{Assignment, Header, Limit, NameFault, Names, Source};
-use std::alloc::Global;
+use names::{Assigned, Assignment, Header, Limit, NameFault, Names, Place, Source};
+use std::alloc::{AllocError, Global};
 use std::collections::VecDeque;
+use trees::{Member, Reference, TypeForm, TypeSyntax};
+
+/// The members of a list, whose types are numbered from `first` on and go behind the others.
+fn components_of(
+    alloc: Global,
+    members: Vec<Member<TypeSyntax>>,
+    assignment: usize,
+    list: usize,
+    first: usize,
+    parts: &mut VecDeque<Source>,
+) -> Result<Vec<Component>, AllocError>
+    requires few { first + length members.items ≤ 65536 }
+    ensures components { IfOk result (λ v. map part_of v.items ≡ numbered first (type_members (map type_member_of members.items))) }
+    ensures parts { OnOk result (sources_of parts.new.items ≡ sources_of parts.old.items ++ member_sources assignment list 0 (type_members (map type_member_of members.items))) }
+{
+    let mut components = Vec::new(alloc);
+    for Member {
+        name,
+        syntax,
+        presence,
+        standing,
+    } in members {
+        let number = components.len();
+        parts.push_back(Source {
+            syntax,
+            assignment,
+            place: Some(Place { list, number }),
+        })?;
+        components.push(Component {
+            name,
+            ty: first + number,
+            presence,
+            standing,
+        })?;
+    }
+    Ok(components)
+}
+
+/// How many types stand directly in a type.
+fn parts_count(syntax: &TypeSyntax) -> usize
+    ensures { (assignment number : ℕ) → result ≡ length (parts_of assignment number (type_tree_of syntax.now)) }
+{
+    match &syntax.form {
+        TypeForm::Simple(_) => 0,
+        TypeForm::Reference(_) => 0,
+        TypeForm::List(_, _, members) => members.len(),
+        TypeForm::Elements(_, _) => 1,
+        TypeForm::Tagged(_, _, _) => 1,
+    }
+}
+
+/// The type that a reference stands for.
+fn meant_by(
+    alloc: Global,
+    names: &Names,
+    within: &str,
+    reference: &Reference,
+) -> Result<usize, NameFault>
+    ensures ok { IfOk result (λ j. Refers names.now within.now (option_map string_bytes reference.now.module) (string_bytes reference.now.name) (assigned.Type j)) }
+    ensures fault { IfErr result (IsNothing names.now within.now (option_map string_bytes reference.now.module) (string_bytes reference.now.name)) }
+{
+    let name = reference.name.as_str();
+    match names.refers(within, &reference.module, name) {
+        Some(Assigned::Type(number)) => Ok(number),
+        _ => Err(NameFault::UnknownName(spot(alloc, within, name, reference.at)?)),
+    }
+}
+
+/// Puts a type that is no member behind the others.
+fn put(inner: TypeSyntax, assignment: usize, parts: &mut VecDeque<Source>) -> Result<(), AllocError>
+    ensures { OnOk result (sources_of parts.new.items ≡ sources_of parts.old.items ++ inner_source assignment (type_tree_of inner)) }
+{
+    parts.push_back(Source {
+        syntax: inner,
+        assignment,
+        place: None,
+    })?;
+    Ok(())
+}
+
+/// What stands at a type. The types in it are numbered from `first` on and go behind the others.
+fn take_apart(
+    alloc: Global,
+    names: &Names,
+    within: &str,
+    form: TypeForm<TypeSyntax>,
+    assignment: usize,
+    number: usize,
+    first: usize,
+    parts: &mut VecDeque<Source>,
+) -> Result<Shape, NameFault>
+    requires few { first + length (form_parts assignment number (form_seen form)) ≤ 65536 }
+    ensures kind { IfOk result (λ s. IsKind names.now within.now first (form_seen form) (kind_of s)) }
+    ensures parts { OnOk result (sources_of parts.new.items ≡ sources_of parts.old.items ++ form_parts assignment number (form_seen form)) }
+    ensures fault { IfErr result (IsUnknown names.now within.now (form_seen form)) }
+{
+    match form {
+        TypeForm::Simple(simple) => Ok(Shape::Simple(simple)),
+        TypeForm::Reference(reference) => match meant_by(alloc, names, within, &reference) {
+            Ok(meant) => Ok(Shape::Reference(meant)),
+            Err(fault) => Err(fault),
+        },
+        TypeForm::List(kind, marker, members) => {
+            let components = components_of(alloc, members, assignment, number, first, parts)?;
+            Ok(Shape::Members(kind, marker, components))
+        }
+        TypeForm::Elements(kind, element) => {
+            put(Box::into_inner(element), assignment, parts)?;
+            Ok(Shape::Elements(kind, first))
+        }
+        TypeForm::Tagged(tag, word, inner) => {
+            put(Box::into_inner(inner), assignment, parts)?;
+            Ok(Shape::Tagged(tag, word, first))
+        }
+    }
+}
 
 /// The fault that more types are written than may be, at a type in an assignment.
 pub fn too_many(alloc: Global, header: &Header, assignment: &Assignment, at: usize) -> NameFault
@@ -26,6 +142,62 @@ pub fn too_many(alloc: Global, header: &Header, assignment: &Assignment, at: usi
     match spot(alloc, header.name.it.as_str(), assignment.name.it.as_str(), at) {
         Ok(spot) => NameFault::Limit(Limit::Types, spot),
         Err(_) => NameFault::Memory,
+    }
+}
+
+/// The written type that a source is, and its number. Its parts go behind the other sources.
+fn written_of(
+    alloc: Global,
+    names: &Names,
+    headers: &[Header],
+    assignments: &[Assignment],
+    source: Source,
+    number: usize,
+    parts: &mut VecDeque<Source>,
+) -> Result<Written, NameFault>
+    requires assigned { source.assignment < length assignments.now }
+    requires placed { (k : ℕ) (a : Assignment) → slice_get assignments.now k ≡ Some a → a.module < length headers.now }
+    requires few { number + 1 + length parts.old.items ≤ 65536 }
+    ensures top { IfOk result (λ w. IsTop names.now (map header_of headers.now) (map assignment_of assignments.now) (number + 1 + length parts.old.items) (source_of source) (type_of w)) }
+    ensures parts { OnOk result (sources_of parts.new.items ≡ sources_of parts.old.items ++ parts_of source.assignment number (type_tree_of source.syntax)) }
+    ensures few { OnOk result (number + 1 + length parts.new.items ≤ 65536) }
+    ensures fault { IfErr result (IsSourceFault names.now (map header_of headers.now) (map assignment_of assignments.now) number (number + 1 + length parts.old.items) (source_of source)) }
+{
+    let assignment = &assignments[source.assignment];
+    let header = &headers[assignment.module];
+    let first = number + 1 + parts.len();
+    if 65536 - first < parts_count(&source.syntax) {
+        return Err(too_many(alloc, header, assignment, source.syntax.at));
+    }
+    let Source {
+        syntax,
+        assignment: owner,
+        place,
+    } = source;
+    let TypeSyntax {
+        at,
+        form,
+        constraints,
+    } = syntax;
+    match take_apart(
+        alloc,
+        names,
+        header.name.it.as_str(),
+        form,
+        owner,
+        number,
+        first,
+        parts,
+    ) {
+        Ok(shape) => Ok(Written {
+            at,
+            shape,
+            constraints,
+            default: header.default,
+            place,
+            assignment: owner,
+        }),
+        Err(fault) => Err(fault),
     }
 }
 
@@ -44,10 +216,26 @@ pub fn number_all(
     ensures few { IfOk result (λ v. length v.items ≤ 65536) }
     ensures fault { IfErr result (IsNumberingFault names.now (map header_of headers.now) (map assignment_of assignments.now) (sources_of roots.items)) }
 {
-    let _alloc = alloc;
-    let _names = names;
-    let _headers = headers;
-    let _assignments = assignments;
-    let _roots = roots;
-    Err(NameFault::Memory)
+    let mut sources = roots;
+    let mut types = Vec::new(alloc);
+    for number in 0..65536 {
+        match sources.pop_front() {
+            None => return Ok(types),
+            Some(source) => {
+                match written_of(
+                    alloc,
+                    names,
+                    headers,
+                    assignments,
+                    source,
+                    number,
+                    &mut sources,
+                ) {
+                    Ok(written) => types.push(written)?,
+                    Err(fault) => return Err(fault),
+                }
+            }
+        }
+    }
+    Ok(types)
 }

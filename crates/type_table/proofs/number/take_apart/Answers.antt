@@ -1,0 +1,10 @@
+use Rattle.std.proofs.Common.{◌≤◌, ◌+◌, length, arith, subst}
+use Rattle.type_table.specs.Numbering.{form_parts}
+use Rattle.type_table.specs.Seen.{form_seen}
+use Rattle.type_table.proofs.Trees.{count_is}
+use Rattle.type_table.proofs.number.take_apart.Goals as goal
+
+pub components_of-requires : goal.components_of-requires
+components_of-requires c =
+    let few = subst (λ f. c.args.first + length (form_parts c.args.assignment c.args.number (form_seen f)) ≤ 65536) c.in-List.is c.requires.few in
+    record { few = omega (arith, few, count_is c.args.assignment c.args.number 0 c.in-List.members.items) }
