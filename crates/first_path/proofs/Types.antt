@@ -24,7 +24,7 @@ use Rattle.trees.specs.declared.types.ListKind.{ListKind}
 use Rattle.trees.specs.declared.types.ListKind.TheVariants as lists
 use Rattle.type_table.specs.Seen.{kind_of}
 use Rattle.names.specs.Modules as twice
-use Rattle.type_table.specs.Lists.{AreSound, IsSoundKind}
+use Rattle.type_table.specs.Lists.{AreSound, IsSoundKind, root_count}
 use Rattle.type_table.specs.Table.{Part, Kind, simple, reference, tagged, members, elements, Type', behind, behind_of, IsLinked}
 use Rattle.first_path.specs.FirstPath.{IsBasic, Unfolds, IsFirstMember, IsFirstKind, IsFirstType, PartsInside}
 use Rattle.first_path.specs.Resolving.{IsComponent, IsKind, boolean, integer, octet_string, sequence, IsUniversal, IsTypeOf, AreTypes}
@@ -141,11 +141,15 @@ none_twice (x ∷ xs) d = (
 component_names : (ts : List Type') (ps : List Part) (cs : List Component) → AllByRecursion (IsFirstMember ts) ps → twice.AreDistinct (map (λ p. p.name) ps) → AllZip IsComponent ps cs → AreNames (map (λ c. c.name) cs)
 component_names ts ps cs f d z = subst AreNames (sym (same_names ps cs z)) (record { identifiers = all_identifiers ts ps f; distinct = none_twice (map (λ p. p.name) ps) d })
 
+all_root : (ts : List Type') (ps : List Part) → AllByRecursion (IsFirstMember ts) ps → root_count ps ≡ length ps
+all_root ts [] f = refl
+all_root ts (p ∷ ps) f = rw f.0.root (let e = all_root ts ps f.1 in omega (arith, e))
+
 first_stage : (ts : List Type') (s : List Resolved) (k : Kind) (n : ℕ) (c : kinds.Kind) → AreTypes ts s → IsKind k n c → IsFirstKind ts k → IsSoundKind k → ((l : ListKind) (b : Bool) (ps : List Part) → k ≡ members l b ps → (j : ℕ) (p : Part) → slice_get ps j ≡ Some p → p.ty < length ts) → IsOfFirstStage s c
 first_stage ts s k n c a boolean f o inside = tt
 first_stage ts s k n c a (integer u) f o inside = u
 first_stage ts s k n c a (octet_string u) f o inside = u
-first_stage ts s k n c a (sequence {ps} {cs} z) f o inside = let l = AllZip-long IsComponent ps cs z in (refl, record { few = omega (arith, l, o.1); names = component_names ts ps cs f o.0 z; members = simple_members ts s ps cs a (inside lists.Sequence false ps refl) f z })
+first_stage ts s k n c a (sequence {ps} {cs} z) f o inside = let l = AllZip-long IsComponent ps cs z in let r = all_root ts ps f in let few = o.root_few in (refl, record { few = omega (arith, l, r, few); names = component_names ts ps cs f o.names z; members = simple_members ts s ps cs a (inside lists.Sequence false ps refl) f z })
 
 pub all_accepted : (ts : List Type') (s : List Resolved) → IsLinked ts → AllByRecursion (IsFirstType ts) ts → AreSound ts → AreTypes ts s → IsAccepted s
 all_accepted ts s w f o a = all_by_index (IsAcceptedType s) s (λ i r e. go i r (a.each i r e))
