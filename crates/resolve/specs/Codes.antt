@@ -1,12 +1,12 @@
 -- A code of values as they are written, by which a proof tells them apart: the parts in postfix order, which three stacks put together again.
-use Rattle.std.specs.Prelude.{◌≡◌, ◌⊎◌, ℕ, zero, suc, Bool, List, [], ◌∷◌, ◌++◌, Option}
+use Rattle.std.specs.Prelude.{◌≡◌, ◌⊎◌, ℕ, zero, suc, ℤ, List, [], ◌∷◌, ◌++◌, Option}
 use Rattle.std.proofs.Common.{refl, ap, ◌∙◌, inl, inr, append_assoc}
-use Rattle.std.specs.Coded.{Coded, code_by, coded_ℕ, coded_bool, coded_list, coded_option, coded×, coded⊎}
+use Rattle.std.specs.Coded.{Coded, code_by, coded_ℕ, coded_ℤ, coded_list, coded_option, coded×, coded⊎}
 use Rattle.trees.specs.Values.{Tree, yes, no, null, number, binary, hex, chars, reference, chosen, nothing, numbers, items, fields, Trees, no_tree, tree_and, Members, no_member, member_and}
 
 -- what joins the newest parts, and leaves
 abbrev Part : Type 0
-Part = ℕ ⊎ ((Bool × ℕ) ⊎ (List ℕ ⊎ (List ℕ ⊎ (List ℕ ⊎ ((Option (List ℕ) × List ℕ) ⊎ (List ℕ ⊎ (List ℕ ⊎ List ℕ)))))))
+Part = ℕ ⊎ (ℤ ⊎ (List ℕ ⊎ (List ℕ ⊎ (List ℕ ⊎ ((Option (List ℕ) × List ℕ) ⊎ (List ℕ ⊎ (List ℕ ⊎ List ℕ)))))))
 
 abbrev join : ℕ → Part
 join n = inl n
@@ -25,7 +25,7 @@ abbrev mutual
   parts yes = join 0 ∷ []
   parts no = join 1 ∷ []
   parts null = join 2 ∷ []
-  parts (number b n) = inr (inl (b, n)) ∷ []
+  parts (number z) = inr (inl z) ∷ []
   parts (binary s) = inr (inr (inl s)) ∷ []
   parts (hex s) = inr (inr (inr (inl s))) ∷ []
   parts (chars s) = inr (inr (inr (inr (inl s)))) ∷ []
@@ -76,7 +76,7 @@ joined n go vs ts ms = go vs ts (no_member ∷ ms)
 
 abbrev step : Part → Rest → Rest
 step (inl n) go vs ts ms = joined n go vs ts ms
-step (inr (inl p)) go vs ts ms = go (number p.0 p.1 ∷ vs) ts ms
+step (inr (inl z)) go vs ts ms = go (number z ∷ vs) ts ms
 step (inr (inr (inl s))) go vs ts ms = go (binary s ∷ vs) ts ms
 step (inr (inr (inr (inl s)))) go vs ts ms = go (hex s ∷ vs) ts ms
 step (inr (inr (inr (inr (inl s))))) go vs ts ms = go (chars s ∷ vs) ts ms
@@ -94,7 +94,7 @@ mutual
   run_parts yes ps vs ts ms = refl
   run_parts no ps vs ts ms = refl
   run_parts null ps vs ts ms = refl
-  run_parts (number b n) ps vs ts ms = refl
+  run_parts (number z) ps vs ts ms = refl
   run_parts (binary s) ps vs ts ms = refl
   run_parts (hex s) ps vs ts ms = refl
   run_parts (chars s) ps vs ts ms = refl
@@ -135,7 +135,7 @@ abbrev name_code : Coded (List ℕ)
 name_code = coded_list coded_ℕ
 
 abbrev part_code : Coded Part
-part_code = coded⊎ coded_ℕ (coded⊎ (coded× coded_bool coded_ℕ) (coded⊎ name_code (coded⊎ name_code (coded⊎ name_code (coded⊎ (coded× (coded_option name_code) name_code) (coded⊎ name_code (coded⊎ name_code name_code)))))))
+part_code = coded⊎ coded_ℕ (coded⊎ coded_ℤ (coded⊎ name_code (coded⊎ name_code (coded⊎ name_code (coded⊎ (coded× (coded_option name_code) name_code) (coded⊎ name_code (coded⊎ name_code name_code)))))))
 
 abbrev pub tree_code : Coded Tree
 tree_code = code_by (List Part) (coded_list part_code) parts together back

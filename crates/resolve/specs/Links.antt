@@ -3,14 +3,14 @@ use Rattle.std.specs.Prelude.{◌≡◌, ◌≤◌, ◌⊎◌, List, length}
 use Rattle.trees.specs.Modules.{ModuleTree}
 use Rattle.names.specs.declared.fault.NameFault.{NameFault}
 use Rattle.names.specs.declared.fault.NameFault.TheVariants as faults
-use Rattle.type_table.specs.Faults.{IsTableFault}
-use Rattle.names.specs.Modules.{AreNamed, AreFew, scopes_from, headers_of, owned_from, roots_of, values_of}
-use Rattle.type_table.specs.Numbering.{AreNumbered}
-use Rattle.resolve.specs.Program.{Program}
-use Rattle.resolve.specs.Sound.{IsSound}
-use Rattle.resolve.specs.SoundFaults.{IsSoundFault}
-use Rattle.type_table.specs.Table.{AllUnfold}
+use Rattle.names.specs.ByNumber.{scopes_from, headers_of, owned_from, roots_of, values_of}
 use Rattle.names.specs.Faults.{IsNamesFault}
+use Rattle.names.specs.Modules.{AreNamed, AreFew}
+use Rattle.type_table.specs.Faults.{IsTableFault}
+use Rattle.type_table.specs.Numbering.{AreNumbered}
+use Rattle.type_table.specs.Table.{AllUnfold}
+use Rattle.resolve.specs.Program.{Program}
+use Rattle.resolve.specs.Sound.{IsSound, IsSoundFault}
 
 -- the program is that of these modules: what names are assigned, and all types and values by number
 pub record IsProgramOf (ms : List ModuleTree) (p : Program) : Type 0 where
@@ -21,7 +21,8 @@ pub record IsProgramOf (ms : List ModuleTree) (p : Program) : Type 0 where
   -- each reference has a meaning
   pub types : AreNumbered p.modules p.headers p.assignments (roots_of ms) p.types
 
--- Each name has one meaning, the names and numbers of a list are distinct, no type comes back to itself, and no limit is passed.
+-- Each name has one meaning, the names and numbers of a list are distinct, no type comes back to itself, and no limit
+-- is passed.
 pub record Links (ms : List ModuleTree) (p : Program) : Type 0 where
   pub named : AreNamed ms
   pub few : AreFew ms
@@ -30,7 +31,8 @@ pub record Links (ms : List ModuleTree) (p : Program) : Type 0 where
   pub unfolds : AllUnfold p.types
   pub sound : IsSound p
 
--- The fault stands: memory ran out, or something is wrong with the names, with the types that they stand for, or with what stands in those.
+-- The fault stands: memory ran out, or something is wrong with the names, with the types that they stand for, or with
+-- what stands in those.
 abbrev pub IsLinkFault : List ModuleTree → NameFault → Type 0
 IsLinkFault ms faults.Memory = Unit {0}
 IsLinkFault ms e =

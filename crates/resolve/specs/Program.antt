@@ -5,8 +5,8 @@ use Rattle.trees.specs.declared.module.TagDefault.{TagDefault}
 use Rattle.names.specs.declared.scope.Assigned.{Assigned}
 use Rattle.names.specs.declared.scope.Assigned.TheVariants as assigned
 use Rattle.names.specs.Names.{Module, Meaning}
-use Rattle.type_table.specs.Table.{Type', IsLinked}
 use Rattle.names.specs.Sources.{Value}
+use Rattle.type_table.specs.Table.{Type', IsLinked}
 
 pub record Program : Type 0 where
   pub modules : List (Name × Module)
@@ -28,6 +28,30 @@ pub record IsWhole (p : Program) : Type 0 where
   -- what a name stands for is there
   pub names : (M x : Name) (a : Assigned) → Meaning p.modules M x a → IsThere p a
   -- so are the type of each value, the assignment of each type and value, and the module of each assignment
-  pub valued : (i : ℕ) (v : Value) → slice_get p.values i ≡ Some v → (v.ty < length p.types) × (v.assignment < length p.assignments)
+  pub valued : (i : ℕ) (v : Value) → slice_get p.values i ≡ Some v →
+      (v.ty < length p.types) × (v.assignment < length p.assignments)
   pub typed : (i : ℕ) (t : Type') → slice_get p.types i ≡ Some t → t.assignment < length p.assignments
   pub placed : (i : ℕ) (a : ℕ × Name) → slice_get p.assignments i ≡ Some a → a.0 < length p.headers
+
+-- the assignment of name x stands in module M
+pub record IsAssignment (p : Program) (assignment : ℕ) (M x : Name) : Type 0 where
+  pub owner : ℕ
+  pub tags : TagDefault
+  pub assigned : slice_get p.assignments assignment ≡ Some (owner, x)
+  pub header : slice_get p.headers owner ≡ Some (M, tags)
+
+-- a written type of which Q holds, in the assignment of name x in module M
+pub record IsTypeIn (p : Program) (M x : Name) (Q : Type' → Type 0) : Type 0 where
+  pub number : ℕ
+  pub written : Type'
+  pub there : slice_get p.types number ≡ Some written
+  pub stands : IsAssignment p written.assignment M x
+  pub such : Q written
+
+-- a value that is assigned to name x in module M, of which Q holds
+pub record IsValueIn (p : Program) (M x : Name) (Q : Value → Type 0) : Type 0 where
+  pub number : ℕ
+  pub value : Value
+  pub there : slice_get p.values number ≡ Some value
+  pub stands : IsAssignment p value.assignment M x
+  pub such : Q value

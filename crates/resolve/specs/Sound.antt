@@ -1,89 +1,78 @@
--- What the names in notations have to keep, and sound programs (X.680, clause 14.6).
-use Rattle.std.specs.Prelude.{◌≡◌, ℕ, List, [], ◌∷◌, ◌++◌, Option, Some, None, slice_get}
-use Rattle.trees.specs.Values as trees
-use Rattle.trees.specs.Values.{Name, Tree, Trees, no_tree, tree_and, Members, no_member, member_and}
-use Rattle.trees.specs.Constraints.{EndTree, name_end, RangeTree, only, between, ConstraintTree, values_in, sizes_in, chars_in}
-use Rattle.trees.specs.declared.module.TagDefault.{TagDefault}
-use Rattle.trees.specs.Types.{PresenceTree, default}
+-- What the lists in written types and the names in notations have to keep, and what faults say of programs that don't.
+use Rattle.std.specs.Prelude.{◌≡◌, ◌⊎◌, ℕ, List, Some, slice_get}
+use Rattle.trees.specs.Values.{Name}
+use Rattle.names.specs.declared.fault.NameFault.{NameFault}
+use Rattle.names.specs.declared.fault.NameFault.TheVariants as faults
+use Rattle.names.specs.declared.fault.Limit.TheVariants as limits
 use Rattle.names.specs.declared.scope.Assigned.TheVariants as assigned
-use Rattle.names.specs.Names.{Module, Refers}
-use Rattle.resolve.specs.Program.{Program}
+use Rattle.names.specs.Faults.{module_told, name_told}
+use Rattle.names.specs.Modules.{StandsIn}
+use Rattle.names.specs.Names.{Refers}
 use Rattle.names.specs.Sources.{Value}
-use Rattle.type_table.specs.Table.{Part, Kind, reference, members, elements, Type'}
+use Rattle.type_table.specs.Circles.{IsDefaultCircle, NoDefaultCircles}
 use Rattle.type_table.specs.Lists.{AreSound}
-use Rattle.type_table.specs.Circles.{NoDefaultCircles}
+use Rattle.type_table.specs.ListFaults.{IsTwiceIn, HasManyMembers, HasManyItems, HasFarBit, HasGreatNumber}
+use Rattle.type_table.specs.Table.{Kind, Type'}
+use Rattle.resolve.specs.Program.{Program, IsAssignment, IsTypeIn, IsValueIn}
+use Rattle.resolve.specs.Qualified.{qualified, qualified_in, MeanValues}
 
--- the names that stand behind a module's name in a value
-abbrev mutual
-  pub qualified : Tree → List (Name × Name)
-  qualified (trees.reference (Some N) x) = (N, x) ∷ []
-  qualified (trees.chosen x v) = qualified v
-  qualified (trees.items vs) = qualified_each vs
-  qualified (trees.fields vs) = qualified_fields vs
-  qualified v = []
+-- names behind modules' names stand for values in types (X.680, clause 14.6)
+abbrev pub TypesMean : Program → Type 0
+TypesMean p = (i : ℕ) (t : Type') (M x : Name) →
+    slice_get p.types i ≡ Some t →
+    IsAssignment p t.assignment M x →
+    MeanValues p.modules M (qualified_in t)
 
-  pub qualified_each : Trees → List (Name × Name)
-  qualified_each no_tree = []
-  qualified_each (tree_and v vs) = qualified v ++ qualified_each vs
-
-  pub qualified_fields : Members → List (Name × Name)
-  qualified_fields no_member = []
-  qualified_fields (member_and x v vs) = qualified v ++ qualified_fields vs
-
-abbrev pub qualified_end : EndTree → List (Name × Name)
-qualified_end (name_end (Some N) x) = (N, x) ∷ []
-qualified_end e = []
-
-abbrev pub qualified_bound : Option EndTree → List (Name × Name)
-qualified_bound None = []
-qualified_bound (Some e) = qualified_end e
-
-abbrev pub qualified_ranges : List RangeTree → List (Name × Name)
-qualified_ranges [] = []
-qualified_ranges (only e ∷ rs) = qualified_end e ++ qualified_ranges rs
-qualified_ranges (between a b ∷ rs) = qualified_bound a ++ (qualified_bound b ++ qualified_ranges rs)
-
-abbrev pub qualified_constraints : List ConstraintTree → List (Name × Name)
-qualified_constraints [] = []
-qualified_constraints (values_in rs ∷ cs) = qualified_ranges rs ++ qualified_constraints cs
-qualified_constraints (sizes_in rs ∷ cs) = qualified_ranges rs ++ qualified_constraints cs
-qualified_constraints (chars_in xs ∷ cs) = qualified_constraints cs
-
-abbrev pub qualified_default : PresenceTree → List (Name × Name)
-qualified_default (default v) = qualified v
-qualified_default o = []
-
-abbrev pub qualified_members : List Part → List (Name × Name)
-qualified_members [] = []
-qualified_members (c ∷ cs) = qualified_default c.presence ++ qualified_members cs
-
-abbrev pub qualified_kind : Kind → List (Name × Name)
-qualified_kind (members l cs) = qualified_members cs
-qualified_kind (elements e (Some rs) j) = qualified_ranges rs
-qualified_kind k = []
-
--- in the defaults, sizes and constraints of a written type
-abbrev pub qualified_in : Type' → List (Name × Name)
-qualified_in t = qualified_kind t.kind ++ qualified_constraints t.constraints
-
--- each of them, read in module M, stands for a value
-abbrev pub MeanValues : List (Name × Module) → Name → List (Name × Name) → Type 0
-MeanValues ms M rs = (k : ℕ) (N x : Name) → slice_get rs k ≡ Some (N, x) → (i : ℕ) × Refers ms M (Some N) x (assigned.Value i)
-
--- the assignment of name x stands in module M
-pub record IsAssignment (p : Program) (assignment : ℕ) (M x : Name) : Type 0 where
-  pub owner : ℕ
-  pub tags : TagDefault
-  pub assigned : slice_get p.assignments assignment ≡ Some (owner, x)
-  pub header : slice_get p.headers owner ≡ Some (M, tags)
-
--- names behind modules' names stand for values, in types and in the values that are assigned
-pub record HaveValues (p : Program) : Type 0 where
-  pub types : (i : ℕ) (t : Type') (M x : Name) → slice_get p.types i ≡ Some t → IsAssignment p t.assignment M x → MeanValues p.modules M (qualified_in t)
-  pub values : (i : ℕ) (v : Value) (M x : Name) → slice_get p.values i ≡ Some v → IsAssignment p v.assignment M x → MeanValues p.modules M (qualified v.notation)
+-- and in the values that are assigned
+abbrev pub ValuesMean : Program → Type 0
+ValuesMean p = (i : ℕ) (v : Value) (M x : Name) →
+    slice_get p.values i ≡ Some v →
+    IsAssignment p v.assignment M x →
+    MeanValues p.modules M (qualified v.notation)
 
 -- lists and names in types and values are as they have to be
 pub record IsSound (p : Program) : Type 0 where
   pub lists : AreSound p.types
-  pub names : HaveValues p
+  pub types : TypesMean p
+  pub values : ValuesMean p
   pub defaults : NoDefaultCircles p.types
+
+-- ---- faults
+
+-- name x, behind the name of a module in module M, stands for no value
+pub record IsNoValue (p : Program) (M x : Name) : Type 0 where
+  pub owner : Name
+  pub assigns : Name
+  pub written :
+      IsTypeIn p M assigns (λ t. StandsIn (qualified_in t) (owner, x))
+      ⊎ IsValueIn p M assigns (λ v. StandsIn (qualified v.notation) (owner, x))
+  pub nothing : (i : ℕ) → Refers p.modules M (Some owner) x (assigned.Value i) → ⊥
+
+-- name x stands twice in the list of a type in module M, or its number does
+pub record IsListedTwice (p : Program) (M x : Name) : Type 0 where
+  pub assigns : Name
+  pub written : IsTypeIn p M assigns (λ t. IsTwiceIn t.kind x)
+
+-- a list in the assignment of name x in module M is in a circle
+pub record IsInCircle (p : Program) (M x : Name) : Type 0 where
+  pub number : ℕ
+  pub written : Type'
+  pub there : slice_get p.types number ≡ Some written
+  pub stands : IsAssignment p written.assignment M x
+  pub circle : IsDefaultCircle p.types number
+
+-- in the assignment of name x in module M a type has the kind of which Q holds
+abbrev pub HasKind : Program → Name → Name → (Kind → Type 0) → Type 0
+HasKind p M x Q = IsTypeIn p M x (λ t. Q t.kind)
+
+-- why lists and names are not as they have to be
+abbrev pub IsSoundFault : Program → NameFault → Type 0
+IsSoundFault p faults.Memory = Unit {0}
+IsSoundFault p (faults.Twice s) = IsListedTwice p (module_told s) (name_told s)
+IsSoundFault p (faults.Limit limits.Members s) = HasKind p (module_told s) (name_told s) HasManyMembers
+IsSoundFault p (faults.Limit limits.Items s) = HasKind p (module_told s) (name_told s) HasManyItems
+IsSoundFault p (faults.Limit limits.NamedBit s) = HasKind p (module_told s) (name_told s) HasFarBit
+IsSoundFault p (faults.Limit limits.Integer s) = HasKind p (module_told s) (name_told s) HasGreatNumber
+IsSoundFault p (faults.UnknownName s) = IsNoValue p (module_told s) (name_told s)
+IsSoundFault p (faults.Circular s) = IsInCircle p (module_told s) (name_told s)
+IsSoundFault p e = ⊥

@@ -1,7 +1,6 @@
 //! Modules that are linked: what their names stand for, their types by number, and that names in notations stand for values.
 #![tactic(auto)]
 
-mod defaults;
 pub mod law;
 pub mod linked;
 pub mod linking;

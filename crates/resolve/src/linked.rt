@@ -1,28 +1,21 @@
 //! Linked modules.
 
-ghost use Rattle.std.specs.Prelude.{ℕ, ◌≡◌, ◌↔◌, Some, map, ◌<◌, ◌≤◌, IfOk, IfErr, OnOk, slice_get, length, string_bytes, option_map};
-ghost use Rattle.resolve.specs.Found.{Finds};
-ghost use Rattle.trees.specs.Values.{Name};
-ghost use Rattle.type_table.specs.Seen.{types_of};
-ghost use Rattle.names.specs.Sources.{value_of, assignment_of, header_of, sources_of, AllAssigned, HaveNoPlace};
+ghost use Rattle.std.specs.Prelude.{◌≡◌, ◌↔◌, ◌<◌, ◌≤◌, Some, map, IfOk, IfErr, slice_get, length, string_bytes, option_map};
 ghost use Rattle.names.specs.declared.scope.Assigned.{Assigned};
-ghost use Rattle.names.specs.declared.sources.Assignment.{Assignment};
-ghost use Rattle.names.specs.declared.sources.ValueAt.{ValueAt};
 ghost use Rattle.names.specs.Names.{Meaning, Refers};
-ghost use Rattle.type_table.specs.Numbering.{AreNumbered};
-ghost use Rattle.type_table.specs.Faults.{IsTableFault};
-ghost use Rattle.names.specs.Gathered.{IsGiven};
-ghost use Rattle.resolve.specs.Program.{IsWhole};
-ghost use Rattle.resolve.specs.Sound.{IsSound, IsAssignment};
-ghost use Rattle.resolve.specs.SoundFaults.{IsSoundFault};
+ghost use Rattle.names.specs.Sources.{value_of, assignment_of, header_of};
+ghost use Rattle.names.specs.proving.Ready.{IsReady};
+ghost use Rattle.type_table.specs.Seen.{type_of, types_of};
 ghost use Rattle.type_table.specs.Table.{Type', IsCore, IsLinked};
+ghost use Rattle.resolve.specs.Finds.{Finds};
+ghost use Rattle.resolve.specs.Program.{IsAssignment, IsWhole};
+ghost use Rattle.resolve.specs.proving.Assembled.{ArePlaced, IsOf, IsTablesFault, TellsType};
 
-use crate::defaults::no_default_circles;
-use crate::sound::{sound_lists, sound_names};
 use asn_base::schema::TypeId;
-use names::{Assigned, Assignment, Header, NameFault, Names, Source, ValueAt};
+use names::fault::spot;
+use names::gather::{Gathered, Tables};
+use names::{Assigned, Assignment, Header, NameFault, Names, ValueAt};
 use std::alloc::Global;
-use std::collections::VecDeque;
 use std::marker::Model;
 use trees::ValueSyntax;
 use type_table::Written;
@@ -31,7 +24,7 @@ use type_table::number::number_all;
 use type_table::unfolding::unfold_all;
 
 /// What a name stands for.
-#[derive(Debug, Drop)]
+#[derive(Drop)]
 pub enum Found<'a> {
     /// A type, by its number in the table of written types.
     TypeNamed(TypeId),
@@ -39,14 +32,14 @@ pub enum Found<'a> {
     ValueNamed(&'a ValueSyntax),
 }
 
-/// Where a type is written: its module and the assignment that it stands in, by their names.
+/// Where something is written: its module and the assignment that it stands in, by their names.
 #[derive(Clone, Copy, Debug, Drop)]
 pub struct Home<'a> {
     pub module: &'a str,
     pub name: &'a str,
 }
 
-/// Modules whose names have their meanings and whose types unfold.
+/// Modules whose names have their meanings and whose types unfold. It owns the table of their written types.
 #[derive(Drop)]
 pub struct Linked {
     names: Names,
@@ -69,14 +62,33 @@ impl Model for Linked {
 
     ghost use Rattle.std.specs.Prelude.{map};
     ghost use Rattle.type_table.specs.Seen.{types_of};
-    ghost use Rattle.names.specs.Sources.{value_of, assignment_of, header_of, sources_of};
+    ghost use Rattle.names.specs.Sources.{value_of, assignment_of, header_of};
 
     ghost view = { λ l. record { modules = l.names; headers = map header_of l.headers.items; assignments = map assignment_of l.assignments.items; types = types_of l.types.items; values = map value_of l.values.items } };
 
     ghost use Rattle.resolve.specs.Program.{IsWhole};
-    ghost use Rattle.type_table.specs.Cores.{AreCores};
+    ghost use Rattle.type_table.specs.proving.Cores.{AreCores};
 
     ghost invariant = { λ l. IsWhole (record { modules = l.names; headers = map header_of l.headers.items; assignments = map assignment_of l.assignments.items; types = types_of l.types.items; values = map value_of l.values.items }) × AreCores (types_of l.types.items) l.cores.items };
+}
+
+/// The fault that a type comes back to itself.
+fn circular_at(
+    alloc: Global,
+    headers: &[Header],
+    assignments: &[Assignment],
+    written: &Written,
+) -> NameFault
+    requires assigned { written.now.assignment < length assignments.now }
+    requires placed { ArePlaced assignments.now headers.now }
+    ensures { TellsType (map header_of headers.now) (map assignment_of assignments.now) (type_of written.now) result }
+{
+    let assignment = &assignments[written.assignment];
+    let header = &headers[assignment.module];
+    match spot(alloc, header.name.it.as_str(), assignment.name.it.as_str(), written.at) {
+        Ok(spot) => NameFault::Circular(spot),
+        Err(_) => NameFault::Memory,
+    }
 }
 
 impl Linked {
@@ -126,17 +138,25 @@ impl Linked {
         }
     }
 
+    /// Where an assignment is written.
+    pub fn assigned(&self, assignment: usize) -> Home<'_>
+        requires { assignment < length self.now.assignments }
+        ensures { IsAssignment self.now assignment result.module.now result.name.now }
+    {
+        let assignment = &self.assignments[assignment];
+        let header = &self.headers[assignment.module];
+        Home {
+            module: header.name.it.as_str(),
+            name: assignment.name.it.as_str(),
+        }
+    }
+
     /// Where a type is written.
     pub fn home(&self, ty: TypeId) -> Home<'_>
         requires { ty.index < length self.now.types }
         ensures { (t : Type') → slice_get self.now.types ty.index ≡ Some t → IsAssignment self.now t.assignment result.module.now result.name.now }
     {
-        let assignment = &self.assignments[self.types[ty.index].assignment];
-        let header = &self.headers[assignment.module];
-        Home {
-            module: header.name.as_str(),
-            name: assignment.name.as_str(),
-        }
+        self.assigned(self.types[ty.index].assignment)
     }
 
     /// The modules, in order.
@@ -168,28 +188,27 @@ impl Linked {
         &self.assignments
     }
 
-    /// The program of these names, assignments, types and values. The type of assignment n is type n.
-    pub(crate) fn of(
-        alloc: Global,
-        names: Names,
-        headers: Vec<Header>,
-        assignments: Vec<Assignment>,
-        roots: VecDeque<Source>,
-        values: Vec<ValueAt>,
-    ) -> Result<Linked, NameFault>
-        requires assigned { AllAssigned (length assignments.items) (sources_of roots.items) }
-        requires unplaced { HaveNoPlace (sources_of roots.items) }
-        requires placed { (k : ℕ) (a : Assignment) → slice_get assignments.items k ≡ Some a → a.module < length headers.items }
-        requires few { length roots.items ≤ 65536 }
-        requires named { (M x : Name) (a : Assigned) → Meaning names M x a → IsGiven (length roots.items) (length values.items) a }
-        requires valued { (k : ℕ) (v : ValueAt) → slice_get values.items k ≡ Some v → (v.ty < length roots.items) × (v.assignment < length assignments.items) }
-        ensures names { IfOk result (λ l. (l.modules ≡ names) × (l.headers ≡ map header_of headers.items) × (l.assignments ≡ map assignment_of assignments.items) × (l.values ≡ map value_of values.items)) }
-        ensures types { IfOk result (λ l. AreNumbered names (map header_of headers.items) (map assignment_of assignments.items) (sources_of roots.items) l.types) }
-        ensures few { IfOk result (λ l. length l.types ≤ 65536) }
-        ensures fault { IfErr result (IsTableFault names (map header_of headers.items) (map assignment_of assignments.items) (sources_of roots.items)) }
+    /// The program of what is gathered. The type of assignment n is type n.
+    pub(crate) fn of(alloc: Global, gathered: Gathered) -> Result<Linked, NameFault>
+        requires ready { IsReady gathered }
+        requires few { length gathered.tables.roots.items ≤ 65536 }
+        ensures program { IfOk result (IsOf gathered) }
+        ensures few { IfOk result (λ p. length p.types ≤ 65536) }
+        ensures fault { IfErr result (IsTablesFault gathered) }
     {
         numbered_there();
         numbered_linked();
+        let Gathered {
+            modules,
+            headers,
+            tables,
+        } = gathered;
+        let Tables {
+            assignments,
+            roots,
+            values,
+        } = tables;
+        let names = Names::of(modules);
         let types = match number_all(alloc, &names, &headers, &assignments, roots) {
             Ok(types) => types,
             Err(fault) => return Err(fault),
@@ -205,35 +224,7 @@ impl Linked {
                 values,
                 cores,
             }),
-            Err(circular) => {
-                let assignment = &assignments[types[circular].assignment];
-                let header = &headers[assignment.module];
-                let module = String::from_str(alloc, header.name.as_str())?;
-                Err(NameFault::Circular(module, String::from_str(alloc, assignment.name.as_str())?))
-            }
-        }
-    }
-    /// Are the lists and names in types and values as they have to be?
-    pub(crate) fn all_sound(&self, alloc: Global) -> Result<(), NameFault>
-        ensures ok { OnOk result (IsSound self.now) }
-        ensures fault { IfErr result (IsSoundFault self.now) }
-    {
-        let headers = self.headers();
-        let assignments = self.assignments();
-        let types = self.types();
-        let values = self.values();
-        self.whole();
-        match sound_lists(alloc, headers, assignments, types) {
-            Ok(()) => {}
-            Err(fault) => return Err(fault),
-        }
-        match no_default_circles(alloc, headers, assignments, types) {
-            Ok(()) => {}
-            Err(fault) => return Err(fault),
-        }
-        match sound_names(alloc, &self.names, headers, assignments, types, values) {
-            Ok(()) => Ok(()),
-            Err(fault) => Err(fault),
+            Err(circular) => Err(circular_at(alloc, &headers, &assignments, &types[circular])),
         }
     }
 }

@@ -2,14 +2,15 @@
 
 ghost use Rattle.std.specs.Prelude.{map, IfOk, IfErr};
 ghost use Rattle.trees.specs.Modules.{module_tree_of};
-ghost use Rattle.names.specs.Gathered.{IsReady};
-ghost use Rattle.resolve.specs.Assembled.{IsAssembled, IsAssemblyFault};
+ghost use Rattle.names.specs.proving.Ready.{IsReady};
 ghost use Rattle.resolve.specs.Links.{Links, IsLinkFault};
+ghost use Rattle.resolve.specs.proving.Assembled.{IsAssembled, IsAssemblyFault};
 
 use crate::linked::Linked;
-use names::gather::{Gathered, Tables, gather};
+use crate::sound::sound;
+use names::gather::{Gathered, gather};
 use names::law::{ready, stood};
-use names::{NameFault, Names, all_stand, within_limits};
+use names::{NameFault, all_stand, within_limits};
 use std::alloc::Global;
 use trees::Module;
 use type_table::number::too_many;
@@ -20,33 +21,16 @@ fn assemble(alloc: Global, gathered: Gathered) -> Result<Linked, NameFault>
     ensures assembled { IfOk result (IsAssembled gathered) }
     ensures fault { IfErr result (IsAssemblyFault gathered) }
 {
-    let Gathered {
-        modules,
-        headers,
-        tables,
-    } = gathered;
-    let Tables {
-        assignments,
-        roots,
-        values,
-    } = tables;
-    if roots.len() > 65536 {
-        let source = &roots[65536];
-        let assignment = &assignments[source.assignment];
-        let header = &headers[assignment.module];
-        return Err(too_many(alloc, header, assignment));
+    if gathered.tables.roots.len() > 65536 {
+        let source = &gathered.tables.roots[65536];
+        let assignment = &gathered.tables.assignments[source.assignment];
+        let header = &gathered.headers[assignment.module];
+        return Err(too_many(alloc, header, assignment, source.syntax.at));
     }
-    match Linked::of(
-        alloc,
-        Names::of(modules),
-        headers,
-        assignments,
-        roots,
-        values,
-    ) {
+    match Linked::of(alloc, gathered) {
         Ok(linked) => {
             linked.whole();
-            match linked.all_sound(alloc) {
+            match sound(alloc, &linked) {
                 Ok(()) => Ok(linked),
                 Err(fault) => Err(fault),
             }

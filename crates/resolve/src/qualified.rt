@@ -1,28 +1,30 @@
-//! Names behind modules' names in values, sizes and constraints: each stands for a value.
+//! Names behind modules' names in values, constraints and types: each stands for a value.
 
-ghost use Rattle.std.specs.Prelude.{ℕ, ◌≡◌, true, false, MatchResult, map, option_map, string_bytes};
-ghost use Rattle.trees.specs.Constraints.{end_of, range_of, ranges_of, size_of, constraint_of};
-ghost use Rattle.trees.specs.Values.{tree_of, member_of, trees, members as named_trees};
+ghost use Rattle.std.specs.Prelude.{◌≡◌, true, false, map, option_map};
+ghost use Rattle.trees.specs.Constraints.{end_of, range_of, constraint_of};
+ghost use Rattle.trees.specs.Values.{tree_of, member_of};
 ghost use Rattle.trees.specs.Types.{presence_of};
-ghost use Rattle.names.specs.declared.scope.Assigned.TheVariants as assigned;
-ghost use Rattle.names.specs.Names.{Refers};
-ghost use Rattle.type_table.specs.Seen.{part_of, kind_of, type_of};
-ghost use Rattle.resolve.specs.Sound.{qualified, qualified_each, qualified_fields, qualified_end, qualified_bound, qualified_ranges, qualified_constraints, qualified_default, qualified_members, qualified_kind, qualified_in, MeanValues};
-ghost use Rattle.resolve.specs.Soundness.{behind_module, qualified_range, qualified_constraint, qualified_size, IsUnknownIn};
+ghost use Rattle.type_table.specs.Seen.{kind_of, part_of, type_of};
+ghost use Rattle.type_table.specs.Table.{Part};
+ghost use Rattle.resolve.specs.Qualified.{each, qualified, qualified_end, qualified_bound, qualified_range, qualified_constraint, qualified_presence, qualified_kind, qualified_in};
+ghost use Rattle.resolve.specs.proving.Unknown.{Answers, MeansValue, named};
 
-use names::{Assigned, NameFault, Names};
+use crate::linked::Linked;
+use names::fault::spot;
+use names::{Assigned, NameFault};
 use std::alloc::Global;
 use trees::{
-    ConstraintSyntax, EndSyntax, Named, PresenceSyntax, RangeSyntax, SizeSyntax, ValueSyntax,
+    ConstraintForm, ConstraintSyntax, EndSyntax, Named, PresenceSyntax, RangeSyntax, Reference,
+    ValueForm, ValueSyntax,
 };
 use type_table::{Component, Shape, Written};
 
 /// Whether a name, behind the name of a module, stands for a value.
-fn is_value(names: &Names, within: &str, owner: &Option<String>, name: &str) -> bool
-    ensures yes { result ≡ true → (i : ℕ) × Refers names.now within.now (option_map string_bytes owner.now) name.now (assigned.Value i) }
-    ensures no { result ≡ false → (i : ℕ) → Refers names.now within.now (option_map string_bytes owner.now) name.now (assigned.Value i) → ⊥ }
+fn is_value(linked: &Linked, within: &str, given: &Reference) -> bool
+    ensures yes { result ≡ true → MeansValue linked.now within.now given.now }
+    ensures no { result ≡ false → MeansValue linked.now within.now given.now → ⊥ }
 {
-    match names.refers(within, owner, name) {
+    match linked.refers(within, &given.module, given.name.as_str()) {
         Some(Assigned::Value(_)) => true,
         Some(Assigned::Type(_)) => false,
         None => false,
@@ -32,53 +34,42 @@ fn is_value(names: &Names, within: &str, owner: &Option<String>, name: &str) -> 
 /// A name, behind the name of a module if one is given, stands for a value.
 fn qualified_name(
     alloc: Global,
-    names: &Names,
+    linked: &Linked,
     within: &str,
-    owner: &Option<String>,
-    name: &str,
+    given: &Reference,
 ) -> Result<(), NameFault>
-    ensures { MatchResult result (λ _. MeanValues names.now within.now (behind_module (option_map string_bytes owner.now) name.now)) (IsUnknownIn names.now within.now (behind_module (option_map string_bytes owner.now) name.now)) }
+    ensures { Answers linked.now within.now (named given.now) result }
 {
-    match owner {
-        None => Ok(()),
-        Some(_) => {
-            if is_value(names, within, owner, name) {
-                return Ok(());
-            }
-            Err(NameFault::UnknownName(
-                String::from_str(alloc, within)?,
-                String::from_str(alloc, name)?,
-            ))
-        }
+    if given.module.is_none() || is_value(linked, within, given) {
+        return Ok(());
     }
+    Err(NameFault::UnknownName(spot(alloc, within, given.name.as_str(), given.at)?))
 }
 
 /// The names in a value.
 #[cycle(values)]
 pub(crate) fn names_in_value(
     alloc: Global,
-    names: &Names,
+    linked: &Linked,
     within: &str,
     value: &ValueSyntax,
 ) -> Result<(), NameFault>
-    ensures { MatchResult result (λ _. MeanValues names.now within.now (qualified (tree_of value.now))) (IsUnknownIn names.now within.now (qualified (tree_of value.now))) }
+    ensures { Answers linked.now within.now (qualified (tree_of value.now)) result }
 {
-    match value {
-        ValueSyntax::Reference(owner, name) => {
-            qualified_name(alloc, names, within, owner, name.as_str())
-        }
-        ValueSyntax::Chosen(_, inner) => names_in_value(alloc, names, within, inner),
-        ValueSyntax::Items(values) => names_in_items(alloc, names, within, values),
-        ValueSyntax::Fields(fields) => names_in_fields(alloc, names, within, fields),
-        ValueSyntax::True => Ok(()),
-        ValueSyntax::False => Ok(()),
-        ValueSyntax::Null => Ok(()),
-        ValueSyntax::Number(_, _) => Ok(()),
-        ValueSyntax::BinaryString(_) => Ok(()),
-        ValueSyntax::HexString(_) => Ok(()),
-        ValueSyntax::CharacterString(_) => Ok(()),
-        ValueSyntax::Empty => Ok(()),
-        ValueSyntax::Numbers(_) => Ok(()),
+    match &value.form {
+        ValueForm::Reference(given) => qualified_name(alloc, linked, within, given),
+        ValueForm::Chosen(_, inner) => names_in_value(alloc, linked, within, inner),
+        ValueForm::Items(values) => names_in_items(alloc, linked, within, values),
+        ValueForm::Fields(fields) => names_in_fields(alloc, linked, within, fields),
+        ValueForm::True => Ok(()),
+        ValueForm::False => Ok(()),
+        ValueForm::Null => Ok(()),
+        ValueForm::Number(_) => Ok(()),
+        ValueForm::BinaryString(_) => Ok(()),
+        ValueForm::HexString(_) => Ok(()),
+        ValueForm::CharacterString(_) => Ok(()),
+        ValueForm::Empty => Ok(()),
+        ValueForm::Numbers(_) => Ok(()),
     }
 }
 
@@ -86,14 +77,14 @@ pub(crate) fn names_in_value(
 #[cycle(values)]
 fn names_in_items(
     alloc: Global,
-    names: &Names,
+    linked: &Linked,
     within: &str,
     values: &[ValueSyntax],
 ) -> Result<(), NameFault>
-    ensures { MatchResult result (λ _. MeanValues names.now within.now (qualified_each (trees (map tree_of values.now)))) (IsUnknownIn names.now within.now (qualified_each (trees (map tree_of values.now)))) }
+    ensures { Answers linked.now within.now (each qualified (map tree_of values.now)) result }
 {
     for value in values {
-        names_in_value(alloc, names, within, value)?;
+        names_in_value(alloc, linked, within, value)?;
     }
     Ok(())
 }
@@ -102,14 +93,14 @@ fn names_in_items(
 #[cycle(values)]
 fn names_in_fields(
     alloc: Global,
-    names: &Names,
+    linked: &Linked,
     within: &str,
     fields: &[Named<ValueSyntax>],
 ) -> Result<(), NameFault>
-    ensures { MatchResult result (λ _. MeanValues names.now within.now (qualified_fields (named_trees (map member_of fields.now)))) (IsUnknownIn names.now within.now (qualified_fields (named_trees (map member_of fields.now)))) }
+    ensures { Answers linked.now within.now (each (λ m. qualified m.1) (map member_of fields.now)) result }
 {
     for field in fields {
-        names_in_value(alloc, names, within, &field.value)?;
+        names_in_value(alloc, linked, within, &field.value)?;
     }
     Ok(())
 }
@@ -117,49 +108,47 @@ fn names_in_fields(
 /// The name at an end of a range.
 fn names_in_end(
     alloc: Global,
-    names: &Names,
+    linked: &Linked,
     within: &str,
     end: &EndSyntax,
 ) -> Result<(), NameFault>
-    ensures { MatchResult result (λ _. MeanValues names.now within.now (qualified_end (end_of end.now))) (IsUnknownIn names.now within.now (qualified_end (end_of end.now))) }
+    ensures { Answers linked.now within.now (qualified_end (end_of end.now)) result }
 {
     match end {
-        EndSyntax::Number(_, _) => Ok(()),
-        EndSyntax::Reference(owner, name) => {
-            qualified_name(alloc, names, within, owner, name.as_str())
-        }
+        EndSyntax::Number(_) => Ok(()),
+        EndSyntax::Reference(given) => qualified_name(alloc, linked, within, given),
     }
 }
 
 /// The name at an end of a range, if the end is given.
 fn names_in_bound(
     alloc: Global,
-    names: &Names,
+    linked: &Linked,
     within: &str,
     bound: &Option<EndSyntax>,
 ) -> Result<(), NameFault>
-    ensures { MatchResult result (λ _. MeanValues names.now within.now (qualified_bound (option_map end_of bound.now))) (IsUnknownIn names.now within.now (qualified_bound (option_map end_of bound.now))) }
+    ensures { Answers linked.now within.now (qualified_bound (option_map end_of bound.now)) result }
 {
     match bound {
         None => Ok(()),
-        Some(end) => names_in_end(alloc, names, within, end),
+        Some(end) => names_in_end(alloc, linked, within, end),
     }
 }
 
 /// The names at the ends of a range.
 fn names_in_range(
     alloc: Global,
-    names: &Names,
+    linked: &Linked,
     within: &str,
     range: &RangeSyntax,
 ) -> Result<(), NameFault>
-    ensures { MatchResult result (λ _. MeanValues names.now within.now (qualified_range (range_of range.now))) (IsUnknownIn names.now within.now (qualified_range (range_of range.now))) }
+    ensures { Answers linked.now within.now (qualified_range (range_of range.now)) result }
 {
     match range {
-        RangeSyntax::Single(end) => names_in_end(alloc, names, within, end),
+        RangeSyntax::Single(end) => names_in_end(alloc, linked, within, end),
         RangeSyntax::Between(least, greatest) => {
-            names_in_bound(alloc, names, within, least)?;
-            names_in_bound(alloc, names, within, greatest)?;
+            names_in_bound(alloc, linked, within, least)?;
+            names_in_bound(alloc, linked, within, greatest)?;
             Ok(())
         }
     }
@@ -168,14 +157,14 @@ fn names_in_range(
 /// The names in ranges.
 fn names_in_ranges(
     alloc: Global,
-    names: &Names,
+    linked: &Linked,
     within: &str,
     ranges: &[RangeSyntax],
 ) -> Result<(), NameFault>
-    ensures { MatchResult result (λ _. MeanValues names.now within.now (qualified_ranges (map range_of ranges.now))) (IsUnknownIn names.now within.now (qualified_ranges (map range_of ranges.now))) }
+    ensures { Answers linked.now within.now (each qualified_range (map range_of ranges.now)) result }
 {
     for range in ranges {
-        names_in_range(alloc, names, within, range)?;
+        names_in_range(alloc, linked, within, range)?;
     }
     Ok(())
 }
@@ -183,112 +172,95 @@ fn names_in_ranges(
 /// The names in a constraint.
 fn names_in_constraint(
     alloc: Global,
-    names: &Names,
+    linked: &Linked,
     within: &str,
     constraint: &ConstraintSyntax,
 ) -> Result<(), NameFault>
-    ensures { MatchResult result (λ _. MeanValues names.now within.now (qualified_constraint (constraint_of constraint.now))) (IsUnknownIn names.now within.now (qualified_constraint (constraint_of constraint.now))) }
+    ensures { Answers linked.now within.now (qualified_constraint (constraint_of constraint.now)) result }
 {
-    match constraint {
-        ConstraintSyntax::Values(allowed) => {
-            names_in_ranges(alloc, names, within, &allowed.ranges)
+    match &constraint.form {
+        ConstraintForm::Values(allowed) => {
+            names_in_ranges(alloc, linked, within, &allowed.ranges)
         }
-        ConstraintSyntax::Size(size) => {
-            names_in_ranges(alloc, names, within, &size.sizes.ranges)
-        }
-        ConstraintSyntax::From(_) => Ok(()),
+        ConstraintForm::Size(sizes) => names_in_ranges(alloc, linked, within, &sizes.ranges),
+        ConstraintForm::From(_) => Ok(()),
     }
 }
 
 /// The names in the constraints behind a type.
 fn names_in_constraints(
     alloc: Global,
-    names: &Names,
+    linked: &Linked,
     within: &str,
     constraints: &[ConstraintSyntax],
 ) -> Result<(), NameFault>
-    ensures { MatchResult result (λ _. MeanValues names.now within.now (qualified_constraints (map constraint_of constraints.now))) (IsUnknownIn names.now within.now (qualified_constraints (map constraint_of constraints.now))) }
+    ensures { Answers linked.now within.now (each qualified_constraint (map constraint_of constraints.now)) result }
 {
     for constraint in constraints {
-        names_in_constraint(alloc, names, within, constraint)?;
+        names_in_constraint(alloc, linked, within, constraint)?;
     }
     Ok(())
 }
 
 /// The names in a DEFAULT.
-fn names_in_default(
+fn names_in_presence(
     alloc: Global,
-    names: &Names,
+    linked: &Linked,
     within: &str,
     presence: &PresenceSyntax,
 ) -> Result<(), NameFault>
-    ensures { MatchResult result (λ _. MeanValues names.now within.now (qualified_default (presence_of presence.now))) (IsUnknownIn names.now within.now (qualified_default (presence_of presence.now))) }
+    ensures { Answers linked.now within.now (qualified_presence (presence_of presence.now)) result }
 {
     match presence {
         PresenceSyntax::Mandatory => Ok(()),
         PresenceSyntax::Optional => Ok(()),
-        PresenceSyntax::Default(value) => names_in_value(alloc, names, within, value),
+        PresenceSyntax::Default(value) => names_in_value(alloc, linked, within, value),
     }
 }
 
 /// The names in the DEFAULTs of a list's members.
 fn names_in_members(
     alloc: Global,
-    names: &Names,
+    linked: &Linked,
     within: &str,
     given: &[Component],
 ) -> Result<(), NameFault>
-    ensures { MatchResult result (λ _. MeanValues names.now within.now (qualified_members (map part_of given.now))) (IsUnknownIn names.now within.now (qualified_members (map part_of given.now))) }
+    ensures { Answers linked.now within.now (each (λ (c : Part). qualified_presence c.presence) (map part_of given.now)) result }
 {
     for component in given {
-        names_in_default(alloc, names, within, &component.presence)?;
+        names_in_presence(alloc, linked, within, &component.presence)?;
     }
     Ok(())
 }
 
-/// The names in a size, if one is given.
-fn names_in_size(
-    alloc: Global,
-    names: &Names,
-    within: &str,
-    given: &Option<SizeSyntax>,
-) -> Result<(), NameFault>
-    ensures { MatchResult result (λ _. MeanValues names.now within.now (qualified_size (option_map size_of given.now))) (IsUnknownIn names.now within.now (qualified_size (option_map size_of given.now))) }
-{
-    match given {
-        None => Ok(()),
-        Some(size) => names_in_ranges(alloc, names, within, &size.sizes.ranges),
-    }
-}
-
-/// The names in the DEFAULTs and the size at a type.
+/// The names in the DEFAULTs at a type.
 fn names_in_shape(
     alloc: Global,
-    names: &Names,
+    linked: &Linked,
     within: &str,
     shape: &Shape,
 ) -> Result<(), NameFault>
-    ensures { MatchResult result (λ _. MeanValues names.now within.now (qualified_kind (kind_of shape.now))) (IsUnknownIn names.now within.now (qualified_kind (kind_of shape.now))) }
+    ensures { Answers linked.now within.now (qualified_kind (kind_of shape.now)) result }
 {
     match shape {
         Shape::Simple(_) => Ok(()),
         Shape::Reference(_) => Ok(()),
         Shape::Tagged(_, _, _) => Ok(()),
-        Shape::Members(_, given) => names_in_members(alloc, names, within, given),
-        Shape::Elements(_, size, _) => names_in_size(alloc, names, within, size),
+        Shape::Members(_, _, given) => names_in_members(alloc, linked, within, given),
+        Shape::Elements(_, _) => Ok(()),
     }
 }
 
-/// The names in the DEFAULTs, the size and the constraints of a type.
+/// The names in the DEFAULTs and the constraints of a type.
 pub(crate) fn names_in_type(
     alloc: Global,
-    names: &Names,
+    linked: &Linked,
     within: &str,
     written: &Written,
 ) -> Result<(), NameFault>
-    ensures { MatchResult result (λ _. MeanValues names.now within.now (qualified_in (type_of written.now))) (IsUnknownIn names.now within.now (qualified_in (type_of written.now))) }
+    ensures { Answers linked.now within.now (qualified_in (type_of written.now)) result }
 {
-    names_in_shape(alloc, names, within, &written.shape)?;
-    names_in_constraints(alloc, names, within, &written.constraints)?;
+    names_in_shape(alloc, linked, within, &written.shape)?;
+    names_in_constraints(alloc, linked, within, &written.constraints)?;
     Ok(())
 }

@@ -1,112 +1,87 @@
 //! What the lists in written types, and the names in notations, have to keep.
 
-ghost use Rattle.std.specs.Prelude.{ℕ, ◌≡◌, ◌<◌, Some, List, IfOk, IfErr, map, slice_get, length};
+ghost use Rattle.std.specs.Prelude.{◌≡◌, IfErr, OnOk};
 ghost use Rattle.names.specs.declared.fault.NameFault.{NameFault as NameFault'};
 ghost use Rattle.names.specs.declared.fault.NameFault.TheVariants as faults;
-ghost use Rattle.names.specs.declared.sources.Assignment.{Assignment};
-ghost use Rattle.names.specs.declared.sources.ValueAt.{ValueAt};
-ghost use Rattle.type_table.specs.declared.table.Written.{Written};
-ghost use Rattle.trees.specs.Values.{Name};
-ghost use Rattle.names.specs.Names.{Module};
-ghost use Rattle.resolve.specs.Program.{Program};
-ghost use Rattle.names.specs.Sources.{Value, header_of, assignment_of, value_of};
-ghost use Rattle.type_table.specs.Seen.{types_of};
+ghost use Rattle.type_table.specs.Circles.{NoDefaultCircles};
 ghost use Rattle.type_table.specs.Lists.{AreSound};
-ghost use Rattle.resolve.specs.Sound.{HaveValues, IsSound};
-ghost use Rattle.type_table.specs.Table.{Type'};
-ghost use Rattle.resolve.specs.SoundFaults.{IsSoundFault};
-ghost use Rattle.resolve.specs.Soundness.{program, TypesMean, ValuesMean};
+ghost use Rattle.resolve.specs.Program.{Program};
+ghost use Rattle.resolve.specs.Sound.{IsSound, IsSoundFault, TypesMean, ValuesMean};
 
+use crate::linked::Linked;
 use crate::qualified::{names_in_type, names_in_value};
-use names::{Assignment, Header, NameFault, Names, ValueAt};
+use asn_base::schema::TypeId;
+use names::NameFault;
+use names::fault::spot;
 use std::alloc::Global;
-use type_table::Written;
-use type_table::lists::sound_shape;
+use type_table::circles::circle_of;
+use type_table::lists::sound_list;
 
 /// The lists in all types: names and numbers are distinct, and no limit is passed.
-pub(crate) fn sound_lists(
-    alloc: Global,
-    headers: &[Header],
-    assignments: &[Assignment],
-    types: &[Written],
-) -> Result<(), NameFault>
-    requires typed { (k : ℕ) (w : Written) → slice_get types.now k ≡ Some w → w.assignment < length assignments.now }
-    requires placed { (k : ℕ) (a : Assignment) → slice_get assignments.now k ≡ Some a → a.module < length headers.now }
-    ensures good { IfOk result (λ _. AreSound (types_of types.now)) }
-    ensures fault { IfErr result (λ e. (ms : List (Name × Module)) (vs : List Value) → IsSoundFault (program ms (map header_of headers.now) (map assignment_of assignments.now) (types_of types.now) vs) e) }
+fn sound_lists(alloc: Global, linked: &Linked) -> Result<(), NameFault>
+    ensures good { OnOk result (AreSound linked.now.types) }
+    ensures fault { IfErr result (IsSoundFault linked.now) }
 {
-    for written in types {
-        let assignment = &assignments[written.assignment];
-        let header = &headers[assignment.module];
-        sound_shape(
-            alloc,
-            header.name.as_str(),
-            assignment.name.as_str(),
-            &written.shape,
-        )?;
+    let types = linked.types();
+    for index in 0..types.len() {
+        let home = linked.home(TypeId { index });
+        sound_list(alloc, home.module, home.name, &types[index])?;
     }
     Ok(())
 }
 
-/// The names in all types.
-fn names_in_types(
-    alloc: Global,
-    names: &Names,
-    headers: &[Header],
-    assignments: &[Assignment],
-    types: &[Written],
-) -> Result<(), NameFault>
-    requires typed { (k : ℕ) (w : Written) → slice_get types.now k ≡ Some w → w.assignment < length assignments.now }
-    requires placed { (k : ℕ) (a : Assignment) → slice_get assignments.now k ≡ Some a → a.module < length headers.now }
-    ensures good { IfOk result (λ _. (vs : List Value) → TypesMean (program names.now (map header_of headers.now) (map assignment_of assignments.now) (types_of types.now) vs)) }
-    ensures fault { IfErr result (λ e. (vs : List Value) → IsSoundFault (program names.now (map header_of headers.now) (map assignment_of assignments.now) (types_of types.now) vs) e) }
+/// No component with a DEFAULT has a type that leads back to the list that holds it (X.680, clause 25.7).
+fn no_default_circles(alloc: Global, linked: &Linked) -> Result<(), NameFault>
+    ensures good { OnOk result (NoDefaultCircles linked.now.types) }
+    ensures fault { IfErr result (IsSoundFault linked.now) }
 {
-    for written in types {
-        let assignment = &assignments[written.assignment];
-        let header = &headers[assignment.module];
-        names_in_type(alloc, names, header.name.as_str(), written)?;
+    let types = linked.types();
+    match circle_of(alloc, types)? {
+        None => Ok(()),
+        Some(index) => {
+            let home = linked.home(TypeId { index });
+            Err(NameFault::Circular(spot(alloc, home.module, home.name, types[index].at)?))
+        }
+    }
+}
+
+/// The names in all types.
+fn names_in_types(alloc: Global, linked: &Linked) -> Result<(), NameFault>
+    ensures good { OnOk result (TypesMean linked.now) }
+    ensures fault { IfErr result (IsSoundFault linked.now) }
+{
+    let types = linked.types();
+    for index in 0..types.len() {
+        let home = linked.home(TypeId { index });
+        names_in_type(alloc, linked, home.module, &types[index])?;
     }
     Ok(())
 }
 
 /// The names in all values that are assigned.
-fn names_in_values(
-    alloc: Global,
-    names: &Names,
-    headers: &[Header],
-    assignments: &[Assignment],
-    values: &[ValueAt],
-) -> Result<(), NameFault>
-    requires valued { (k : ℕ) (v : ValueAt) → slice_get values.now k ≡ Some v → v.assignment < length assignments.now }
-    requires placed { (k : ℕ) (a : Assignment) → slice_get assignments.now k ≡ Some a → a.module < length headers.now }
-    ensures good { IfOk result (λ _. (ts : List Type') → ValuesMean (program names.now (map header_of headers.now) (map assignment_of assignments.now) ts (map value_of values.now))) }
-    ensures fault { IfErr result (λ e. (ts : List Type') → IsSoundFault (program names.now (map header_of headers.now) (map assignment_of assignments.now) ts (map value_of values.now)) e) }
+fn names_in_values(alloc: Global, linked: &Linked) -> Result<(), NameFault>
+    ensures good { OnOk result (ValuesMean linked.now) }
+    ensures fault { IfErr result (IsSoundFault linked.now) }
 {
+    let values = linked.values();
+    linked.whole();
     for value in values {
-        let assignment = &assignments[value.assignment];
-        let header = &headers[assignment.module];
-        names_in_value(alloc, names, header.name.as_str(), &value.syntax)?;
+        let home = linked.assigned(value.assignment);
+        names_in_value(alloc, linked, home.module, &value.syntax)?;
     }
     Ok(())
 }
 
-/// Each name behind a module's name, in a DEFAULT, a size, a constraint or a value that is assigned, stands for a value there (X.680, clause 14.6).
-pub(crate) fn sound_names(
-    alloc: Global,
-    names: &Names,
-    headers: &[Header],
-    assignments: &[Assignment],
-    types: &[Written],
-    values: &[ValueAt],
-) -> Result<(), NameFault>
-    requires typed { (k : ℕ) (w : Written) → slice_get types.now k ≡ Some w → w.assignment < length assignments.now }
-    requires valued { (k : ℕ) (v : ValueAt) → slice_get values.now k ≡ Some v → v.assignment < length assignments.now }
-    requires placed { (k : ℕ) (a : Assignment) → slice_get assignments.now k ≡ Some a → a.module < length headers.now }
-    ensures good { IfOk result (λ _. HaveValues (program names.now (map header_of headers.now) (map assignment_of assignments.now) (types_of types.now) (map value_of values.now))) }
-    ensures fault { IfErr result (IsSoundFault (program names.now (map header_of headers.now) (map assignment_of assignments.now) (types_of types.now) (map value_of values.now))) }
+/// Lists are as they have to be, no default depends on itself, and each name behind a module's name, in a DEFAULT, a
+/// constraint or a value that is assigned, stands for a value there (X.680, clause 14.6).
+pub(crate) fn sound(alloc: Global, linked: &Linked) -> Result<(), NameFault>
+    ensures ok { OnOk result (IsSound linked.now) }
+    ensures fault { IfErr result (IsSoundFault linked.now) }
 {
-    names_in_types(alloc, names, headers, assignments, types)?;
-    names_in_values(alloc, names, headers, assignments, values)?;
+    sound_lists(alloc, linked)?;
+    no_default_circles(alloc, linked)?;
+    names_in_types(alloc, linked)?;
+    names_in_values(alloc, linked)?;
     Ok(())
 }
 

@@ -1,15 +1,18 @@
 -- What a search for a name answers.
 use Rattle.std.specs.Prelude.{◌≡◌, ℕ, Option, Some, None, slice_get}
 use Rattle.trees.specs.Values.{Name, tree_of}
-use Rattle.resolve.specs.declared.linked.Found.{Found}
-use Rattle.resolve.specs.declared.linked.Found.TheVariants.{TypeNamed, ValueNamed}
 use Rattle.names.specs.declared.scope.Assigned.{Assigned}
 use Rattle.names.specs.declared.scope.Assigned.TheVariants as assigned
 use Rattle.names.specs.Names.{Meaning}
-use Rattle.resolve.specs.Program.{Program}
 use Rattle.names.specs.Sources.{Value}
+use Rattle.resolve.specs.declared.linked.Found.{Found}
+use Rattle.resolve.specs.declared.linked.Found.TheVariants.{TypeNamed, ValueNamed}
+use Rattle.resolve.specs.Program.{Program}
 
+-- nothing where name x, read in module M, has no meaning; a type's number, or the value as it is written, where it has one
 abbrev pub Finds : Program → Name → Name → Option Found → Type 0
 Finds p M x None = (a : Assigned) → Meaning p.modules M x a → ⊥
 Finds p M x (Some (TypeNamed t)) = Meaning p.modules M x (assigned.Type t.index)
-Finds p M x (Some (ValueNamed v)) = (i : ℕ) × Meaning p.modules M x (assigned.Value i) × (value : Value) × (slice_get p.values i ≡ Some value) × (value.notation ≡ tree_of v.now)
+Finds p M x (Some (ValueNamed v)) =
+    (i : ℕ) × Meaning p.modules M x (assigned.Value i)
+    × (value : Value) × (slice_get p.values i ≡ Some value) × (value.notation ≡ tree_of v.now)

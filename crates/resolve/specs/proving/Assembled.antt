@@ -1,0 +1,55 @@
+-- Programs of what is gathered.
+use Rattle.std.specs.Prelude.{◌≡◌, ◌<◌, ◌≤◌, ◌⊎◌, ℕ, List, Some, map, length, slice_get}
+use Rattle.trees.specs.Values.{Name}
+use Rattle.trees.specs.declared.module.TagDefault.{TagDefault}
+use Rattle.names.specs.declared.fault.NameFault.{NameFault}
+use Rattle.names.specs.declared.fault.NameFault.TheVariants as faults
+use Rattle.names.specs.declared.gather.Gathered.{Gathered}
+use Rattle.names.specs.declared.sources.Assignment.{Assignment}
+use Rattle.names.specs.declared.sources.Header.{Header}
+use Rattle.names.specs.Faults.{module_told, name_told}
+use Rattle.names.specs.Scopes.{seen, module_of}
+use Rattle.names.specs.Sources.{assignment_of, header_of, sources_of, value_of}
+use Rattle.type_table.specs.Faults.{IsTableFault}
+use Rattle.type_table.specs.Numbering.{AreNumbered}
+use Rattle.type_table.specs.Table.{Type', AllUnfold}
+use Rattle.resolve.specs.Program.{Program}
+use Rattle.resolve.specs.Sound.{IsSound, IsSoundFault}
+
+-- a program of it
+pub record IsOf (g : Gathered) (p : Program) : Type 0 where
+  pub modules : p.modules ≡ seen module_of g.modules.entries
+  pub headers : p.headers ≡ map header_of g.headers.items
+  pub assignments : p.assignments ≡ map assignment_of g.tables.assignments.items
+  pub values : p.values ≡ map value_of g.tables.values.items
+  pub types : AreNumbered p.modules p.headers p.assignments (sources_of g.tables.roots.items) p.types
+
+pub record IsAssembled (g : Gathered) (p : Program) : Type 0 where
+  pub program : IsOf g p
+  pub few : length p.types ≤ 65536
+  pub unfolds : AllUnfold p.types
+  pub sound : IsSound p
+
+-- the types of what is gathered can't be linked
+abbrev pub IsTablesFault : Gathered → NameFault → Type 0
+IsTablesFault g e =
+    IsTableFault (seen module_of g.modules.entries) (map header_of g.headers.items)
+        (map assignment_of g.tables.assignments.items) (sources_of g.tables.roots.items) e
+
+-- the module of each assignment is there
+abbrev pub ArePlaced : List Assignment → List Header → Type 0
+ArePlaced gs hs = (k : ℕ) (a : Assignment) → slice_get gs k ≡ Some a → a.module < length hs
+
+-- memory ran out, or the fault tells that the type comes back to itself, with its module and its assignment
+abbrev pub TellsType : List (Name × TagDefault) → List (ℕ × Name) → Type' → NameFault → Type 0
+TellsType hs gs t faults.Memory = Unit {0}
+TellsType hs gs t (faults.Circular s) =
+    (owner : ℕ)
+    × (default : TagDefault)
+    × (slice_get gs t.assignment ≡ Some (owner, name_told s))
+    × (slice_get hs owner ≡ Some (module_told s, default))
+TellsType hs gs t e = ⊥
+
+-- why it can't be put together
+abbrev pub IsAssemblyFault : Gathered → NameFault → Type 0
+IsAssemblyFault g e = IsTablesFault g e ⊎ ((p : Program) × IsOf g p × IsSoundFault p e)

@@ -1,0 +1,35 @@
+-- What the checks of the names in one notation answer.
+use Rattle.std.specs.Prelude.{◌≡◌, ℕ, List, Option, Some, Result, MatchResult, option_map, string_bytes}
+use Rattle.trees.specs.declared.place.Reference.{Reference}
+use Rattle.trees.specs.Values.{Name}
+use Rattle.names.specs.declared.fault.NameFault.{NameFault}
+use Rattle.names.specs.declared.fault.NameFault.TheVariants as faults
+use Rattle.names.specs.declared.scope.Assigned.TheVariants as assigned
+use Rattle.names.specs.Faults.{module_told, name_told}
+use Rattle.names.specs.Modules.{StandsIn}
+use Rattle.names.specs.Names.{Module, Refers}
+use Rattle.resolve.specs.Program.{Program}
+use Rattle.resolve.specs.Qualified.{behind_module, MeanValues}
+
+-- the name that is written there, if it stands behind a module's name
+abbrev pub named : Reference → List (Name × Name)
+named r = behind_module (option_map string_bytes r.module) (string_bytes r.name)
+
+-- what is written there, read in module M, stands for a value
+abbrev pub MeansValue : Program → Name → Reference → Type 0
+MeansValue p M r =
+    (i : ℕ) × Refers p.modules M (option_map string_bytes r.module) (string_bytes r.name) (assigned.Value i)
+
+-- memory ran out, or one of these names behind modules' names, read in module M, stands for no value
+abbrev pub IsUnknownIn : List (Name × Module) → Name → List (Name × Name) → NameFault → Type 0
+IsUnknownIn ms M rs faults.Memory = Unit {0}
+IsUnknownIn ms M rs (faults.UnknownName s) =
+    (module_told s ≡ M)
+    × (N : Name)
+    × StandsIn rs (N, name_told s)
+    × ((i : ℕ) → Refers ms M (Some N) (name_told s) (assigned.Value i) → ⊥)
+IsUnknownIn ms M rs e = ⊥
+
+-- what a check of these names answers
+abbrev pub Answers : Program → Name → List (Name × Name) → Result (Unit {0}) NameFault → Type 0
+Answers p M rs r = MatchResult r (λ _. MeanValues p.modules M rs) (IsUnknownIn p.modules M rs)
