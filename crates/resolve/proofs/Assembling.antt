@@ -14,9 +14,9 @@ use Rattle.trees.specs.declared.module.TagDefault.{TagDefault}
 use Rattle.type_table.specs.Table.{Type', AllUnfold, IsClosed, IsLinked}
 use Rattle.type_table.specs.Numbering.{AreNumbered}
 use Rattle.names.specs.Sources.{Source, HaveNoPlace, header_of, assignment_of, value_of, source_of, sources_of}
-use Rattle.names.specs.Gathered.{IsGiven}
+use Rattle.names.specs.proving.Ready.{IsGiven}
 use Rattle.resolve.specs.Program.{IsThere, IsWhole}
-use Rattle.names.specs.Meanings.{refers_meaning}
+use Rattle.names.specs.proving.Meanings.{refers_meaning}
 
 -- what the laws of the table say of types that are numbered
 pub record Laws : Type 0 where

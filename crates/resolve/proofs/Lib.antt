@@ -1,7 +1,6 @@
 pub mod Assembling
-pub mod Below
 pub mod Exclusion
+pub mod Notations
 pub mod Programs
 pub mod Ready
-pub mod Slices
-pub mod Sounds
+pub mod Turns

@@ -11,7 +11,8 @@ use Rattle.resolve.specs.Links.{IsProgramOf, Links, IsLinkFault}
 use Rattle.names.specs.Names.{IsApart, Module}
 use Rattle.names.specs.Sources.{Source}
 use Rattle.type_table.specs.Table.{Type', AllUnfold}
-use Rattle.names.specs.Modules.{AreDistinct, AreFew, AreNamed, StandsIn, names_in, scopes_from, headers_of, owned_from, roots_of}
+use Rattle.names.specs.Modules.{AreDistinct, AreFew, AreNamed, StandsIn, names_in}
+use Rattle.names.specs.ByNumber.{scopes_from, headers_of, owned_from, roots_of}
 use Rattle.type_table.specs.Numbering.{AreNumbered}
 use Rattle.resolve.specs.Program.{Program}
 use Rattle.resolve.specs.Sound.{IsSound}

@@ -5,10 +5,11 @@ use Rattle.names.specs.declared.fault.NameFault.{NameFault}
 use Rattle.names.specs.declared.fault.NameFault.TheVariants as faults
 use Rattle.names.specs.declared.gather.Gathered.{Gathered}
 use Rattle.type_table.specs.Faults.{IsTableFault}
-use Rattle.names.specs.Gathered.{HasGathered, IsNamingFault}
+use Rattle.names.specs.proving.Gathering.{HasGathered, IsNamingFault}
 use Rattle.resolve.specs.Assembled.{IsOf, IsAssembled, IsAssemblyFault}
 use Rattle.resolve.specs.Links.{IsProgramOf, Links, IsLinkFault}
-use Rattle.names.specs.Modules.{AreNamed, AreFew, scopes_from, headers_of, owned_from, roots_of}
+use Rattle.names.specs.Modules.{AreNamed, AreFew}
+use Rattle.names.specs.ByNumber.{scopes_from, headers_of, owned_from, roots_of}
 use Rattle.names.specs.Sources.{assignment_of, header_of}
 use Rattle.type_table.specs.Numbering.{AreNumbered}
 use Rattle.resolve.specs.Program.{Program}

@@ -40,10 +40,16 @@ fn qualified_name(
 ) -> Result<(), NameFault>
     ensures { Answers linked.now within.now (named given.now) result }
 {
-    if given.module.is_none() || is_value(linked, within, given) {
-        return Ok(());
+    match &given.module {
+        None => Ok(()),
+        Some(_) => {
+            if is_value(linked, within, given) {
+                return Ok(());
+            }
+            let spot = spot(alloc, within, given.name.as_str(), given.at)?;
+            Err(NameFault::UnknownName(spot))
+        }
     }
-    Err(NameFault::UnknownName(spot(alloc, within, given.name.as_str(), given.at)?))
 }
 
 /// The names in a value.

@@ -15,7 +15,7 @@ use names::NameFault;
 use names::fault::spot;
 use std::alloc::Global;
 use type_table::circles::circle_of;
-use type_table::lists::sound_list;
+use type_table::lists::sound_shape;
 
 /// The lists in all types: names and numbers are distinct, and no limit is passed.
 fn sound_lists(alloc: Global, linked: &Linked) -> Result<(), NameFault>
@@ -25,7 +25,7 @@ fn sound_lists(alloc: Global, linked: &Linked) -> Result<(), NameFault>
     let types = linked.types();
     for index in 0..types.len() {
         let home = linked.home(TypeId { index });
-        sound_list(alloc, home.module, home.name, &types[index])?;
+        sound_shape(alloc, home.module, home.name, &types[index].shape)?;
     }
     Ok(())
 }

@@ -2,9 +2,9 @@ use Rattle.std.proofs.Common.{◌<◌, inl, length, map, refl, arith, string_byt
 use Rattle.std.proofs.lemmas.Option.{slice_get_read}
 use Rattle.names.specs.Scopes.{seen, module_of}
 use Rattle.names.specs.Sources.{header_of, assignment_of, source_of, sources_of}
-use Rattle.names.specs.Distinct.{stands_map, at_all}
+use Rattle.names.specs.proving.Distinct.{stands_map, at_all}
 use Rattle.resolve.proofs.Slices.{more_roots}
-use Rattle.names.specs.Given.{assignment_at, header_at}
+use Rattle.names.specs.proving.Rows.{assignment_at, header_at}
 use Rattle.resolve.proofs.linking.assemble.Goals as goal
 
 pub index-assignment-requires : goal.index-assignment-requires

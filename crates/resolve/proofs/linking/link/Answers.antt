@@ -1,5 +1,5 @@
 use Rattle.std.proofs.Common.{map, subst}
-use Rattle.names.specs.Gathered.{IsNamingFault}
+use Rattle.names.specs.proving.Gathering.{IsNamingFault}
 use Rattle.names.specs.Modules.{AreFew}
 use Rattle.trees.specs.Modules.{module_tree_of}
 use Rattle.resolve.proofs.Ready.{are_linked, naming_link, assembly_link}

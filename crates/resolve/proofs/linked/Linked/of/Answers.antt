@@ -8,7 +8,7 @@ use Rattle.names.specs.Sources.{header_of, assignment_of, sources_of}
 use Rattle.type_table.specs.Seen.{types_of, type_of}
 use Rattle.resolve.proofs.Assembling.{closed, typed, whole}
 use Rattle.type_table.specs.Tables.{none_known, all_unfold, written_back, type_at}
-use Rattle.names.specs.Given.{assignment_at, header_at}
+use Rattle.names.specs.proving.Rows.{assignment_at, header_at}
 use Rattle.resolve.proofs.linked.Linked.of.Goals as goal
 
 pub unfold_all-requires : goal.unfold_all-requires

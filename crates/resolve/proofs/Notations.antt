@@ -1,0 +1,60 @@
+-- The names in a value, by the form in which it is written.
+use Rattle.std.proofs.Common.{◌≡◌, ℕ, zero, suc, ◌++◌, List, [], ◌∷◌, map, Option, Some, None, refl, sym, subst, ap, ◌∙◌, option_map, string_bytes}
+use Rattle.std.specs.Prelude.{slice_get, Vec, Box, String}
+use Rattle.std.specs.Global.{Global}
+use Rattle.trees.specs.declared.place.Reference.{Reference}
+use Rattle.trees.specs.declared.value.Named.{Named}
+use Rattle.trees.specs.declared.value.ValueForm.{ValueForm}
+use Rattle.trees.specs.declared.value.ValueForm.TheVariants as forms
+use Rattle.trees.specs.declared.value.ValueSyntax.{ValueSyntax}
+use Rattle.trees.specs.declared.value.ValueSyntax.TheViews.{out-ValueSyntax}
+use Rattle.trees.specs.declared.value.ValueSyntax.TheFolds.{fold_out-ValueSyntax, map-ValueSyntax}
+use Rattle.trees.specs.Values as notations
+use Rattle.trees.specs.Values.{Name, Tree, trees, members, member_of, name_at, tree_of, layer, value_layer}
+use Rattle.names.specs.declared.scope.Assigned.TheVariants as assigned
+use Rattle.names.specs.Modules.{StandsIn}
+use Rattle.names.specs.Names.{Module, Refers}
+use Rattle.resolve.specs.Qualified.{each, behind_module, qualified, qualified_each, qualified_fields}
+use Rattle.resolve.specs.proving.Unknown.{named}
+
+-- the tree of a value whose form is this
+abbrev seen : ℕ → ValueForm ValueSyntax → Tree
+seen n f = layer (map-ValueSyntax ValueSyntax Tree tree_of (record { at = n; form = f })).form
+
+by_form : (v : ValueSyntax) (f : ValueForm ValueSyntax) → (out-ValueSyntax v).form ≡ f → tree_of v ≡ seen (out-ValueSyntax v).at f
+by_form v f e = fold_out-ValueSyntax Tree value_layer v ∙ ap (seen (out-ValueSyntax v).at) e
+
+all_each : (vs : List Tree) → qualified_each (trees vs) ≡ each qualified vs
+all_each [] = refl
+all_each (v ∷ vs) = ap (λ l. qualified v ++ l) (all_each vs)
+
+all_fields : (vs : List (Name × Tree)) → qualified_fields (members vs) ≡ each (λ m. qualified m.1) vs
+all_fields [] = refl
+all_fields (v ∷ vs) = ap (λ l. qualified v.1 ++ l) (all_fields vs)
+
+same_members : (h : Named ValueSyntax → Named Tree) → ((n : Named ValueSyntax) → (name_at (h n).name, (h n).value) ≡ member_of n) → (xs : List (Named ValueSyntax)) → map (λ n. (name_at n.name, n.value)) (map h xs) ≡ map member_of xs
+same_members h e [] = refl
+same_members h e (x ∷ xs) = ap (λ m. m ∷ map (λ n. (name_at n.name, n.value)) (map h xs)) (e x) ∙ ap (λ ms. member_of x ∷ ms) (same_members h e xs)
+
+pub reference_names : (v : ValueSyntax) (r : Reference) → (out-ValueSyntax v).form ≡ forms.Reference r → qualified (tree_of v) ≡ named r
+reference_names v r e = ap qualified (by_form v (forms.Reference r) e)
+
+pub chosen_names : (v : ValueSyntax) (x : String Global) (b : Box ValueSyntax Global) → (out-ValueSyntax v).form ≡ forms.Chosen x b → qualified (tree_of v) ≡ qualified (tree_of b.value)
+chosen_names v x b e = ap qualified (by_form v (forms.Chosen x b) e)
+
+pub items_names : (v : ValueSyntax) (vs : Vec ValueSyntax Global) → (out-ValueSyntax v).form ≡ forms.Items vs → qualified (tree_of v) ≡ each qualified (map tree_of vs.items)
+items_names v vs e = ap qualified (by_form v (forms.Items vs) e) ∙ all_each (map tree_of vs.items)
+
+pub fields_names : (v : ValueSyntax) (fs : Vec (Named ValueSyntax) Global) → (out-ValueSyntax v).form ≡ forms.Fields fs → qualified (tree_of v) ≡ each (λ m. qualified m.1) (map member_of fs.items)
+fields_names v fs e =
+    ap qualified (by_form v (forms.Fields fs) e) ∙ ap (λ ms. qualified_fields (members ms)) (same_members _ (λ n. refl) fs.items) ∙ all_fields (map member_of fs.items)
+
+-- what a name behind the name of module N stands for is no value
+pub behind_none : (ms : List (Name × Module)) (M : Name) (o : Option Name) (N x m y : Name) → o ≡ Some N → m ≡ M → y ≡ x → ((i : ℕ) → Refers ms M o x (assigned.Value i) → ⊥) →
+    (m ≡ M) × (K : Name) × StandsIn (behind_module o x) (K, y) × ((i : ℕ) → Refers ms M (Some K) y (assigned.Value i) → ⊥)
+behind_none ms M o N x m y q e f none = (
+  e,
+  N,
+  (0, ap (λ p. slice_get (behind_module p x) 0) q ∙ ap (λ z. Some (N, z)) (sym f)),
+  λ i r. none i (subst (λ p. Refers ms M p x (assigned.Value i)) (sym q) (subst (λ z. Refers ms M (Some N) z (assigned.Value i)) f r)),
+)
