@@ -1,78 +1,103 @@
--- A program that is put together of names, assignments, types and values.
-use Rattle.std.proofs.Common.{◌≡◌, ℕ, zero, suc, ◌<◌, ◌≤◌, List, [], ◌∷◌, length, Some, map, refl, sym, subst, ap, arith}
+-- A program that is put together of what is gathered.
+use Rattle.std.proofs.Common.{◌≡◌, ◌<◌, ◌≤◌, ℕ, List, length, Some, map, sym, subst, ap, ◌∙◌, arith}
 use Rattle.std.specs.Prelude.{slice_get, Option}
 use Rattle.std.proofs.lemmas.List.{length-map}
 use Rattle.trees.specs.Values.{Name}
+use Rattle.trees.specs.declared.module.TagDefault.{TagDefault}
+use Rattle.names.specs.declared.fault.NameFault.{NameFault}
+use Rattle.names.specs.declared.fault.NameFault.TheVariants as faults
+use Rattle.names.specs.declared.gather.Gathered.{Gathered}
 use Rattle.names.specs.declared.scope.Assigned.{Assigned}
 use Rattle.names.specs.declared.scope.Assigned.TheVariants as assigned
-use Rattle.names.specs.declared.sources.Source.{Source as SourceAt}
 use Rattle.names.specs.declared.sources.Assignment.{Assignment}
 use Rattle.names.specs.declared.sources.Header.{Header}
-use Rattle.names.specs.declared.sources.ValueAt.{ValueAt}
-use Rattle.names.specs.Names.{Module, Meaning, Refers}
-use Rattle.trees.specs.declared.module.TagDefault.{TagDefault}
-use Rattle.type_table.specs.Table.{Type', AllUnfold, IsClosed, IsLinked}
-use Rattle.type_table.specs.Numbering.{AreNumbered}
+use Rattle.names.specs.Names.{Module, Refers}
+use Rattle.names.specs.Scopes.{seen, module_of}
 use Rattle.names.specs.Sources.{Source, HaveNoPlace, header_of, assignment_of, value_of, source_of, sources_of}
-use Rattle.names.specs.proving.Ready.{IsGiven}
-use Rattle.resolve.specs.Program.{IsThere, IsWhole}
+use Rattle.names.specs.proving.Distinct.{mapped}
 use Rattle.names.specs.proving.Meanings.{refers_meaning}
+use Rattle.names.specs.proving.Ready.{IsGiven, IsReady}
+use Rattle.type_table.specs.Numbering.{AreNumbered}
+use Rattle.type_table.specs.Table.{Type', AllUnfold, IsCircular, IsClosed, IsLinked}
+use Rattle.resolve.specs.Program.{IsThere, IsWhole}
+use Rattle.resolve.specs.proving.Assembled.{IsTableFrom, IsTablesFault, TellsType, program_from}
 
 -- what the laws of the table say of types that are numbered
 pub record Laws : Type 0 where
   pub roots : (ms : List (Name × Module)) (hs : List (Name × TagDefault)) (gs : List (ℕ × Name)) (roots : List Source) (ts : List Type') → AreNumbered ms hs gs roots ts → length roots ≤ length ts
-  pub assigned : (ms : List (Name × Module)) (hs : List (Name × TagDefault)) (gs : List (ℕ × Name)) (roots : List Source) (ts : List Type') → AreNumbered ms hs gs roots ts → (i : ℕ) (t : Type') → slice_get ts i ≡ Some t → t.assignment < length gs
+  pub stand : (ms : List (Name × Module)) (hs : List (Name × TagDefault)) (gs : List (ℕ × Name)) (roots : List Source) (ts : List Type') → AreNumbered ms hs gs roots ts → (i : ℕ) (t : Type') → slice_get ts i ≡ Some t → t.assignment < length gs
   pub closed : (ms : List (Name × Module)) (hs : List (Name × TagDefault)) (gs : List (ℕ × Name)) (roots : List Source) (ts : List Type') → AreNumbered ms hs gs roots ts →
       ((M x : Name) (N : Option Name) (j : ℕ) → Refers ms M N x (assigned.Type j) → j < length ts) → IsClosed ts
   pub linked : (ms : List (Name × Module)) (hs : List (Name × TagDefault)) (gs : List (ℕ × Name)) (roots : List Source) (ts : List Type') → AreNumbered ms hs gs roots ts →
       ((M x : Name) (N : Option Name) (j : ℕ) → Refers ms M N x (assigned.Type j) → j < length ts) → HaveNoPlace roots → AllUnfold ts → IsLinked ts
 
-record Of {X Y : Type 0} (f : X → Y) (xs : List X) (i : ℕ) (y : Y) : Type 0 where
-  item : X
-  there : slice_get xs i ≡ Some item
-  is : f item ≡ y
+-- the table of the parts of what is gathered is its table
+pub table_of : (g : Gathered) (ns : List (Name × Module)) (hs : List Header) (as' : List Assignment) (ts : List Type') → ns ≡ seen module_of g.modules.entries → hs ≡ g.headers.items → as' ≡ g.tables.assignments.items →
+    AreNumbered ns (map header_of hs) (map assignment_of as') (sources_of g.tables.roots.items) ts → IsTableFrom g ts
+table_of g ns hs as' ts en eh ea all =
+    subst (λ n. AreNumbered n (map header_of g.headers.items) (map assignment_of g.tables.assignments.items) (sources_of g.tables.roots.items) ts) en
+    (subst (λ h. AreNumbered ns (map header_of h) (map assignment_of g.tables.assignments.items) (sources_of g.tables.roots.items) ts) eh
+    (subst (λ a. AreNumbered ns (map header_of hs) (map assignment_of a) (sources_of g.tables.roots.items) ts) ea all))
 
-map_at : {X Y : Type 0} (f : X → Y) (xs : List X) (i : ℕ) (y : Y) → slice_get (map f xs) i ≡ Some y → Of f xs i y
-map_at f [] i y e = absurd cc
-map_at f (x ∷ xs) zero y e = record { item = x; there = refl; is = (let q : f x ≡ y = cc in q) }
-map_at f (x ∷ xs) (suc i) y e = let r = map_at f xs i y e in record { item = r.item; there = r.there; is = r.is }
+-- a type of the table that comes back to itself, told with its module and its assignment
+pub circular_fault : (g : Gathered) (hs : List Header) (as' : List Assignment) (ts : List Type') (i : ℕ) (w : Type') (e : NameFault) → hs ≡ g.headers.items → as' ≡ g.tables.assignments.items → IsTableFrom g ts → slice_get ts i ≡ Some w → IsCircular ts i →
+    TellsType (map header_of hs) (map assignment_of as') w e → IsTablesFault g e
+circular_fault g hs as' ts i w faults.Memory eh ea all there back f = tt
+circular_fault g hs as' ts i w (faults.Circular s) eh ea all there back f = record {
+  types = ts;
+  numbered = all;
+  number = i;
+  written = w;
+  there = there;
+  circular = back;
+  owner = f.0;
+  default = f.1;
+  assigned = ap (λ l. slice_get (map assignment_of l) w.assignment) (sym ea) ∙ f.2;
+  header = ap (λ l. slice_get (map header_of l) f.0) (sym eh) ∙ f.3;
+}
+circular_fault g hs as' ts i w (faults.Limit l s) eh ea all there back f = absurd f
+circular_fault g hs as' ts i w (faults.Twice s) eh ea all there back f = absurd f
+circular_fault g hs as' ts i w (faults.UnknownName s) eh ea all there back f = absurd f
+circular_fault g hs as' ts i w (faults.NotExported s) eh ea all there back f = absurd f
+circular_fault g hs as' ts i w (faults.UnknownModule s) eh ea all there back f = absurd f
 
-module _ (law : Laws) (ms : List (Name × Module)) (hs : List Header) (gs : List Assignment) (rs : List SourceAt) (vs : List ValueAt) (ts : List Type')
-    (all : AreNumbered ms (map header_of hs) (map assignment_of gs) (sources_of rs) ts)
-    (named : (M x : Name) (a : Assigned) → Meaning ms M x a → IsGiven (length rs) (length vs) a) where
-  within : (j : ℕ) → j < length rs → j < length ts
-  within j h = omega (arith, h, law.roots ms (map header_of hs) (map assignment_of gs) (sources_of rs) ts all, length-map rs source_of)
+module _ (law : Laws) (g : Gathered) (r : IsReady g) (ts : List Type') (all : IsTableFrom g ts) where
+  within : (j : ℕ) → j < length g.tables.roots.items → j < length ts
+  within j h =
+      let n = law.roots (seen module_of g.modules.entries) (map header_of g.headers.items) (map assignment_of g.tables.assignments.items) (sources_of g.tables.roots.items) ts all in
+      omega (arith, h, n, length-map g.tables.roots.items source_of)
 
-  meant : (M x : Name) (N : Option Name) (j : ℕ) → Refers ms M N x (assigned.Type j) → j < length ts
-  meant M x N j r = within j (named M x (assigned.Type j) (refers_meaning ms M x N (assigned.Type j) r))
+  meant : (M x : Name) (N : Option Name) (j : ℕ) → Refers (seen module_of g.modules.entries) M N x (assigned.Type j) → j < length ts
+  meant M x N j h = within j (r.named M x (assigned.Type j) (refers_meaning (seen module_of g.modules.entries) M x N (assigned.Type j) h))
 
   pub closed : IsClosed ts
-  closed = law.closed ms (map header_of hs) (map assignment_of gs) (sources_of rs) ts all meant
+  closed = law.closed (seen module_of g.modules.entries) (map header_of g.headers.items) (map assignment_of g.tables.assignments.items) (sources_of g.tables.roots.items) ts all meant
 
-  pub typed : (i : ℕ) (t : Type') → slice_get ts i ≡ Some t → t.assignment < length gs
-  typed i t e = omega (arith, law.assigned ms (map header_of hs) (map assignment_of gs) (sources_of rs) ts all i t e, length-map gs assignment_of)
+  pub typed : (i : ℕ) (t : Type') → slice_get ts i ≡ Some t → t.assignment < length g.tables.assignments.items
+  typed i t e =
+      let n = law.stand (seen module_of g.modules.entries) (map header_of g.headers.items) (map assignment_of g.tables.assignments.items) (sources_of g.tables.roots.items) ts all i t e in
+      omega (arith, n, length-map g.tables.assignments.items assignment_of)
 
-  there : (a : Assigned) → IsGiven (length rs) (length vs) a → IsThere (record { modules = ms; headers = map header_of hs; assignments = map assignment_of gs; types = ts; values = map value_of vs }) a
+  there : (a : Assigned) → IsGiven (length g.tables.roots.items) (length g.tables.values.items) a → IsThere (program_from g ts) a
   there (assigned.Type i) h = within i h
-  there (assigned.Value i) h = omega (arith, h, length-map vs value_of)
+  there (assigned.Value i) h = omega (arith, h, length-map g.tables.values.items value_of)
 
-  pub whole : HaveNoPlace (sources_of rs) → ((k : ℕ) (a : Assignment) → slice_get gs k ≡ Some a → a.module < length hs) → ((k : ℕ) (v : ValueAt) → slice_get vs k ≡ Some v → (v.ty < length rs) × (v.assignment < length gs)) → AllUnfold ts →
-      IsWhole (record { modules = ms; headers = map header_of hs; assignments = map assignment_of gs; types = ts; values = map value_of vs })
-  whole none placed valued unfolds = record {
-    linked = law.linked ms (map header_of hs) (map assignment_of gs) (sources_of rs) ts all meant none unfolds;
-    names = λ M x a m. there a (named M x a m);
+  pub whole : AllUnfold ts → IsWhole (program_from g ts)
+  whole unfolds = record {
+    linked = law.linked (seen module_of g.modules.entries) (map header_of g.headers.items) (map assignment_of g.tables.assignments.items) (sources_of g.tables.roots.items) ts all meant r.unplaced unfolds;
+    names = λ M x a m. there a (r.named M x a m);
     valued = λ i v e.
-        let o = map_at value_of vs i v e in
-        let h = valued i o.item o.there in
-        let ty : v.ty ≡ o.item.ty = sym (ap (λ z. z.ty) o.is) in
-        let as' : v.assignment ≡ o.item.assignment = sym (ap (λ z. z.assignment) o.is) in
-        let one : v.ty < length ts = subst (λ z. z < length ts) (sym ty) (within o.item.ty h.0) in
-        let two : v.assignment < length (map assignment_of gs) = omega (arith, h.1, as', length-map gs assignment_of) in
+        let o = mapped value_of g.tables.values.items i v e in
+        let h = r.valued i o.0 o.1 in
+        let ty : v.ty ≡ o.0.ty = sym (ap (λ z. z.ty) o.2) in
+        let as' : v.assignment ≡ o.0.assignment = sym (ap (λ z. z.assignment) o.2) in
+        let one : v.ty < length ts = subst (λ z. z < length ts) (sym ty) (within o.0.ty h.0) in
+        let two : v.assignment < length (map assignment_of g.tables.assignments.items) = omega (arith, h.1, as', length-map g.tables.assignments.items assignment_of) in
         (one, two);
-    typed = λ i t e. law.assigned ms (map header_of hs) (map assignment_of gs) (sources_of rs) ts all i t e;
+    typed = λ i t e. law.stand (seen module_of g.modules.entries) (map header_of g.headers.items) (map assignment_of g.tables.assignments.items) (sources_of g.tables.roots.items) ts all i t e;
     placed = λ i a e.
-        let o = map_at assignment_of gs i a e in
-        let h = placed i o.item o.there in
-        let q : a.0 ≡ o.item.module = sym (ap (λ z. z.0) o.is) in
-        omega (arith, h, q, length-map hs header_of);
+        let o = mapped assignment_of g.tables.assignments.items i a e in
+        let h = r.placed i o.0 o.1 in
+        let q : a.0 ≡ o.0.module = sym (ap (λ z. z.0) o.2) in
+        omega (arith, h, q, length-map g.headers.items header_of);
   }

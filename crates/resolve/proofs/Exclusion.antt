@@ -6,6 +6,7 @@ use Rattle.trees.specs.Types.{Plain, an_integer, a_bit_string, an_enumerated}
 use Rattle.trees.specs.declared.module.TagDefault.{TagDefault}
 use Rattle.names.specs.declared.fault.NameFault.{NameFault}
 use Rattle.names.specs.declared.fault.NameFault.TheVariants as faults
+use Rattle.names.specs.declared.fault.Limit.{Limit}
 use Rattle.names.specs.declared.fault.Limit.TheVariants as limits
 use Rattle.names.specs.declared.scope.Assigned.TheVariants as assigned
 use Rattle.names.specs.Faults.{module_told, name_told}
@@ -15,7 +16,7 @@ use Rattle.names.specs.Sources.{Value}
 use Rattle.names.specs.proving.Distinct.{mapped, right}
 use Rattle.type_table.specs.Items.{additions_of, root_numbers, addition_numbers}
 use Rattle.type_table.specs.Lists.{IsSoundPlain, IsSoundKind}
-use Rattle.type_table.specs.ListFaults.{IsTwiceAmong, IsTwicePlain, IsTwiceIn, HasManyMembers, HasManyItems, HasFarBit, HasGreatNumber}
+use Rattle.type_table.specs.ListFaults.{IsTwiceAmong, IsTwicePlain, IsTwiceIn, HasManyMembers, HasManyItems, HasFarBit, HasGreatNumber, HasPassed}
 use Rattle.type_table.specs.Table.{Kind, simple, members, Type'}
 use Rattle.type_table.specs.proving.Checks.{IsKindFault}
 use Rattle.resolve.specs.Program.{Program, IsAssignment, IsTypeIn, IsValueIn}
@@ -75,13 +76,7 @@ pub kind_fault : (p : Program) (i : ℕ) (t : Type') (M a : Name) (e : NameFault
 kind_fault p i t M a faults.Memory h s u = tt
 kind_fault p i t M a (faults.Twice z) h s u =
     record { assigns = a; written = record { number = i; written = t; there = h; stands = moved p t.assignment M (module_told z) a a u.0 refl s; such = u.1 } }
-kind_fault p i t M a (faults.Limit limits.Modules z) h s u = u
-kind_fault p i t M a (faults.Limit limits.Types z) h s u = u
-kind_fault p i t M a (faults.Limit limits.Values z) h s u = u
-kind_fault p i t M a (faults.Limit limits.Members z) h s u = record { number = i; written = t; there = h; stands = moved p t.assignment M (module_told z) a (name_told z) u.0 u.1 s; such = u.2 }
-kind_fault p i t M a (faults.Limit limits.Items z) h s u = record { number = i; written = t; there = h; stands = moved p t.assignment M (module_told z) a (name_told z) u.0 u.1 s; such = u.2 }
-kind_fault p i t M a (faults.Limit limits.NamedBit z) h s u = record { number = i; written = t; there = h; stands = moved p t.assignment M (module_told z) a (name_told z) u.0 u.1 s; such = u.2 }
-kind_fault p i t M a (faults.Limit limits.Integer z) h s u = record { number = i; written = t; there = h; stands = moved p t.assignment M (module_told z) a (name_told z) u.0 u.1 s; such = u.2 }
+kind_fault p i t M a (faults.Limit l z) h s u = record { number = i; written = t; there = h; stands = moved p t.assignment M (module_told z) a (name_told z) u.0 u.1 s; such = u.2 }
 kind_fault p i t M a (faults.UnknownName z) h s u = absurd u
 kind_fault p i t M a (faults.NotExported z) h s u = u
 kind_fault p i t M a (faults.Circular z) h s u = absurd u
@@ -153,6 +148,15 @@ great_number (simple (an_enumerated root more)) h g =
     absurd (omega (arith, l))
 great_number k h g = absurd h
 
+passed : (l : Limit) (k : Kind) → HasPassed l k → IsSoundKind k → ⊥
+passed limits.Members k h g = many_members k h g
+passed limits.Items k h g = many_items k h g
+passed limits.NamedBit k h g = far_bit k h g
+passed limits.Integer k h g = great_number k h g
+passed limits.Modules k h g = h
+passed limits.Types k h g = h
+passed limits.Values k h g = h
+
 no_value : (p : Program) (M x N a : Name) → ((i : ℕ) → Refers p.modules M (Some N) x (assigned.Value i) → ⊥) → IsSound p → IsWrittenIn p M a N x → ⊥
 no_value p M x N a none g (inl t) = let r = g.types t.number t.written M a t.there t.stands t.such.0 N x t.such.1 in none r.0 r.1
 no_value p M x N a none g (inr v) = let r = g.values v.number v.value M a v.there v.stands v.such.0 N x v.such.1 in none r.0 r.1
@@ -160,13 +164,7 @@ no_value p M x N a none g (inr v) = let r = g.values v.number v.value M a v.ther
 pub fault_not_sound : (p : Program) (e : NameFault) → (e ≡ faults.Memory → ⊥) → IsSoundFault p e → IsSound p → ⊥
 fault_not_sound p faults.Memory n f g = n refl
 fault_not_sound p (faults.Twice s) n f g = twice_in f.written.written.kind (name_told s) f.written.such (g.lists f.written.number f.written.written f.written.there)
-fault_not_sound p (faults.Limit limits.Modules s) n f g = f
-fault_not_sound p (faults.Limit limits.Types s) n f g = f
-fault_not_sound p (faults.Limit limits.Values s) n f g = f
-fault_not_sound p (faults.Limit limits.Members s) n f g = many_members f.written.kind f.such (g.lists f.number f.written f.there)
-fault_not_sound p (faults.Limit limits.Items s) n f g = many_items f.written.kind f.such (g.lists f.number f.written f.there)
-fault_not_sound p (faults.Limit limits.NamedBit s) n f g = far_bit f.written.kind f.such (g.lists f.number f.written f.there)
-fault_not_sound p (faults.Limit limits.Integer s) n f g = great_number f.written.kind f.such (g.lists f.number f.written f.there)
+fault_not_sound p (faults.Limit l s) n f g = passed l f.written.kind f.such (g.lists f.number f.written f.there)
 fault_not_sound p (faults.UnknownName s) n f g = no_value p (module_told s) (name_told s) f.owner f.assigns f.nothing g f.written
 fault_not_sound p (faults.NotExported s) n f g = f
 fault_not_sound p (faults.Circular s) n f g = g.defaults f.number f.circle

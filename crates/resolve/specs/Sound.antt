@@ -3,7 +3,6 @@ use Rattle.std.specs.Prelude.{◌≡◌, ◌⊎◌, ℕ, List, Some, slice_get}
 use Rattle.trees.specs.Values.{Name}
 use Rattle.names.specs.declared.fault.NameFault.{NameFault}
 use Rattle.names.specs.declared.fault.NameFault.TheVariants as faults
-use Rattle.names.specs.declared.fault.Limit.TheVariants as limits
 use Rattle.names.specs.declared.scope.Assigned.TheVariants as assigned
 use Rattle.names.specs.Faults.{module_told, name_told}
 use Rattle.names.specs.Modules.{StandsIn}
@@ -11,7 +10,7 @@ use Rattle.names.specs.Names.{Refers}
 use Rattle.names.specs.Sources.{Value}
 use Rattle.type_table.specs.Circles.{IsDefaultCircle, NoDefaultCircles}
 use Rattle.type_table.specs.Lists.{AreSound}
-use Rattle.type_table.specs.ListFaults.{IsTwiceIn, HasManyMembers, HasManyItems, HasFarBit, HasGreatNumber}
+use Rattle.type_table.specs.ListFaults.{IsTwiceIn, HasPassed}
 use Rattle.type_table.specs.Table.{Kind, Type'}
 use Rattle.resolve.specs.Program.{Program, IsAssignment, IsTypeIn, IsValueIn}
 use Rattle.resolve.specs.Qualified.{qualified, qualified_in, MeanValues}
@@ -69,10 +68,7 @@ HasKind p M x Q = IsTypeIn p M x (λ t. Q t.kind)
 abbrev pub IsSoundFault : Program → NameFault → Type 0
 IsSoundFault p faults.Memory = Unit {0}
 IsSoundFault p (faults.Twice s) = IsListedTwice p (module_told s) (name_told s)
-IsSoundFault p (faults.Limit limits.Members s) = HasKind p (module_told s) (name_told s) HasManyMembers
-IsSoundFault p (faults.Limit limits.Items s) = HasKind p (module_told s) (name_told s) HasManyItems
-IsSoundFault p (faults.Limit limits.NamedBit s) = HasKind p (module_told s) (name_told s) HasFarBit
-IsSoundFault p (faults.Limit limits.Integer s) = HasKind p (module_told s) (name_told s) HasGreatNumber
+IsSoundFault p (faults.Limit l s) = HasKind p (module_told s) (name_told s) (HasPassed l)
 IsSoundFault p (faults.UnknownName s) = IsNoValue p (module_told s) (name_told s)
 IsSoundFault p (faults.Circular s) = IsInCircle p (module_told s) (name_told s)
 IsSoundFault p e = ⊥

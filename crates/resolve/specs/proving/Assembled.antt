@@ -16,13 +16,26 @@ use Rattle.type_table.specs.Table.{Type', AllUnfold}
 use Rattle.resolve.specs.Program.{Program}
 use Rattle.resolve.specs.Sound.{IsSound, IsSoundFault}
 
--- a program of it
+-- these types are those of what is gathered, by number
+abbrev pub IsTableFrom : Gathered → List Type' → Type 0
+IsTableFrom g ts =
+    AreNumbered (seen module_of g.modules.entries) (map header_of g.headers.items)
+        (map assignment_of g.tables.assignments.items) (sources_of g.tables.roots.items) ts
+
+-- what is gathered, with these types
+abbrev pub program_from : Gathered → List Type' → Program
+program_from g ts = record {
+  modules = seen module_of g.modules.entries;
+  headers = map header_of g.headers.items;
+  assignments = map assignment_of g.tables.assignments.items;
+  types = ts;
+  values = map value_of g.tables.values.items;
+}
+
+-- a program of what is gathered
 pub record IsOf (g : Gathered) (p : Program) : Type 0 where
-  pub modules : p.modules ≡ seen module_of g.modules.entries
-  pub headers : p.headers ≡ map header_of g.headers.items
-  pub assignments : p.assignments ≡ map assignment_of g.tables.assignments.items
-  pub values : p.values ≡ map value_of g.tables.values.items
-  pub types : AreNumbered p.modules p.headers p.assignments (sources_of g.tables.roots.items) p.types
+  pub is : p ≡ program_from g p.types
+  pub types : IsTableFrom g p.types
 
 pub record IsAssembled (g : Gathered) (p : Program) : Type 0 where
   pub program : IsOf g p

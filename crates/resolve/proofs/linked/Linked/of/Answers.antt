@@ -1,78 +1,49 @@
-use Rattle.std.proofs.Common.{rules, arith, ◌≡◌, ◌<◌, Some, length, drop, map, refl, replicate, sym, subst, ap, ◌∙◌, string_bytes}
-use Rattle.std.proofs.lemmas.List.{length-replicate}
-use Rattle.std.proofs.lemmas.Option.{slice_get_read}
-use Rattle.type_table.specs.Numbering.{AreNumbered}
-use Rattle.type_table.specs.Cores.{AreUnknown, AreCores}
-use Rattle.type_table.specs.Table.{IsClosed, IsCircular}
-use Rattle.names.specs.Sources.{header_of, assignment_of, sources_of}
+use Rattle.std.proofs.Common.{arith, ◌≡◌, ◌<◌, length, drop, map, replicate, sym, subst, ap, ◌∙◌}
+use Rattle.std.specs.Prelude.{slice_get}
+use Rattle.names.specs.Sources.{header_of, assignment_of, value_of}
 use Rattle.type_table.specs.Seen.{types_of, type_of}
-use Rattle.resolve.proofs.Assembling.{closed, typed, whole}
-use Rattle.type_table.specs.Tables.{none_known, all_unfold, written_back, type_at}
-use Rattle.names.specs.proving.Rows.{assignment_at, header_at}
+use Rattle.type_table.specs.Table.{IsCircular, IsClosed}
+use Rattle.type_table.specs.proving.Cores.{AreCores, AreUnknown}
+use Rattle.type_table.specs.proving.Tables.{type_at, all_unfold, none_known, written_back}
+use Rattle.resolve.specs.Program.{IsWhole}
+use Rattle.resolve.proofs.Assembling.{circular_fault, closed, table_of, typed, whole}
 use Rattle.resolve.proofs.linked.Linked.of.Goals as goal
 
-pub unfold_all-requires : goal.unfold_all-requires
-unfold_all-requires c =
+pub unfold_all-requires-clause-closed : goal.unfold_all-requires-clause-closed
+unfold_all-requires-clause-closed c =
+    subst (λ l. IsClosed (types_of l)) (sym c.deref-3.ensures.value) (closed (record { roots = c.numbered_there.ensures.roots; stand = c.numbered_there.ensures.assigned; closed = c.numbered_linked.ensures.closed; linked = c.numbered_linked.ensures.linked }) c.args.gathered c.requires.ready (types_of c.in-Ok.types.items) (table_of c.args.gathered c.of-names.result c.deref.result.now c.deref-2.result.now (types_of c.in-Ok.types.items) c.of-names.ensures c.deref.ensures.value c.deref-2.ensures.value c.in-Ok.ensures.ok))
+
+pub unfold_all-requires-clause-unknown : goal.unfold_all-requires-clause-unknown
+unfold_all-requires-clause-unknown c =
     let marks : c.deref_mut.result.now ≡ replicate c.len-count.result c.len-count.result = c.deref_mut.ensures.value ∙ c.in_ok-cores.ensures.items_if_clones_equal (λ y h. h) in
     let many : c.len-count.result ≡ length c.deref-3.result.now = omega (arith, c.len-count.ensures, c.in-Ok.types.ok.0, ap length c.deref-3.ensures.value) in
-    record {
-      long = ap length marks ∙ length-replicate c.len-count.result c.len-count.result ∙ many;
-      unknown = subst (λ n. AreUnknown n c.deref_mut.result.now) many (subst (λ z. AreUnknown c.len-count.result z) (sym marks) (none_known c.len-count.result c.len-count.result));
-      closed = subst (λ l. IsClosed (types_of l)) (sym c.deref-3.ensures.value) (closed (record { roots = c.numbered_there.ensures.roots; assigned = c.numbered_there.ensures.assigned; closed = c.numbered_linked.ensures.closed; linked = c.numbered_linked.ensures.linked }) c.args.names c.args.headers.items c.args.assignments.items c.args.roots.items c.args.values.items (types_of c.in-Ok.types.items)
-          (subst (λ h. AreNumbered c.args.names (map header_of h) (map assignment_of c.args.assignments.items) (sources_of c.args.roots.items) (types_of c.in-Ok.types.items)) c.deref.ensures.value
-          (subst (λ g. AreNumbered c.args.names (map header_of c.deref.result.now) (map assignment_of g) (sources_of c.args.roots.items) (types_of c.in-Ok.types.items)) c.deref-2.ensures.value c.in-Ok.ensures.ok)) c.requires.named);
-    }
+    subst (λ n. AreUnknown n c.deref_mut.result.now) many (subst (λ z. AreUnknown c.len-count.result z) (sym marks) (none_known c.len-count.result c.len-count.result))
 
 pub invariant_of-result : goal.invariant_of-result
 invariant_of-result c =
-    let all = subst (λ h. AreNumbered c.args.names (map header_of h) (map assignment_of c.args.assignments.items) (sources_of c.args.roots.items) (types_of c.in-Ok.types.items)) c.deref.ensures.value
-    (subst (λ g. AreNumbered c.args.names (map header_of c.deref.result.now) (map assignment_of g) (sources_of c.args.roots.items) (types_of c.in-Ok.types.items)) c.deref-2.ensures.value c.in-Ok.ensures.ok) in
+    let ts = types_of c.in-Ok.types.items in
     let cores = subst (λ l. AreCores (types_of l) c.unfold_all.new.cores) c.deref-3.ensures.value c.in-Ok-unfold_all.ensures in
     let many : c.in_ok-cores.cores.len ≡ length c.unfold_all.new.cores = omega (arith, c.in_ok-cores.cores.ok.0, c.unfold_all.auto.cores, ap length c.deref_mut.ensures.value) in
     let back = written_back c.in_ok-cores.cores.len c.unfold_all.new.cores (drop (length c.unfold_all.new.cores) c.in_ok-cores.cores.items) many in (
-      whole (record { roots = c.numbered_there.ensures.roots; assigned = c.numbered_there.ensures.assigned; closed = c.numbered_linked.ensures.closed; linked = c.numbered_linked.ensures.linked }) c.args.names c.args.headers.items c.args.assignments.items c.args.roots.items c.args.values.items (types_of c.in-Ok.types.items) all c.requires.named c.requires.unplaced c.requires.placed c.requires.valued
-          (all_unfold (types_of c.in-Ok.types.items) c.unfold_all.new.cores cores),
-      subst (λ l. AreCores (types_of c.in-Ok.types.items) l) (sym back) cores,
+      subst (λ n. IsWhole (record { modules = n; headers = map header_of c.args.gathered.headers.items; assignments = map assignment_of c.args.gathered.tables.assignments.items; types = ts; values = map value_of c.args.gathered.tables.values.items })) (sym c.of-names.ensures)
+      (whole (record { roots = c.numbered_there.ensures.roots; stand = c.numbered_there.ensures.assigned; closed = c.numbered_linked.ensures.closed; linked = c.numbered_linked.ensures.linked }) c.args.gathered c.requires.ready (types_of c.in-Ok.types.items) (table_of c.args.gathered c.of-names.result c.deref.result.now c.deref-2.result.now (types_of c.in-Ok.types.items) c.of-names.ensures c.deref.ensures.value c.deref-2.ensures.value c.in-Ok.ensures.ok) (all_unfold ts c.unfold_all.new.cores cores)),
+      subst (λ l. AreCores ts l) (sym back) cores,
     )
 
-pub index-assignment-requires : goal.index-assignment-requires
-index-assignment-requires c =
-    let all = subst (λ h. AreNumbered c.args.names (map header_of h) (map assignment_of c.args.assignments.items) (sources_of c.args.roots.items) (types_of c.in-Ok.types.items)) c.deref.ensures.value
-    (subst (λ g. AreNumbered c.args.names (map header_of c.deref.result.now) (map assignment_of g) (sources_of c.args.roots.items) (types_of c.in-Ok.types.items)) c.deref-2.ensures.value c.in-Ok.ensures.ok) in
+pub circular_at-requires-clause-assigned : goal.circular_at-requires-clause-assigned
+circular_at-requires-clause-assigned c =
     let inside : c.in-Err-unfold_all.circular < length c.in-Ok.types.items = subst (λ l. c.in-Err-unfold_all.circular < length l) c.deref-3.ensures.value c.in-Err-unfold_all.ensures.0 in
-    let t = typed (record { roots = c.numbered_there.ensures.roots; assigned = c.numbered_there.ensures.assigned; closed = c.numbered_linked.ensures.closed; linked = c.numbered_linked.ensures.linked }) c.args.names c.args.headers.items c.args.assignments.items c.args.roots.items c.args.values.items (types_of c.in-Ok.types.items) all c.requires.named c.in-Err-unfold_all.circular (type_of c.index.result.now)
-    (type_at c.in-Ok.types.items c.in-Err-unfold_all.circular c.index.result.now inside c.index.ensures) in
-    omega (arith, t)
+    let t = typed (record { roots = c.numbered_there.ensures.roots; stand = c.numbered_there.ensures.assigned; closed = c.numbered_linked.ensures.closed; linked = c.numbered_linked.ensures.linked }) c.args.gathered c.requires.ready (types_of c.in-Ok.types.items) (table_of c.args.gathered c.of-names.result c.deref.result.now c.deref-2.result.now (types_of c.in-Ok.types.items) c.of-names.ensures c.deref.ensures.value c.deref-2.ensures.value c.in-Ok.ensures.ok) c.in-Err-unfold_all.circular (type_of c.index.result.now) (type_at c.in-Ok.types.items c.in-Err-unfold_all.circular c.index.result.now inside c.index.ensures) in
+    omega (arith, t, ap length c.deref-in-Err-unfold_all-2.ensures.value)
 
-pub index-header-requires : goal.index-header-requires
-index-header-requires c =
-    let all = subst (λ h. AreNumbered c.args.names (map header_of h) (map assignment_of c.args.assignments.items) (sources_of c.args.roots.items) (types_of c.in-Ok.types.items)) c.deref.ensures.value
-    (subst (λ g. AreNumbered c.args.names (map header_of c.deref.result.now) (map assignment_of g) (sources_of c.args.roots.items) (types_of c.in-Ok.types.items)) c.deref-2.ensures.value c.in-Ok.ensures.ok) in
-    let inside : c.in-Err-unfold_all.circular < length c.in-Ok.types.items = subst (λ l. c.in-Err-unfold_all.circular < length l) c.deref-3.ensures.value c.in-Err-unfold_all.ensures.0 in
-    let written = type_at c.in-Ok.types.items c.in-Err-unfold_all.circular c.index.result.now inside c.index.ensures in
-    let within : c.index.result.now.assignment < length c.args.assignments.items = typed (record { roots = c.numbered_there.ensures.roots; assigned = c.numbered_there.ensures.assigned; closed = c.numbered_linked.ensures.closed; linked = c.numbered_linked.ensures.linked }) c.args.names c.args.headers.items c.args.assignments.items c.args.roots.items c.args.values.items (types_of c.in-Ok.types.items) all c.requires.named c.in-Err-unfold_all.circular (type_of c.index.result.now) written in
-    let h = c.requires.placed c.index.result.now.assignment c.index-assignment.result.now (slice_get_read c.args.assignments.items (length c.args.assignments.items) c.index.result.now.assignment c.index-assignment.result.now refl within c.index-assignment.ensures) in
-    omega (arith, h)
+pub circular_at-requires-clause-placed : goal.circular_at-requires-clause-placed
+circular_at-requires-clause-placed c = λ k a e.
+    let h = c.requires.ready.placed k a (ap (λ l. slice_get l k) (sym c.deref-in-Err-unfold_all-2.ensures.value) ∙ e) in
+    omega (arith, h, ap length c.deref-in-Err-unfold_all.ensures.value)
 
-pub returns-in_ok-from_str-in-Err-unfold_all-clause-fault : goal.returns-in_ok-from_str-in-Err-unfold_all-clause-fault
-returns-in_ok-from_str-in-Err-unfold_all-clause-fault c =
-    let all = subst (λ h. AreNumbered c.args.names (map header_of h) (map assignment_of c.args.assignments.items) (sources_of c.args.roots.items) (types_of c.in-Ok.types.items)) c.deref.ensures.value
-    (subst (λ g. AreNumbered c.args.names (map header_of c.deref.result.now) (map assignment_of g) (sources_of c.args.roots.items) (types_of c.in-Ok.types.items)) c.deref-2.ensures.value c.in-Ok.ensures.ok) in
+pub returns-in-Err-unfold_all-clause-fault : goal.returns-in-Err-unfold_all-clause-fault
+returns-in-Err-unfold_all-clause-fault c =
     let inside : c.in-Err-unfold_all.circular < length c.in-Ok.types.items = subst (λ l. c.in-Err-unfold_all.circular < length l) c.deref-3.ensures.value c.in-Err-unfold_all.ensures.0 in
-    let written = type_at c.in-Ok.types.items c.in-Err-unfold_all.circular c.index.result.now inside c.index.ensures in
-    let within : c.index.result.now.assignment < length c.args.assignments.items = typed (record { roots = c.numbered_there.ensures.roots; assigned = c.numbered_there.ensures.assigned; closed = c.numbered_linked.ensures.closed; linked = c.numbered_linked.ensures.linked }) c.args.names c.args.headers.items c.args.assignments.items c.args.roots.items c.args.values.items (types_of c.in-Ok.types.items) all c.requires.named c.in-Err-unfold_all.circular (type_of c.index.result.now) written in
-    let placed = c.requires.placed c.index.result.now.assignment c.index-assignment.result.now (slice_get_read c.args.assignments.items (length c.args.assignments.items) c.index.result.now.assignment c.index-assignment.result.now refl within c.index-assignment.ensures) in
-    let module-is : string_bytes c.in_ok-module-in-Err-unfold_all.module ≡ string_bytes c.index-header.result.now.name = search rules in
-    let name-is : string_bytes c.in_ok-from_str-in-Err-unfold_all.field-0 ≡ string_bytes c.index-assignment.result.now.name = search rules in
-    record {
-      types = types_of c.in-Ok.types.items;
-      numbered = all;
-      number = c.in-Err-unfold_all.circular;
-      written = type_of c.index.result.now;
-      there = written;
-      circular = subst (λ l. IsCircular (types_of l) c.in-Err-unfold_all.circular) c.deref-3.ensures.value c.in-Err-unfold_all.ensures.1;
-      owner = c.index-assignment.result.now.module;
-      default = c.index-header.result.now.default;
-      assigned = assignment_at c.args.assignments.items c.index.result.now.assignment c.index-assignment.result.now within c.index-assignment.ensures ∙ ap (λ z. Some (c.index-assignment.result.now.module, z)) (sym name-is);
-      header = header_at c.args.headers.items c.index-assignment.result.now.module c.index-header.result.now placed c.index-header.ensures ∙ ap (λ z. Some (z, c.index-header.result.now.default)) (sym module-is);
-    }
+    circular_fault c.args.gathered c.deref-in-Err-unfold_all.result.now c.deref-in-Err-unfold_all-2.result.now (types_of c.in-Ok.types.items) c.in-Err-unfold_all.circular (type_of c.index.result.now) c.circular_at.result
+    c.deref-in-Err-unfold_all.ensures.value c.deref-in-Err-unfold_all-2.ensures.value (table_of c.args.gathered c.of-names.result c.deref.result.now c.deref-2.result.now (types_of c.in-Ok.types.items) c.of-names.ensures c.deref.ensures.value c.deref-2.ensures.value c.in-Ok.ensures.ok) (type_at c.in-Ok.types.items c.in-Err-unfold_all.circular c.index.result.now inside c.index.ensures)
+    (subst (λ l. IsCircular (types_of l) c.in-Err-unfold_all.circular) c.deref-3.ensures.value c.in-Err-unfold_all.ensures.1) c.circular_at.ensures
