@@ -20,7 +20,7 @@ use Rattle.trees.specs.Values.{Name}
 use Rattle.trees.specs.Constraints.{EndTree, name_end, RangeTree, only, between, RangesTree, ConstraintTree, values_in, sizes_in, chars_in}
 use Rattle.notation.specs.ConstraintGrammar.{positive_end, negative_end, marker, marked, or, by_or, ref, chars, end, range, ranges, size, constraint}
 use Rattle.grammar.specs.Grammar.{parens}
-use Rattle.notation.specs.ConstraintReading.{is_size, is_or, or_then_at, by_or_at, last_chars_at, more_chars_at, chars_at, from_at, minus_at, ellipsis_at, marker_at, named_end, end_at, some_end_at, upper_at, behind_min_at, behind_end_at, single_at, range_at, ranges_at, size_at, from_in_at, values_in_at, inside_at, constraint_at}
+use Rattle.notation.specs.ConstraintReading.{is_size, is_or, or_then_at, by_or_at, last_chars_at, more_chars_at, chars_at, from_at, minus_at, ellipsis_at, marker_at, end_at, some_end_at, upper_at, behind_min_at, behind_end_at, single_at, range_at, ranges_at, size_at, from_in_at, values_in_at, inside_at, constraint_at}
 use Rattle.grammar.specs.Reading.{is_open, parens_at}
 use Rattle.notation.specs.Reading.{ref_name_at, ref_dot_at}
 

@@ -1,5 +1,5 @@
 -- What is read from a place on is a constraint or a size there, all of them are read, and a fault is the first one.
-use Rattle.std.proofs.Common.{◌≡◌, ℕ, ◌||◌, inl, inr, Bool, true, false, List, [], ◌∷◌, ◌++◌, Option, Some, None, Ok, refl, sym, ap, ◌∙◌ as ◌⋆◌}
+use Rattle.std.proofs.Common.{◌≡◌, ℕ, ◌||◌, inl, inr, Bool, true, List, [], ◌∷◌, ◌++◌, Option, Some, None, Ok, refl, sym, ap, ◌∙◌ as ◌⋆◌}
 use Rattle.text.specs.declared.token.Mark.TheVariants.{Range, OpenParenthesis, CloseParenthesis, Minus}
 use Rattle.text.specs.declared.reserved.Word.TheVariants.{From, Size, Min, Max}
 use Rattle.grammar.specs.Lexeme.{Lexeme, Number, Word, Mark}

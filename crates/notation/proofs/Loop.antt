@@ -1,10 +1,10 @@
 -- What the loops of the reader keep.
-use Rattle.std.proofs.Common.{◌≡◌, ℕ, zero, suc, ◌-◌, Bool, true, false, List, [], ◌∷◌, ◌++◌, length, map, Some, None, Ok, Err, refl, sym, ap, subst, ◌∙◌ as ◌⋆◌, arith}
+use Rattle.std.proofs.Common.{◌≡◌, ℕ, zero, suc, ◌-◌, Bool, true, false, List, [], ◌∷◌, ◌++◌, length, map, None, Ok, Err, refl, sym, ap, subst, ◌∙◌ as ◌⋆◌, arith}
 use Rattle.std.proofs.lemmas.List.{append-nil}
 use Rattle.std.specs.Global.{Vec}
 use Rattle.text.specs.declared.token.Mark.TheVariants.{Colon}
 use Rattle.grammar.specs.Lexeme.{Lexeme, Ident, Number, Mark}
-use Rattle.grammar.specs.Reading.{Beyond, Integer, Read, Reader, ◌>>=◌, with_front, stop, fitting, behind_commas_at, listed_at, named_at, next_comma}
+use Rattle.grammar.specs.Reading.{Beyond, Integer, Read, ◌>>=◌, with_front, stop, fitting}
 use Rattle.grammar.specs.Places.{small}
 use Rattle.grammar.specs.Short.{Short, short_of}
 use Rattle.grammar.specs.Loops.{Shrinks, sound_short, regroup}

@@ -1,5 +1,5 @@
 -- What is read from a place on is a value there, all of them are read, and a fault is the first one.
-use Rattle.std.proofs.Common.{◌≡◌, ℕ, zero, suc, ◌≤◌, ◌+◌, ◌||◌, inl, inr, Bool, true, false, List, [], ◌∷◌, ◌++◌, Ok, refl, sym, ap, subst, ◌∙◌ as ◌⋆◌, arith}
+use Rattle.std.proofs.Common.{◌≡◌, ℕ, zero, suc, ◌≤◌, ◌+◌, ◌||◌, inl, inr, Bool, true, List, [], ◌∷◌, ◌++◌, Ok, refl, sym, ap, subst, ◌∙◌ as ◌⋆◌, arith}
 use Rattle.text.specs.declared.token.Mark.TheVariants.{Colon}
 use Rattle.grammar.specs.Lexeme.{Lexeme, Ident, Mark}
 use Rattle.grammar.specs.Grammar.{Grammar, token, number_of, ◌∙◌, many, behind, listed, braces}

@@ -10,7 +10,7 @@ use Rattle.grammar.specs.Lists.{left_sound, right_sound, stop_sound, closed_soun
 use Rattle.grammar.specs.Numbers.{Past, fitting_sound}
 use Rattle.grammar.specs.Places.{any}
 use Rattle.trees.specs.Values.{Tree, yes, no, null, binary, hex, chars, reference, chosen, nothing, numbers, items, fields, trees, members}
-use Rattle.notation.specs.Value.{positive, negative, simple, nested, value}
+use Rattle.notation.specs.Value.{positive, simple, nested, value}
 use Rattle.notation.specs.Reading.{negative_at, ref_name_at, ref_dot_at, referred, numbers_at, items_at, fields_at, follows_name, by_name_at, two_numbers_at, by_number_at, braced_at, alternative_at, step_at, value_at}
 
 -- the productions of what opens

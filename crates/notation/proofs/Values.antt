@@ -1,5 +1,5 @@
 -- Values, from their first lexeme on.
-use Rattle.std.proofs.Common.{◌≡◌, ℕ, ◌≤◌, inl, inr, Bool, true, false, List, [], ◌∷◌, ◌++◌, length, None, Ok, refl, sym, ap, subst, ◌∙◌ as ◌⋆◌, arith}
+use Rattle.std.proofs.Common.{◌≡◌, ℕ, ◌≤◌, inl, inr, Bool, true, List, [], ◌∷◌, ◌++◌, length, None, Ok, refl, sym, ap, subst, ◌∙◌ as ◌⋆◌, arith}
 use Rattle.text.specs.declared.token.Mark.TheVariants.{Colon, Dot, Minus, OpenBrace, CloseBrace}
 use Rattle.text.specs.declared.reserved.Word.TheVariants.{True, False, Null}
 use Rattle.grammar.specs.Lexeme.{Lexeme, TypeRef, Ident, Number, BString, HString, CString, Word, Mark}
@@ -9,7 +9,7 @@ use Rattle.grammar.specs.Laws.{Follows, Passes, Stands, Finds, passes_on, passes
 use Rattle.grammar.specs.Lists.{IsSolid, Next, braces_is, braces_front}
 use Rattle.grammar.specs.Numbers.{fitting_passes, fitting_shrinks, fitting_stands}
 use Rattle.trees.specs.Values.{Tree, yes, no, null, binary, hex, chars, reference, chosen, nothing, numbers, items, fields, trees, members}
-use Rattle.notation.specs.Value.{positive, negative, simple, nested}
+use Rattle.notation.specs.Value.{positive, simple, nested}
 use Rattle.notation.specs.Reading.{negative_at, ref_name_at, ref_dot_at, referred, braced_at, alternative_at, step_at}
 use Rattle.notation.proofs.Sounds.{three_numbers}
 use Rattle.notation.specs.Laws.{starts, goes_on}

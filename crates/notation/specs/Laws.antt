@@ -8,8 +8,8 @@ use Rattle.grammar.specs.Grows.{Grows}
 use Rattle.grammar.specs.Answers.{Reads, one_stop, not_both, one_limit}
 use Rattle.grammar.specs.Laws.{nowhere, deeper, wider, higher, Sound, Finds}
 use Rattle.grammar.specs.Lists.{IsSolid}
-use Rattle.grammar.specs.Places.{Limits, Limited, Within, any, small, Stops, Ends, PassesLimit}
-use Rattle.grammar.specs.Reading.{Limit, Nesting, Integer, Reader}
+use Rattle.grammar.specs.Places.{Limits, Limited, Within, any, small, Ends}
+use Rattle.grammar.specs.Reading.{Reader}
 use Rattle.kernel.specs.declared.fault.Limit.{Limit as Limit'}
 use Rattle.kernel.specs.declared.fault.Limit.TheVariants as limits
 use Rattle.kernel.specs.Given.{limit_of}

@@ -1,5 +1,5 @@
 -- The grammar of values (X.680, clause 17.1 and the clauses of each kind of value).
-use Rattle.std.specs.Prelude.{ℕ, zero, suc, Bool, true, ◌∷◌, Some, None, pos, neg_ℤ}
+use Rattle.std.specs.Prelude.{ℕ, zero, suc, Bool, ◌∷◌, Some, None, pos, neg_ℤ}
 use Rattle.text.specs.declared.token.Mark.TheVariants.{Colon, Dot, Minus, OpenBrace, CloseBrace}
 use Rattle.text.specs.declared.reserved.Word.TheVariants.{True, False, Null}
 use Rattle.grammar.specs.Lexeme.{TypeRef, Ident, Number, BString, HString, CString, Mark}

@@ -16,9 +16,9 @@ pub fn positive(text: &[u8], token: Token, left: usize) -> Result<i128, ReadErro
     requires number { token.kind ≡ kinds.Number }
     ensures { MatchResult result
         (λ n. (n ≡ pos (number_in text.now token))
-            × (small (number_in text.now token) ≡ true))
+        × (small (number_in text.now token) ≡ true))
         (λ e. (e ≡ ReadError.Limit Limit.Integer left)
-            × (small (number_in text.now token) ≡ false)) }
+        × (small (number_in text.now token) ≡ false)) }
 {
     match small_number(text, token, left) {
         Ok(number) => Ok(number as i128),

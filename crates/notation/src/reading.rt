@@ -279,8 +279,8 @@ fn next_number<'a>(text: &[u8], tokens: &'a [Token]) -> Option<(Token, &'a [Toke
     requires tokens { AreTokens text.now tokens.now }
     ensures { MatchOption result (next_number (lexemes text.now tokens.now) ≡ None)
         (λ x. (lexemes text.now tokens.now ≡ Number (number_in text.now x.0) ∷ lexemes text.now x.1.now)
-            × (x.0.kind ≡ kinds.Number) × IsTokenOf text.now x.0
-            × AreTokens text.now x.1.now × (length x.1.now < length tokens.now)) }
+        × (x.0.kind ≡ kinds.Number) × IsTokenOf text.now x.0
+        × AreTokens text.now x.1.now × (length x.1.now < length tokens.now)) }
 {
     match tokens {
         [

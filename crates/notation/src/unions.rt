@@ -17,7 +17,7 @@ fn or<'a>(text: &[u8], tokens: &'a [Token]) -> Option<&'a [Token]>
     requires tokens { AreTokens text.now tokens.now }
     ensures { MatchOption result (next_or (lexemes text.now tokens.now) ≡ None)
         (λ x. (next_or (lexemes text.now tokens.now) ≡ Some (lexemes text.now x.now))
-            × AreTokens text.now x.now × (length x.now < length tokens.now)) }
+        × AreTokens text.now x.now × (length x.now < length tokens.now)) }
 {
     match tokens {
         [

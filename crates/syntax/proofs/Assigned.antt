@@ -1,5 +1,5 @@
 -- What the readers of heads and of assignments keep, for the modules that have them.
-use Rattle.std.proofs.Common.{◌≡◌, ℕ, suc, ◌≤◌, Bool, true, false, refl}
+use Rattle.std.proofs.Common.{◌≡◌, ℕ, suc, Bool, true, false, refl}
 use Rattle.text.specs.declared.reserved.Word.TheVariants.{End}
 use Rattle.grammar.specs.Lexeme.{Lexeme, TypeRef, Ident, Word}
 use Rattle.grammar.specs.Grows.{Grows}

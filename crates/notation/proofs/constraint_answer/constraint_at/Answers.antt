@@ -1,4 +1,4 @@
-use Rattle.std.proofs.Common.{◌≡◌, ℕ, ◌-◌, ◌≤◌, List, length, take, drop, Err, refl}
+use Rattle.std.proofs.Common.{◌-◌, length}
 use Rattle.grammar.specs.Lexeme.{lexemes}
 use Rattle.grammar.specs.Reading.{Unexpected, Beyond}
 use Rattle.grammar.specs.Places.{small, bounded}
