@@ -12,12 +12,12 @@ use Rattle.std.proofs.lemmas.Option.{slice_get-map, slice_get_read, slice_get_wi
 use Rattle.asn_base.specs.declared.tag.Class.{Class}
 use Rattle.asn_base.specs.declared.tag.Class.TheVariants.{Universal, Application, Context, Private}
 use Rattle.tagging.specs.Tags.{Label}
-use Rattle.type_table.specs.declared.table.ListKind.{ListKind}
-use Rattle.type_table.specs.declared.table.ListKind.TheVariants.{Sequence, Set, Choice}
+use Rattle.trees.specs.declared.types.ListKind.{ListKind}
+use Rattle.trees.specs.declared.types.ListKind.TheVariants.{Sequence, Set, Choice}
 use Rattle.type_table.specs.Table.{Part, Type'}
 use Rattle.tagging.specs.First.{may_be_absent, Together, Distinct}
-use Rattle.tagging.specs.Heads.{AreFirst}
-use Rattle.tagging.specs.Lists.{Collected, none, one, tag_lists, Reaches, IsClear, Upto, class_number, key_of, key_cmp, IsIn, HasKey, IsHeld, IsMet}
+use Rattle.tagging.specs.proving.Heads.{AreFirst}
+use Rattle.tagging.specs.proving.Lists.{Collected, none, one, tag_lists, Reaches, IsClear, Upto, class_number, key_of, key_cmp, IsIn, HasKey, Holds, Meets}
 use Rattle.tagging.specs.Tagged.{Clash}
 use Rattle.tagging.proofs.Tables.{contains_at, contained_at}
 
@@ -62,18 +62,18 @@ collected_at ts cs us (suc k) c u (one {cs = cs'} {vs = vs} a w) e f = collected
 pub list_at : (vs : List (Vec Label Global)) (k : ℕ) (v : Vec Label Global) → k < length vs → v ≡ get_or vs k v → slice_get (tag_lists vs) k ≡ Some v.items
 list_at vs k v l e = slice_get-map (λ x. x.items) vs k ∙ ap (option_map (λ x. x.items)) (slice_get_read vs (length vs) k v refl l e)
 
-pub absent_before : (k : ListKind) (cs : List Part) (q p : ℕ) (c : Part) → p + 1 ≡ q → slice_get cs p ≡ Some c → may_be_absent c.presence ≡ true → Reaches k cs q
+pub absent_before : (k : ListKind) (cs : List Part) (q p : ℕ) (c : Part) → p + 1 ≡ q → slice_get cs p ≡ Some c → may_be_absent c ≡ true → Reaches k cs q
 absent_before Sequence cs q p c e f t = λ r d s g.
     let u : r ≡ p = omega arith in
     let v : c ≡ d = some_one (sym f ∙ ap (slice_get cs) (sym u) ∙ g) in
-    subst (λ z. may_be_absent z.presence ≡ true) v t
+    subst (λ z. may_be_absent z ≡ true) v t
   where
     some_one : {a b : Part} → Some a ≡ Some b → a ≡ b
     some_one h = cc
 absent_before Set cs q p c e f t = tt
 absent_before Choice cs q p c e f t = tt
 
-pub absent_there : (k : ListKind) (cs : List Part) (q p : ℕ) (c : Part) → p + 1 ≡ q → slice_get cs p ≡ Some c → k ≡ Sequence → Reaches k cs q → may_be_absent c.presence ≡ true
+pub absent_there : (k : ListKind) (cs : List Part) (q p : ℕ) (c : Part) → p + 1 ≡ q → slice_get cs p ≡ Some c → k ≡ Sequence → Reaches k cs q → may_be_absent c ≡ true
 absent_there Sequence cs q p c e f s r = r p c e f
 absent_there Set cs q p c e f s r = absurd cc
 absent_there Choice cs q p c e f s r = absurd cc
@@ -220,14 +220,6 @@ pub none_end : (us : List Label) (n : ℕ) (keys : List (ℕ × ℕ)) → length
 none_end us n keys l f x b h = let w = slice_get_within us b.place b.tag b.there in f x (record { has = b; few = omega (arith, l, w) }) h
 
 -- ---- tags that the members before a place have left
-
--- the set holds the tags that the members before place q have left
-abbrev pub Holds : ListKind → List Part → List (List Label) → ℕ → List (ℕ × ℕ) → Type 0
-Holds k cs vs q keys = (x : ℕ × ℕ) → (IsIn keys x → IsHeld k cs vs q x) × (IsHeld k cs vs q x → IsIn keys x)
-
--- of those it holds what the member at place q can meet
-abbrev pub Meets : ListKind → List Part → List (List Label) → ℕ → List (ℕ × ℕ) → Type 0
-Meets k cs vs q keys = (x : ℕ × ℕ) → (IsIn keys x → IsMet k cs vs q x) × (IsMet k cs vs q x → IsIn keys x)
 
 pub holds_first : (k : ListKind) (cs : List Part) (vs : List (List Label)) (keys : List (ℕ × ℕ)) → keys ≡ [] → Holds k cs vs 0 keys
 holds_first k cs vs keys e x = (λ h. absurd (none_in keys x e h), λ m. absurd (omega (arith, m.before)))

@@ -1,24 +1,25 @@
 -- The outermost tags of members, and the tags that can stand first.
-use Rattle.std.proofs.Common.{◌≡◌, ◌⊎◌, inl, inr, ℕ, zero, suc, ◌+◌, ◌-◌, ◌<◌, Bool, true, false, List, [], ◌∷◌, ◌++◌, length, Option, Some, None, refl, sym, ap, ◌∙◌, arith, subst}
-use Rattle.std.specs.Prelude.{slice_get, slice_index_or, Contains, All, MatchResult, Result, Ok, Err, Vec, is_none, is_some, not}
+use Rattle.std.proofs.Common.{◌≡◌, ◌⊎◌, inl, inr, ℕ, zero, suc, ◌+◌, ◌-◌, ◌<◌, Bool, false, List, [], ◌∷◌, ◌++◌, length, Option, Some, None, refl, sym, ap, ◌∙◌, arith, subst}
+use Rattle.std.specs.Prelude.{slice_get, slice_index_or, Contains, All, MatchResult, Result, Ok, Err, Vec}
 use Rattle.std.specs.Global.{Global}
 use Rattle.std.proofs.lemmas.Bool.{cases_lt}
 use Rattle.trees.specs.declared.module.TagDefault.{TagDefault}
-use Rattle.type_table.specs.Table.{Part, Type', Kind, simple, reference, tagged, members, elements, behind as behind_kind, behind_of, next, onward, walk, Is, IsCore, IsLinked}
-use Rattle.type_table.specs.declared.table.ListKind.{ListKind}
-use Rattle.type_table.specs.declared.table.ListKind.TheVariants.{Sequence, Set, Choice}
+use Rattle.type_table.specs.Table.{Part}
+use Rattle.trees.specs.declared.types.ListKind.{ListKind}
+use Rattle.trees.specs.declared.types.ListKind.TheVariants.{Sequence, Set, Choice}
+use Rattle.type_table.specs.Table.{Type', Kind, simple, reference, tagged, members, elements, behind as behind_kind, behind_of, next, onward, walk, Is, IsCore, IsLinked}
 use Rattle.tagging.proofs.Walks.{stops}
 use Rattle.tagging.specs.declared.path.Form.{Form}
 use Rattle.tagging.specs.declared.path.FormedTag.{FormedTag}
-use Rattle.tagging.specs.Tags.{Label, label, Path, path_of, context_tag, outermost, automatic, Written, core, behind, own, Tags, as_written, numbered}
-use Rattle.tagging.specs.Step.{Outermost, form_before, Adds}
+use Rattle.tagging.specs.Tags.{Label, label, Path, path_of, context_tag, outermost, automatic, form_of, Written, core, behind, own, Tags, as_written, numbered}
+use Rattle.tagging.specs.proving.Step.{Outermost, Adds}
 use Rattle.trees.specs.declared.types.Keyword.TheVariants.{Absent}
 use Rattle.trees.specs.declared.module.TagDefault.TheVariants.{Automatic}
 use Rattle.tagging.specs.First.{First, outermost as outermost_tag, alternative}
-use Rattle.tagging.specs.Heads.{Head, Fronts, none, front, AreFirst, IsFrontFault, IsFirstFault, members_of}
+use Rattle.tagging.specs.proving.Heads.{Head, Fronts, none, front, AreFirst, IsFrontFault, IsFirstFault, members_of}
 use Rattle.tagging.specs.declared.first.FrontFault.{FrontFault}
 use Rattle.tagging.specs.declared.first.FrontFault.TheVariants.{Memory, Untagged}
-use Rattle.tagging.proofs.Paths.{form_same, same_kind, written_exists, written_unique}
+use Rattle.tagging.proofs.Paths.{same_kind, written_exists, written_unique}
 
 pub tags_unique : (ts : List Type') (i : ℕ) (p q : Path) → Tags ts i p → Tags ts i q → p ≡ q
 tags_unique ts i p q (as_written e v) (as_written f w) = written_unique ts i p q v w
@@ -65,7 +66,7 @@ head_first ts i t h = first_on ts i t h.path h.tags h.is
 
 pub first_head : (ts : List Type') (i : ℕ) (t u : Label) → Head ts i (Some u) → First ts i t → u ≡ t
 first_head ts i t u h (outermost_tag g) = let e = head_unique ts i (Some u) (Some t) h (record { path = _; tags = g; is = refl }) in cc
-first_head ts i t u h (alternative c cs n a g k m e f) = let e = head_unique ts i (Some u) None h (record { path = _; tags = g; is = refl }) in absurd cc
+first_head ts i t u h (alternative c b cs n a g k m e f) = let e = head_unique ts i (Some u) None h (record { path = _; tags = g; is = refl }) in absurd cc
 
 -- a type with a tag has one first tag
 pub one_first : (ts : List Type') (i : ℕ) (t : Label) → Head ts i (Some t) → AreFirst ts i (t ∷ [])
@@ -99,24 +100,24 @@ tag_at ts cs us k a none e = absurd cc
 tag_at ts cs us zero a (front {c = c} {t = t} h f) e = let s : c ≡ a = cc in record { tag = t; few = omega arith; there = λ d. refl; head = subst (λ x. Head ts x.ty (Some t)) s h }
 tag_at ts cs us (suc k) a (front {cs = cs'} {us = us'} h f) e = let r = tag_at ts cs' us' k a f e in record { tag = r.tag; few = omega (arith, r.few); there = λ d. r.there d; head = r.head }
 
-same_members : (ts : List Type') (a b : ℕ) (cs es : List Part) {k l : ListKind} {d e : TagDefault} {m n : Option (ℕ × ℕ)} → a ≡ b → Is ts a (members k cs) d m → Is ts b (members l es) e n → cs ≡ es
-same_members ts a b cs es {k = k} {d = d} {m = m} s x y = let q = same_kind (subst (λ z. Is ts z (members k cs) d m) s x) y in cc
+same_members : (ts : List Type') (a b : ℕ) (u v : Bool) (cs es : List Part) {k l : ListKind} {d e : TagDefault} {m n : Option (ℕ × ℕ)} → a ≡ b → Is ts a (members k u cs) d m → Is ts b (members l v es) e n → cs ≡ es
+same_members ts a b u v cs es {k = k} {d = d} {m = m} s x y = let q = same_kind (subst (λ z. Is ts z (members k u cs) d m) s x) y in cc
 
-all_of : (ts : List Type') (i c : ℕ) (cs : List Part) (us : List Label) (d : TagDefault) (l : Option (ℕ × ℕ)) (t : Label) →
-    Head ts i None → IsCore ts i c → Is ts c (members Choice cs) d l → Fronts ts cs us → First ts i t → Contains us t
-all_of ts i c cs us d l t h k m f (outermost_tag g) = let e = head_unique ts i None (Some t) h (record { path = _; tags = g; is = refl }) in absurd cc
-all_of ts i c cs us d l t h k m f (alternative c' cs' n a g k' m' e x) =
+all_of : (ts : List Type') (i c : ℕ) (b : Bool) (cs : List Part) (us : List Label) (d : TagDefault) (l : Option (ℕ × ℕ)) (t : Label) →
+    Head ts i None → IsCore ts i c → Is ts c (members Choice b cs) d l → Fronts ts cs us → First ts i t → Contains us t
+all_of ts i c b cs us d l t h k m f (outermost_tag g) = let e = head_unique ts i None (Some t) h (record { path = _; tags = g; is = refl }) in absurd cc
+all_of ts i c b cs us d l t h k m f (alternative c' b' cs' n a g k' m' e x) =
     let s = core_unique ts i c' c k' k in
-    let r : cs' ≡ cs = same_members ts c' c cs' cs s m' m in
+    let r : cs' ≡ cs = same_members ts c' c b' b cs' cs s m' m in
     let w = tag_at ts cs us n a f (ap (λ z. slice_get z n) (sym r) ∙ e) in
     (n, w.few, w.there t ∙ first_head ts a.ty t w.tag w.head x)
 
 -- those of an untagged CHOICE are its alternatives'
-pub choice_first : (ts : List Type') (i c : ℕ) (cs : List Part) (us : List Label) (d : TagDefault) (l : Option (ℕ × ℕ)) →
-    Head ts i None → IsCore ts i c → Is ts c (members Choice cs) d l → Fronts ts cs us → AreFirst ts i us
-choice_first ts i c cs us d l h k m f = record {
-  each = λ t g. let w = front_at ts cs us g.0 t f g.1 g.2 in alternative c cs g.0 w.member (untagged h.path h.tags h.is) k m w.there (head_first ts w.member.ty t w.head);
-  all = λ t g. all_of ts i c cs us d l t h k m f g;
+pub choice_first : (ts : List Type') (i c : ℕ) (b : Bool) (cs : List Part) (us : List Label) (d : TagDefault) (l : Option (ℕ × ℕ)) →
+    Head ts i None → IsCore ts i c → Is ts c (members Choice b cs) d l → Fronts ts cs us → AreFirst ts i us
+choice_first ts i c b cs us d l h k m f = record {
+  each = λ t g. let w = front_at ts cs us g.0 t f g.1 g.2 in alternative c b cs g.0 w.member (untagged h.path h.tags h.is) k m w.there (head_first ts w.member.ty t w.head);
+  all = λ t g. all_of ts i c b cs us d l t h k m f g;
 }
   where
     untagged : (p : Path) → Tags ts i p → None ≡ outermost p → Tags ts i []
@@ -135,8 +136,8 @@ own_behind : (k : Kind) (p : Path) → own k ≡ Some p → behind_kind k ≡ No
 own_behind (simple n) p e = refl
 own_behind (reference j) p e = absurd cc
 own_behind (tagged t w j) p e = absurd cc
-own_behind (members m cs) p e = refl
-own_behind (elements y z j) p e = refl
+own_behind (members m b cs) p e = refl
+own_behind (elements y j) p e = refl
 
 own_stops : (ts : List Type') (i c n : ℕ) (k : Kind) (d : TagDefault) (l : Option (ℕ × ℕ)) (p : Path) → Is ts i k d l → own k ≡ Some p → walk ts (suc n) i ≡ Some c → ⊥
 own_stops ts i c n k d l p h e w =
@@ -151,28 +152,32 @@ untagged_core ts i c (suc n) k d l (core {k = k'} h e) w f g = absurd (own_stops
 untagged_core ts i c zero k d l (behind h v) w f g = let s : i ≡ c = cc in let x = sym (ap (next ts) s) ∙ ap behind_of h.found in let y = sym f ∙ x in absurd cc
 untagged_core ts i c (suc n) k d l (behind {j = j} h v) w f g = untagged_core ts j c n k d l v (sym (ap (λ o. onward o (λ q. walk ts n q)) (ap behind_of h.found)) ∙ w) f g
 
-is_choice : (ts : List Type') (c : ℕ) (k : Kind) (d : TagDefault) (l : Option (ℕ × ℕ)) → own k ≡ Some [] → Is ts c k d l → Is ts c (members Choice (members_of k)) d l
+abbrev marker_of : Kind → Bool
+marker_of (members k m cs) = m
+marker_of k = false
+
+is_choice : (ts : List Type') (c : ℕ) (k : Kind) (d : TagDefault) (l : Option (ℕ × ℕ)) → own k ≡ Some [] → Is ts c k d l → Is ts c (members Choice (marker_of k) (members_of k)) d l
 is_choice ts c (simple n) d l e g = absurd cc
 is_choice ts c (reference j) d l e g = absurd cc
 is_choice ts c (tagged t w j) d l e g = absurd cc
-is_choice ts c (members Sequence cs) d l e g = absurd cc
-is_choice ts c (members Set cs) d l e g = absurd cc
-is_choice ts c (members Choice cs) d l e g = g
-is_choice ts c (elements y z j) d l e g = absurd cc
+is_choice ts c (members Sequence m cs) d l e g = absurd cc
+is_choice ts c (members Set m cs) d l e g = absurd cc
+is_choice ts c (members Choice m cs) d l e g = g
+is_choice ts c (elements y j) d l e g = absurd cc
 
 written_of : (ts : List Type') (i : ℕ) (p : Path) → Tags ts i p → None ≡ outermost p → Written ts i []
 written_of ts i [] (as_written e w) f = w
 written_of ts i (x ∷ p) h f = absurd cc
 
-pub choice_core : (ts : List Type') (i c : ℕ) (k : Kind) (d : TagDefault) (l : Option (ℕ × ℕ)) → Head ts i None → IsCore ts i c → Is ts c k d l → Is ts c (members Choice (members_of k)) d l
+pub choice_core : (ts : List Type') (i c : ℕ) (k : Kind) (d : TagDefault) (l : Option (ℕ × ℕ)) → Head ts i None → IsCore ts i c → Is ts c k d l → Is ts c (members Choice (marker_of k) (members_of k)) d l
 choice_core ts i c k d l h u g = is_choice ts c k d l (untagged_core ts i c u.steps k d l (written_of ts i h.path h.tags h.is) u.leads u.ends g) g
 
 pub parts_of : (ts : List Type') (i : ℕ) (k : Kind) (d : TagDefault) (l : Option (ℕ × ℕ)) → IsLinked ts → Is ts i k d l → All (λ c. c.ty < length ts) (members_of k)
 parts_of ts i (simple n) d l h g = λ m c z. absurd (omega arith)
 parts_of ts i (reference j) d l h g = λ m c z. absurd (omega arith)
 parts_of ts i (tagged t w j) d l h g = λ m c z. absurd (omega arith)
-parts_of ts i (members k cs) d l h g = h.parts i k cs d l g
-parts_of ts i (elements y z j) d l h g = λ m c z. absurd (omega arith)
+parts_of ts i (members k m cs) d l h g = h.parts i k m cs d l g
+parts_of ts i (elements y j) d l h g = λ m c z. absurd (omega arith)
 
 pub headless : (ts : List Type') (i : ℕ) → Head ts i None → Tags ts i []
 headless ts i h = no_tags h.path h.tags h.is
@@ -182,14 +187,14 @@ headless ts i h = no_tags h.path h.tags h.is
     no_tags (x ∷ p) g e = absurd cc
 
 -- a member that is an untagged CHOICE, in a CHOICE or a SET
-pub front_untagged : (ts : List Type') (k : ListKind) (cs : List Part) (i : ℕ) (d : TagDefault) (p : Option (ℕ × ℕ)) (e : FrontFault) → (k ≡ Choice) ⊎ (k ≡ Set) → Is ts i (members k cs) d p → IsFrontFault ts cs e → IsFirstFault ts e
-front_untagged ts k cs i d p Memory w h f = tt
-front_untagged ts k cs i d p (Untagged j) w h f = record { list = i; kind = k; cs = cs; default = d; place = p; is = h; within = w; number = f.0; member = f.1; there = f.2; at = f.3; untagged = headless ts j f.4 }
+pub front_untagged : (ts : List Type') (k : ListKind) (m : Bool) (cs : List Part) (i : ℕ) (d : TagDefault) (p : Option (ℕ × ℕ)) (e : FrontFault) → (k ≡ Choice) ⊎ (k ≡ Set) → Is ts i (members k m cs) d p → IsFrontFault ts cs e → IsFirstFault ts e
+front_untagged ts k m cs i d p Memory w h f = tt
+front_untagged ts k m cs i d p (Untagged j at) w h f = record { list = i; kind = k; marker = m; cs = cs; default = d; place = p; is = h; within = w; number = f.0; member = f.1; there = f.2; at = f.3; untagged = headless ts j f.4 }
 
 pub choice_answer : (ts : List Type') (i c : ℕ) (k : Kind) (d : TagDefault) (l : Option (ℕ × ℕ)) (r : Result (Vec Label Global) FrontFault) → Head ts i None → IsCore ts i c → Is ts c k d l →
     MatchResult r (λ v. Fronts ts (members_of k) v.items) (IsFrontFault ts (members_of k)) → MatchResult r (λ v. AreFirst ts i v.items) (IsFirstFault ts)
-choice_answer ts i c k d l (Ok v) h u g f = choice_first ts i c (members_of k) v.items d l h u (choice_core ts i c k d l h u g) f
-choice_answer ts i c k d l (Err e) h u g f = front_untagged ts Choice (members_of k) c d l e (inl refl) (choice_core ts i c k d l h u g) f
+choice_answer ts i c k d l (Ok v) h u g f = choice_first ts i c (marker_of k) (members_of k) v.items d l h u (choice_core ts i c k d l h u g) f
+choice_answer ts i c k d l (Err e) h u g f = front_untagged ts Choice (marker_of k) (members_of k) c d l e (inl refl) (choice_core ts i c k d l h u g) f
 
 pub single_answer : (ts : List Type') (i : ℕ) (t : Label) (r : Result (Vec Label Global) FrontFault) → Head ts i (Some t) → MatchResult r (λ v. v.items ≡ t ∷ []) (λ e. e ≡ Memory) → MatchResult r (λ v. AreFirst ts i v.items) (IsFirstFault ts)
 single_answer ts i t (Ok v) h e = subst (AreFirst ts i) (sym e) (one_first ts i t h)
@@ -200,22 +205,11 @@ either_default [] i d e l = absurd (omega arith)
 either_default (x ∷ xs) zero d e l = refl
 either_default (x ∷ xs) (suc i) d e l = either_default xs i d e (omega arith)
 
-pub tags_numbered : (ts : List Type') (i n : ℕ) (p q : Path) (o : Option Label) (f : Form) → automatic ts i ≡ Some n → Written ts i p → Outermost ts i o → f ≡ form_before Absent Automatic (is_none o) →
-    q ≡ (context_tag n, f) ∷ p → Tags ts i q
-tags_numbered ts i n p q o f e w u g h = subst (Tags ts i) (sym h) (numbered e w (g ∙ form_same Absent Automatic p o (u.is ∙ ap outermost (written_unique ts i u.path p u.written w))))
-
-pub none_is : (o : Option Label) (b : Bool) → is_some o ≡ not b → b ≡ is_none o
-none_is None true e = refl
-none_is None false e = absurd cc
-none_is (Some t) true e = absurd cc
-none_is (Some t) false e = refl
-
 pub written_answer : (ts : List Type') (i : ℕ) (b q : Path) → automatic ts i ≡ None → b ≡ [] → Adds ts i b q → Tags ts i q
 written_answer ts i b q e f a = as_written e (subst (Written ts i) (sym (a.is ∙ ap (λ x. x ++ a.path) f)) a.written)
 
-pub numbered_answer : (ts : List Type') (i n : ℕ) (b q : Path) (o : Option Label) (f : Form) → automatic ts i ≡ Some n → Outermost ts i o → f ≡ form_before Absent Automatic (is_none o) →
-    b ≡ (context_tag n, f) ∷ [] → Adds ts i b q → Tags ts i q
-numbered_answer ts i n b q o f e u g h a = tags_numbered ts i n a.path q o f e a.written u g (a.is ∙ ap (λ x. x ++ a.path) h)
+pub numbered_answer : (ts : List Type') (i n : ℕ) (b q : Path) (f : Form) → automatic ts i ≡ Some n → ((p : Path) → Written ts i p → f ≡ form_of Absent Automatic p) → b ≡ (context_tag n, f) ∷ [] → Adds ts i b q → Tags ts i q
+numbered_answer ts i n b q f e g h a = subst (Tags ts i) (sym (a.is ∙ ap (λ x. x ++ a.path) h)) (numbered e a.written (g a.path a.written))
 
 pub pushed_first : (a b : List FormedTag) (x : FormedTag) → b ≡ a ++ x ∷ [] → a ≡ [] → path_of b ≡ (label x.tag, x.form) ∷ []
 pushed_first a b x e f = ap path_of (e ∙ ap (λ y. y ++ x ∷ []) f)

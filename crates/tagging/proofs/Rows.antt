@@ -1,5 +1,5 @@
 -- Worked rows: what the definitions say of small tables.
-use Rattle.std.proofs.Common.{◌≡◌, ℕ, zero, suc, ◌<◌, List, [], ◌∷◌, Option, Some, None, refl, arith, true, subst, inr}
+use Rattle.std.proofs.Common.{◌≡◌, ℕ, zero, suc, ◌<◌, List, [], ◌∷◌, Option, Some, None, refl, sym, arith, true, false, subst, inr}
 use Rattle.std.specs.Prelude.{slice_get}
 use Rattle.asn_base.specs.declared.tag.Class.TheVariants.{Universal, Context}
 use Rattle.asn_base.specs.declared.tag.Tag.{Tag}
@@ -7,21 +7,26 @@ use Rattle.trees.specs.declared.types.Keyword.{Keyword}
 use Rattle.trees.specs.declared.types.Keyword.TheVariants as word
 use Rattle.trees.specs.declared.module.TagDefault.{TagDefault}
 use Rattle.trees.specs.declared.module.TagDefault.TheVariants as tags
-use Rattle.trees.specs.Types.{PresenceTree, mandatory, optional}
-use Rattle.type_table.specs.declared.table.ListKind.TheVariants.{Sequence, Set, Choice}
-use Rattle.type_table.specs.declared.table.ElementsKind.TheVariants.{SequenceOf, SetOf}
-use Rattle.type_table.specs.Table.{a_boolean, an_integer, a_bit_string, an_octet_string, a_null, an_object_identifier, an_enumerated, a_utf8_string, a_numeric_string, a_printable_string, an_ia5_string, a_visible_string, Part, Type', Kind, simple, reference, tagged, members, elements, Is}
+use Rattle.trees.specs.Types.{PresenceTree, mandatory, optional, a_boolean, an_integer, a_bit_string, an_octet_string, a_null, an_object_identifier, a_relative_oid, an_enumerated, a_utf8_string, a_restricted_string}
+use Rattle.trees.specs.declared.types.Standing.TheVariants.{Root, Addition}
+use Rattle.asn_base.specs.declared.strings.StringKind.TheVariants.{Numeric, Printable, Ia5, Visible}
+use Rattle.trees.specs.declared.types.ListKind.TheVariants.{Sequence, Set, Choice}
+use Rattle.trees.specs.declared.types.ElementsKind.TheVariants.{SequenceOf, SetOf}
+use Rattle.type_table.specs.Table.{Part, Type', Kind, simple, reference, tagged, members, elements, Is}
 use Rattle.tagging.specs.declared.path.Form.TheVariants.{Implicit, Explicit}
-use Rattle.tagging.specs.Tags.{own, core, behind, inside, Tags, as_written, numbered, none_written, one_more, automatic}
-use Rattle.tagging.specs.First.{may_be_absent, outermost, alternative, Together}
-use Rattle.tagging.specs.Tagged.{IsOverfull, IsImplicit, IsUntagged, HasClash}
+use Rattle.tagging.specs.Tags.{own, core, behind, inside, Tags, as_written, numbered, none_written, one_more, bears_tag, automatic}
+use Rattle.tagging.specs.First.{is_addition, may_be_absent, outermost, alternative, Together}
+use Rattle.tagging.specs.Tagged.{Bears, IsOverfull, IsImplicit, IsUntagged, IsMixed, HasClash}
 
 -- a type of a table, which stands in a module with this tag default
 abbrev written : Kind → TagDefault → Option (ℕ × ℕ) → Type'
 written k d p = record { kind = k; constraints = []; default = d; place = p; assignment = 0 }
 
 abbrev part : ℕ → PresenceTree → Part
-part i o = record { name = []; ty = i; presence = o }
+part i o = record { name = []; ty = i; presence = o; standing = Root }
+
+abbrev addition : ℕ → PresenceTree → Option ℕ → Part
+addition i o g = record { name = []; ty = i; presence = o; standing = Addition g }
 
 here : {ts : List Type'} {i : ℕ} {k : Kind} {d : TagDefault} {p : Option (ℕ × ℕ)} → slice_get ts i ≡ Some (written k d p) → Is ts i k d p
 here e = record { constraints = []; assignment = 0; found = e }
@@ -60,37 +65,40 @@ own_null = refl
 own_oid : own (simple an_object_identifier) ≡ Some (((Universal, 6), Explicit) ∷ [])
 own_oid = refl
 
-own_enumerated : own (simple (an_enumerated [])) ≡ Some (((Universal, 10), Explicit) ∷ [])
+own_enumerated : own (simple (an_enumerated [] None)) ≡ Some (((Universal, 10), Explicit) ∷ [])
 own_enumerated = refl
 
 own_utf8 : own (simple a_utf8_string) ≡ Some (((Universal, 12), Explicit) ∷ [])
 own_utf8 = refl
 
-own_numeric : own (simple a_numeric_string) ≡ Some (((Universal, 18), Explicit) ∷ [])
+own_relative : own (simple a_relative_oid) ≡ Some (((Universal, 13), Explicit) ∷ [])
+own_relative = refl
+
+own_numeric : own (simple (a_restricted_string Numeric)) ≡ Some (((Universal, 18), Explicit) ∷ [])
 own_numeric = refl
 
-own_printable : own (simple a_printable_string) ≡ Some (((Universal, 19), Explicit) ∷ [])
+own_printable : own (simple (a_restricted_string Printable)) ≡ Some (((Universal, 19), Explicit) ∷ [])
 own_printable = refl
 
-own_ia5 : own (simple an_ia5_string) ≡ Some (((Universal, 22), Explicit) ∷ [])
+own_ia5 : own (simple (a_restricted_string Ia5)) ≡ Some (((Universal, 22), Explicit) ∷ [])
 own_ia5 = refl
 
-own_visible : own (simple a_visible_string) ≡ Some (((Universal, 26), Explicit) ∷ [])
+own_visible : own (simple (a_restricted_string Visible)) ≡ Some (((Universal, 26), Explicit) ∷ [])
 own_visible = refl
 
-own_sequence : own (members Sequence []) ≡ Some (((Universal, 16), Explicit) ∷ [])
+own_sequence : own (members Sequence false []) ≡ Some (((Universal, 16), Explicit) ∷ [])
 own_sequence = refl
 
-own_set : own (members Set []) ≡ Some (((Universal, 17), Explicit) ∷ [])
+own_set : own (members Set false []) ≡ Some (((Universal, 17), Explicit) ∷ [])
 own_set = refl
 
-own_sequence_of : own (elements SequenceOf None 0) ≡ Some (((Universal, 16), Explicit) ∷ [])
+own_sequence_of : own (elements SequenceOf 0) ≡ Some (((Universal, 16), Explicit) ∷ [])
 own_sequence_of = refl
 
-own_set_of : own (elements SetOf None 0) ≡ Some (((Universal, 17), Explicit) ∷ [])
+own_set_of : own (elements SetOf 0) ≡ Some (((Universal, 17), Explicit) ∷ [])
 own_set_of = refl
 
-own_choice : own (members Choice []) ≡ Some []
+own_choice : own (members Choice false []) ≡ Some []
 own_choice = refl
 
 -- [1] IMPLICIT [2] IMPLICIT NULL
@@ -100,19 +108,20 @@ one_two = written (tagged (context 1 below_1) word.Implicit 1) tags.Explicit Non
 one_two_tags : Tags one_two 0 (((Context, 1), Implicit) ∷ ((Context, 2), Implicit) ∷ ((Universal, 5), Explicit) ∷ [])
 one_two_tags = as_written refl (inside (here refl) (inside (here refl) (core (here refl) refl) refl) refl)
 
-absent_as : (a c : Part) → Some a ≡ Some c → may_be_absent a.presence ≡ true → may_be_absent c.presence ≡ true
-absent_as a c e t = let s : a ≡ c = cc in subst (λ x. may_be_absent x.presence ≡ true) s t
+absent_as : (a c : Part) → Some a ≡ Some c → may_be_absent a ≡ true → may_be_absent c ≡ true
+absent_as a c e t = let s : a ≡ c = cc in subst (λ x. may_be_absent x ≡ true) s t
 
 -- SEQUENCE {a INTEGER OPTIONAL, b BOOLEAN OPTIONAL, c INTEGER}
 abbrev run : List Part
 run = part 1 optional ∷ part 2 optional ∷ part 3 mandatory ∷ []
 
 abbrev run_types : TagDefault → List Type'
-run_types d = written (members Sequence run) d None ∷ written int d (Some (0, 0)) ∷ written (simple a_boolean) d (Some (0, 1)) ∷ written int d (Some (0, 2)) ∷ []
+run_types d = written (members Sequence false run) d None ∷ written int d (Some (0, 0)) ∷ written (simple a_boolean) d (Some (0, 1)) ∷ written int d (Some (0, 2)) ∷ []
 
 run_clash : HasClash (run_types tags.Explicit) 0
 run_clash = record {
   kind = Sequence;
+  marker = false;
   cs = run;
   default = tags.Explicit;
   place = None;
@@ -152,12 +161,13 @@ abbrev with_choice : List Part
 with_choice = part 1 optional ∷ part 2 mandatory ∷ []
 
 abbrev choice_types : TagDefault → List Type'
-choice_types d = written (members Sequence with_choice) d None ∷ written int d (Some (0, 0)) ∷ written (members Choice choice_parts) d (Some (0, 1)) ∷
+choice_types d = written (members Sequence false with_choice) d None ∷ written int d (Some (0, 0)) ∷ written (members Choice false choice_parts) d (Some (0, 1)) ∷
     written int d (Some (2, 0)) ∷ written (simple a_null) d (Some (2, 1)) ∷ []
 
 choice_clash : HasClash (choice_types tags.Explicit) 0
 choice_clash = record {
   kind = Sequence;
+  marker = false;
   cs = with_choice;
   default = tags.Explicit;
   place = None;
@@ -173,7 +183,7 @@ choice_clash = record {
     together = both;
     tag = (Universal, 2);
     in_first = outermost (as_written refl (core (here refl) refl));
-    in_second = alternative 2 choice_parts 0 (part 3 mandatory) (as_written refl (core (here refl) refl))
+    in_second = alternative 2 false choice_parts 0 (part 3 mandatory) (as_written refl (core (here refl) refl))
         (record { steps = 0; few = omega arith; leads = refl; ends = refl }) (here refl) refl (outermost (as_written refl (core (here refl) refl)));
   };
 }
@@ -190,12 +200,13 @@ abbrev one_null : List Part
 one_null = part 2 mandatory ∷ []
 
 abbrev set_types : TagDefault → List Type'
-set_types d = written (members Set one_choice) d None ∷ written (members Choice one_null) d (Some (0, 0)) ∷ written (simple a_null) d (Some (1, 0)) ∷ []
+set_types d = written (members Set false one_choice) d None ∷ written (members Choice false one_null) d (Some (0, 0)) ∷ written (simple a_null) d (Some (1, 0)) ∷ []
 
 set_untagged : IsUntagged (set_types tags.Explicit) 1
 set_untagged = record {
   list = 0;
   kind = Set;
+  marker = false;
   cs = one_choice;
   default = tags.Explicit;
   place = None;
@@ -223,12 +234,13 @@ abbrev zero_tag : Tag
 zero_tag = context 0 below_0
 
 abbrev same_types : TagDefault → List Type'
-same_types d = written (members Set same_parts) d None ∷ written (tagged zero_tag word.Absent 3) d (Some (0, 0)) ∷ written (tagged zero_tag word.Absent 4) d (Some (0, 1)) ∷
+same_types d = written (members Set false same_parts) d None ∷ written (tagged zero_tag word.Absent 3) d (Some (0, 0)) ∷ written (tagged zero_tag word.Absent 4) d (Some (0, 1)) ∷
     written (simple a_null) d None ∷ written (simple a_boolean) d None ∷ []
 
 same_clash : HasClash (same_types tags.Implicit) 0
 same_clash = record {
   kind = Set;
+  marker = false;
   cs = same_parts;
   default = tags.Implicit;
   place = None;
@@ -271,7 +283,7 @@ abbrev pair : List Part
 pair = part 1 optional ∷ part 2 mandatory ∷ []
 
 abbrev pair_types : TagDefault → List Type'
-pair_types d = written (members Sequence pair) d None ∷ written int d (Some (0, 0)) ∷ written int d (Some (0, 1)) ∷ []
+pair_types d = written (members Sequence false pair) d None ∷ written int d (Some (0, 0)) ∷ written int d (Some (0, 1)) ∷ []
 
 pair_first : Tags (pair_types tags.Automatic) 1 (((Context, 0), Implicit) ∷ ((Universal, 2), Explicit) ∷ [])
 pair_first = numbered refl (core (here refl) refl) refl
@@ -281,7 +293,7 @@ pair_second = numbered refl (core (here refl) refl) refl
 
 -- C ::= CHOICE {a NULL, b BOOLEAN}, T ::= [0] C with a word or none: type 0 is T, type 1 the reference to C
 abbrev choice_tagged : Keyword → TagDefault → List Type'
-choice_tagged k d = written (tagged zero_tag k 1) d None ∷ written (reference 2) d None ∷ written (members Choice choice_parts) d None ∷
+choice_tagged k d = written (tagged zero_tag k 1) d None ∷ written (reference 2) d None ∷ written (members Choice false choice_parts) d None ∷
     written (simple a_null) d (Some (2, 0)) ∷ written (simple a_boolean) d (Some (2, 1)) ∷ []
 
 through_reference : IsImplicit (choice_tagged word.Implicit tags.Explicit) 0
@@ -294,3 +306,118 @@ explicit_there = as_written refl (inside (here refl) (behind (here refl) (core (
 passing_a_tag : Tags (tag_before 1 ∷ written (reference 2) tags.Explicit None ∷ written (tagged zero_tag word.Implicit 3) tags.Explicit None ∷ written int tags.Explicit None ∷ []) 0
     (((Context, 0), Explicit) ∷ ((Context, 0), Implicit) ∷ ((Universal, 2), Explicit) ∷ [])
 passing_a_tag = as_written refl (inside (here refl) (behind (here refl) (inside (here refl) (core (here refl) refl) refl)) refl)
+
+-- SEQUENCE {a INTEGER OPTIONAL, ..., b INTEGER}
+abbrev extended : List Part
+extended = part 1 optional ∷ addition 2 mandatory None ∷ []
+
+abbrev extended_types : TagDefault → List Type'
+extended_types d = written (members Sequence true extended) d None ∷ written int d (Some (0, 0)) ∷ written int d (Some (0, 1)) ∷ []
+
+extended_clash : HasClash (extended_types tags.Explicit) 0
+extended_clash = record {
+  kind = Sequence;
+  marker = true;
+  cs = extended;
+  default = tags.Explicit;
+  place = None;
+  is = here refl;
+  one = 0;
+  other = 1;
+  clash = record {
+    first = part 1 optional;
+    second = addition 2 mandatory None;
+    before = omega arith;
+    at_first = refl;
+    at_second = refl;
+    together = both;
+    tag = (Universal, 2);
+    in_first = outermost (as_written refl (core (here refl) refl));
+    in_second = outermost (as_written refl (core (here refl) refl));
+  };
+}
+  where
+    both : Together Sequence extended 0 1
+    both zero c l m e = absent_as (part 1 optional) c e refl
+    both (suc r) c l m e = absurd (omega arith)
+
+-- SEQUENCE {a INTEGER, ..., b INTEGER, c INTEGER}: a stands before all additions, but b may be absent
+abbrev behind_mandatory : List Part
+behind_mandatory = part 1 mandatory ∷ addition 2 mandatory None ∷ addition 3 mandatory None ∷ []
+
+root_apart : Together Sequence behind_mandatory 0 1 → ⊥
+root_apart t = let e = t 0 (part 1 mandatory) (omega arith) (omega arith) refl in absurd cc
+
+additions_together : Together Sequence behind_mandatory 1 2
+additions_together zero c l m e = absurd (omega arith)
+additions_together (suc zero) c l m e = absent_as (addition 2 mandatory None) c e refl
+additions_together (suc (suc r)) c l m e = absurd (omega arith)
+
+-- with AUTOMATIC TAGS: SEQUENCE {a BOOLEAN, ..., [[ b INTEGER, c NULL OPTIONAL ]]}: context 0, 1 and 2
+abbrev bracketed : List Part
+bracketed = part 1 mandatory ∷ addition 2 mandatory (Some 0) ∷ addition 3 optional (Some 0) ∷ []
+
+abbrev bracketed_types : List Type'
+bracketed_types = written (members Sequence true bracketed) tags.Automatic None ∷ written (simple a_boolean) tags.Automatic (Some (0, 0)) ∷
+    written int tags.Automatic (Some (0, 1)) ∷ written (simple a_null) tags.Automatic (Some (0, 2)) ∷ []
+
+bracketed_first : Tags bracketed_types 1 (((Context, 0), Implicit) ∷ ((Universal, 1), Explicit) ∷ [])
+bracketed_first = numbered refl (core (here refl) refl) refl
+
+bracketed_second : Tags bracketed_types 2 (((Context, 1), Implicit) ∷ ((Universal, 2), Explicit) ∷ [])
+bracketed_second = numbered refl (core (here refl) refl) refl
+
+bracketed_third : Tags bracketed_types 3 (((Context, 2), Implicit) ∷ ((Universal, 5), Explicit) ∷ [])
+bracketed_third = numbered refl (core (here refl) refl) refl
+
+-- with AUTOMATIC TAGS: SEQUENCE {a NULL, ..., b [0] NULL}
+abbrev mixed : List Part
+mixed = part 1 mandatory ∷ addition 2 mandatory None ∷ []
+
+abbrev mixed_types : List Type'
+mixed_types = written (members Sequence true mixed) tags.Automatic None ∷ written (simple a_null) tags.Automatic (Some (0, 0)) ∷
+    written (tagged zero_tag word.Absent 3) tags.Automatic (Some (0, 1)) ∷ written (simple a_null) tags.Automatic None ∷ []
+
+mixed_refused : IsMixed mixed_types 0
+mixed_refused = record {
+  kind = Sequence;
+  marker = true;
+  cs = mixed;
+  place = None;
+  is = here refl;
+  additions = record { number = 1; member = addition 2 mandatory None; there = refl; stands = refl; bears = refl };
+  root = λ r. none_bears r.number r.member r.there r.stands r.bears;
+}
+  where
+    none_bears : (n : ℕ) (c : Part) → slice_get mixed n ≡ Some c → is_addition c.standing ≡ false → bears_tag (slice_get mixed_types c.ty) ≡ true → ⊥
+    none_bears zero c e f g = let s : part 1 mandatory ≡ c = cc in let h = subst (λ x. bears_tag (slice_get mixed_types x.ty) ≡ true) (sym s) g in absurd cc
+    none_bears (suc zero) c e f g = let s : addition 2 mandatory None ≡ c = cc in let h = subst (λ x. is_addition x.standing ≡ false) (sym s) f in absurd cc
+    none_bears (suc (suc n)) c e f g = absurd cc
+
+-- where a member of the root bears a tag too, the list is not tagged automatically, and is no such list
+abbrev both_bear : List Part
+both_bear = part 1 mandatory ∷ addition 2 mandatory None ∷ []
+
+abbrev both_types : List Type'
+both_types = written (members Sequence true both_bear) tags.Automatic None ∷ written (tagged zero_tag word.Absent 3) tags.Automatic (Some (0, 0)) ∷
+    written (tagged zero_tag word.Absent 3) tags.Automatic (Some (0, 1)) ∷ written (simple a_null) tags.Automatic None ∷ []
+
+both_not_automatic : automatic both_types 2 ≡ None
+both_not_automatic = refl
+
+both_root : Bears both_types both_bear false
+both_root = record { number = 0; member = part 1 mandatory; there = refl; stands = refl; bears = refl }
+
+-- SEQUENCE {a OBJECT IDENTIFIER OPTIONAL, b RELATIVE-OID}: two tags
+abbrev two_oids : List Part
+two_oids = part 1 optional ∷ part 2 mandatory ∷ []
+
+abbrev oid_types : List Type'
+oid_types = written (members Sequence false two_oids) tags.Explicit None ∷ written (simple an_object_identifier) tags.Explicit (Some (0, 0)) ∷
+    written (simple a_relative_oid) tags.Explicit (Some (0, 1)) ∷ []
+
+absolute_first : Tags oid_types 1 (((Universal, 6), Explicit) ∷ [])
+absolute_first = as_written refl (core (here refl) refl)
+
+relative_first : Tags oid_types 2 (((Universal, 13), Explicit) ∷ [])
+relative_first = as_written refl (core (here refl) refl)

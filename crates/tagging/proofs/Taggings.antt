@@ -1,26 +1,30 @@
 -- Tables that can be tagged, and faults.
-use Rattle.std.proofs.Common.{◌≡◌, ◌⊎◌, inl, inr, ℕ, zero, suc, ◌<◌, List, [], ◌∷◌, ◌++◌, length, Option, Some, None, refl, sym, ap, ◌∙◌, arith, subst}
+use Rattle.std.proofs.Common.{◌≡◌, ◌⊎◌, inl, inr, ℕ, zero, suc, ◌+◌, ◌<◌, ◌≤◌, Bool, List, [], ◌∷◌, ◌++◌, length, Option, Some, None, refl, sym, ap, ◌∙◌, arith, subst}
 use Rattle.std.specs.Prelude.{slice_get}
+use Rattle.std.proofs.lemmas.Bool.{cases_lt}
+use Rattle.std.proofs.lemmas.Option.{slice_get_within}
 use Rattle.asn_base.specs.declared.tag.Tag.{Tag}
 use Rattle.trees.specs.declared.types.Keyword.{Keyword}
 use Rattle.trees.specs.declared.types.Keyword.TheVariants.{Absent, Implicit, Explicit}
 use Rattle.trees.specs.declared.module.TagDefault.{TagDefault}
-use Rattle.type_table.specs.declared.table.ListKind.{ListKind}
-use Rattle.type_table.specs.declared.table.ListKind.TheVariants.{Sequence, Set, Choice}
-use Rattle.type_table.specs.Table.{Part, Type', Kind, tagged, members, behind_of, Is, IsLinked}
+use Rattle.trees.specs.declared.module.TagDefault.TheVariants.{Automatic}
+use Rattle.resolve.specs.Program.{Program}
+use Rattle.trees.specs.declared.types.ListKind.{ListKind}
+use Rattle.trees.specs.declared.types.ListKind.TheVariants.{Sequence, Set, Choice}
+use Rattle.type_table.specs.Table.{Part, Type', tagged, members, behind_of, Is, IsLinked}
 use Rattle.tagging.specs.declared.check.Rule.{Rule}
-use Rattle.tagging.specs.declared.check.Rule.TheVariants.{Tags as TagsRule, TagNumber, TagClash, ImplicitChoice, UntaggedChoice}
-use Rattle.tagging.specs.Tags.{Label, Path, outermost, own, Tags, as_written, numbered, Written, core, behind, inside, TagCount, none_written, as_behind, one_more, automatic, automatic_of}
-use Rattle.tagging.specs.Heads.{Head, Fronts, none, front, AreFirst}
-use Rattle.tagging.specs.Lists.{Collected, none as nothing, one}
-use Rattle.tagging.specs.Tagged.{OneFirst, HaveOneFirst, BearTags, IsTagged, IsImplicit, Breaks}
+use Rattle.tagging.specs.declared.check.Rule.TheVariants.{Tags as TagsRule, TagNumber, TagClash, ImplicitChoice, UntaggedChoice, MixedAutomatic}
+use Rattle.tagging.specs.Tags.{Label, Path, outermost, Tags, as_written, numbered, Written, core, behind, inside, TagCount, none_written, as_behind, one_more, automatic, automatic_of}
+use Rattle.tagging.specs.proving.Heads.{Head, Fronts, none, front, AreFirst}
+use Rattle.tagging.specs.proving.Lists.{Collected, none as nothing, one}
+use Rattle.tagging.specs.Tagged.{Bears, OneFirst, HaveOneFirst, BearTags, IsTagged, IsImplicit, Breaks}
 use Rattle.tagging.specs.Faults.{Stands, StandsIn}
 use Rattle.tagging.specs.declared.fault.TagFault.{TagFault}
 use Rattle.tagging.specs.declared.fault.TagFault.TheVariants as faults
 use Rattle.tagging.specs.declared.fault.Limit.TheVariants as limits
-use Rattle.tagging.specs.Checks.{Suits, SuitsTag, IsGood}
-use Rattle.tagging.specs.Step.{Outermost}
-use Rattle.tagging.proofs.Paths.{written_exists, same_kind, written_unique}
+use Rattle.tagging.specs.proving.Checks.{SuitsTag, IsGood, BearsHere, BearsAt}
+use Rattle.tagging.specs.proving.Step.{Outermost}
+use Rattle.tagging.proofs.Paths.{written_exists, written_unique}
 use Rattle.tagging.proofs.Fronts.{within_all, head_first, first_head, head_unique}
 
 pub collected_push : (ts : List Type') (cs : List Part) (vs : List (List Label)) (c : Part) (us : List Label) → Collected ts cs vs → AreFirst ts c.ty us → Collected ts (cs ++ c ∷ []) (vs ++ us ∷ [])
@@ -47,9 +51,6 @@ written_none ts i (x ∷ p) w e = absurd cc
 
 pub untagged : (ts : List Type') (i : ℕ) → Outermost ts i None → Written ts i []
 untagged ts i o = written_none ts i o.path o.written o.is
-
-pub suits_by : (ts : List Type') (i : ℕ) (k m : Kind) {d e : TagDefault} {p q : Option (ℕ × ℕ)} → Is ts i k d p → Suits ts k → Is ts i m e q → Suits ts m
-suits_by ts i k m h s g = subst (Suits ts) (same_kind h g) s
 
 pub not_sequence : (k : ListKind) → (k ≡ Sequence → ⊥) → (k ≡ Choice) ⊎ (k ≡ Set)
 not_sequence Sequence f = absurd (f refl)
@@ -86,24 +87,10 @@ all_good ts g = record {
   numbers = λ i n e. (g i (numbered_there ts i n e)).number n e;
   few = λ i n c. (g i (count_there ts i n c)).few n c;
   forms = λ i j t d p h. (g i (below ts i _ h.found)).suits (tagged t Implicit j) d p h;
-  bear = λ i k cs d p h. ((g i (below ts i _ h.found)).suits (members k cs) d p h).0;
-  distinct = λ i k cs d p h. ((g i (below ts i _ h.found)).suits (members k cs) d p h).1;
+  unmixed = λ i k m cs p h. ((g i (below ts i _ h.found)).suits (members k m cs) Automatic p h).unmixed;
+  bear = λ i k m cs d p h. ((g i (below ts i _ h.found)).suits (members k m cs) d p h).bear;
+  distinct = λ i k m cs d p h. ((g i (below ts i _ h.found)).suits (members k m cs) d p h).distinct;
 }
-
--- a type has one number of written tags
-pub count_unique : (ts : List Type') (i m n : ℕ) → TagCount ts i m → TagCount ts i n → m ≡ n
-count_unique ts i m n (none_written h e) (none_written g f) = refl
-count_unique ts i m n (none_written h e) (as_behind g w) = let s = same_kind h g in let t = ap own s in absurd cc
-count_unique ts i m n (none_written h e) (one_more g w) = let s = same_kind h g in let t = ap own s in absurd cc
-count_unique ts i m n (as_behind h v) (none_written g f) = let s = same_kind h g in let t = ap own s in absurd cc
-count_unique ts i m n (as_behind {j = j} h v) (as_behind {j = q} g w) = let s = same_kind h g in let t : j ≡ q = cc in count_unique ts q m n (subst (λ z. TagCount ts z m) t v) w
-count_unique ts i m n (as_behind h v) (one_more g w) = let s = same_kind h g in absurd cc
-count_unique ts i m n (one_more h v) (none_written g f) = let s = same_kind h g in let t = ap own s in absurd cc
-count_unique ts i m n (one_more h v) (as_behind g w) = let s = same_kind h g in absurd cc
-count_unique ts i m n (one_more {j = j} {n = m'} h v) (one_more {j = q} {n = n'} g w) =
-    let s = same_kind h g in
-    let t : j ≡ q = cc in
-    ap suc (count_unique ts q m' n' (subst (λ z. TagCount ts z m') t v) w)
 
 bears : (ts : List Type') (k : ListKind) (cs : List Part) (n : ℕ) (c : Part) → (k ≡ Choice) ⊎ (k ≡ Set) → BearTags ts k cs → slice_get cs n ≡ Some c → Tags ts c.ty [] → ⊥
 bears ts Sequence cs n c (inl e) b f t = absurd cc
@@ -115,11 +102,12 @@ bears ts Choice cs n c w b f t = b n c f t
 pub none_breaks : (ts : List Type') (r : Rule) (i : ℕ) → Breaks ts r i → IsTagged ts → ⊥
 none_breaks ts TagsRule i s t = let f = t.few i s.count s.counts in absurd (omega (arith, f, s.many))
 none_breaks ts TagNumber i s t = let f = t.numbers i s.number s.is in absurd (omega (arith, f, s.great))
-none_breaks ts UntaggedChoice i s t = bears ts s.kind s.cs s.number s.member s.within (t.bear s.list s.kind s.cs s.default s.place s.is) s.there (subst (λ j. Tags ts j []) (sym s.at) s.untagged)
+none_breaks ts UntaggedChoice i s t = bears ts s.kind s.cs s.number s.member s.within (t.bear s.list s.kind s.marker s.cs s.default s.place s.is) s.there (subst (λ j. Tags ts j []) (sym s.at) s.untagged)
+none_breaks ts MixedAutomatic i s t = s.root (t.unmixed i s.kind s.marker s.cs s.place s.is s.additions)
 none_breaks ts ImplicitChoice i s t = t.forms i s.inner s.tag s.default s.place s.is s.untagged
 none_breaks ts TagClash i s t =
     let c = s.clash in
-    t.distinct i s.kind s.cs s.default s.place s.is s.one s.other c.first c.second c.before c.at_first c.at_second c.together c.tag c.in_first c.in_second
+    t.distinct i s.kind s.marker s.cs s.default s.place s.is s.one s.other c.first c.second c.before c.at_first c.at_second c.together c.tag c.in_first c.in_second
 
 pub implicit_at : (ts : List Type') (i j : ℕ) (k : Keyword) (t : Tag) (d : TagDefault) (p : Option (ℕ × ℕ)) → k ≡ Implicit → Is ts i (tagged t k j) d p → Written ts j [] → IsImplicit ts i
 implicit_at ts i j k t d p e h w = record { tag = t; inner = j; default = d; place = p; is = subst (λ q. Is ts i (tagged t q j) d p) e h; untagged = w }
@@ -142,19 +130,20 @@ first_of ts i [] t f = absurd (f t)
 first_of ts i (x ∷ p) t f = let h : Head ts i (Some x.0) = record { path = x ∷ p; tags = t; is = refl } in record { tag = x.0; stands = head_first ts i x.0 h; only = λ u g. sym (first_head ts i u x.0 h g) }
 
 pub one_each : (ts : List Type') → IsLinked ts → IsTagged ts → HaveOneFirst ts
-one_each ts l t i k cs d p n c h w e =
-    let there = within_all (length ts) cs n c (l.parts i k cs d p h) e in
+one_each ts l t i k m cs d p n c h w e =
+    let there = within_all (length ts) cs n c (l.parts i k m cs d p h) e in
     let u = tags_exist ts c.ty l there in
-    first_of ts c.ty u.0 u.1 (bears ts k cs n c w (t.bear i k cs d p h) e)
+    first_of ts c.ty u.0 u.1 (bears ts k cs n c w (t.bear i k m cs d p h) e)
 
 -- no fault stands in tagged modules
-pub no_other_fault : (hs : List (List ℕ × TagDefault)) (gs : List (ℕ × List ℕ)) (ts : List Type') (e : TagFault) → (e ≡ faults.Memory → ⊥) → Stands hs gs ts e → IsTagged ts → ⊥
-no_other_fault hs gs ts faults.Memory n s t = n refl
-no_other_fault hs gs ts (faults.Limit limits.Tags M x) n s t = none_breaks ts TagsRule s.ty s.has t
-no_other_fault hs gs ts (faults.Limit limits.TagNumber M x) n s t = none_breaks ts TagNumber s.ty s.has t
-no_other_fault hs gs ts (faults.TagClash M x) n s t = none_breaks ts TagClash s.ty s.has t
-no_other_fault hs gs ts (faults.ImplicitChoice M x) n s t = none_breaks ts ImplicitChoice s.ty s.has t
-no_other_fault hs gs ts (faults.UntaggedChoice M x) n s t = none_breaks ts UntaggedChoice s.ty s.has t
+pub no_other_fault : (p : Program) (e : TagFault) → (e ≡ faults.Memory → ⊥) → Stands p e → IsTagged p.types → ⊥
+no_other_fault p faults.Memory n s t = n refl
+no_other_fault p (faults.Limit limits.Tags x) n s t = none_breaks p.types TagsRule s.ty s.has t
+no_other_fault p (faults.Limit limits.TagNumber x) n s t = none_breaks p.types TagNumber s.ty s.has t
+no_other_fault p (faults.TagClash x) n s t = none_breaks p.types TagClash s.ty s.has t
+no_other_fault p (faults.ImplicitChoice x) n s t = none_breaks p.types ImplicitChoice s.ty s.has t
+no_other_fault p (faults.UntaggedChoice x) n s t = none_breaks p.types UntaggedChoice s.ty s.has t
+no_other_fault p (faults.MixedAutomatic x) n s t = none_breaks p.types MixedAutomatic s.ty s.has t
 
 untagged_there : (ts : List Type') (i : ℕ) (p : Path) → Written ts i p → i < length ts
 untagged_there ts i p (core h e) = below ts i _ h.found
@@ -172,6 +161,31 @@ breaks_there ts TagNumber i s = numbered_there ts i s.number s.is
 breaks_there ts TagClash i s = below ts i _ s.is.found
 breaks_there ts ImplicitChoice i s = below ts i _ s.is.found
 breaks_there ts UntaggedChoice i s = tags_there ts i [] s.untagged
+breaks_there ts MixedAutomatic i s = below ts i _ s.is.found
 
-pub stands_as : (hs : List (List ℕ × TagDefault)) (gs : List (ℕ × List ℕ)) (ts : List Type') (i : ℕ) (M N x y : List ℕ) → M ≡ N → x ≡ y → StandsIn hs gs ts i M x → StandsIn hs gs ts i N y
-stands_as hs gs ts i M N x y e f s = subst (λ z. StandsIn hs gs ts i N z) f (subst (λ z. StandsIn hs gs ts i z x) e s)
+pub stands_as : (p : Program) (i : ℕ) (M N x y : List ℕ) → M ≡ N → x ≡ y → StandsIn p i M x → StandsIn p i N y
+stands_as p i M N x y e f s = subst (λ z. StandsIn p i N z) f (subst (λ z. StandsIn p i z x) e s)
+
+-- no member before place n bears a tag, of the additions or of the root
+abbrev pub NoneBears : List Type' → List Part → Bool → ℕ → Type 0
+NoneBears ts cs b n = (r : Bears ts cs b) → n ≤ r.number
+
+pub bears_here : (ts : List Type') (cs : List Part) (b : Bool) (n : ℕ) (c : Part) → slice_get cs n ≡ Some c → BearsHere ts c b → BearsAt ts cs b n
+bears_here ts cs b n c e h = record { bearing = record { number = n; member = c; there = e; stands = h.stands; bears = h.bears }; is = refl }
+
+pub none_next : (ts : List Type') (cs : List Part) (b : Bool) (n : ℕ) (c : Part) → slice_get cs n ≡ Some c → (BearsHere ts c b → ⊥) → NoneBears ts cs b n → NoneBears ts cs b (n + 1)
+none_next ts cs b n c e f g r = elim (cases_lt n r.number) [
+  | inl l ↦ omega (arith, l)
+  | inr m ↦ (
+      let l = g r in
+      let q : r.number ≡ n = omega (arith, m, l) in
+      let s : r.member ≡ c = some_one (sym r.there ∙ ap (slice_get cs) q ∙ e) in
+      absurd (f (subst (λ z. BearsHere ts z b) s (record { stands = r.stands; bears = r.bears })))
+      )
+]
+  where
+    some_one : {x y : Part} → Some x ≡ Some y → x ≡ y
+    some_one h = cc
+
+pub none_bear : (ts : List Type') (cs : List Part) (b : Bool) (n : ℕ) → length cs ≤ n → NoneBears ts cs b n → Bears ts cs b → ⊥
+none_bear ts cs b n l f r = let w = slice_get_within cs r.number r.member r.there in let m = f r in omega (arith, w, l, m)

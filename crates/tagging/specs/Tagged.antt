@@ -1,20 +1,29 @@
 -- Tables whose types have their tags as X.680 asks, and how a type breaks what it asks.
-use Rattle.std.specs.Prelude.{◌≡◌, ◌⊎◌, ℕ, ◌<◌, ◌≤◌, List, [], Option, Some, slice_get}
+use Rattle.std.specs.Prelude.{◌≡◌, ◌⊎◌, ℕ, ◌<◌, ◌≤◌, Bool, true, false, List, [], Option, Some, slice_get}
 use Rattle.asn_base.specs.declared.tag.Tag.{Tag}
 use Rattle.trees.specs.declared.types.Keyword.TheVariants.{Implicit}
 use Rattle.trees.specs.declared.module.TagDefault.{TagDefault}
-use Rattle.type_table.specs.declared.table.ListKind.{ListKind}
-use Rattle.type_table.specs.declared.table.ListKind.TheVariants.{Sequence, Set, Choice}
+use Rattle.trees.specs.declared.module.TagDefault.TheVariants.{Automatic}
+use Rattle.trees.specs.declared.types.ListKind.{ListKind}
+use Rattle.trees.specs.declared.types.ListKind.TheVariants.{Sequence, Set, Choice}
 use Rattle.type_table.specs.Table.{Part, Type', tagged, members, Is}
 use Rattle.tagging.specs.declared.check.Rule.{Rule}
-use Rattle.tagging.specs.declared.check.Rule.TheVariants.{Tags as TagsRule, TagNumber, TagClash, ImplicitChoice, UntaggedChoice}
-use Rattle.tagging.specs.Tags.{Label, Tags, Written, TagCount, automatic, AreNumbered}
-use Rattle.tagging.specs.First.{First, Together, Distinct}
+use Rattle.tagging.specs.declared.check.Rule.TheVariants.{Tags as TagsRule, TagNumber, TagClash, ImplicitChoice, UntaggedChoice, MixedAutomatic}
+use Rattle.tagging.specs.Tags.{Label, Tags, Written, TagCount, bears_tag, automatic, AreNumbered}
+use Rattle.tagging.specs.First.{First, is_addition, Together, Distinct}
 
--- no SET component and no CHOICE alternative is an untagged CHOICE
+-- no SET component and no CHOICE alternative, of the root or an addition, is an untagged CHOICE
 abbrev pub BearTags : List Type' → ListKind → List Part → Type 0
 BearTags ts Sequence cs = Unit {0}
 BearTags ts k cs = (n : ℕ) (c : Part) → slice_get cs n ≡ Some c → Tags ts c.ty [] → ⊥
+
+-- one of these members bears a tag that is written in the list: of the additions, or of the root
+pub record Bears (ts : List Type') (cs : List Part) (of_additions : Bool) : Type 0 where
+  pub number : ℕ
+  pub member : Part
+  pub there : slice_get cs number ≡ Some member
+  pub stands : is_addition member.standing ≡ of_additions
+  pub bears : bears_tag (slice_get ts member.ty) ≡ true
 
 -- what tagging asks of a table's types
 pub record IsTagged (ts : List Type') : Type 0 where
@@ -22,11 +31,22 @@ pub record IsTagged (ts : List Type') : Type 0 where
   pub few : (i n : ℕ) → TagCount ts i n → n ≤ 4
   pub numbers : AreNumbered ts
   -- the word IMPLICIT stands before no untagged CHOICE (X.680, clause 31.2)
-  pub forms : (i j : ℕ) (t : Tag) (d : TagDefault) (p : Option (ℕ × ℕ)) → Is ts i (tagged t Implicit j) d p → Written ts j [] → ⊥
+  pub forms : (i j : ℕ) (t : Tag) (d : TagDefault) (p : Option (ℕ × ℕ)) →
+      Is ts i (tagged t Implicit j) d p →
+      Written ts j [] → ⊥
+  -- in an AUTOMATIC module a list whose additions bear written tags has them in its root too (X.680, clauses 25, 27, 29)
+  pub unmixed : (i : ℕ) (k : ListKind) (m : Bool) (cs : List Part) (p : Option (ℕ × ℕ)) →
+      Is ts i (members k m cs) Automatic p →
+      Bears ts cs true →
+      Bears ts cs false
   -- SET components and CHOICE alternatives have a tag of their own (narrower than X.680)
-  pub bear : (i : ℕ) (k : ListKind) (cs : List Part) (d : TagDefault) (p : Option (ℕ × ℕ)) → Is ts i (members k cs) d p → BearTags ts k cs
+  pub bear : (i : ℕ) (k : ListKind) (m : Bool) (cs : List Part) (d : TagDefault) (p : Option (ℕ × ℕ)) →
+      Is ts i (members k m cs) d p →
+      BearTags ts k cs
   -- first tags differ where they have to (X.680, clauses 25, 27 and 29)
-  pub distinct : (i : ℕ) (k : ListKind) (cs : List Part) (d : TagDefault) (p : Option (ℕ × ℕ)) → Is ts i (members k cs) d p → Distinct ts k cs
+  pub distinct : (i : ℕ) (k : ListKind) (m : Bool) (cs : List Part) (d : TagDefault) (p : Option (ℕ × ℕ)) →
+      Is ts i (members k m cs) d p →
+      Distinct ts k cs
 
 -- exactly one tag can stand first in type i
 pub record OneFirst (ts : List Type') (i : ℕ) : Type 0 where
@@ -36,8 +56,12 @@ pub record OneFirst (ts : List Type') (i : ℕ) : Type 0 where
 
 -- that is so of each SET component and each CHOICE alternative
 abbrev pub HaveOneFirst : List Type' → Type 0
-HaveOneFirst ts = (i : ℕ) (k : ListKind) (cs : List Part) (d : TagDefault) (p : Option (ℕ × ℕ)) (n : ℕ) (c : Part) → Is ts i (members k cs) d p →
-    (k ≡ Choice) ⊎ (k ≡ Set) → slice_get cs n ≡ Some c → OneFirst ts c.ty
+HaveOneFirst ts =
+    (i : ℕ) (k : ListKind) (m : Bool) (cs : List Part) (d : TagDefault) (p : Option (ℕ × ℕ)) (n : ℕ) (c : Part) →
+    Is ts i (members k m cs) d p →
+    (k ≡ Choice) ⊎ (k ≡ Set) →
+    slice_get cs n ≡ Some c →
+    OneFirst ts c.ty
 
 -- more than four tags are written on type i
 pub record IsOverfull (ts : List Type') (i : ℕ) : Type 0 where
@@ -64,10 +88,11 @@ pub record IsImplicit (ts : List Type') (i : ℕ) : Type 0 where
 pub record IsUntagged (ts : List Type') (i : ℕ) : Type 0 where
   pub list : ℕ
   pub kind : ListKind
+  pub marker : Bool
   pub cs : List Part
   pub default : TagDefault
   pub place : Option (ℕ × ℕ)
-  pub is : Is ts list (members kind cs) default place
+  pub is : Is ts list (members kind marker cs) default place
   pub within : (kind ≡ Choice) ⊎ (kind ≡ Set)
   pub number : ℕ
   pub member : Part
@@ -90,13 +115,24 @@ pub record Clash (ts : List Type') (k : ListKind) (cs : List Part) (p q : ℕ) :
 -- type i is a list of which two members clash
 pub record HasClash (ts : List Type') (i : ℕ) : Type 0 where
   pub kind : ListKind
+  pub marker : Bool
   pub cs : List Part
   pub default : TagDefault
   pub place : Option (ℕ × ℕ)
-  pub is : Is ts i (members kind cs) default place
+  pub is : Is ts i (members kind marker cs) default place
   pub one : ℕ
   pub other : ℕ
   pub clash : Clash ts kind cs one other
+
+-- type i is a list in an AUTOMATIC module of which additions alone bear written tags
+pub record IsMixed (ts : List Type') (i : ℕ) : Type 0 where
+  pub kind : ListKind
+  pub marker : Bool
+  pub cs : List Part
+  pub place : Option (ℕ × ℕ)
+  pub is : Is ts i (members kind marker cs) Automatic place
+  pub additions : Bears ts cs true
+  pub root : Bears ts cs false → ⊥
 
 -- type i breaks the rule
 abbrev pub Breaks : List Type' → Rule → ℕ → Type 0
@@ -105,3 +141,4 @@ Breaks ts TagNumber i = IsTooGreat ts i
 Breaks ts TagClash i = HasClash ts i
 Breaks ts ImplicitChoice i = IsImplicit ts i
 Breaks ts UntaggedChoice i = IsUntagged ts i
+Breaks ts MixedAutomatic i = IsMixed ts i

@@ -1,28 +1,26 @@
 //! The check of all types of a table.
 
-ghost use Rattle.std.specs.Prelude.{ℕ, ◌≡◌, ◌<◌, ◌≤◌, length, map, List, MatchResult, All, Option, Some, []};
-ghost use Rattle.trees.specs.declared.module.TagDefault.{TagDefault};
-ghost use Rattle.type_table.specs.Seen.{types_of, kind_of, part_of};
-ghost use Rattle.names.specs.Sources.{place_of};
-ghost use Rattle.type_table.specs.Table.{Type', IsLinked, Is, tagged, members};
+ghost use Rattle.std.specs.Prelude.{ℕ, ◌≡◌, ◌<◌, ◌↔◌, List, length, map, MatchOption, MatchResult, Option, Some, slice_get, IsTrue};
 ghost use Rattle.asn_base.specs.declared.tag.Tag.{Tag};
-ghost use Rattle.tagging.specs.Tags.{automatic, TagCount};
+ghost use Rattle.trees.specs.declared.module.TagDefault.{TagDefault};
+ghost use Rattle.trees.specs.declared.types.ListKind.{ListKind};
+ghost use Rattle.type_table.specs.Seen.{kind_of, part_of, type_of};
+ghost use Rattle.type_table.specs.Table.{Type', Is, IsLinked, tagged};
 ghost use Rattle.tagging.specs.First.{Distinct};
-ghost use Rattle.tagging.specs.Heads.{IsFirstFault};
-ghost use Rattle.tagging.specs.Lists.{Collected, tag_lists};
-ghost use Rattle.tagging.specs.Tagged.{BearTags, IsTagged};
-ghost use Rattle.tagging.specs.Checks.{Suits, SuitsTag, IsGood, StandsAt};
+ghost use Rattle.tagging.specs.proving.Heads.{IsFirstFault};
+ghost use Rattle.tagging.specs.proving.Lists.{Collected, tag_lists};
+ghost use Rattle.tagging.specs.Tagged.{Bears, BearTags, IsTagged};
+ghost use Rattle.tagging.specs.proving.Checks.{IsList, AreThere, HasFew, IsNumbered, Suits, SuitsAutomatic, SuitsList, SuitsTag};
+ghost use Rattle.tagging.specs.proving.Checks.{IsGood, StandsAt, BearsHere, BearsAt};
 
 use crate::automatic::automatic_number;
+use crate::columns::Columns;
 use crate::first::{FrontFault, first_tags, fronts, member_type};
 use crate::lists::clash;
-use crate::path::{Label, count_of, written_outermost};
-use type_table::{Component, ListKind, Shape, Written};
+use crate::path::{Label, has_few, written_outermost};
 use std::alloc::Global;
-use trees::Keyword;
-
-/// The most tags that may be written on one type, through references.
-const TAGS: usize = 4;
+use trees::{Keyword, ListKind, Standing, TagDefault};
+use type_table::{Component, Shape, Written};
 
 /// The number of a tag is below this one.
 const NUMBERS: usize = 2147483648;
@@ -40,27 +38,30 @@ pub(crate) enum Rule {
     ImplicitChoice,
     /// SET components and alternatives have a tag.
     UntaggedChoice,
+    /// In an AUTOMATIC module, where additions of a list bear written tags, its root does.
+    MixedAutomatic,
 }
 
-/// Why types can't be tagged: want of memory, or this type breaks a rule.
+/// Why types can't be tagged: want of memory, or this type breaks a rule, at this place of its module's text.
 #[derive(Clone, Copy, Debug, PartialEq)]
 pub(crate) enum Fault {
     Memory,
-    At(Rule, usize),
+    At(Rule, usize, usize),
 }
 
 fn collect(
     alloc: Global,
-    types: &[Written],
+    columns: &Columns<'_>,
     components: &[Component],
 ) -> Result<Vec<Vec<Label>>, FrontFault>
-    requires linked { IsLinked (types_of types.now) }
-    requires parts { All (λ c. c.ty < length types.now) (map part_of components.now) }
-    ensures { MatchResult result (λ v. Collected (types_of types.now) (map part_of components.now) (tag_lists v.items)) (IsFirstFault (types_of types.now)) }
+    requires parts { AreThere columns.now.types (map part_of components.now) }
+    ensures { MatchResult result
+        (λ v. Collected columns.now.types (map part_of components.now) (tag_lists v.items))
+        (IsFirstFault columns.now.types) }
 {
     let mut lists = Vec::new(alloc);
     for place in 0..components.len() {
-        match first_tags(alloc, types, member_type(&components[place])) {
+        match first_tags(alloc, columns, member_type(&components[place])) {
             Err(fault) => return Err(fault),
             Ok(tags) => match lists.push(tags) {
                 Ok(()) => {}
@@ -71,21 +72,80 @@ fn collect(
     Ok(lists)
 }
 
+/// Whether a member is an addition.
+fn is_addition(component: &Component) -> bool
+    ensures { result ≡ Rattle.tagging.specs.First.is_addition (part_of component.now).standing }
+{
+    match component.standing {
+        Standing::Root => false,
+        Standing::Addition(_) => true,
+    }
+}
+
+/// Whether a member is one of the additions, or of the root's members, and bears a tag that is written in the list.
+fn bears(columns: &Columns<'_>, component: &Component, additions: bool) -> bool
+    ensures { IsTrue result ↔ BearsHere columns.now.types (part_of component.now) additions }
+{
+    is_addition(component) == additions && columns.bears_tag(component.ty)
+}
+
+/// The first of the additions, or of the root's members, with a tag that is written in the list.
+fn bearing(columns: &Columns<'_>, components: &[Component], additions: bool) -> Option<usize>
+    ensures { MatchOption result
+        (Bears columns.now.types (map part_of components.now) additions → ⊥)
+        (BearsAt columns.now.types (map part_of components.now) additions) }
+{
+    for place in 0..components.len() {
+        if bears(columns, &components[place], additions) {
+            return Some(place);
+        }
+    }
+    None
+}
+
+/// In an AUTOMATIC module, where additions of a list bear written tags, its root has to.
+fn check_automatic(
+    columns: &Columns<'_>,
+    list: usize,
+    default: TagDefault,
+    components: &[Component],
+) -> Result<(), Fault>
+    requires there { (k : ListKind) × IsList columns.now.types list k default (map part_of components.now) }
+    ensures { MatchResult result
+        (λ _. SuitsAutomatic columns.now.types (map part_of components.now) default)
+        (StandsAt columns.now.types) }
+{
+    match default {
+        TagDefault::Explicit | TagDefault::Implicit => Ok(()),
+        TagDefault::Automatic => match bearing(columns, components, true) {
+            None => Ok(()),
+            Some(place) => match bearing(columns, components, false) {
+                Some(_root) => Ok(()),
+                None => {
+                    let at = components[place].name.at;
+                    Err(Fault::At(Rule::MixedAutomatic, list, at))
+                }
+            },
+        },
+    }
+}
+
 fn bear_tags(
     alloc: Global,
-    types: &[Written],
+    columns: &Columns<'_>,
     list: usize,
     kind: ListKind,
     components: &[Component],
 ) -> Result<(), FrontFault>
-    requires linked { IsLinked (types_of types.now) }
-    requires parts { All (λ c. c.ty < length types.now) (map part_of components.now) }
-    requires there { (d : TagDefault) × (p : Option (ℕ × ℕ)) × Is (types_of types.now) list (members kind (map part_of components.now)) d p }
-    ensures { MatchResult result (λ _. BearTags (types_of types.now) kind (map part_of components.now)) (IsFirstFault (types_of types.now)) }
+    requires parts { AreThere columns.now.types (map part_of components.now) }
+    requires there { (d : TagDefault) × IsList columns.now.types list kind d (map part_of components.now) }
+    ensures { MatchResult result
+        (λ _. BearTags columns.now.types kind (map part_of components.now))
+        (IsFirstFault columns.now.types) }
 {
     match kind {
         ListKind::Sequence => Ok(()),
-        _ => match fronts(alloc, types, components) {
+        _ => match fronts(alloc, columns, components) {
             Ok(_) => Ok(()),
             Err(fault) => Err(fault),
         },
@@ -97,108 +157,147 @@ fn fault_of(fault: FrontFault) -> Fault
 {
     match fault {
         FrontFault::Memory => Fault::Memory,
-        FrontFault::Untagged(ty) => Fault::At(Rule::UntaggedChoice, ty),
+        FrontFault::Untagged(ty, at) => Fault::At(Rule::UntaggedChoice, ty, at),
+    }
+}
+
+/// First tags differ where they have to.
+fn check_distinct(
+    alloc: Global,
+    columns: &Columns<'_>,
+    list: usize,
+    kind: ListKind,
+    components: &[Component],
+) -> Result<(), Fault>
+    requires parts { AreThere columns.now.types (map part_of components.now) }
+    requires there { (d : TagDefault) × IsList columns.now.types list kind d (map part_of components.now) }
+    ensures { MatchResult result
+        (λ _. Distinct columns.now.types kind (map part_of components.now))
+        (StandsAt columns.now.types) }
+{
+    match collect(alloc, columns, components) {
+        Err(fault) => Err(fault_of(fault)),
+        Ok(firsts) => match clash(alloc, kind, components, &firsts) {
+            Err(_) => Err(Fault::Memory),
+            Ok(None) => Ok(()),
+            Ok(Some(later)) => {
+                let at = components[later].name.at;
+                Err(Fault::At(Rule::TagClash, list, at))
+            }
+        },
     }
 }
 
 fn check_list(
     alloc: Global,
-    types: &[Written],
+    columns: &Columns<'_>,
     list: usize,
+    default: TagDefault,
     kind: ListKind,
     components: &[Component],
 ) -> Result<(), Fault>
-    requires linked { IsLinked (types_of types.now) }
-    requires parts { All (λ c. c.ty < length types.now) (map part_of components.now) }
-    requires there { (d : TagDefault) × (p : Option (ℕ × ℕ)) × Is (types_of types.now) list (members kind (map part_of components.now)) d p }
-    ensures { MatchResult result (λ _. BearTags (types_of types.now) kind (map part_of components.now) × Distinct (types_of types.now) kind (map part_of components.now)) (StandsAt (types_of types.now)) }
+    requires parts { AreThere columns.now.types (map part_of components.now) }
+    requires there { IsList columns.now.types list kind default (map part_of components.now) }
+    ensures { MatchResult result
+        (λ _. SuitsList columns.now.types kind (map part_of components.now) default)
+        (StandsAt columns.now.types) }
 {
-    match bear_tags(alloc, types, list, kind, components) {
-        Err(fault) => Err(fault_of(fault)),
-        Ok(()) => match collect(alloc, types, components) {
+    match check_automatic(columns, list, default, components) {
+        Err(fault) => Err(fault),
+        Ok(()) => match bear_tags(alloc, columns, list, kind, components) {
             Err(fault) => Err(fault_of(fault)),
-            Ok(firsts) => match clash(alloc, kind, components, &firsts) {
-                Err(_) => Err(Fault::Memory),
-                Ok(None) => Ok(()),
-                Ok(Some(_later)) => Err(Fault::At(Rule::TagClash, list)),
+            Ok(()) => match check_distinct(alloc, columns, list, kind, components) {
+                Err(fault) => Err(fault),
+                Ok(()) => Ok(()),
             },
         },
     }
 }
 
-fn check_tag(types: &[Written], ty: usize, keyword: Keyword, inner: usize) -> Result<(), Fault>
-    requires linked { IsLinked (types_of types.now) }
-    requires there { inner < length types.now }
-    requires is { (t : Tag) × (d : TagDefault) × (p : Option (ℕ × ℕ)) × Is (types_of types.now) ty (tagged t keyword inner) d p }
-    ensures { MatchResult result (λ _. SuitsTag (types_of types.now) keyword inner) (StandsAt (types_of types.now)) }
+fn check_tag(
+    columns: &Columns<'_>,
+    ty: usize,
+    at: usize,
+    keyword: Keyword,
+    inner: usize,
+) -> Result<(), Fault>
+    requires there { inner < length columns.now.types }
+    requires is { (t : Tag) × (d : TagDefault) × (p : Option (ℕ × ℕ)) ×
+        Is columns.now.types ty (tagged t keyword inner) d p }
+    ensures { MatchResult result
+        (λ _. SuitsTag columns.now.types keyword inner)
+        (StandsAt columns.now.types) }
 {
     match keyword {
         Keyword::Absent => Ok(()),
         Keyword::Explicit => Ok(()),
-        Keyword::Implicit => match written_outermost(types, inner) {
+        Keyword::Implicit => match written_outermost(columns, inner) {
             Some(_) => Ok(()),
-            None => Err(Fault::At(Rule::ImplicitChoice, ty)),
+            None => Err(Fault::At(Rule::ImplicitChoice, ty, at)),
         },
     }
 }
 
 fn check_written(
     alloc: Global,
-    types: &[Written],
+    columns: &Columns<'_>,
     ty: usize,
     written: &Written,
 ) -> Result<(), Fault>
-    requires linked { IsLinked (types_of types.now) }
-    requires is { Is (types_of types.now) ty (kind_of written.now.shape) written.now.default (place_of written.now.place) }
-    ensures { MatchResult result (λ _. Suits (types_of types.now) (kind_of written.now.shape)) (StandsAt (types_of types.now)) }
+    requires linked { IsLinked columns.now.types }
+    requires is { slice_get columns.now.types ty ≡ Some (type_of written.now) }
+    ensures { MatchResult result
+        (λ _. Suits columns.now.types (kind_of written.now.shape) written.now.default)
+        (StandsAt columns.now.types) }
 {
     match &written.shape {
         Shape::Simple(_) => Ok(()),
         Shape::Reference(_) => Ok(()),
-        Shape::Elements(_, _, _) => Ok(()),
-        Shape::Tagged(_, keyword, inner) => check_tag(types, ty, *keyword, *inner),
-        Shape::Members(kind, components) => check_list(alloc, types, ty, *kind, components),
+        Shape::Elements(_, _) => Ok(()),
+        Shape::Tagged(_, keyword, inner) => check_tag(columns, ty, written.at, *keyword, *inner),
+        Shape::Members(kind, _, components) => {
+            check_list(alloc, columns, ty, written.default, *kind, components)
+        }
     }
 }
 
-fn check_count(types: &[Written], ty: usize) -> Result<(), Fault>
-    requires linked { IsLinked (types_of types.now) }
-    requires there { ty < length types.now }
-    ensures { MatchResult result (λ _. (n : ℕ) → TagCount (types_of types.now) ty n → n ≤ 4) (StandsAt (types_of types.now)) }
+fn check_count(columns: &Columns<'_>, ty: usize, at: usize) -> Result<(), Fault>
+    requires there { ty < length columns.now.types }
+    ensures { MatchResult result (λ _. HasFew columns.now.types ty) (StandsAt columns.now.types) }
 {
-    if count_of(types, ty) <= TAGS {
+    if has_few(columns, ty) {
         Ok(())
     } else {
-        Err(Fault::At(Rule::Tags, ty))
+        Err(Fault::At(Rule::Tags, ty, at))
     }
 }
 
-fn check_number(types: &[Written], ty: usize) -> Result<(), Fault>
-    requires there { ty < length types.now }
-    ensures { MatchResult result (λ _. (n : ℕ) → automatic (types_of types.now) ty ≡ Some n → n < 2147483648) (StandsAt (types_of types.now)) }
+fn check_number(columns: &Columns<'_>, ty: usize, at: usize) -> Result<(), Fault>
+    requires there { ty < length columns.now.types }
+    ensures { MatchResult result (λ _. IsNumbered columns.now.types ty) (StandsAt columns.now.types) }
 {
-    match automatic_number(types, ty) {
+    match automatic_number(columns, ty) {
         None => Ok(()),
         Some(number) => {
             if number < NUMBERS {
                 Ok(())
             } else {
-                Err(Fault::At(Rule::TagNumber, ty))
+                Err(Fault::At(Rule::TagNumber, ty, at))
             }
         }
     }
 }
 
-fn check_type(alloc: Global, types: &[Written], ty: usize) -> Result<(), Fault>
-    requires linked { IsLinked (types_of types.now) }
-    requires there { ty < length types.now }
-    ensures { MatchResult result (λ _. IsGood (types_of types.now) ty) (StandsAt (types_of types.now)) }
+fn check_type(alloc: Global, columns: &Columns<'_>, ty: usize) -> Result<(), Fault>
+    requires there { ty < length columns.now.types }
+    ensures { MatchResult result (λ _. IsGood columns.now.types ty) (StandsAt columns.now.types) }
 {
-    match check_count(types, ty) {
+    let written = columns.written(ty);
+    match check_count(columns, ty, written.at) {
         Err(fault) => Err(fault),
-        Ok(()) => match check_number(types, ty) {
+        Ok(()) => match check_number(columns, ty, written.at) {
             Err(fault) => Err(fault),
-            Ok(()) => match check_written(alloc, types, ty, &types[ty]) {
+            Ok(()) => match check_written(alloc, columns, ty, written) {
                 Err(fault) => Err(fault),
                 Ok(()) => Ok(()),
             },
@@ -207,12 +306,11 @@ fn check_type(alloc: Global, types: &[Written], ty: usize) -> Result<(), Fault>
 }
 
 /// Whether all types of a table can be tagged, or which one breaks a rule.
-pub(crate) fn check(alloc: Global, types: &[Written]) -> Result<(), Fault>
-    requires linked { IsLinked (types_of types.now) }
-    ensures { MatchResult result (λ _. IsTagged (types_of types.now)) (StandsAt (types_of types.now)) }
+pub(crate) fn check(alloc: Global, columns: &Columns<'_>) -> Result<(), Fault>
+    ensures { MatchResult result (λ _. IsTagged columns.now.types) (StandsAt columns.now.types) }
 {
-    for ty in 0..types.len() {
-        match check_type(alloc, types, ty) {
+    for ty in 0..columns.len() {
+        match check_type(alloc, columns, ty) {
             Ok(()) => {}
             Err(fault) => return Err(fault),
         }

@@ -1,22 +1,22 @@
 //! The tags that can stand first.
 
-ghost use Rattle.std.specs.Prelude.{ℕ, ◌≡◌, ◌<◌, ◌↔◌, IsTrue, length, map, List, MatchResult, MatchOption, All, Contains, [], ◌∷◌};
-ghost use Rattle.type_table.specs.Table.{IsLinked};
-ghost use Rattle.type_table.specs.Seen.{kind_of, part_of, types_of};
+ghost use Rattle.std.specs.Prelude.{ℕ, ◌≡◌, ◌<◌, length, map, MatchResult, [], ◌∷◌};
+ghost use Rattle.type_table.specs.Seen.{kind_of, part_of};
 ghost use Rattle.tagging.specs.declared.first.FrontFault.TheVariants.{Memory};
-ghost use Rattle.tagging.specs.Heads.{Fronts, AreFirst, IsFrontFault, IsFirstFault, members_of};
+ghost use Rattle.tagging.specs.proving.Checks.{AreThere};
+ghost use Rattle.tagging.specs.proving.Heads.{Fronts, AreFirst, IsFrontFault, IsFirstFault, members_of};
 
 use crate::automatic::head;
-use crate::path::{Label, core};
-use asn_base::tag::Class;
-use type_table::{Component, Shape, Written};
+use crate::columns::Columns;
+use crate::path::Label;
 use std::alloc::Global;
+use type_table::{Component, Shape, Written};
 
-/// Why members have no outermost tags: want of memory, or this member is an untagged CHOICE.
+/// Why members have no outermost tags: want of memory, or this member is an untagged CHOICE, where it is written.
 #[derive(Clone, Copy, Debug, PartialEq)]
 pub(crate) enum FrontFault {
     Memory,
-    Untagged(usize),
+    Untagged(usize, usize),
 }
 
 /// The number of a member's type.
@@ -30,7 +30,7 @@ fn members(written: &Written) -> &[Component]
     ensures { map part_of result.now ≡ members_of (kind_of written.now.shape) }
 {
     match &written.shape {
-        Shape::Members(_, members) => members,
+        Shape::Members(_, _, members) => members,
         _ => &[],
     }
 }
@@ -48,18 +48,19 @@ fn single(alloc: Global, tag: Label) -> Result<Vec<Label>, FrontFault>
 /// The outermost tags of members, of which none is an untagged CHOICE.
 pub(crate) fn fronts(
     alloc: Global,
-    types: &[Written],
+    columns: &Columns<'_>,
     members: &[Component],
 ) -> Result<Vec<Label>, FrontFault>
-    requires linked { IsLinked (types_of types.now) }
-    requires parts { All (λ c. c.ty < length types.now) (map part_of members.now) }
-    ensures { MatchResult result (λ v. Fronts (types_of types.now) (map part_of members.now) v.items) (IsFrontFault (types_of types.now) (map part_of members.now)) }
+    requires parts { AreThere columns.now.types (map part_of members.now) }
+    ensures { MatchResult result
+        (λ v. Fronts columns.now.types (map part_of members.now) v.items)
+        (IsFrontFault columns.now.types (map part_of members.now)) }
 {
     let mut tags = Vec::new(alloc);
     for place in 0..members.len() {
         let ty = member_type(&members[place]);
-        match head(types, ty) {
-            None => return Err(FrontFault::Untagged(ty)),
+        match head(columns, ty) {
+            None => return Err(FrontFault::Untagged(ty, members[place].name.at)),
             Some(tag) => match tags.push(tag) {
                 Ok(()) => {}
                 Err(_) => return Err(FrontFault::Memory),
@@ -72,15 +73,16 @@ pub(crate) fn fronts(
 /// The tags that can stand first in a type.
 pub(crate) fn first_tags(
     alloc: Global,
-    types: &[Written],
+    columns: &Columns<'_>,
     ty: usize,
 ) -> Result<Vec<Label>, FrontFault>
-    requires linked { IsLinked (types_of types.now) }
-    requires there { ty < length types.now }
-    ensures { MatchResult result (λ v. AreFirst (types_of types.now) ty v.items) (IsFirstFault (types_of types.now)) }
+    requires there { ty < length columns.now.types }
+    ensures { MatchResult result
+        (λ v. AreFirst columns.now.types ty v.items)
+        (IsFirstFault columns.now.types) }
 {
-    match head(types, ty) {
+    match head(columns, ty) {
         Some(tag) => single(alloc, tag),
-        None => fronts(alloc, types, members(&types[core(types, ty)])),
+        None => fronts(alloc, columns, members(columns.written(columns.core(ty)))),
     }
 }

@@ -1,8 +1,8 @@
 //! What follows of tables whose types have their tags. A caller calls a law to know it; it takes no memory and no time.
 
 ghost use Rattle.std.specs.Prelude.{ℕ, ◌≡◌, ◌<◌, length, List};
-ghost use Rattle.trees.specs.declared.module.TagDefault.{TagDefault};
 ghost use Rattle.type_table.specs.Table.{Type', IsLinked};
+ghost use Rattle.resolve.specs.Program.{Program};
 ghost use Rattle.tagging.specs.Tags.{Path, Tags};
 ghost use Rattle.tagging.specs.Tagged.{IsTagged, HaveOneFirst};
 ghost use Rattle.tagging.specs.Faults.{Stands};
@@ -12,7 +12,7 @@ ghost use Rattle.tagging.specs.declared.fault.TagFault.TheVariants.{Memory};
 /// Modules in which a fault stands, other than want of memory, do not have their tags: so `tag` succeeds, memory apart,
 /// just where the modules have them.
 pub fn no_other()
-    ensures { (hs : List (List ℕ × TagDefault)) (gs : List (ℕ × List ℕ)) (ts : List Type') (e : TagFault) → (e ≡ Memory → ⊥) → Stands hs gs ts e → IsTagged ts → ⊥ }
+    ensures { (p : Program) (e : TagFault) → (e ≡ Memory → ⊥) → Stands p e → IsTagged p.types → ⊥ }
 {}
 
 /// Each type has one list of tags, and no other.
@@ -21,7 +21,8 @@ pub fn one_path()
     ensures unique { (ts : List Type') (i : ℕ) (p q : Path) → Tags ts i p → Tags ts i q → p ≡ q }
 {}
 
-/// Where the types have their tags, each SET component and each CHOICE alternative has exactly one tag that can stand first.
+/// Where the types have their tags, each SET component and each CHOICE alternative has exactly one tag that can stand
+/// first.
 pub fn one_first()
     ensures { (ts : List Type') → IsLinked ts → IsTagged ts → HaveOneFirst ts }
 {}

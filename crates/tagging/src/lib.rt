@@ -3,6 +3,7 @@
 
 mod automatic;
 mod check;
+mod columns;
 mod fault;
 mod first;
 pub mod law;

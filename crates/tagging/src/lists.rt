@@ -1,22 +1,21 @@
 //! Lists whose members' tags differ.
 
-ghost use Rattle.std.specs.Prelude.{ℕ, ◌≡◌, ◌⊎◌, ◌<◌, ◌↔◌, IsTrue, IfOk, OnOk, length, map, List, MatchOption};
+ghost use Rattle.std.specs.Prelude.{ℕ, ◌≡◌, ◌⊎◌, ◌<◌, ◌↔◌, IsTrue, IfOk, IfSome, OnOk, length, map, List, MatchOption};
 ghost use Rattle.type_table.specs.Seen.{part_of};
 ghost use Rattle.type_table.specs.Table.{Type'};
-ghost use Rattle.tagging.specs.First.{Distinct};
-ghost use Rattle.tagging.specs.Lists.{Collected, tag_lists, Reaches, key_of, IsIn, HasKey, IsHeld, IsMet};
-ghost use Rattle.tagging.specs.Tagged.{Clash};
+ghost use Rattle.tagging.specs.First;
+ghost use Rattle.tagging.specs.proving.Lists.{Collected, tag_lists, Reaches, key_of, IsIn, HasKey, Holds, Meets, TellsClash};
 ghost use Rattle.tagging.specs.Tags.{Label as Tag};
 
 use crate::path::Label;
 use asn_base::tag::Class;
-use type_table::{Component, ListKind};
 use std::alloc::{AllocError, Global};
 use std::collections::BTreeSet;
-use trees::PresenceSyntax;
+use trees::{ListKind, PresenceSyntax, Standing};
+use type_table::Component;
 
 fn class_number(class: Class) -> u8
-    ensures { result ≡ Rattle.tagging.specs.Lists.class_number class }
+    ensures { result ≡ Rattle.tagging.specs.proving.Lists.class_number class }
 {
     match class {
         Class::Universal => 0,
@@ -33,14 +32,15 @@ fn key(tag: Label) -> (u8, usize)
     (class_number(tag.0), tag.1)
 }
 
-/// Whether OPTIONAL or DEFAULT stands behind a component (X.680, clause 25).
+/// Whether a component may be absent: OPTIONAL or DEFAULT stands behind it, or it is an addition (X.680, clause 25.6).
 fn may_be_absent(component: &Component) -> bool
-    ensures { result ≡ Rattle.tagging.specs.First.may_be_absent (part_of component.now).presence }
+    ensures { result ≡ Rattle.tagging.specs.First.may_be_absent (part_of component.now) }
 {
-    match &component.presence {
-        PresenceSyntax::Mandatory => false,
-        PresenceSyntax::Optional => true,
-        PresenceSyntax::Default(_) => true,
+    match (component.standing, &component.presence) {
+        (Standing::Addition(_), _) => true,
+        (Standing::Root, PresenceSyntax::Mandatory) => false,
+        (Standing::Root, PresenceSyntax::Optional) => true,
+        (Standing::Root, PresenceSyntax::Default(_)) => true,
     }
 }
 
@@ -55,8 +55,8 @@ fn reaches(kind: ListKind, members: &[Component], place: usize) -> bool
     }
 }
 
-/// Of the tags which the members before a place have left, those that the member at this place can meet: all, or none where the
-/// member before it has to stand.
+/// Of the tags which the members before a place have left, those that the member at this place can meet: all, or none
+/// where the member before it has to stand.
 fn left(
     alloc: Global,
     kind: ListKind,
@@ -65,7 +65,9 @@ fn left(
     seen: BTreeSet<(u8, usize)>,
 ) -> BTreeSet<(u8, usize)>
     requires within { place < length members.now }
-    ensures { (vs : List (List Tag)) → ((k : ℕ × ℕ) → IsIn seen.keys k ↔ IsHeld kind (map part_of members.now) vs place k) → (k : ℕ × ℕ) → IsIn result.keys k ↔ IsMet kind (map part_of members.now) vs place k }
+    ensures { (vs : List (List Tag)) →
+        Holds kind (map part_of members.now) vs place seen.keys →
+        Meets kind (map part_of members.now) vs place result.keys }
 {
     if place == 0 {
         return seen;
@@ -78,7 +80,9 @@ fn left(
 
 /// One of these tags that is in a set.
 fn met(seen: &BTreeSet<(u8, usize)>, tags: &[Label]) -> Option<(u8, usize)>
-    ensures { MatchOption result ((k : ℕ × ℕ) → HasKey tags.now k → IsIn seen.now.keys k → ⊥) (λ k. HasKey tags.now k × IsIn seen.now.keys k) }
+    ensures { MatchOption result
+        ((k : ℕ × ℕ) → HasKey tags.now k → IsIn seen.now.keys k → ⊥)
+        (λ k. HasKey tags.now k × IsIn seen.now.keys k) }
 {
     for tag in tags {
         let at = key(*tag);
@@ -91,7 +95,8 @@ fn met(seen: &BTreeSet<(u8, usize)>, tags: &[Label]) -> Option<(u8, usize)>
 
 /// Puts tags into a set.
 fn put_all(seen: &mut BTreeSet<(u8, usize)>, tags: &[Label]) -> Result<(), AllocError>
-    ensures { OnOk result ((k : ℕ × ℕ) → IsIn seen.new.keys k ↔ (IsIn seen.old.keys k ⊎ HasKey tags.now k)) }
+    ensures { OnOk result ((k : ℕ × ℕ) →
+        IsIn seen.new.keys k ↔ (IsIn seen.old.keys k ⊎ HasKey tags.now k)) }
 {
     for tag in tags {
         match seen.insert(key(*tag)) {
@@ -102,8 +107,8 @@ fn put_all(seen: &mut BTreeSet<(u8, usize)>, tags: &[Label]) -> Result<(), Alloc
     Ok(())
 }
 
-/// The first member that clashes with one before it. The first tags of those before it which can be the next one together with it
-/// are held in order, so each tag is looked up once.
+/// The first member that clashes with one before it. The first tags of those before it which can be the next one together
+/// with it are held in order, so each tag is looked up once.
 pub(crate) fn clash(
     alloc: Global,
     kind: ListKind,
@@ -111,7 +116,10 @@ pub(crate) fn clash(
     firsts: &[Vec<Label>],
 ) -> Result<Option<usize>, AllocError>
     requires as_long { length firsts.now ≡ length members.now }
-    ensures { (ts : List Type') → Collected ts (map part_of members.now) (tag_lists firsts.now) → IfOk result (λ o. MatchOption o (Distinct ts kind (map part_of members.now)) (λ q. (p : ℕ) × Clash ts kind (map part_of members.now) p q)) }
+    ensures within { IfOk result (λ o. IfSome o (λ q. q < length members.now)) }
+    ensures clash { (ts : List Type') →
+        Collected ts (map part_of members.now) (tag_lists firsts.now) →
+        IfOk result (TellsClash ts kind (map part_of members.now)) }
 {
     let mut seen = BTreeSet::new(alloc);
     for place in 0..members.len() {

@@ -1,17 +1,23 @@
 //! The tags that a type's notation has.
 
-ghost use Rattle.std.specs.Prelude.{ℕ, ◌≡◌, ◌<◌, ◌≤◌, ◌+◌, ◌++◌, ◌∷◌, [], Some, length, List, IfOk, IsOk, Option, is_none};
-ghost use Rattle.type_table.specs.Table.{IsLinked, IsCore, universal};
-ghost use Rattle.type_table.specs.Seen.{kind_of, plain_of, types_of};
-ghost use Rattle.tagging.specs.Step.{step_of, form_before, Outermost, Adds, ending};
-ghost use Rattle.tagging.specs.Tags.{TagCount, label, outermost, path_of, Written as HasWritten};
+ghost use Rattle.std.specs.Prelude.{ℕ, ◌≡◌, ◌<◌, ◌≤◌, ◌+◌, length, Some, IfOk, IsOk, IsTrue, IsFalse};
+ghost use Rattle.type_table.specs.Seen.{kind_of};
+ghost use Rattle.trees.specs.Types.{plain_of, universal};
+ghost use Rattle.tagging.specs.proving.Checks.{HasFew};
+ghost use Rattle.tagging.specs.proving.Step.{ending, form_before, Outermost, Adds, IsStep};
+ghost use Rattle.tagging.specs.Tagged.{IsOverfull};
+ghost use Rattle.tagging.specs.Tags.{Path, form_of, label, own, path_of, Written as HasWritten};
 
+use crate::columns::Columns;
+use asn_base::strings::StringKind;
 use asn_base::tag::{Class, Tag};
-use type_table::unfolding::next;
-use type_table::{ElementsKind, ListKind, Shape, Simple, Written};
 use smallvec::SmallVec;
 use std::alloc::AllocError;
-use trees::{Keyword, TagDefault};
+use trees::{ElementsKind, Keyword, ListKind, Simple, TagDefault};
+use type_table::{Shape, Written};
+
+/// The most tags that may be written on one type, through references.
+pub(crate) const TAGS: usize = 4;
 
 /// Whether a tag stands in place of the tag after it, or before it (X.680, clause 31.2).
 #[derive(Clone, Copy, Debug, PartialEq, Eq)]
@@ -47,12 +53,12 @@ pub type TagPath = SmallVec<FormedTag, 4>;
 /// The class and the number of a tag.
 pub(crate) type Label = (Class, usize);
 
-/// What stands at a type on the way through references and tags.
-#[derive(Clone, Copy, Debug, PartialEq)]
+/// What stands at a type behind its references: the end of its tags, with the universal one if there is one, or one more
+/// tag, with the word behind it, its module's tag default and the type that it stands before.
+#[derive(Clone, Copy)]
 pub(crate) enum Step {
-    Ends(Option<u8>),
-    Behind(usize),
-    Inside(Tag, Keyword, usize),
+    Ends(Option<Tag>),
+    Inside(Tag, Keyword, TagDefault, usize),
 }
 
 fn universal_tag(number: u8) -> Tag
@@ -65,9 +71,22 @@ fn universal_tag(number: u8) -> Tag
     }
 }
 
+fn string_number(kind: StringKind) -> u8
+    ensures is { result ≡ Rattle.trees.specs.Types.string_number kind }
+    ensures above { 0 < result }
+{
+    match kind {
+        StringKind::Numeric => 18,
+        StringKind::Printable => 19,
+        StringKind::Ia5 => 22,
+        StringKind::Visible => 26,
+    }
+}
+
 /// The universal tag number of a type that holds no other (X.680, clause 8, table 1).
 fn universal_number(simple: &Simple) -> u8
-    ensures { result ≡ universal (plain_of simple.now) }
+    ensures is { result ≡ universal (plain_of simple.now) }
+    ensures above { 0 < result }
 {
     match simple {
         Simple::Boolean => 1,
@@ -78,15 +97,14 @@ fn universal_number(simple: &Simple) -> u8
         Simple::ObjectIdentifier => 6,
         Simple::Enumerated(_) => 10,
         Simple::Utf8String => 12,
-        Simple::NumericString => 18,
-        Simple::PrintableString => 19,
-        Simple::Ia5String => 22,
-        Simple::VisibleString => 26,
+        Simple::RelativeOid => 13,
+        Simple::Restricted(kind) => string_number(*kind),
     }
 }
 
 fn elements_number(kind: ElementsKind) -> u8
-    ensures { result ≡ Rattle.tagging.specs.Tags.elements_number kind }
+    ensures is { result ≡ Rattle.tagging.specs.Tags.elements_number kind }
+    ensures above { 0 < result }
 {
     match kind {
         ElementsKind::SequenceOf => 16,
@@ -94,18 +112,30 @@ fn elements_number(kind: ElementsKind) -> u8
     }
 }
 
-#[tactic(auto, unfolding(crate::specs::Step::step_of))]
-fn step_at(written: &Written) -> Step
-    ensures { result ≡ step_of (kind_of written.now.shape) }
+/// The universal tag of a type that is neither a reference nor a tag (X.680, clause 8, table 1); a CHOICE has none.
+fn own_tag(written: &Written) -> Option<Tag>
+    ensures { (p : Path) → own (kind_of written.now.shape) ≡ Some p → p ≡ ending result }
 {
     match &written.shape {
-        Shape::Simple(simple) => Step::Ends(Some(universal_number(simple))),
-        Shape::Reference(j) => Step::Behind(*j),
-        Shape::Tagged(tag, keyword, j) => Step::Inside(*tag, *keyword, *j),
-        Shape::Members(ListKind::Sequence, _) => Step::Ends(Some(16)),
-        Shape::Members(ListKind::Set, _) => Step::Ends(Some(17)),
-        Shape::Members(ListKind::Choice, _) => Step::Ends(None),
-        Shape::Elements(kind, _, _) => Step::Ends(Some(elements_number(*kind))),
+        Shape::Simple(simple) => Some(universal_tag(universal_number(simple))),
+        Shape::Members(ListKind::Sequence, _, _) => Some(universal_tag(16)),
+        Shape::Members(ListKind::Set, _, _) => Some(universal_tag(17)),
+        Shape::Members(ListKind::Choice, _, _) => None,
+        Shape::Elements(kind, _) => Some(universal_tag(elements_number(*kind))),
+        Shape::Reference(_) => None,
+        Shape::Tagged(_, _, _) => None,
+    }
+}
+
+/// What stands at a type behind its references.
+fn step_at(columns: &Columns<'_>, ty: usize) -> Step
+    requires { ty < length columns.now.types }
+    ensures { IsStep columns.now.types ty result }
+{
+    let written = columns.written(columns.front(ty));
+    match &written.shape {
+        Shape::Tagged(tag, keyword, j) => Step::Inside(*tag, *keyword, written.default, *j),
+        _ => Step::Ends(own_tag(written)),
     }
 }
 
@@ -115,68 +145,34 @@ fn label_of(tag: Tag) -> Label
     (tag.class, tag.number as usize)
 }
 
-fn own_label(number: Option<u8>) -> Option<Label>
-    ensures { result ≡ outermost (ending number) }
-{
-    match number {
-        None => None,
-        Some(n) => Some((Class::Universal, n as usize)),
-    }
-}
-
 /// The outermost of the tags that a type's notation has, and none for an untagged CHOICE.
-pub(crate) fn written_outermost(types: &[Written], start: usize) -> Option<Label>
-    requires linked { IsLinked (types_of types.now) }
-    requires there { start < length types.now }
-    ensures { Outermost (types_of types.now) start result }
+pub(crate) fn written_outermost(columns: &Columns<'_>, ty: usize) -> Option<Label>
+    requires { ty < length columns.now.types }
+    ensures { Outermost columns.now.types ty result }
 {
-    let mut at = start;
-    for walked in 0..types.len() {
-        match step_at(&types[at]) {
-            Step::Ends(number) => return own_label(number),
-            Step::Behind(j) => at = j,
-            Step::Inside(tag, _, _) => return Some(label_of(tag)),
-        }
+    columns.whole();
+    match step_at(columns, ty) {
+        Step::Ends(None) => None,
+        Step::Ends(Some(tag)) => Some(label_of(tag)),
+        Step::Inside(tag, _, _, _) => Some(label_of(tag)),
     }
-    None
 }
 
-/// How many tags are written on a type, through references.
-pub(crate) fn count_of(types: &[Written], start: usize) -> usize
-    requires linked { IsLinked (types_of types.now) }
-    requires there { start < length types.now }
-    ensures { TagCount (types_of types.now) start result }
+/// Whether at most four tags are written on a type, through references.
+pub(crate) fn has_few(columns: &Columns<'_>, ty: usize) -> bool
+    requires { ty < length columns.now.types }
+    ensures few { IsTrue result → HasFew columns.now.types ty }
+    ensures many { IsFalse result → IsOverfull columns.now.types ty }
 {
-    let mut at = start;
-    let mut count = 0;
-    for walked in 0..types.len() {
-        match step_at(&types[at]) {
-            Step::Ends(_) => return count,
-            Step::Behind(j) => at = j,
-            Step::Inside(_, _, j) => {
-                at = j;
-                count += 1;
-            }
+    columns.whole();
+    let mut at = ty;
+    for passed in 0..TAGS + 1 {
+        match step_at(columns, at) {
+            Step::Ends(_) => return true,
+            Step::Inside(_, _, _, j) => at = j,
         }
     }
-    count
-}
-
-/// The type behind all references and tags.
-pub(crate) fn core(types: &[Written], start: usize) -> usize
-    requires linked { IsLinked (types_of types.now) }
-    requires there { start < length types.now }
-    ensures is { IsCore (types_of types.now) start result }
-    ensures within { result < length types.now }
-{
-    let mut at = start;
-    for walked in 0..types.len() {
-        match next(&types[at]) {
-            None => return at,
-            Some(j) => at = j,
-        }
-    }
-    at
+    false
 }
 
 pub(crate) fn form_with(keyword: Keyword, default: TagDefault, untagged: bool) -> Form
@@ -196,50 +192,49 @@ pub(crate) fn form_with(keyword: Keyword, default: TagDefault, untagged: bool) -
     }
 }
 
-fn form_at(types: &[Written], written: &Written, keyword: Keyword, inner: usize) -> Form
-    requires linked { IsLinked (types_of types.now) }
-    requires there { inner < length types.now }
-    ensures { (o : Option Rattle.tagging.specs.Tags.Label) × Outermost (types_of types.now) inner o × (result ≡ form_before keyword written.now.default (is_none o)) }
+/// The form of a tag before a type.
+pub(crate) fn form_at(
+    columns: &Columns<'_>,
+    keyword: Keyword,
+    default: TagDefault,
+    inner: usize,
+) -> Form
+    requires { inner < length columns.now.types }
+    ensures { (p : Path) → HasWritten columns.now.types inner p → result ≡ form_of keyword default p }
 {
-    let untagged = written_outermost(types, inner).is_none();
-    form_with(keyword, written.default, untagged)
-}
-
-fn own_tag(number: u8) -> FormedTag
-    requires { 0 < number }
-    ensures { path_of (result ∷ []) ≡ ending (Some number) }
-{
-    FormedTag {
-        tag: universal_tag(number),
-        form: Form::Explicit,
-    }
+    let untagged = written_outermost(columns, inner).is_none();
+    form_with(keyword, default, untagged)
 }
 
 /// These tags and then those that a type's notation has, the outermost first.
 /// Where there are at most four, it takes no memory.
 pub(crate) fn with_written(
     before: TagPath,
-    types: &[Written],
+    columns: &Columns<'_>,
     start: usize,
 ) -> Result<TagPath, AllocError>
-    requires linked { IsLinked (types_of types.now) }
-    requires there { start < length types.now }
+    requires there { start < length columns.now.types }
+    requires few { HasFew columns.now.types start }
     requires room { 4 ≤ before.capacity }
-    ensures ok { IfOk result (λ v. Adds (types_of types.now) start (path_of before.items) (path_of v.items)) }
-    ensures short { (p : Rattle.tagging.specs.Tags.Path) → HasWritten (types_of types.now) start p → length before.items + length p ≤ 4 → IsOk result }
+    ensures ok { IfOk result (λ v. Adds columns.now.types start (path_of before.items) (path_of v.items)) }
+    ensures short { (p : Path) →
+        HasWritten columns.now.types start p →
+        length before.items + length p ≤ 4 →
+        IsOk result }
 {
+    columns.whole();
     let mut path = before;
     let mut at = start;
-    for walked in 0..types.len() {
-        match step_at(&types[at]) {
+    for passed in 0..TAGS + 1 {
+        match step_at(columns, at) {
             Step::Ends(None) => return Ok(path),
-            Step::Ends(Some(number)) => {
-                path.push(own_tag(number))?;
+            Step::Ends(Some(tag)) => {
+                let form = Form::Explicit;
+                path.push(FormedTag { tag, form })?;
                 return Ok(path);
             }
-            Step::Behind(j) => at = j,
-            Step::Inside(tag, keyword, j) => {
-                let form = form_at(types, &types[at], keyword, j);
+            Step::Inside(tag, keyword, default, j) => {
+                let form = form_at(columns, keyword, default, j);
                 path.push(FormedTag { tag, form })?;
                 at = j;
             }

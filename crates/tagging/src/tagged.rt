@@ -1,39 +1,25 @@
 //! Linked modules whose types have their tags.
 
-ghost use Rattle.std.specs.Prelude.{ℕ, IsTrue, ◌↔◌, ◌≡◌, ◌<◌, ◌≤◌, length, map, slice_get, List, Contains, Some, IfOk, IsOk, MatchResult};
-ghost use Rattle.trees.specs.declared.module.TagDefault.{TagDefault};
-ghost use Rattle.type_table.specs.Seen.{type_of, types_of};
-ghost use Rattle.names.specs.Sources.{header_of, assignment_of};
-ghost use Rattle.type_table.specs.Table.{Type'};
+ghost use Rattle.std.specs.Prelude.{ℕ, IsTrue, ◌↔◌, ◌≡◌, ◌<◌, ◌≤◌, length, IfOk, IsOk, MatchResult};
 ghost use Rattle.tagging.specs.Tags.{Path, path_of, Tags};
 ghost use Rattle.tagging.specs.Tagged.{Breaks, IsTagged, HaveOneFirst};
-ghost use Rattle.tagging.specs.Faults.{Stands, StandsIn};
+ghost use Rattle.tagging.specs.Faults.{Stands};
 
 use crate::automatic::path_of;
 use crate::check::{Fault, Rule, check};
+use crate::columns::Columns;
 use crate::fault::{TagFault, fault_at};
 use crate::path::TagPath;
 use asn_base::schema::TypeId;
-use names::Header;
-use names::Assignment;
 use resolve::Linked;
-use type_table::Written;
 use std::alloc::{AllocError, Global};
 use std::marker::Model;
-
-/// Whether a type has this number.
-#[tactic(auto, using(crate::proofs::Tables::as_long))]
-fn is_below(types: &[Written], number: usize) -> bool
-    ensures { IsTrue result ↔ number < length (types_of types.now) }
-{
-    number < types.len()
-}
 
 /// Linked modules whose types have their tags as X.680 asks: every list is distinct, and each SET component and each
 /// CHOICE alternative has exactly one tag that can stand first. It borrows the modules, so the numbers of types are theirs.
 #[derive(Drop)]
 pub struct Tagged<'a> {
-    linked: &'a Linked,
+    columns: Columns<'a>,
 }
 
 impl<'a> Model for Tagged<'a> {
@@ -45,28 +31,28 @@ impl<'a> Model for Tagged<'a> {
 
     ghost Value = { Program };
 
-    ghost view = { λ t. t.linked.now };
+    ghost view = { λ t. t.columns };
 
     ghost use Rattle.tagging.specs.Tagged.{IsTagged, HaveOneFirst};
 
-    ghost invariant = { λ t. IsTagged t.linked.now.types × HaveOneFirst t.linked.now.types };
+    ghost invariant = { λ t. IsTagged t.columns.types × HaveOneFirst t.columns.types };
 }
 
 impl<'a> Tagged<'a> {
-    /// The modules with their tags, of modules that are known to have them. It takes no memory and no time.
-    pub fn of(linked: &'a Linked) -> Tagged<'a>
-        requires { IsTagged linked.now.types }
-        ensures { result ≡ linked.now }
+    /// Modules that are known to have their tags.
+    fn of(columns: Columns<'a>) -> Tagged<'a>
+        requires { IsTagged columns.types }
+        ensures { result ≡ columns.entry }
     {
-        let _types = linked.types();
-        Tagged { linked }
+        columns.whole();
+        Tagged { columns }
     }
 
     /// Whether the number is that of one of the types.
     pub fn has(&self, ty: TypeId) -> bool
         ensures { IsTrue result ↔ ty.index < length self.now.types }
     {
-        is_below(self.linked.types(), ty.index)
+        ty.index < self.columns.len()
     }
 
     /// The linked modules.
@@ -75,90 +61,36 @@ impl<'a> Tagged<'a> {
         ensures tagged { IsTagged self.now.types }
         ensures one_first { HaveOneFirst self.now.types }
     {
-        self.linked
+        self.columns.linked()
     }
-}
-
-fn assignment_number(written: &Written) -> usize
-    ensures { result ≡ (type_of written.now).assignment }
-{
-    written.assignment
-}
-
-fn module_number(assignment: &Assignment) -> usize
-    ensures { result ≡ (assignment_of assignment.now).0 }
-{
-    assignment.module
-}
-
-fn nth_assignment(assignments: &[Assignment], number: usize) -> &Assignment
-    requires { number < length assignments.now }
-    ensures { slice_get (map assignment_of assignments.now) number ≡ Some (assignment_of result.now) }
-{
-    &assignments[number]
-}
-
-fn nth_header(headers: &[Header], number: usize) -> &Header
-    requires { number < length headers.now }
-    ensures { slice_get (map header_of headers.now) number ≡ Some (header_of result.now) }
-{
-    &headers[number]
-}
-
-/// The fault that a type written in this assignment of this module breaks the rule.
-fn fault_in(alloc: Global, rule: Rule, header: &Header, assignment: &Assignment) -> TagFault
-    ensures { (hs : List (List ℕ × TagDefault)) (gs : List (ℕ × List ℕ)) (ts : List Type') (i : ℕ) → Breaks ts rule i → StandsIn hs gs ts i (header_of header.now).0 (assignment_of assignment.now).1 → Stands hs gs ts result }
-{
-    fault_at(alloc, rule, header.name.as_str(), assignment.name.as_str())
 }
 
 /// The fault that this type breaks the rule, with the names of its module and of the assignment where it is written.
-fn named(
-    alloc: Global,
-    types: &[Written],
-    assignments: &[Assignment],
-    headers: &[Header],
-    rule: Rule,
-    ty: usize,
-) -> TagFault
-    requires typed { (t : Type') → Contains (types_of types.now) t → t.assignment < length assignments.now }
-    requires placed { (a : ℕ × List ℕ) → Contains (map assignment_of assignments.now) a → a.0 < length headers.now }
-    requires breaks { Breaks (types_of types.now) rule ty }
-    ensures { Stands (map header_of headers.now) (map assignment_of assignments.now) (types_of types.now) result }
+fn named(alloc: Global, columns: &Columns<'_>, rule: Rule, ty: usize, at: usize) -> TagFault
+    requires { Breaks columns.now.types rule ty }
+    ensures { Stands columns.now result }
 {
-    let assignment = nth_assignment(assignments, assignment_number(&types[ty]));
-    let header = nth_header(headers, module_number(assignment));
-    fault_in(alloc, rule, header, assignment)
+    let home = columns.home(ty);
+    fault_at(alloc, rule, home.module, home.name, at)
 }
 
-/// Linked modules with their tags, of the modules and the names and tag defaults of all modules in the order of their numbers.
-fn tag_with<'a>(
-    alloc: Global,
-    linked: &'a Linked,
-    headers: &[Header],
-) -> Result<Tagged<'a>, TagFault>
-    requires typed { (t : Type') → Contains linked.now.types t → t.assignment < length linked.now.assignments }
-    requires placed { (a : ℕ × List ℕ) → Contains linked.now.assignments a → a.0 < length headers.now }
-    ensures { MatchResult result (λ t. (t ≡ linked.now) × IsTagged linked.now.types) (Stands (map header_of headers.now) linked.now.assignments linked.now.types) }
-{
-    match check(alloc, linked.types()) {
-        Ok(()) => Ok(Tagged::of(linked)),
-        Err(Fault::Memory) => Err(TagFault::Memory),
-        Err(Fault::At(rule, ty)) => {
-            let assignments = linked.assignments();
-            Err(named(alloc, linked.types(), assignments, headers, rule, ty))
-        }
-    }
-}
-
-/// Linked modules with their tags (X.680, clauses 25, 27, 29 and 31), or a fault that stands in them, with its module and
-/// the name of the assignment: `TagClash`, `ImplicitChoice` and `UntaggedChoice`, `Limit(Tags)` where more than four tags are
-/// written on a type, those behind its references with them, `Limit(TagNumber)`, or `Memory`.
+/// Linked modules with their tags (X.680, clauses 25, 27, 29 and 31), or a fault that stands in them, with its module, the
+/// name of the assignment and the place: `TagClash`, `ImplicitChoice`, `UntaggedChoice`, `MixedAutomatic`, `Limit(Tags)`
+/// where more than four tags are written on a type, those behind its references with them, `Limit(TagNumber)`, or `Memory`.
 pub fn tag(alloc: Global, linked: &Linked) -> Result<Tagged<'_>, TagFault>
-    ensures { MatchResult result (λ t. (t ≡ linked.now) × IsTagged linked.now.types) (Stands linked.now.headers linked.now.assignments linked.now.types) }
+    ensures { MatchResult result
+        (λ t. (t ≡ linked.now) × IsTagged linked.now.types)
+        (Stands linked.now) }
 {
-    linked.whole();
-    tag_with(alloc, linked, linked.headers())
+    let columns = match Columns::of(alloc, linked) {
+        Ok(columns) => columns,
+        Err(_) => return Err(TagFault::Memory),
+    };
+    match check(alloc, &columns) {
+        Ok(()) => Ok(Tagged::of(columns)),
+        Err(Fault::Memory) => Err(TagFault::Memory),
+        Err(Fault::At(rule, ty, at)) => Err(named(alloc, &columns, rule, ty, at)),
+    }
 }
 
 /// The tags of a type (X.680, clauses 8, 25, 27, 29 and 31): those that are written and the automatic one, the outermost
@@ -170,5 +102,6 @@ pub fn tags_of(alloc: Global, tagged: &Tagged<'_>, ty: TypeId) -> Result<TagPath
     ensures ok { IfOk result (λ v. Tags tagged.now.types ty.index (path_of v.items)) }
     ensures short { (p : Path) → Tags tagged.now.types ty.index p → length p ≤ 4 → IsOk result }
 {
-    path_of(alloc, tagged.linked().types(), ty.index)
+    tagged.linked();
+    path_of(alloc, &tagged.columns, ty.index)
 }

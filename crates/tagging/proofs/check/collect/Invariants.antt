@@ -1,7 +1,7 @@
 use Rattle.std.proofs.Common.{take, map}
-use Rattle.type_table.specs.Seen.{part_of, types_of}
-use Rattle.tagging.specs.Lists.{Collected, tag_lists}
+use Rattle.type_table.specs.Seen.{part_of}
+use Rattle.tagging.specs.proving.Lists.{Collected, tag_lists}
 use Rattle.tagging.proofs.check.collect.Given as goal
 
 abbrev pub invariant-loop-place : goal.invariant-loop-place
-invariant-loop-place l = Collected (types_of l.types) (take l.place (map part_of l.components)) (tag_lists l.lists.items)
+invariant-loop-place l = Collected l.columns.types (take l.place (map part_of l.components)) (tag_lists l.lists.items)

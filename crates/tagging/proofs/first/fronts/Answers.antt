@@ -1,7 +1,7 @@
 use Rattle.std.proofs.Common.{Some, ◌<◌, length, sym, subst}
 use Rattle.std.specs.Prelude.{map}
-use Rattle.type_table.specs.Seen.{types_of, part_of}
-use Rattle.tagging.specs.Heads.{none, Head}
+use Rattle.type_table.specs.Seen.{part_of}
+use Rattle.tagging.specs.proving.Heads.{none, Head}
 use Rattle.tagging.proofs.Tables.{part_at, part_more}
 use Rattle.tagging.proofs.Fronts.{fronts_push, within_all}
 use Rattle.tagging.proofs.first.fronts.Goals as goal
@@ -9,10 +9,12 @@ use Rattle.tagging.proofs.first.fronts.Goals as goal
 pub loop-place-init : goal.loop-place-init
 loop-place-init c = rw c.new-tags.ensures.items none
 
-pub head-requires-clause-there : goal.head-requires-clause-there
-head-requires-clause-there c =
-    subst (λ t. t < length c.args.types.now) (sym c.member_type-ty.ensures)
-    (within_all (length c.args.types.now) (map part_of c.args.members.now) c.loop-place.place (part_of c.index-members-place.result) c.requires.parts (part_at c.args.members.now c.loop-place.place c.index-members-place.result c.loop-place-test.true c.index-members-place.is))
+pub head-requires : goal.head-requires
+head-requires c = record {
+  there =
+      subst (λ t. t < length c.args.columns.now.types) (sym c.member_type-ty.ensures)
+      (within_all (length c.args.columns.now.types) (map part_of c.args.members.now) c.loop-place.place (part_of c.index-members-place.result) c.requires.parts (part_at c.args.members.now c.loop-place.place c.index-members-place.result c.loop-place-test.true c.index-members-place.is));
+}
 
 pub returns-in-None : goal.returns-in-None
 returns-in-None c =
@@ -21,5 +23,5 @@ returns-in-None c =
 pub loop-place-preserved : goal.loop-place-preserved
 loop-place-preserved c =
     let e = part_more c.args.members.now c.loop-place.place c.index-members-place.result c.loop-place-test.true c.index-members-place.is in
-    let h = subst (λ t. Head (types_of c.args.types.now) t (Some c.in-Some.tag)) c.member_type-ty.ensures c.in-Some.ensures in
-    rw (e, c.in-Ok.ensures.items) (fronts_push (types_of c.args.types.now) _ _ _ c.in-Some.tag c.loop-place.invariant h)
+    let h = subst (λ t. Head c.args.columns.now.types t (Some c.in-Some.tag)) c.member_type-ty.ensures c.in-Some.ensures in
+    rw (e, c.in-Ok.ensures.items) (fronts_push c.args.columns.now.types _ _ _ c.in-Some.tag c.loop-place.invariant h)

@@ -1,7 +1,7 @@
 use Rattle.std.proofs.Common.{take, map}
-use Rattle.type_table.specs.Seen.{part_of, types_of}
-use Rattle.tagging.specs.Heads.{Fronts}
+use Rattle.type_table.specs.Seen.{part_of}
+use Rattle.tagging.specs.proving.Heads.{Fronts}
 use Rattle.tagging.proofs.first.fronts.Given as goal
 
 abbrev pub invariant-loop-place : goal.invariant-loop-place
-invariant-loop-place l = Fronts (types_of l.types) (take l.place (map part_of l.members)) l.tags.items
+invariant-loop-place l = Fronts l.columns.types (take l.place (map part_of l.members)) l.tags.items

@@ -2,8 +2,7 @@ use Rattle.std.specs.Prelude.{map}
 use Rattle.type_table.specs.Seen.{part_of}
 use Rattle.std.proofs.Common.{List, ℕ}
 use Rattle.type_table.specs.Table.{Type'}
-use Rattle.tagging.specs.Lists.{Collected, tag_lists, IsClear}
-use Rattle.tagging.proofs.Clashes.{Holds}
+use Rattle.tagging.specs.proving.Lists.{Collected, tag_lists, IsClear, Holds}
 use Rattle.tagging.proofs.lists.clash.Given as goal
 
 abbrev pub invariant-loop-place : goal.invariant-loop-place

@@ -1,6 +1,6 @@
 use Rattle.std.proofs.Common.{◌≤◌, length, sym, subst, arith}
 use Rattle.std.proofs.lemmas.Option.{slice_get-get_or}
-use Rattle.tagging.specs.Lists.{IsIn}
+use Rattle.tagging.specs.proving.Lists.{IsIn}
 use Rattle.tagging.proofs.Clashes.{not_in, none_next, none_end}
 use Rattle.tagging.proofs.lists.met.Goals as goal
 

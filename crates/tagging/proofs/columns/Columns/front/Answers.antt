@@ -1,0 +1,11 @@
+use Rattle.std.proofs.Common.{◌<◌, length, refl, arith}
+use Rattle.std.proofs.lemmas.Option.{slice_get_read}
+use Rattle.tagging.proofs.columns.Columns.front.Goals as goal
+
+pub returns-clause-there : goal.returns-clause-there
+returns-clause-there c =
+    let fronts = c.self.inside.fronts.items in
+    let a = c.self.invariant.0 in
+    let there : c.args.ty < length c.self.inside.linked.now.types = rw (← c.self.view_is) at c.requires in
+    let e = slice_get_read fronts (length fronts) c.args.ty c.index.result.now refl (omega (arith, there, a.long)) c.index.ensures in
+    rw (← c.self.view_is) (a.each c.args.ty c.index.result.now e).0

@@ -1,0 +1,33 @@
+-- What is found once for all types of a table: where references lead, and which lists are tagged automatically.
+use Rattle.std.specs.Prelude.{◌≡◌, ◌<◌, ℕ, Bool, true, false, List, Option, Some, map, length, slice_get}
+use Rattle.trees.specs.declared.module.TagDefault.{TagDefault}
+use Rattle.type_table.specs.Table.{Type', Kind, reference, Is}
+use Rattle.tagging.specs.Tags.{automatic_kind}
+
+abbrev pub is_reference : Kind → Bool
+is_reference (reference j) = true
+is_reference k = false
+
+-- type f is the first, from type i on through references, that is no reference
+pub data Front (ts : List Type') : ℕ → ℕ → Type 0 where
+  here : {i : ℕ} {k : Kind} {d : TagDefault} {l : Option (ℕ × ℕ)} →
+      Is ts i k d l →
+      is_reference k ≡ false →
+      Front ts i i
+  through : {i j f : ℕ} {d : TagDefault} {l : Option (ℕ × ℕ)} →
+      Is ts i (reference j) d l →
+      Front ts j f →
+      Front ts i f
+
+-- what is noted is right; the number of the types, or a greater one, notes nothing
+abbrev pub AreKnown : List Type' → List ℕ → Type 0
+AreKnown ts fronts = (i f : ℕ) → slice_get fronts i ≡ Some f → f < length ts → Front ts i f
+
+-- these are the fronts of all types, in order
+pub record AreFronts (ts : List Type') (fronts : List ℕ) : Type 0 where
+  pub long : length fronts ≡ length ts
+  pub each : (i f : ℕ) → slice_get fronts i ≡ Some f → (f < length ts) × Front ts i f
+
+-- whether the members of each type are tagged automatically; they are not where it is no list
+abbrev pub all_automatic : List Type' → List Bool
+all_automatic ts = map (λ t. automatic_kind ts t.kind t.default) ts

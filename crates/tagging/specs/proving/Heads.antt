@@ -1,0 +1,42 @@
+-- The outermost tag of a type, and those of a list's members.
+use Rattle.std.specs.Prelude.{◌≡◌, ℕ, List, [], ◌∷◌, Option, Some, None, slice_get, Contains}
+use Rattle.type_table.specs.Table.{Part, Type', Kind, members}
+use Rattle.tagging.specs.declared.first.FrontFault.{FrontFault}
+use Rattle.tagging.specs.declared.first.FrontFault.TheVariants.{Memory, Untagged}
+use Rattle.tagging.specs.Tags.{Label, Path, outermost, Tags}
+use Rattle.tagging.specs.First.{First}
+use Rattle.tagging.specs.Tagged.{IsUntagged}
+
+-- the outermost tag of type i, and none where it has no tag
+pub record Head (ts : List Type') (i : ℕ) (o : Option Label) : Type 0 where
+  pub path : Path
+  pub tags : Tags ts i path
+  pub is : o ≡ outermost path
+
+-- the outermost tags of the members, one each
+pub data Fronts (ts : List Type') : List Part → List Label → Type 0 where
+  none : Fronts ts [] []
+  front : {c : Part} {t : Label} {cs : List Part} {us : List Label} →
+      Head ts c.ty (Some t) →
+      Fronts ts cs us →
+      Fronts ts (c ∷ cs) (t ∷ us)
+
+-- these are the tags that can stand first in type i
+pub record AreFirst (ts : List Type') (i : ℕ) (us : List Label) : Type 0 where
+  pub each : (t : Label) → Contains us t → First ts i t
+  pub all : (t : Label) → First ts i t → Contains us t
+
+-- a member that is an untagged CHOICE, or want of memory
+abbrev pub IsFrontFault : List Type' → List Part → FrontFault → Type 0
+IsFrontFault ts cs Memory = Unit {0}
+IsFrontFault ts cs (Untagged i at) =
+    (n : ℕ) × (c : Part) × (slice_get cs n ≡ Some c) × (c.ty ≡ i) × Head ts i None
+
+abbrev pub members_of : Kind → List Part
+members_of (members k m cs) = cs
+members_of k = []
+
+-- want of memory, or the type is an untagged CHOICE where it must not be one
+abbrev pub IsFirstFault : List Type' → FrontFault → Type 0
+IsFirstFault ts Memory = Unit {0}
+IsFirstFault ts (Untagged i at) = IsUntagged ts i

@@ -1,0 +1,104 @@
+-- The first tags of a list's members, as the check of a list goes on.
+use Rattle.std.specs.Prelude.{◌≡◌, ◌↔◌, ℕ, ◌+◌, ◌<◌, ◌≤◌, true, List, [], ◌∷◌, Option, Some, slice_get, map, Vec, MatchOption}
+use Rattle.std.specs.Global.{Global}
+use Rattle.std.specs.declared.cmp.Ordering.{Ordering}
+use Rattle.std.specs.List.{list_any}
+use Rattle.std.specs.Ordering.{is_eq, nat_cmp, ordering_then}
+use Rattle.asn_base.specs.declared.tag.Class.{Class}
+use Rattle.asn_base.specs.declared.tag.Class.TheVariants.{Universal, Application, Context, Private}
+use Rattle.tagging.specs.Tags.{Label}
+use Rattle.trees.specs.declared.types.ListKind.{ListKind}
+use Rattle.trees.specs.declared.types.ListKind.TheVariants.{Sequence, Set, Choice}
+use Rattle.type_table.specs.Table.{Part, Type'}
+use Rattle.tagging.specs.First.{may_be_absent, Apart, Together, Distinct}
+use Rattle.tagging.specs.Tagged.{Clash}
+use Rattle.tagging.specs.proving.Heads.{AreFirst}
+
+-- the first tags of the members, a list each
+pub data Collected (ts : List Type') : List Part → List (List Label) → Type 0 where
+  none : Collected ts [] []
+  one : {c : Part} {us : List Label} {cs : List Part} {vs : List (List Label)} →
+      AreFirst ts c.ty us →
+      Collected ts cs vs →
+      Collected ts (c ∷ cs) (us ∷ vs)
+
+abbrev pub tag_lists : List (Vec Label Global) → List (List Label)
+tag_lists = map (λ v. v.items)
+
+-- the member at q can be reached from the one before it
+abbrev pub Reaches : ListKind → List Part → ℕ → Type 0
+Reaches Sequence cs q = (r : ℕ) (c : Part) → r + 1 ≡ q → slice_get cs r ≡ Some c → may_be_absent c ≡ true
+Reaches Set cs q = Unit {0}
+Reaches Choice cs q = Unit {0}
+
+-- the member at p has its first tags apart from those of the members up to q
+abbrev pub IsClear : List Type' → ListKind → List Part → ℕ → ℕ → Type 0
+IsClear ts k cs p n = (q : ℕ) (c d : Part) →
+    p < q →
+    q < n →
+    slice_get cs p ≡ Some c →
+    slice_get cs q ≡ Some d →
+    Together k cs p q →
+    Apart ts c.ty d.ty
+
+-- each member from place p to before the one before q may be absent
+abbrev pub Upto : ListKind → List Part → ℕ → ℕ → Type 0
+Upto Sequence cs p q = (r : ℕ) (c : Part) → p ≤ r → r + 1 < q → slice_get cs r ≡ Some c → may_be_absent c ≡ true
+Upto Set cs p q = Unit {0}
+Upto Choice cs p q = Unit {0}
+
+-- ---- tags in an ordered set
+
+abbrev pub class_number : Class → ℕ
+class_number Universal = 0
+class_number Application = 1
+class_number Context = 2
+class_number Private = 3
+
+-- a tag as two numbers, by which tags are put in order
+abbrev pub key_of : Label → ℕ × ℕ
+key_of t = (class_number t.0, t.1)
+
+abbrev pub key_cmp : ℕ × ℕ → ℕ × ℕ → Ordering
+key_cmp x y = ordering_then (nat_cmp x.0 y.0) (nat_cmp x.1 y.1)
+
+-- key x is one of these
+abbrev pub IsIn : List (ℕ × ℕ) → ℕ × ℕ → Type 0
+IsIn keys x = list_any (λ y. is_eq (key_cmp x y)) keys ≡ true
+
+-- key x is that of one of these tags
+pub record HasKey (us : List Label) (x : ℕ × ℕ) : Type 0 where
+  pub place : ℕ
+  pub tag : Label
+  pub there : slice_get us place ≡ Some tag
+  pub is : key_of tag ≡ x
+
+-- key x is that of a first tag of a member before place q, from which on to before the one before q each may be absent
+pub record IsHeld (k : ListKind) (cs : List Part) (vs : List (List Label)) (q : ℕ) (x : ℕ × ℕ) : Type 0 where
+  pub place : ℕ
+  pub before : place < q
+  pub upto : Upto k cs place q
+  pub tags : List Label
+  pub there : slice_get vs place ≡ Some tags
+  pub has : HasKey tags x
+
+-- key x is that of a first tag of a member before place q that can be the next one together with the member at q
+pub record IsMet (k : ListKind) (cs : List Part) (vs : List (List Label)) (q : ℕ) (x : ℕ × ℕ) : Type 0 where
+  pub place : ℕ
+  pub before : place < q
+  pub together : Together k cs place q
+  pub tags : List Label
+  pub there : slice_get vs place ≡ Some tags
+  pub has : HasKey tags x
+
+-- the set holds the tags that the members before place q have left
+abbrev pub Holds : ListKind → List Part → List (List Label) → ℕ → List (ℕ × ℕ) → Type 0
+Holds k cs vs q keys = (x : ℕ × ℕ) → IsIn keys x ↔ IsHeld k cs vs q x
+
+-- of those it holds what the member at place q can meet
+abbrev pub Meets : ListKind → List Part → List (List Label) → ℕ → List (ℕ × ℕ) → Type 0
+Meets k cs vs q keys = (x : ℕ × ℕ) → IsIn keys x ↔ IsMet k cs vs q x
+
+-- the answer to whether members clash: none do, or that at place q does with one before it
+abbrev pub TellsClash : List Type' → ListKind → List Part → Option ℕ → Type 0
+TellsClash ts k cs o = MatchOption o (Distinct ts k cs) (λ q. (p : ℕ) × Clash ts k cs p q)

@@ -1,0 +1,268 @@
+//! What is found once for all types: where their references lead, and which lists are tagged automatically.
+
+ghost use Rattle.std.specs.Prelude.{ℕ, ◌≡◌, ◌<◌, false, not, length, map, IfOk, MatchOption, Some, slice_get};
+ghost use Rattle.std.specs.List.{list_any};
+ghost use Rattle.type_table.specs.proving.Cores.{IsKnown};
+ghost use Rattle.type_table.specs.Seen.{kind_of, type_of, types_of};
+ghost use Rattle.type_table.specs.Table.{IsCore, IsLinked, reference};
+ghost use Rattle.resolve.specs.Program.{IsWhole};
+ghost use Rattle.tagging.specs.Tags.{is_tagged, bears_tag, automatic_kind, is_automatic};
+ghost use Rattle.tagging.specs.Faults.{StandsIn};
+ghost use Rattle.tagging.specs.proving.Columns.{is_reference, Front, AreKnown, AreFronts, all_automatic};
+
+use asn_base::schema::TypeId;
+use resolve::{Home, Linked};
+use std::alloc::{AllocError, Global};
+use std::marker::Model;
+use trees::TagDefault;
+use type_table::{Component, Shape, Written};
+
+/// The type that a type refers to, if it is a reference.
+fn referred(written: &Written) -> Option<usize>
+    ensures { MatchOption result
+        (is_reference (kind_of written.now.shape) ≡ false)
+        (λ j. kind_of written.now.shape ≡ reference j) }
+{
+    match &written.shape {
+        Shape::Reference(j) => Some(*j),
+        _ => None,
+    }
+}
+
+/// The first type, from one on through references, that is no reference. The way ends where it comes to a type for which
+/// that is noted.
+fn front_by(types: &[Written], fronts: &[usize], start: usize) -> usize
+    requires linked { IsLinked (types_of types.now) }
+    requires long { length fronts.now ≡ length types.now }
+    requires known { AreKnown (types_of types.now) fronts.now }
+    requires there { start < length types.now }
+    ensures front { Front (types_of types.now) start result }
+    ensures within { result < length types.now }
+{
+    let mut at = start;
+    for step in 0..types.len() {
+        let known = fronts[at];
+        if known < types.len() {
+            return known;
+        }
+        match referred(&types[at]) {
+            None => return at,
+            Some(j) => at = j,
+        }
+    }
+    at
+}
+
+/// Notes the front of a type for it and for all that it leads to through references, up to one for which it is noted.
+fn note(types: &[Written], fronts: &mut [usize], start: usize, front: usize)
+    requires linked { IsLinked (types_of types.now) }
+    requires long { length fronts.old ≡ length types.now }
+    requires known { AreKnown (types_of types.now) fronts.old }
+    requires there { start < length types.now }
+    requires within { front < length types.now }
+    requires front { Front (types_of types.now) start front }
+    ensures known { AreKnown (types_of types.now) fronts.new }
+    ensures kept { (i : ℕ) → IsKnown (length types.now) fronts.old i → IsKnown (length types.now) fronts.new i }
+    ensures noted { IsKnown (length types.now) fronts.new start }
+{
+    fronts[start] = front;
+    let mut at = start;
+    for step in 0..types.len() {
+        match referred(&types[at]) {
+            None => return,
+            Some(j) => at = j,
+        }
+        if fronts[at] < types.len() {
+            return;
+        }
+        fronts[at] = front;
+    }
+}
+
+/// Notes the fronts of all types. No type is passed more than three times, so the time grows with the table alone,
+/// however its references are chained.
+fn note_all(types: &[Written], fronts: &mut [usize])
+    requires linked { IsLinked (types_of types.now) }
+    requires long { length fronts.old ≡ length types.now }
+    requires unknown { (i : ℕ) → IsKnown (length types.now) fronts.old i → ⊥ }
+    ensures { AreFronts (types_of types.now) fronts.new }
+{
+    for i in 0..types.len() {
+        let front = front_by(types, fronts, i);
+        note(types, fronts, i, front);
+    }
+}
+
+fn fronts_of(alloc: Global, types: &[Written]) -> Result<Vec<usize>, AllocError>
+    requires { IsLinked (types_of types.now) }
+    ensures { IfOk result (λ v. AreFronts (types_of types.now) v.items) }
+{
+    let count = types.len();
+    let mut fronts = vec![in alloc; count; count]?;
+    note_all(types, &mut fronts);
+    Ok(fronts)
+}
+
+fn has_tag(written: &Written) -> bool
+    ensures { result ≡ is_tagged (kind_of written.now.shape) }
+{
+    matches!(&written.shape, Shape::Tagged(_, _, _))
+}
+
+fn bears_tag_at(types: &[Written], ty: usize) -> bool
+    ensures { result ≡ bears_tag (slice_get (types_of types.now) ty) }
+{
+    match types.get(ty) {
+        None => false,
+        Some(written) => has_tag(written),
+    }
+}
+
+fn any_tagged(types: &[Written], members: &[Component]) -> bool
+    ensures { result ≡ list_any (λ c. bears_tag (slice_get (types_of types.now) c.ty)) members.now }
+{
+    members.iter().any(|c| bears_tag_at(types, c.ty))
+}
+
+/// Whether the members of a type are tagged automatically; they are not where it is no list.
+fn numbers(types: &[Written], written: &Written) -> bool
+    ensures { result ≡ automatic_kind (types_of types.now) (kind_of written.now.shape) written.now.default }
+{
+    match (&written.shape, written.default) {
+        (Shape::Members(_, _, members), TagDefault::Automatic) => !any_tagged(types, members),
+        _ => false,
+    }
+}
+
+fn automatic_of(alloc: Global, types: &[Written]) -> Result<Vec<bool>, AllocError>
+    ensures { IfOk result (λ v. v.items ≡ all_automatic (types_of types.now)) }
+{
+    let mut automatic = Vec::new(alloc);
+    for ty in 0..types.len() {
+        match automatic.push(numbers(types, &types[ty])) {
+            Ok(()) => {}
+            Err(_) => return Err(AllocError),
+        }
+    }
+    Ok(automatic)
+}
+
+/// Linked modules, with what is found once for all their types.
+#[derive(Drop)]
+pub(crate) struct Columns<'a> {
+    linked: &'a Linked,
+    /// The first type, from each one on through references, that is no reference.
+    fronts: Vec<usize>,
+    /// Whether the members of each type are tagged automatically.
+    automatic: Vec<bool>,
+}
+
+impl<'a> Model for Columns<'a> {
+    ghost use Rattle.std.specs.Coded.{codes};
+    ghost use Rattle.resolve.specs.Codes.{tree_code};
+    ghost use Rattle.resolve.specs.Program.{Program};
+
+    ghost coded = { Prim.hlevel (codes, tree_code) };
+
+    ghost Value = { Program };
+
+    ghost view = { λ c. c.linked.now };
+
+    ghost use Rattle.std.specs.Prelude.{◌≡◌};
+    ghost use Rattle.tagging.specs.proving.Columns.{AreFronts, all_automatic};
+
+    ghost invariant = { λ c.
+        AreFronts c.linked.now.types c.fronts.items
+        × (c.automatic.items ≡ all_automatic c.linked.now.types) };
+}
+
+impl<'a> Columns<'a> {
+    /// Linked modules with what is found of their types.
+    pub(crate) fn of(alloc: Global, linked: &'a Linked) -> Result<Columns<'a>, AllocError>
+        ensures { IfOk result (λ c. c ≡ linked.now) }
+    {
+        let types = linked.types();
+        let fronts = fronts_of(alloc, types)?;
+        let automatic = automatic_of(alloc, types)?;
+        Ok(Columns {
+            linked,
+            fronts,
+            automatic,
+        })
+    }
+
+    /// The linked modules.
+    pub(crate) fn linked(&self) -> &'a Linked
+        ensures value { result.now ≡ self.now }
+        ensures whole { IsWhole self.now }
+    {
+        self.linked.whole();
+        self.linked
+    }
+
+    /// What every table of linked types keeps.
+    pub(crate) fn whole(&self)
+        ensures { IsLinked self.now.types }
+    {
+        let _types = self.linked.types();
+    }
+
+    /// How many types there are.
+    pub(crate) fn len(&self) -> usize
+        ensures { result ≡ length self.now.types }
+    {
+        self.linked.types().len()
+    }
+
+    /// A type as it is written.
+    pub(crate) fn written(&self, ty: usize) -> &Written
+        requires { ty < length self.now.types }
+        ensures written { slice_get self.now.types ty ≡ Some (type_of result.now) }
+        ensures linked { IsLinked self.now.types }
+    {
+        &self.linked.types()[ty]
+    }
+
+    /// The first type, from one on through references, that is no reference.
+    pub(crate) fn front(&self, ty: usize) -> usize
+        requires { ty < length self.now.types }
+        ensures front { Front self.now.types ty result }
+        ensures there { result < length self.now.types }
+    {
+        self.fronts[ty]
+    }
+
+    /// The type behind all references and tags of a type.
+    pub(crate) fn core(&self, ty: usize) -> usize
+        requires { ty < length self.now.types }
+        ensures core { IsCore self.now.types ty result }
+        ensures there { result < length self.now.types }
+    {
+        self.linked.core(TypeId { index: ty }).index
+    }
+
+    /// Whether the members of a type are tagged automatically; they are not where it is no list.
+    pub(crate) fn numbers(&self, list: usize) -> bool
+        ensures { result ≡ is_automatic self.now.types (slice_get self.now.types list) }
+    {
+        match self.automatic.get(list) {
+            None => false,
+            Some(numbers) => *numbers,
+        }
+    }
+
+    /// Whether a member's type is a tag that is written in the list.
+    pub(crate) fn bears_tag(&self, ty: usize) -> bool
+        ensures { result ≡ bears_tag (slice_get self.now.types ty) }
+    {
+        bears_tag_at(self.linked.types(), ty)
+    }
+
+    /// Where a type is written.
+    pub(crate) fn home(&self, ty: usize) -> Home<'_>
+        requires { ty < length self.now.types }
+        ensures { StandsIn self.now ty result.module.now result.name.now }
+    {
+        self.linked.home(TypeId { index: ty })
+    }
+}
