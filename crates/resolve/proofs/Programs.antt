@@ -9,15 +9,16 @@ use Rattle.type_table.specs.Faults.{IsTableFault}
 use Rattle.names.specs.Faults.{IsNamesFault}
 use Rattle.resolve.specs.Links.{IsProgramOf, Links, IsLinkFault}
 use Rattle.names.specs.Names.{IsApart, Module}
-use Rattle.names.specs.Sources.{Source}
+use Rattle.names.specs.Sources.{Source, Value}
 use Rattle.type_table.specs.Table.{Type', AllUnfold}
 use Rattle.names.specs.Modules.{AreDistinct, AreFew, AreNamed, StandsIn, names_in}
 use Rattle.names.specs.ByNumber.{scopes_from, headers_of, owned_from, roots_of}
 use Rattle.type_table.specs.Numbering.{AreNumbered}
 use Rattle.resolve.specs.Program.{Program}
-use Rattle.resolve.specs.Sound.{IsSound}
-use Rattle.resolve.specs.SoundFaults.{IsSoundFault}
-use Rattle.resolve.specs.Soundness.{program}
+use Rattle.resolve.specs.Sound.{IsSound, IsSoundFault}
+
+abbrev program : List (Name × Module) → List (Name × TagDefault) → List (ℕ × Name) → List Type' → List Value → Program
+program ms hs gs ts vs = record { modules = ms; headers = hs; assignments = gs; types = ts; values = vs }
 
 numbered_of : (ms : List ModuleTree) (p : Program) → IsProgramOf ms p → AreNumbered (scopes_from 0 0 ms) (headers_of ms) (owned_from 0 ms) (roots_of ms) p.types
 numbered_of ms p a =
@@ -55,9 +56,9 @@ module _ (apart : Apart) (one_table : OneTable) (names_exclude : NamesExclude) (
 
   pub link_exclude : (e : NameFault) → (e ≡ faults.Memory → ⊥) → IsLinkFault ms e → ⊥
   link_exclude faults.Memory n f = n refl
-  link_exclude (faults.Limit z m y) n f = one_of (faults.Limit z m y) n f
-  link_exclude (faults.Twice m y) n f = one_of (faults.Twice m y) n f
-  link_exclude (faults.UnknownName m y) n f = one_of (faults.UnknownName m y) n f
-  link_exclude (faults.NotExported m y) n f = one_of (faults.NotExported m y) n f
-  link_exclude (faults.Circular m y) n f = one_of (faults.Circular m y) n f
-  link_exclude (faults.UnknownModule m y) n f = one_of (faults.UnknownModule m y) n f
+  link_exclude (faults.Limit k s) n f = one_of (faults.Limit k s) n f
+  link_exclude (faults.Twice s) n f = one_of (faults.Twice s) n f
+  link_exclude (faults.UnknownName s) n f = one_of (faults.UnknownName s) n f
+  link_exclude (faults.NotExported s) n f = one_of (faults.NotExported s) n f
+  link_exclude (faults.Circular s) n f = one_of (faults.Circular s) n f
+  link_exclude (faults.UnknownModule s) n f = one_of (faults.UnknownModule s) n f

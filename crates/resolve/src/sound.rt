@@ -25,7 +25,8 @@ fn sound_lists(alloc: Global, linked: &Linked) -> Result<(), NameFault>
     let types = linked.types();
     for index in 0..types.len() {
         let home = linked.home(TypeId { index });
-        sound_shape(alloc, home.module, home.name, &types[index].shape)?;
+        let written = &types[index];
+        sound_shape(alloc, home.module, home.name, &written.shape)?;
     }
     Ok(())
 }

@@ -1,9 +1,9 @@
-use Rattle.std.proofs.Common.{◌<◌, inl, length, map, refl, arith, string_bytes}
+use Rattle.std.proofs.Common.{◌<◌, inl, length, refl, arith}
 use Rattle.std.proofs.lemmas.Option.{slice_get_read}
-use Rattle.names.specs.Scopes.{seen, module_of}
-use Rattle.names.specs.Sources.{header_of, assignment_of, source_of, sources_of}
+use Rattle.trees.specs.Values.{name_at}
+use Rattle.names.specs.Sources.{source_of, sources_of}
 use Rattle.names.specs.proving.Distinct.{stands_map, at_all}
-use Rattle.resolve.proofs.Slices.{more_roots}
+use Rattle.resolve.proofs.Ready.{more_roots}
 use Rattle.names.specs.proving.Rows.{assignment_at, header_at}
 use Rattle.resolve.proofs.linking.assemble.Goals as goal
 
@@ -37,5 +37,5 @@ returns-then-len-gt65536-clause-fault c =
     let there = stands_map source_of g.tables.roots.items 65536 s (slice_get_read g.tables.roots.items (length g.tables.roots.items) 65536 s refl inside c.index-source.ensures) in
     let within : s.assignment < length g.tables.assignments.items = at_all (λ r. r.assignment < length g.tables.assignments.items) (sources_of g.tables.roots.items) 65536 (source_of s) c.requires.ready.assigned there in
     let placed = c.requires.ready.placed s.assignment a (slice_get_read g.tables.assignments.items (length g.tables.assignments.items) s.assignment a refl within c.index-assignment.ensures) in
-    inl (more_roots (seen module_of g.modules.entries) (map header_of g.headers.items) (map assignment_of g.tables.assignments.items) (sources_of g.tables.roots.items) (source_of s) a.module (string_bytes h.name) (string_bytes a.name) h.default c.too_many.result there
+    inl (more_roots g (source_of s) a.module (name_at h.name) (name_at a.name) h.default c.too_many.result there
     (assignment_at g.tables.assignments.items s.assignment a within c.index-assignment.ensures) (header_at g.headers.items a.module h placed c.index-header.ensures) c.too_many.ensures)

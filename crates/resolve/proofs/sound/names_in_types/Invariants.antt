@@ -1,0 +1,6 @@
+use Rattle.std.proofs.Common.{ℕ, ◌<◌}
+use Rattle.resolve.proofs.Exclusion.{TypeMeans}
+use Rattle.resolve.proofs.sound.names_in_types.Given as goal
+
+abbrev pub invariant-loop-index : goal.invariant-loop-index
+invariant-loop-index l = (k : ℕ) → k < l.index → TypeMeans l.linked k

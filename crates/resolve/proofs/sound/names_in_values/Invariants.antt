@@ -1,0 +1,6 @@
+use Rattle.std.proofs.Common.{ℕ, ◌<◌}
+use Rattle.resolve.proofs.Exclusion.{ValueMeans}
+use Rattle.resolve.proofs.sound.names_in_values.Given as goal
+
+abbrev pub invariant-loop-value : goal.invariant-loop-value
+invariant-loop-value l = (k : ℕ) → k < l.value-index → ValueMeans l.linked k
