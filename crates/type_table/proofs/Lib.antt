@@ -1,6 +1,8 @@
 pub mod Circling
 pub mod Free
+pub mod Halfway
 pub mod Knowing
+pub mod Limits
 pub mod Marking
 pub mod Numbered
 pub mod Numbers
@@ -9,6 +11,8 @@ pub mod Once
 pub mod PartKinds
 pub mod Queue
 pub mod Rising
+pub mod Sets
 pub mod Sources
+pub mod Stepping
 pub mod Trees
 pub mod Walks

@@ -1,14 +1,18 @@
 //! The numbers of the items of enumerations (X.680, clauses 20.5 and 20.6).
 
-ghost use Rattle.std.specs.Prelude.{◌≡◌, IfOk, IfErr};
+ghost use Rattle.std.specs.Prelude.{◌≡◌, ◌≤◌, ◌<◌, ◌+◌, ◌++◌, ◌^◌, ℤ, pos, List, IfOk, IfErr, OnOk, MatchOption, map};
+ghost use Rattle.trees.specs.Types.{item_of};
 ghost use Rattle.type_table.specs.declared.items.NumberFault.TheVariants as faults;
-ghost use Rattle.type_table.specs.Items.{root_numbers, numbers_of};
+ghost use Rattle.type_table.specs.Items.{given_numbers, root_numbers, additions_from, numbers_of, number_or, past};
 ghost use Rattle.type_table.specs.Lists.{AreWithinLimit};
 ghost use Rattle.type_table.specs.Seen.{root_of, more_of};
+ghost use Rattle.type_table.specs.proving.Sets.{Puts, IsSetOf, IsFree};
 ghost use Rattle.type_table.specs.proving.Checks.{IsGreatAt};
 
+use asn_base::law::integer_within_limit;
 use std::alloc::{AllocError, AllocFailed, Global};
-use trees::EnumeratedSyntax;
+use std::collections::BTreeSet;
+use trees::{EnumeratedItem, EnumeratedSyntax};
 
 /// Why items have no numbers.
 #[derive(Clone, Copy, Debug, PartialEq, Eq)]
@@ -35,6 +39,152 @@ impl<T: Drop> From<AllocFailed<T>> for NumberFault {
     }
 }
 
+/// The numbers that are written.
+fn given(alloc: Global, items: &[EnumeratedItem]) -> Result<Vec<i128>, AllocError>
+    ensures { IfOk result (λ v. v.items ≡ given_numbers (map item_of items.now)) }
+{
+    let mut numbers = Vec::new(alloc);
+    for item in items {
+        match item.number {
+            None => {}
+            Some(number) => numbers.push(number)?,
+        }
+    }
+    Ok(numbers)
+}
+
+/// Puts a number into a set.
+fn put(number: i128, set: &mut BTreeSet<i128>) -> Result<(), AllocError>
+    ensures added { OnOk result (Puts set.old.keys set.new.keys number) }
+    ensures within { AreWithinLimit set.old.keys → OnOk result (AreWithinLimit set.new.keys) }
+{
+    integer_within_limit(number);
+    set.insert(number)?;
+    Ok(())
+}
+
+/// The set of these numbers.
+fn set_of(alloc: Global, numbers: &[i128]) -> Result<BTreeSet<i128>, AllocError>
+    ensures same { IfOk result (λ s. IsSetOf s.keys numbers.now) }
+    ensures within { IfOk result (λ s. AreWithinLimit s.keys) }
+{
+    let mut set = BTreeSet::new(alloc);
+    for i in 0..numbers.len() {
+        put(numbers[i], &mut set)?;
+    }
+    Ok(set)
+}
+
+/// The least number from `from` on that is none of these.
+fn free(used: &BTreeSet<i128>, from: u128) -> u128
+    requires within { AreWithinLimit used.now.keys }
+    requires small { from ≤ 2 ^ 127 }
+    ensures free { IsFree used.now.keys from result }
+    ensures few { result < from + 2 ^ 64 }
+    ensures small { result ≤ 2 ^ 127 }
+{
+    let mut at = from;
+    for turn in 0..used.len() {
+        if at >= 170141183460469231731687303715884105728 {
+            return at;
+        }
+        if !used.contains(&(at as i128)) {
+            return at;
+        }
+        at += 1;
+    }
+    at
+}
+
+/// The numbers of root items: those that are written, and for the others in turn the next that is written behind none.
+fn root(alloc: Global, items: &[EnumeratedItem]) -> Result<Vec<i128>, AllocError>
+    ensures numbers { IfOk result (λ v. v.items ≡ root_numbers (map item_of items.now)) }
+    ensures within { IfOk result (λ v. AreWithinLimit v.items) }
+{
+    let written = given(alloc, items)?;
+    let used = set_of(alloc, &written)?;
+    let mut numbers = Vec::new(alloc);
+    let mut next = 0u128;
+    for item in items {
+        match item.number {
+            Some(number) => {
+                integer_within_limit(number);
+                numbers.push(number)?;
+            }
+            None => {
+                let number = free(&used, next);
+                numbers.push(number as i128)?;
+                next = number + 1;
+            }
+        }
+    }
+    Ok(numbers)
+}
+
+/// The least number from 0 above this one.
+fn above(number: i128) -> u128
+    ensures past { result ≡ past number }
+    ensures small { result ≤ 2 ^ 127 }
+{
+    if number < 0 { 0 } else { number as u128 + 1 }
+}
+
+/// The number that is written, or else the least from `from` on that is none of these, if that is below 2 to the 127.
+fn number_or_free(used: &BTreeSet<i128>, from: u128, written: Option<i128>) -> Option<i128>
+    requires within { AreWithinLimit used.now.keys }
+    requires small { from ≤ 2 ^ 127 }
+    ensures { (list : List ℤ) → IsSetOf used.now.keys list → MatchOption result (number_or from list written ≡ pos (2 ^ 127)) (λ z. z ≡ number_or from list written) }
+{
+    match written {
+        Some(number) => Some(number),
+        None => {
+            let number = free(used, from);
+            if number >= 170141183460469231731687303715884105728 {
+                return None;
+            }
+            Some(number as i128)
+        }
+    }
+}
+
+/// The numbers of root items, and behind them those of additions: what is written, and for the others the least number from
+/// 0 that no root item has and that lies above each earlier addition's.
+fn with_additions(
+    alloc: Global,
+    root: Vec<i128>,
+    items: &[EnumeratedItem],
+) -> Result<Vec<i128>, NumberFault>
+    requires { AreWithinLimit root.items }
+    ensures numbers { IfOk result (λ v. v.items ≡ root.items ++ additions_from root.items 0 (map item_of items.now)) }
+    ensures within { IfOk result (λ v. AreWithinLimit v.items) }
+    ensures fault { IfErr result (IsGreatAt root.items (map item_of items.now)) }
+{
+    let used = set_of(alloc, &root)?;
+    let mut numbers = root;
+    let mut next = 0u128;
+    for i in 0..items.len() {
+        match number_or_free(&used, next, items[i].number) {
+            None => return Err(NumberFault::TooGreat(i)),
+            Some(number) => {
+                integer_within_limit(number);
+                numbers.push(number)?;
+                next = next.max(above(number));
+            }
+        }
+    }
+    Ok(numbers)
+}
+
+/// The items behind the extension marker, if there is one.
+pub(crate) fn additions(given: &EnumeratedSyntax) -> &[EnumeratedItem]
+    ensures { map item_of result.now ≡ more_of given.now }
+{
+    match &given.additions {
+        None => &[],
+        Some(items) => items,
+    }
+}
+
 /// The numbers of the items of an enumeration, those of the root in order and then those of the additions (X.680, clauses
 /// 20.5 and 20.6).
 pub fn item_numbers(
@@ -45,7 +195,9 @@ pub fn item_numbers(
     ensures within { IfOk result (λ v. AreWithinLimit v.items) }
     ensures fault { IfErr result (IsGreatAt (root_numbers (root_of given.now)) (more_of given.now)) }
 {
-    let _alloc = alloc;
-    let _given = given;
-    Err(NumberFault::Memory)
+    let numbers = root(alloc, &given.root)?;
+    match with_additions(alloc, numbers, additions(given)) {
+        Ok(all) => Ok(all),
+        Err(fault) => Err(fault),
+    }
 }

@@ -1,6 +1,6 @@
 //! Laws of the table of written types. A caller calls a law to know it; it takes no memory and no time.
 
-ghost use Rattle.std.specs.Prelude.{◌≡◌, ◌≤◌, ◌<◌, ℕ, List, Option, Some, length, slice_get};
+ghost use Rattle.std.specs.Prelude.{◌≡◌, ◌≤◌, ◌<◌, ℕ, ℤ, [], List, Option, Some, length, slice_get};
 ghost use Rattle.trees.specs.Values.{Name};
 ghost use Rattle.trees.specs.declared.module.TagDefault.{TagDefault as Default};
 ghost use Rattle.names.specs.declared.fault.NameFault.TheVariants as faults;
@@ -9,6 +9,7 @@ ghost use Rattle.names.specs.declared.scope.Assigned.TheVariants as assigned;
 ghost use Rattle.names.specs.Names.{Module, IsApart, Refers};
 ghost use Rattle.names.specs.Sources.{HaveNoPlace, Source};
 ghost use Rattle.type_table.specs.Faults.{IsTableFault};
+ghost use Rattle.type_table.specs.Items.{Item, given_numbers, AreRootNumbers, AreAdditionNumbers, root_numbers, addition_numbers};
 ghost use Rattle.type_table.specs.Numbering.{AreNumbered};
 ghost use Rattle.type_table.specs.Table.{Type', AllUnfold, IsClosed, IsLinked};
 
@@ -32,4 +33,12 @@ pub fn numbered_there()
 pub fn numbered_linked()
     ensures closed { (ms : List (Name × Module)) (hs : List (Name × Default)) (gs : List (ℕ × Name)) (roots : List Source) (ts : List Type') → AreNumbered ms hs gs roots ts → ((M x : Name) (N : Option Name) (j : ℕ) → Refers ms M N x (assigned.Type j) → j < length ts) → IsClosed ts }
     ensures linked { (ms : List (Name × Module)) (hs : List (Name × Default)) (gs : List (ℕ × Name)) (roots : List Source) (ts : List Type') → AreNumbered ms hs gs roots ts → ((M x : Name) (N : Option Name) (j : ℕ) → Refers ms M N x (assigned.Type j) → j < length ts) → HaveNoPlace roots → AllUnfold ts → IsLinked ts }
+{}
+
+/// The numbers of items, as they are computed, are those of X.680, 20.5 and 20.6, and there are no others.
+pub fn numbers_of_items()
+    ensures root { (is : List Item) → AreRootNumbers (given_numbers is) [] is (root_numbers is) }
+    ensures additions { (is more : List Item) → AreAdditionNumbers (root_numbers is) [] more (addition_numbers is more) }
+    ensures one_root { (given earlier : List ℤ) (is : List Item) (ys zs : List ℤ) → AreRootNumbers given earlier is ys → AreRootNumbers given earlier is zs → ys ≡ zs }
+    ensures one_addition { (root earlier : List ℤ) (is : List Item) (ys zs : List ℤ) → AreAdditionNumbers root earlier is ys → AreAdditionNumbers root earlier is zs → ys ≡ zs }
 {}

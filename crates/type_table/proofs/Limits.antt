@@ -1,0 +1,33 @@
+-- Lists and sets of numbers within the limit.
+use Rattle.std.proofs.Common.{◌≡◌, ◌⊎◌, inl, inr, ℕ, zero, suc, ◌+◌, ◌<◌, ◌≤◌, ◌++◌, List, [], ◌∷◌, length, take, drop, map, get_or, Some, refl, sym, subst, ap, ◌∙◌, arith}
+use Rattle.std.specs.Prelude.{slice_get, ℤ, pos, negsuc}
+use Rattle.std.proofs.lemmas.List.{take_more}
+use Rattle.std.proofs.lemmas.Option.{get_or_from_slice_get}
+use Rattle.asn_base.specs.Typed.{IsWithinLimit}
+use Rattle.names.specs.Modules.{StandsIn}
+use Rattle.names.specs.proving.Distinct.{either, stands_left, stands_right, stands_either, stands_one, drop_at}
+use Rattle.type_table.specs.Lists.{AreWithinLimit}
+use Rattle.type_table.specs.proving.Sets.{Puts, IsSetOf}
+
+pub within_none : AreWithinLimit []
+within_none i z e = absurd cc
+
+-- one number more
+pub within_more : (zs : List ℤ) (y : ℤ) → AreWithinLimit zs → IsWithinLimit y → AreWithinLimit (zs ++ y ∷ [])
+within_more zs y w l i z e = elim (either zs (y ∷ []) i z e) [
+    | inl f ↦ w i z f
+    | inr r ↦ subst IsWithinLimit (stands_one y z (r.0, r.2)) l
+  ]
+
+pub within_puts : (old new : List ℤ) (y : ℤ) → Puts old new y → AreWithinLimit old → IsWithinLimit y → AreWithinLimit new
+within_puts old new y p w l i z e = elim ((p z).0 (i, e)) [
+    | inl s ↦ w s.0 z s.1
+    | inr q ↦ subst IsWithinLimit q l
+  ]
+
+-- the set of what comes first in a list
+pub set_more : (zs old new : List ℤ) (i : ℕ) (y : ℤ) → i < length zs → slice_get zs i ≡ Some y → IsSetOf old (take i zs) → Puts old new y → IsSetOf new (take (i + 1) zs)
+set_more zs old new i y l e s p = subst (λ q. IsSetOf new q) (sym (take_more zs i y l ∙ ap (λ q. take i zs ++ q ∷ []) (get_or_from_slice_get zs i y y e))) (λ z. (
+  λ h. elim ((p z).0 h) [ inl a ↦ stands_left (take i zs) (y ∷ []) z ((s z).0 a) | inr q ↦ stands_right (take i zs) (y ∷ []) z (0, ap Some q) ],
+  λ h. elim (stands_either (take i zs) (y ∷ []) z h) [ inl a ↦ (p z).1 (inl ((s z).1 a)) | inr b ↦ (p z).1 (inr (stands_one y z b)) ],
+))
