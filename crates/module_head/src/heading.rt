@@ -6,7 +6,7 @@ ghost use Rattle.notation.specs.Reads.{ReadsAs, SkipsAs};
 ghost use Rattle.kernel.specs.Given.{AreTokens};
 ghost use Rattle.grammar.specs.Single.{tags_at};
 ghost use Rattle.trees.specs.Values.{name_at};
-ghost use Rattle.module_head.specs.HeadingReading.{tag_word_at, default_words_at, semicolon_at, symbol_at, some_exports_at, all_exports_at, no_exports_at, exported_at, exports_at};
+ghost use Rattle.module_head.specs.HeadingReading.{tag_word_at, default_words_at, semicolon_at, symbol_at, some_exports_at, exported_at};
 ghost use Rattle.module_head.specs.HeadReading.{tag_default_at, export_list_at};
 
 use kernel::decode::name_at;
@@ -222,31 +222,8 @@ fn exported<'a>(
     }
 }
 
-/// Reads `EXPORTS` and the names behind it (X.680, clause 13.7); None where `ALL` stands there.
-#[tactic(auto, unfolding(crate::specs::HeadingReading::exports_at))]
-fn exports<'a>(
-    alloc: Global,
-    text: &[u8],
-    tokens: &'a [Token],
-) -> Result<(Option<Vec<At<String>>>, &'a [Token]), ReadError>
-    requires tokens { AreTokens text.now tokens.now }
-    ensures read { ReadsAs (option_map (λ xs. map name_at xs.items)) exports_at text.now tokens.now result }
-    ensures rest { IfOk result (λ x. AreTokens text.now x.1.now) }
-{
-    match tokens {
-        [
-            Token {
-                kind: TokenKind::Reserved(Word::Exports),
-                ..
-            },
-            rest @ ..,
-        ] => exported(alloc, text, rest),
-        _ => Err(ReadError::Unexpected(tokens.len())),
-    }
-}
-
-/// Reads the names that are exported; None where none are listed or `ALL` stands there.
-#[tactic(auto, unfolding(crate::specs::HeadReading::export_list_at))]
+/// Reads the names that are exported (X.680, clause 13.7); None where none are listed or `ALL` stands there.
+#[tactic(auto, unfolding(crate::specs::HeadReading::export_list_at, crate::specs::HeadingReading::exports_at))]
 pub fn export_list<'a>(
     alloc: Global,
     text: &[u8],
@@ -262,8 +239,8 @@ pub fn export_list<'a>(
                 kind: TokenKind::Reserved(Word::Exports),
                 ..
             },
-            ..
-        ] => exports(alloc, text, tokens),
+            rest @ ..,
+        ] => exported(alloc, text, rest),
         _ => Ok((None, tokens)),
     }
 }

@@ -10,7 +10,7 @@ ghost use Rattle.kernel.specs.Given.{IsTokenOf, AreTokens};
 ghost use Rattle.grammar.specs.Rules.{number_at};
 ghost use Rattle.trees.specs.Values.{name_at};
 ghost use Rattle.trees.specs.Modules.{import_of};
-ghost use Rattle.module_head.specs.ImportReading.{begins_arc, begins_symbol, arc_number_at, behind_arc_at, arc_at, more_arcs_at, arcs_at, oid_at, behind_module_at, module_ref_at, from_module_at, import_from_at, imports_from_at, imported_at, imports_at};
+ghost use Rattle.module_head.specs.ImportReading.{begins_arc, begins_symbol, arc_number_at, behind_arc_at, arc_at, more_arcs_at, arcs_at, oid_at, behind_module_at, module_ref_at, from_module_at, import_from_at, imports_from_at, imported_at};
 ghost use Rattle.module_head.specs.HeadReading.{import_list_at};
 
 use crate::heading::{semicolon, symbols};
@@ -311,31 +311,8 @@ fn imported<'a>(
     Ok((imports, semicolon(text, rest)?))
 }
 
-/// Reads `IMPORTS` and what is imported (X.680, clause 13.12).
-#[tactic(auto, unfolding(crate::specs::ImportReading::imports_at))]
-fn imports<'a>(
-    alloc: Global,
-    text: &[u8],
-    tokens: &'a [Token],
-) -> Result<(Vec<Import>, &'a [Token]), ReadError>
-    requires tokens { AreTokens text.now tokens.now }
-    ensures read { ReadsAs (λ x. map import_of x.items) (imports_at small) text.now tokens.now result }
-    ensures rest { IfOk result (λ x. AreTokens text.now x.1.now) }
-{
-    match tokens {
-        [
-            Token {
-                kind: TokenKind::Reserved(Word::Imports),
-                ..
-            },
-            rest @ ..,
-        ] => imported(alloc, text, rest),
-        _ => Err(ReadError::Unexpected(tokens.len())),
-    }
-}
-
-/// Reads what is imported, which is nothing where no imports stand there.
-#[tactic(auto, unfolding(crate::specs::HeadReading::import_list_at))]
+/// Reads what is imported (X.680, clause 13.12), which is nothing where no imports stand there.
+#[tactic(auto, unfolding(crate::specs::HeadReading::import_list_at, crate::specs::ImportReading::imports_at))]
 pub fn import_list<'a>(
     alloc: Global,
     text: &[u8],
@@ -351,8 +328,8 @@ pub fn import_list<'a>(
                 kind: TokenKind::Reserved(Word::Imports),
                 ..
             },
-            ..
-        ] => imports(alloc, text, tokens),
+            rest @ ..,
+        ] => imported(alloc, text, rest),
         _ => Ok((Vec::new(alloc), tokens)),
     }
 }

@@ -7,11 +7,12 @@ use Rattle.text.specs.declared.reserved.Word.TheVariants.{From, Size, Union, Min
 use Rattle.grammar.specs.Lexeme.{Lexeme, TypeRef, Ident, Number, CString, Word, Mark}
 use Rattle.grammar.specs.Grammar.{Grammar, token, word, only as lexeme, ◌∙◌, ◌∣◌, ◌⇒◌, optional, behind}
 use Rattle.grammar.specs.Reading.{Limit, Integer, Read, Reader, ◌>>=◌, stop}
-use Rattle.grammar.specs.Laws.{everywhere, nowhere, then_read, after_read}
+use Rattle.grammar.specs.Laws.{everywhere, nowhere, then_read, after_read, is_comma}
 use Rattle.grammar.specs.Loops.{sound_short}
 use Rattle.grammar.specs.Places.{small}
 use Rattle.grammar.specs.Short.{Short, short_of}
-use Rattle.grammar.specs.Lists.{no_lexeme, is_ident}
+use Rattle.grammar.specs.Lists.{no_lexeme}
+use Rattle.grammar.specs.Single.{is_ident, ident_at, ident_is, module_name_at, is_typeref, typeref_is}
 use Rattle.grammar.specs.Numbers.{Past}
 use Rattle.grammar.specs.Parts.{IsKind, pick, perhaps, token_solid}
 use Rattle.grammar.specs.Rules.{Rules, Same, either, rule_token, rule_made, rule_seq, rule_behind, rule_tail, rule_pair, rule_pick, Loose, loose_optional, loose_many, loose_made, rule_read, rule_tests, rule_same, is_number, number_at, rule_number, fitting_made, made, read_again, one_at, one_is}
@@ -110,42 +111,6 @@ digits_is = record { yes = λ x. refl; one = one; nil = refl; hit = λ x ts. ref
     miss (Number x) ts e = absurd cc
     miss s ts e = refl
 
-unfoldable name_at : Reader (List ℕ)
-name_at (Ident x ∷ rest) = Ok (x, rest)
-name_at ts = stop ts
-
-name_is : IsKind Ident is_ident name_at
-unfolding name_at
-name_is = record { yes = λ x. refl; one = one; nil = refl; hit = λ x ts. refl; miss = miss }
-  where
-    one : (s : Lexeme) → is_ident s ≡ true → (x : List ℕ) × (s ≡ Ident x)
-    one (Ident x) e = (x, refl)
-    one s e = absurd cc
-
-    miss : (s : Lexeme) (ts : List Lexeme) → is_ident s ≡ false → name_at (s ∷ ts) ≡ stop (s ∷ ts)
-    miss (Ident x) ts e = absurd cc
-    miss s ts e = refl
-
-abbrev pub is_typeref : Lexeme → Bool
-is_typeref (TypeRef x) = true
-is_typeref t = false
-
-unfoldable typeref_at : Reader (List ℕ)
-typeref_at (TypeRef x ∷ rest) = Ok (x, rest)
-typeref_at ts = stop ts
-
-typeref_is : IsKind TypeRef is_typeref typeref_at
-unfolding typeref_at
-typeref_is = record { yes = λ x. refl; one = one; nil = refl; hit = λ x ts. refl; miss = miss }
-  where
-    one : (s : Lexeme) → is_typeref s ≡ true → (x : List ℕ) × (s ≡ TypeRef x)
-    one (TypeRef x) e = (x, refl)
-    one s e = absurd cc
-
-    miss : (s : Lexeme) (ts : List Lexeme) → is_typeref s ≡ false → typeref_at (s ∷ ts) ≡ stop (s ∷ ts)
-    miss (TypeRef x) ts e = absurd cc
-    miss s ts e = refl
-
 abbrev pub is_text : Lexeme → Bool
 is_text (CString x) = true
 is_text t = false
@@ -165,10 +130,6 @@ text_is = record { yes = λ x. refl; one = one; nil = refl; hit = λ x ts. refl;
     miss : (s : Lexeme) (ts : List Lexeme) → is_text s ≡ false → text_at (s ∷ ts) ≡ stop (s ∷ ts)
     miss (CString x) ts e = absurd cc
     miss s ts e = refl
-
-abbrev pub is_comma : Lexeme → Bool
-is_comma (Mark Comma) = true
-is_comma t = false
 
 comma_one : (t : Lexeme) → is_comma t ≡ true → t ≡ Mark Comma
 comma_one (Mark Comma) e = refl
@@ -200,7 +161,7 @@ or_is (Word Union) e = refl
 or_is t e = absurd cc
 
 abbrev ref_read : Reader (Option Name × Name)
-ref_read = pick is_ident (λ ts. name_at ts >>= λ x. Ok ((None, x.0), x.1)) (λ ts. then_read (λ (p : Name × Name). p) typeref_at (then_read (λ p. p.1) (one_at is_dot) name_at) ts >>= λ p. Ok ((Some p.0.0, p.0.1), p.1))
+ref_read = pick is_ident (λ ts. ident_at ts >>= λ x. Ok ((None, x.0), x.1)) (λ ts. then_read (λ (p : Name × Name). p) module_name_at (then_read (λ p. p.1) (one_at is_dot) ident_at) ts >>= λ p. Ok ((Some p.0.0, p.0.1), p.1))
 
 typeref_no_ident : (t : Lexeme) → is_typeref t ≡ true → is_ident t ≡ false
 typeref_no_ident (TypeRef x) e = refl
@@ -305,12 +266,12 @@ module _ {over : Limit → ℕ} {within : Limit → Type 0} where
 
   -- ---- names
 
-  dot_then_name : Rules over within (behind (Mark Dot) (token Ident)) is_dot no_lexeme (then_read (λ p. p.1) (one_at is_dot) name_at)
-  dot_then_name = rule_behind rule_dot (rule_token name_is)
+  dot_then_name : Rules over within (behind (Mark Dot) (token Ident)) is_dot no_lexeme (then_read (λ p. p.1) (one_at is_dot) ident_at)
+  dot_then_name = rule_behind rule_dot (rule_token ident_is)
 
   rule_ref : Rules over within ref (either is_ident is_typeref) (either no_lexeme no_lexeme) ref_read
   rule_ref =
-      rule_pick (rule_made (λ x. (None, x)) (rule_token name_is))
+      rule_pick (rule_made (λ x. (None, x)) (rule_token ident_is))
       (rule_made (λ p. (Some p.0, p.1)) (rule_pair (token TypeRef) (behind (Mark Dot) (token Ident)) (token_solid TypeRef) (rule_seq (λ p. p) (rule_token typeref_is) dot_then_name (λ t e. refl))))
       typeref_no_ident
 
@@ -353,19 +314,19 @@ module _ (over : Limit → ℕ) (within : Limit → Type 0) (fits fits' : ℕ �
   minus_same (t ∷ ts) = refl
 
   dot_same : (m : List ℕ) (ts : List Lexeme) → end_read (TypeRef m ∷ Mark Dot ∷ ts) ≡ end_at fits (TypeRef m ∷ Mark Dot ∷ ts)
-  unfolding typeref_at name_at end_at ref_dot_at ref_name_at
+  unfolding module_name_at ident_at end_at ref_dot_at ref_name_at
   dot_same m [] = refl
   dot_same m (Ident x ∷ ts) = refl
   dot_same m (t ∷ ts) = refl
 
   typeref_same : (m : List ℕ) (ts : List Lexeme) → end_read (TypeRef m ∷ ts) ≡ end_at fits (TypeRef m ∷ ts)
-  unfolding typeref_at end_at ref_dot_at
+  unfolding module_name_at end_at ref_dot_at
   typeref_same m [] = refl
   typeref_same m (Mark Dot ∷ ts) = dot_same m ts
   typeref_same m (t ∷ ts) = refl
 
   end_same : (ts : List Lexeme) → end_read ts ≡ end_at fits ts
-  unfolding number_at name_at typeref_at end_at
+  unfolding number_at ident_at module_name_at end_at
   end_same [] = refl
   end_same (Number n ∷ ts) = fitting_made (positive_end) (fits n) n (Number n ∷ ts) ts
   end_same (Mark Minus ∷ ts) = minus_same ts

@@ -6,7 +6,7 @@ ghost use Rattle.grammar.specs.Places.{small};
 ghost use Rattle.trees.specs.Constraints.{end_of, range_of, ranges_of, chars_of, form_of, constraint_of};
 ghost use Rattle.notation.specs.Reads.{ReadsAs, text_in};
 ghost use Rattle.kernel.specs.Given.{IsTokenOf, AreTokens};
-ghost use Rattle.notation.specs.ConstraintReading.{last_chars_at, more_chars_at, from_at, minus_at, end_at, some_end_at, upper_at, behind_min_at, behind_end_at, single_at, marker_at, ranges_at, size_at, from_in_at, values_in_at, inside_at, constraint_at};
+ghost use Rattle.notation.specs.ConstraintReading.{last_chars_at, more_chars_at, from_at, minus_at, end_at, upper_at, behind_min_at, behind_end_at, marker_at, ranges_at, size_at, inside_at, constraint_at};
 
 use crate::names::{bare, qualified};
 use crate::numbers::{negative, positive};
@@ -219,23 +219,8 @@ fn end<'a>(
     }
 }
 
-/// Reads an end that is not open.
-#[tactic(auto, unfolding(crate::specs::ConstraintReading::some_end_at))]
-fn some_end<'a>(
-    alloc: Global,
-    text: &[u8],
-    tokens: &'a [Token],
-) -> Result<(Option<EndSyntax>, &'a [Token]), ReadError>
-    requires tokens { AreTokens text.now tokens.now }
-    ensures read { ReadsAs (option_map end_of) (some_end_at small) text.now tokens.now result }
-    ensures rest { IfOk result (λ x. AreTokens text.now x.1.now) }
-{
-    let (end, rest) = end(alloc, text, tokens)?;
-    Ok((Some(end), rest))
-}
-
 /// Reads what stands behind `..`.
-#[tactic(auto, unfolding(crate::specs::ConstraintReading::upper_at))]
+#[tactic(auto, unfolding(crate::specs::ConstraintReading::upper_at, crate::specs::ConstraintReading::some_end_at))]
 fn upper<'a>(
     alloc: Global,
     text: &[u8],
@@ -253,7 +238,10 @@ fn upper<'a>(
             },
             rest @ ..,
         ] => Ok((None, rest)),
-        _ => some_end(alloc, text, tokens),
+        _ => {
+            let (end, rest) = end(alloc, text, tokens)?;
+            Ok((Some(end), rest))
+        }
     }
 }
 
@@ -310,22 +298,6 @@ fn behind_end<'a>(
     }
 }
 
-/// Reads a value, or a range that begins with one.
-#[tactic(auto, unfolding(crate::specs::ConstraintReading::single_at))]
-fn single<'a>(
-    alloc: Global,
-    text: &[u8],
-    tokens: &'a [Token],
-) -> Result<(RangeSyntax, &'a [Token]), ReadError>
-    requires tokens { AreTokens text.now tokens.now }
-    ensures read { ReadsAs range_of (single_at small) text.now tokens.now result }
-    ensures rest { IfOk result (λ x. AreTokens text.now x.1.now) }
-{
-    let (first, rest) = end(alloc, text, tokens)?;
-    let (range, rest) = behind_end(alloc, text, first, rest)?;
-    Ok((range, rest))
-}
-
 /// A value or a range, as a part of a union.
 struct OneRange;
 
@@ -347,7 +319,7 @@ impl<'t> Part<'t> for OneRange {
 
     ghost is_short = { λ s x r. r };
 
-    #[tactic(auto, unfolding(crate::specs::ConstraintReading::range_at))]
+    #[tactic(auto, unfolding(crate::specs::ConstraintReading::range_at, crate::specs::ConstraintReading::single_at))]
     fn read(
         &self,
         alloc: Global,
@@ -362,7 +334,10 @@ impl<'t> Part<'t> for OneRange {
                 },
                 rest @ ..,
             ] => behind_min(alloc, text, rest),
-            _ => single(alloc, text, tokens),
+            _ => {
+                let (first, rest) = end(alloc, text, tokens)?;
+                behind_end(alloc, text, first, rest)
+            }
         }
     }
 }
@@ -442,38 +417,8 @@ pub fn size<'a>(
     }
 }
 
-/// Reads this kind of constraint.
-#[tactic(auto, unfolding(crate::specs::ConstraintReading::from_in_at))]
-fn from_in<'a>(
-    alloc: Global,
-    text: &[u8],
-    tokens: &'a [Token],
-) -> Result<(ConstraintForm, &'a [Token]), ReadError>
-    requires tokens { AreTokens text.now tokens.now }
-    ensures read { ReadsAs form_of (from_in_at small) text.now tokens.now result }
-    ensures rest { IfOk result (λ x. AreTokens text.now x.1.now) }
-{
-    let (inside, rest) = from(alloc, text, tokens)?;
-    Ok((ConstraintForm::From(inside), rest))
-}
-
-/// Reads this kind of constraint.
-#[tactic(auto, unfolding(crate::specs::ConstraintReading::values_in_at))]
-fn values_in<'a>(
-    alloc: Global,
-    text: &[u8],
-    tokens: &'a [Token],
-) -> Result<(ConstraintForm, &'a [Token]), ReadError>
-    requires tokens { AreTokens text.now tokens.now }
-    ensures read { ReadsAs form_of (values_in_at small) text.now tokens.now result }
-    ensures rest { IfOk result (λ x. AreTokens text.now x.1.now) }
-{
-    let (inside, rest) = ranges(alloc, text, tokens)?;
-    Ok((ConstraintForm::Values(inside), rest))
-}
-
 /// Reads what stands in the parentheses of a constraint.
-#[tactic(auto, unfolding(crate::specs::ConstraintReading::inside_at))]
+#[tactic(auto, unfolding(crate::specs::ConstraintReading::inside_at, crate::specs::ConstraintReading::from_in_at, crate::specs::ConstraintReading::values_in_at))]
 fn inside<'a>(
     alloc: Global,
     text: &[u8],
@@ -500,8 +445,14 @@ fn inside<'a>(
                 ..
             },
             ..
-        ] => from_in(alloc, text, tokens),
-        _ => values_in(alloc, text, tokens),
+        ] => {
+            let (chars, rest) = from(alloc, text, tokens)?;
+            Ok((ConstraintForm::From(chars), rest))
+        }
+        _ => {
+            let (ranges, rest) = ranges(alloc, text, tokens)?;
+            Ok((ConstraintForm::Values(ranges), rest))
+        }
     }
 }
 
