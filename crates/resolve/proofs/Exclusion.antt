@@ -1,5 +1,5 @@
 -- Faults of types and names in a program, and that they exclude a sound one.
-use Rattle.std.proofs.Common.{◌≡◌, ◌<◌, ◌≤◌, ◌⊎◌, ◌^◌, inl, inr, ℕ, pos, List, length, map, ◌+◌, Some, refl, sym, subst, ap, ◌∙◌, arith}
+use Rattle.std.proofs.Common.{◌≡◌, ◌⊎◌, ◌^◌, inl, inr, ℕ, pos, List, length, ◌+◌, Some, refl, sym, subst, ap, ◌∙◌, arith}
 use Rattle.std.specs.Prelude.{slice_get}
 use Rattle.trees.specs.Values.{Name}
 use Rattle.trees.specs.Types.{Plain, an_integer, a_bit_string, an_enumerated}

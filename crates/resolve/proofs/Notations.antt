@@ -1,5 +1,5 @@
 -- The names in a value, by the form in which it is written.
-use Rattle.std.proofs.Common.{◌≡◌, ℕ, zero, suc, ◌++◌, List, [], ◌∷◌, map, Option, Some, None, refl, sym, subst, ap, ◌∙◌, option_map, string_bytes}
+use Rattle.std.proofs.Common.{◌≡◌, ℕ, ◌++◌, List, [], ◌∷◌, map, Option, Some, refl, sym, subst, ap, ◌∙◌}
 use Rattle.std.specs.Prelude.{slice_get, Vec, Box, String}
 use Rattle.std.specs.Global.{Global}
 use Rattle.trees.specs.declared.place.Reference.{Reference}
@@ -9,7 +9,6 @@ use Rattle.trees.specs.declared.value.ValueForm.TheVariants as forms
 use Rattle.trees.specs.declared.value.ValueSyntax.{ValueSyntax}
 use Rattle.trees.specs.declared.value.ValueSyntax.TheViews.{out-ValueSyntax}
 use Rattle.trees.specs.declared.value.ValueSyntax.TheFolds.{fold_out-ValueSyntax, map-ValueSyntax}
-use Rattle.trees.specs.Values as notations
 use Rattle.trees.specs.Values.{Name, Tree, trees, members, member_of, name_at, tree_of, layer, value_layer}
 use Rattle.names.specs.declared.scope.Assigned.TheVariants as assigned
 use Rattle.names.specs.Modules.{StandsIn}

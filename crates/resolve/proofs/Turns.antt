@@ -1,13 +1,11 @@
 -- Names behind modules' names in lists that are gone through from the front.
-use Rattle.std.proofs.Common.{◌≡◌, ◌<◌, ◌≤◌, ◌+◌, ◌⊎◌, inl, inr, ℕ, List, [], ◌∷◌, ◌++◌, length, map, drop, get_or, refl, sym, subst, ap}
-use Rattle.std.specs.Prelude.{slice_get}
+use Rattle.std.proofs.Common.{◌≡◌, ◌<◌, ◌≤◌, ◌+◌, inl, inr, ℕ, List, [], ◌++◌, length, map, drop, get_or, sym, subst, ap}
 use Rattle.trees.specs.Values.{Name}
 use Rattle.names.specs.declared.fault.NameFault.{NameFault}
 use Rattle.names.specs.declared.fault.NameFault.TheVariants as faults
 use Rattle.names.specs.Faults.{name_told}
 use Rattle.names.specs.Names.{Module}
 use Rattle.names.specs.proving.Distinct.{drop_at, either, none_left, stands_left, stands_right}
-use Rattle.resolve.specs.Program.{Program}
 use Rattle.resolve.specs.Qualified.{each, MeanValues}
 use Rattle.resolve.specs.proving.Unknown.{IsUnknownIn}
 

@@ -85,7 +85,12 @@ fn circular_at(
 {
     let assignment = &assignments[written.assignment];
     let header = &headers[assignment.module];
-    match spot(alloc, header.name.it.as_str(), assignment.name.it.as_str(), written.at) {
+    match spot(
+        alloc,
+        header.name.it.as_str(),
+        assignment.name.it.as_str(),
+        written.at,
+    ) {
         Ok(spot) => NameFault::Circular(spot),
         Err(_) => NameFault::Memory,
     }

@@ -20,7 +20,7 @@ use Rattle.resolve.specs.Sound.{IsSound, IsSoundFault}
 abbrev pub IsTableFrom : Gathered → List Type' → Type 0
 IsTableFrom g ts =
     AreNumbered (seen module_of g.modules.entries) (map header_of g.headers.items)
-        (map assignment_of g.tables.assignments.items) (sources_of g.tables.roots.items) ts
+    (map assignment_of g.tables.assignments.items) (sources_of g.tables.roots.items) ts
 
 -- what is gathered, with these types
 abbrev pub program_from : Gathered → List Type' → Program
@@ -47,7 +47,7 @@ pub record IsAssembled (g : Gathered) (p : Program) : Type 0 where
 abbrev pub IsTablesFault : Gathered → NameFault → Type 0
 IsTablesFault g e =
     IsTableFault (seen module_of g.modules.entries) (map header_of g.headers.items)
-        (map assignment_of g.tables.assignments.items) (sources_of g.tables.roots.items) e
+    (map assignment_of g.tables.assignments.items) (sources_of g.tables.roots.items) e
 
 -- the module of each assignment is there
 abbrev pub ArePlaced : List Assignment → List Header → Type 0

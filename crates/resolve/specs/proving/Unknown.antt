@@ -1,5 +1,5 @@
 -- What the checks of the names in one notation answer.
-use Rattle.std.specs.Prelude.{◌≡◌, ℕ, List, Option, Some, Result, MatchResult, option_map, string_bytes}
+use Rattle.std.specs.Prelude.{◌≡◌, ℕ, List, Some, Result, MatchResult, option_map, string_bytes}
 use Rattle.trees.specs.declared.place.Reference.{Reference}
 use Rattle.trees.specs.Values.{Name}
 use Rattle.names.specs.declared.fault.NameFault.{NameFault}
