@@ -1,6 +1,6 @@
 -- What texts are is answered, unless memory runs out.
 use Rattle.std.proofs.Common.{◌≡◌, ℕ, zero, suc, ◌+◌, ◌<◌, ◌≤◌, List, [], ◌∷◌, ◌++◌, length, map, take, Some, refl, sym, ap, ◌∙◌, arith, subst, get_or, Ok, Err}
-use Rattle.std.specs.Prelude.{slice_get, string_bytes, Vec, Result, IfOk, IfErr, MatchResult}
+use Rattle.std.specs.Prelude.{slice_get, Vec, Result, IfOk, IfErr, MatchResult}
 use Rattle.std.specs.Global.{Global}
 use Rattle.std.specs.List.{AllZip}
 use Rattle.std.proofs.lemmas.List.{map-append, take_all, length-map}
@@ -13,6 +13,7 @@ use Rattle.trees.specs.declared.module.Module.{Module}
 use Rattle.trees.specs.Modules.{ModuleTree, module_tree_of}
 use Rattle.names.specs.declared.fault.NameFault.{NameFault}
 use Rattle.names.specs.declared.fault.NameFault.TheVariants as names
+use Rattle.names.specs.Faults.{module_told, name_told}
 use Rattle.resolve.specs.Links.{Links, IsLinkFault}
 use Rattle.resolve.specs.Program.{Program}
 use Rattle.messages.specs.declared.fault.Fault.{Fault}
@@ -78,7 +79,7 @@ Excludes = (p : Program) (c : Construct) (M x : Name) → IsOutside p c M x → 
 
 outside_memory : Excludes → (p : Program) (e : Fault) → IsFirstPath p → IsOutsideFault p e → SaysMemory e
 outside_memory law p faults.Memory f h = refl
-outside_memory law p (faults.OutOfProfile c m x) f h = absurd (law p c (string_bytes m) (string_bytes x) h f)
+outside_memory law p (faults.OutOfProfile c s) f h = absurd (law p c (module_told s) (name_told s) h f)
 outside_memory law p (faults.Text i n) f h = absurd h
 outside_memory law p (faults.Tree i n) f h = absurd h
 outside_memory law p (faults.File n) f h = absurd h
@@ -105,9 +106,9 @@ kit_answers law scope ms l p s (Err e) q i h f = kit_memory law ms l p s e q i f
 -- nor for their names
 pub names_memory : (ms : List ModuleTree) (p : Program) (e : NameFault) → ((ms : List ModuleTree) (p : Program) (e : NameFault) → (e ≡ names.Memory → ⊥) → IsLinkFault ms e → Links ms p → ⊥) → IsLinkFault ms e → Links ms p → name_number_of e ≡ 1
 names_memory ms p names.Memory law h l = refl
-names_memory ms p (names.Limit k m x) law h l = absurd (law ms p (names.Limit k m x) (λ e. absurd cc) h l)
-names_memory ms p (names.Twice m x) law h l = absurd (law ms p (names.Twice m x) (λ e. absurd cc) h l)
-names_memory ms p (names.UnknownName m x) law h l = absurd (law ms p (names.UnknownName m x) (λ e. absurd cc) h l)
-names_memory ms p (names.NotExported m x) law h l = absurd (law ms p (names.NotExported m x) (λ e. absurd cc) h l)
-names_memory ms p (names.Circular m x) law h l = absurd (law ms p (names.Circular m x) (λ e. absurd cc) h l)
-names_memory ms p (names.UnknownModule m x) law h l = absurd (law ms p (names.UnknownModule m x) (λ e. absurd cc) h l)
+names_memory ms p (names.Limit k s) law h l = absurd (law ms p (names.Limit k s) (λ e. absurd cc) h l)
+names_memory ms p (names.Twice s) law h l = absurd (law ms p (names.Twice s) (λ e. absurd cc) h l)
+names_memory ms p (names.UnknownName s) law h l = absurd (law ms p (names.UnknownName s) (λ e. absurd cc) h l)
+names_memory ms p (names.NotExported s) law h l = absurd (law ms p (names.NotExported s) (λ e. absurd cc) h l)
+names_memory ms p (names.Circular s) law h l = absurd (law ms p (names.Circular s) (λ e. absurd cc) h l)
+names_memory ms p (names.UnknownModule s) law h l = absurd (law ms p (names.UnknownModule s) (λ e. absurd cc) h l)

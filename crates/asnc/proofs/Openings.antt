@@ -37,7 +37,7 @@ first_refused xs k x t ms (faults.Folder n) l e q z h = absurd h
 first_refused xs k x t ms (faults.BadWords n) l e q z h = absurd h
 first_refused xs k x t ms (faults.Help n) l e q z h = absurd h
 first_refused xs k x t ms (faults.Name n) l e q z h = absurd h
-first_refused xs k x t ms (faults.OutOfProfile c n y) l e q z h = absurd h
+first_refused xs k x t ms (faults.OutOfProfile c s) l e q z h = absurd h
 first_refused xs k x t ms (faults.Value n) l e q z h = absurd h
 first_refused xs k x t ms (faults.NoType n) l e q z h = absurd h
 first_refused xs k x t ms (faults.NoValue n) l e q z h = absurd h
@@ -54,7 +54,7 @@ text_stands xs (faults.Folder n) h = absurd h
 text_stands xs (faults.BadWords n) h = absurd h
 text_stands xs (faults.Help n) h = absurd h
 text_stands xs (faults.Name n) h = absurd h
-text_stands xs (faults.OutOfProfile c n y) h = absurd h
+text_stands xs (faults.OutOfProfile c s) h = absurd h
 text_stands xs (faults.Value n) h = absurd h
 text_stands xs (faults.NoType n) h = absurd h
 text_stands xs (faults.NoValue n) h = absurd h
@@ -64,7 +64,7 @@ text_stands xs faults.Device h = absurd h
 pub kit_stands : (xs : List (List ℕ)) (ms : List ModuleTree) (fault : Fault) → AllZip IsModule xs ms → IsNoKit ms fault → StandsIn xs fault
 kit_stands xs ms faults.Memory z h = tt
 kit_stands xs ms (faults.Name n) z h = record { modules = ms; are = z; stands = h }
-kit_stands xs ms (faults.OutOfProfile c n y) z h = record { modules = ms; are = z; stands = h }
+kit_stands xs ms (faults.OutOfProfile c s) z h = record { modules = ms; are = z; stands = h }
 kit_stands xs ms (faults.Text i f) z h = absurd h
 kit_stands xs ms (faults.Tree i f) z h = absurd h
 kit_stands xs ms (faults.File n) z h = absurd h

@@ -1,5 +1,5 @@
 -- What texts of modules are together, and their faults.
-use Rattle.std.specs.Prelude.{◌≡◌, ⊤, ℕ, ◌<◌, List, Some, slice_get, string_bytes, Vec}
+use Rattle.std.specs.Prelude.{◌≡◌, ⊤, ℕ, ◌<◌, List, Some, slice_get, Vec}
 use Rattle.std.specs.Global.{Global}
 use Rattle.std.specs.List.{AllZip}
 use Rattle.text.specs.declared.token.Token.{Token}
@@ -12,6 +12,7 @@ use Rattle.notation.specs.Answer as answers
 use Rattle.syntax.specs.Syntax.{module_text}
 use Rattle.trees.specs.Modules.{ModuleTree}
 use Rattle.notation.specs.declared.fault.SyntaxFault.{SyntaxFault}
+use Rattle.names.specs.Faults.{module_told, name_told}
 use Rattle.resolve.specs.Program.{Program}
 use Rattle.resolve.specs.Links.{Links, IsLinkFault}
 use Rattle.messages.specs.declared.fault.Fault.{Fault}
@@ -77,7 +78,7 @@ IsTextFault xs fault = ⊥
 -- the fault tells of a construct that stands in a program and is left out; memory speaks of none
 abbrev pub IsOutsideFault : Program → Fault → Type 0
 IsOutsideFault p faults.Memory = ⊤
-IsOutsideFault p (faults.OutOfProfile c m x) = IsOutside p c (string_bytes m) (string_bytes x)
+IsOutsideFault p (faults.OutOfProfile c s) = IsOutside p c (module_told s) (name_told s)
 IsOutsideFault p fault = ⊥
 
 -- the modules are linked, and something in their program is none of what this compiler takes
@@ -90,7 +91,7 @@ pub record IsOutsideOf (ms : List ModuleTree) (fault : Fault) : Type 0 where
 abbrev pub IsNoKit : List ModuleTree → Fault → Type 0
 IsNoKit ms faults.Memory = ⊤
 IsNoKit ms (faults.Name f) = IsLinkFault ms f
-IsNoKit ms (faults.OutOfProfile c m x) = IsOutsideOf ms (faults.OutOfProfile c m x)
+IsNoKit ms (faults.OutOfProfile c s) = IsOutsideOf ms (faults.OutOfProfile c s)
 IsNoKit ms fault = ⊥
 
 -- the fault tells of want of memory
@@ -109,5 +110,5 @@ StandsIn xs faults.Memory = ⊤
 StandsIn xs (faults.Text k f) = IsFirstRefused xs k (faults.Text k f)
 StandsIn xs (faults.Tree k f) = IsFirstRefused xs k (faults.Tree k f)
 StandsIn xs (faults.Name f) = AreNoKit xs (faults.Name f)
-StandsIn xs (faults.OutOfProfile c m x) = AreNoKit xs (faults.OutOfProfile c m x)
+StandsIn xs (faults.OutOfProfile c s) = AreNoKit xs (faults.OutOfProfile c s)
 StandsIn xs fault = ⊥

@@ -1,12 +1,13 @@
 -- Octets that encode a value of a program.
-use Rattle.std.specs.Prelude.{◌≡◌, ◌⊎◌, ⊤, ℕ, List, string_bytes}
+use Rattle.std.specs.Prelude.{◌≡◌, ◌⊎◌, ⊤, ℕ, List, [], string_bytes}
 use Rattle.asn_base.specs.Abstract.{AbstractValue}
 use Rattle.asn_base.specs.Types.{Resolved}
 use Rattle.encodings.specs.Encoding.{Der, Shortest}
 use Rattle.trees.specs.Values.{Name, Tree}
+use Rattle.trees.specs.declared.place.Spot.{Spot}
 use Rattle.resolve.specs.Program.{Program}
 use Rattle.asnc.specs.Named.{TypeNamed, ValueNamed}
-use Rattle.first_path.specs.Notations.{IsValueAt, Notation}
+use Rattle.first_path.specs.Notations.{IsValueAt, Notation, Tells}
 use Rattle.asn_base.specs.Typed.{IsValue}
 use Rattle.der_writer.specs.Long.{IsTooLong}
 use Rattle.messages.specs.declared.fault.Fault.{Fault}
@@ -30,9 +31,21 @@ pub record IsEncoded (p : Program) (s : List Resolved) (ty named o : List ℕ) :
   pub only : (q : List ℕ) → Der s type value 0 q → q ≡ o
   pub shortest : Shortest s type value o
 
+-- the fault tells that the whole notation, read in module M, is no value of the type
+pub record IsOfNoType (M : Name) (fault : ValueFault) : Type 0 where
+  pub spot : Spot
+  pub is : fault ≡ values.NotOfType spot
+  pub tells : Tells M [] spot
+
+-- the notation stands for a value that is none of the type's
+abbrev pub StandsForOther : Program → List Resolved → Name → ℕ → Tree → Type 0
+StandsForOther p s M t n = (v : AbstractValue) × Notation p s M t n v × (IsValue s t v → ⊥)
+
 -- what is wrong with a notation that is a value of none of the type's: it stands for no value, as the fault tells, or for one that is none of the type's
 abbrev pub IsNone : Program → List Resolved → Name → ℕ → Tree → ValueFault → Type 0
-IsNone p s M t n fault = (((v : AbstractValue) → Notation p s M t n v → ⊥) × IsWrong p s M t n fault) ⊎ ((fault ≡ values.NotOfType) × ((v : AbstractValue) × Notation p s M t n v × (IsValue s t v → ⊥)))
+IsNone p s M t n fault =
+    (((v : AbstractValue) → Notation p s M t n v → ⊥) × IsWrong p s M [] t n fault)
+    ⊎ (IsOfNoType M fault × StandsForOther p s M t n)
 
 -- The texts name a type and a value, and under the type the value's notation stands for no value of it.
 pub record StandsForNone (p : Program) (s : List Resolved) (ty named : List ℕ) (fault : ValueFault) : Type 0 where

@@ -20,14 +20,16 @@ ghost use Rattle.asnc.specs.Opening.{IsKitOf, IsModule, IsNoKit, IsOpened, IsOut
 ghost use Rattle.first_path.specs.Resolving.{AreTypes};
 ghost use Rattle.asnc.specs.Writing.{IsEncoded, IsNotEncoded};
 
-use crate::first_schema::FirstSchema;
 use crate::opening::modules_of;
 use asn_base::law::accepted_are_schemas;
 use asn_base::schema::{Schema, TypeId};
 use der_writer::{WriteFault, write_der};
-use first_path::{ProgramFault, Scope, ValueFault, check_program, notation_at, table_types, typed};
+use first_path::{
+    FirstSchema, ProgramFault, Scope, ValueFault, check_program, notation_at, table_types, typed,
+};
 use messages::Fault;
 use names::Assigned;
+use names::fault::spot;
 use resolve::{Linked, link};
 use std::alloc::Global;
 use syntax::Module;
@@ -72,11 +74,11 @@ fn kit_of_program(alloc: Global, linked: Linked) -> Result<Kit, Fault>
     match check_program(alloc, &linked) {
         Ok(()) => {}
         Err(ProgramFault::Memory) => return Err(Fault::Memory),
-        Err(ProgramFault::OutOfProfile(construct, module, name)) => {
-            return Err(Fault::OutOfProfile(construct, module, name));
+        Err(ProgramFault::OutOfProfile(construct, spot)) => {
+            return Err(Fault::OutOfProfile(construct, spot));
         }
     }
-    let types = table_types(alloc, linked.types())?;
+    let types = table_types(alloc, &linked)?;
     accepted_are_schemas();
     let schema = FirstSchema::of(Schema::of(types));
     let scope = Scope::of(alloc, linked)?;
@@ -135,7 +137,10 @@ fn encoded(
         Ok(octets) => Ok(octets),
         Err(WriteFault::Memory) => Err(Fault::Memory),
         Err(WriteFault::TooLong) => Err(Fault::TooLong),
-        Err(WriteFault::NotOfType) => Err(Fault::Value(ValueFault::NotOfType)),
+        Err(WriteFault::NotOfType) => {
+            let told = spot(alloc, within, "", notation.at)?;
+            Err(Fault::Value(ValueFault::NotOfType(told)))
+        }
     }
 }
 

@@ -1,7 +1,6 @@
 //! The compiler behind one door: a command line, the texts of modules, a type and a value go in, octets come out.
 #![tactic(auto)]
 
-mod first_schema;
 mod kit;
 mod opening;
 
