@@ -1,4 +1,4 @@
-use Rattle.std.proofs.Common.{false, sym, ap, ◌∙◌, subst, map, option_map, []}
+use Rattle.std.proofs.Common.{sym, ap, ◌∙◌, subst, map, option_map, []}
 use Rattle.asn_base.specs.Seen.{kind_of, component_of}
 use Rattle.asn_base.specs.Types.{a_sequence}
 use Rattle.trees.specs.Values.{tree_of, member_of}
