@@ -1,11 +1,13 @@
 //! Faults apart from any text.
 
 use asnc::{Construct, Fault, Given, Job, ValueFault, Verb, number, report, status};
-use notation::SyntaxFault;
+use names::fault::spot;
 use names::{Limit, NameFault};
+use notation::SyntaxFault;
 use std::alloc::{AllocError, Global};
 use std::test::*;
 use text::LexFault;
+use trees::Spot;
 
 /// Of each fault its number, the exit status, the line that is told of it where the file m.asn is empty, and what it prints.
 const TOLD: &str = "\
@@ -33,17 +35,16 @@ x
 2 1 error 2 Limit(Values): more than 65536 values are assigned | error 2 Limit(Values): M.w
 2 1 error 2 Limit(Integer): numbers are from -2^127 to 2^127 - 1 | error 2 Limit(Integer): M.w
 1 3 error 1 Memory: out of memory | error 1 Memory
-2 1 error 2 Limit(Integer): numbers are from -2^127 to 2^127 - 1 | error 2 Limit(Integer)
-31 1 error 31 UnknownName: w is no value of its module | error 31 UnknownName: w
-33 1 error 33 Circular: the value w comes back to itself | error 33 Circular: w
+31 1 error 31 UnknownName: w is no value of its module | error 31 UnknownName: M.w
+33 1 error 33 Circular: the value w comes back to itself | error 33 Circular: M.w
 60 1 error 60 NotOfType: M.v is no value of the type M.T: it is of another kind, or its components stand in another order | error 60 NotOfType
-62 1 error 62 UnknownItem: w is neither a component of the type M.T nor a value | error 62 UnknownItem: w
-63 1 error 63 Missing: M.v gives no value for the component w of the type M.T | error 63 Missing: w
-64 1 error 64 Repeated: the component w is given a value a second time here | error 64 Repeated: w
+62 1 error 62 UnknownItem: w is neither a component of the type M.T nor a value | error 62 UnknownItem: M.w
+63 1 error 63 Missing: M.v gives no value for the component w of the type M.T | error 63 Missing: M.w
+64 1 error 64 Repeated: the component w is given a value a second time here | error 64 Repeated: M.w
 ";
 
 /// The faults of no text, by number.
-fn call_fault(number: usize, module: String, words: String) -> Option<Fault> {
+fn call_fault(number: usize, words: String) -> Option<Fault> {
     match number {
         0 => Some(Fault::Memory),
         1 => Some(Fault::File(words)),
@@ -52,53 +53,51 @@ fn call_fault(number: usize, module: String, words: String) -> Option<Fault> {
         4 => Some(Fault::TooLong),
         5 => Some(Fault::NoType(words)),
         6 => Some(Fault::NoValue(words)),
-        7 => Some(Fault::OutOfProfile(Construct::Tag, module, words)),
         8 => Some(Fault::Help(words)),
         _ => None,
     }
 }
 
 /// The faults of texts and of names, by number.
-fn text_fault(number: usize, module: String, name: String) -> Option<Fault> {
+fn text_fault(number: usize, spot: Spot) -> Option<Fault> {
     match number {
+        7 => Some(Fault::OutOfProfile(Construct::Tag, spot)),
         9 => Some(Fault::Text(0, LexFault::Memory)),
         10 => Some(Fault::Text(0, LexFault::Limit(text::Limit::Text, 16_777_216))),
         11 => Some(Fault::Tree(0, SyntaxFault::Memory)),
         12 => Some(Fault::Tree(0, SyntaxFault::Unexpected(7))),
         13 => Some(Fault::Name(NameFault::Memory)),
-        14 => Some(Fault::Name(NameFault::Limit(Limit::Types, module, name))),
-        15 => Some(Fault::Name(NameFault::Limit(Limit::Values, module, name))),
-        16 => Some(Fault::Name(NameFault::Limit(Limit::Integer, module, name))),
+        14 => Some(Fault::Name(NameFault::Limit(Limit::Types, spot))),
+        15 => Some(Fault::Name(NameFault::Limit(Limit::Values, spot))),
+        16 => Some(Fault::Name(NameFault::Limit(Limit::Integer, spot))),
         _ => None,
     }
 }
 
 /// The faults of values, by number.
-fn value_fault(number: usize, name: String) -> Option<ValueFault> {
+fn value_fault(number: usize, spot: Spot) -> Option<ValueFault> {
     match number {
         17 => Some(ValueFault::Memory),
-        18 => Some(ValueFault::Integer),
-        19 => Some(ValueFault::UnknownName(name)),
-        20 => Some(ValueFault::Circular(name)),
-        21 => Some(ValueFault::NotOfType),
-        22 => Some(ValueFault::UnknownItem(name)),
-        23 => Some(ValueFault::Missing(name)),
-        24 => Some(ValueFault::Repeated(name)),
+        18 => Some(ValueFault::UnknownName(spot)),
+        19 => Some(ValueFault::Circular(spot)),
+        20 => Some(ValueFault::NotOfType(spot)),
+        21 => Some(ValueFault::UnknownItem(spot)),
+        22 => Some(ValueFault::Missing(spot)),
+        23 => Some(ValueFault::Repeated(spot)),
         _ => None,
     }
 }
 
-/// The fault with a number below 25.
+/// The fault with a number below 24.
 fn fault_of(alloc: Global, number: usize) -> Result<Fault, Fail> {
-    let module = String::from_str(alloc, "M")?;
-    if let Some(fault) = call_fault(number, module, String::from_str(alloc, "w\nx")?) {
+    if let Some(fault) = call_fault(number, String::from_str(alloc, "w\nx")?) {
         return Ok(fault);
     }
-    let module = String::from_str(alloc, "M")?;
-    if let Some(fault) = text_fault(number, module, String::from_str(alloc, "w")?) {
+    let name = if number == 7 { "w\nx" } else { "w" };
+    if let Some(fault) = text_fault(number, spot(alloc, "M", name, 0)?) {
         return Ok(fault);
     }
-    let fault = value_fault(number, String::from_str(alloc, "w")?).ok_or("no such fault")?;
+    let fault = value_fault(number, spot(alloc, "M", name, 0)?).ok_or("no such fault")?;
     Ok(Fault::Value(fault))
 }
 
@@ -122,7 +121,7 @@ fn told_of_faults(rt: HostRuntime) -> Result<(), Fail> {
     let job = job(alloc)?;
     let texts = vec![in alloc; Vec::new(alloc)]?;
     let mut told = String::new(alloc);
-    for index in 0..25 {
+    for index in 0..24 {
         let fault = fault_of(alloc, index)?;
         let line = report(alloc, &job, texts.as_slice(), &fault)?;
         let (number, status) = (number(&fault), status(&fault));

@@ -6,7 +6,6 @@ mod headers;
 mod kit;
 mod lexer;
 mod parser;
-mod taken;
 mod writer;
 
 use crate::hog::Hog;

@@ -2,8 +2,8 @@
 
 use super::{Starved, TURNS, sweep};
 use asn_base::schema::TypeId;
-use resolve::{Linked, link};
 use names::NameFault;
+use resolve::{Linked, link};
 use std::alloc::Global;
 use std::test::Fail;
 use syntax::{Module, parse};
@@ -11,8 +11,8 @@ use tagging::{TagFault, tag, tags_of};
 use text::lex;
 
 const A: &str = "A DEFINITIONS AUTOMATIC TAGS ::= BEGIN IMPORTS T, v FROM B;\n\
-    U ::= SEQUENCE { a INTEGER {one(1), two(2)}, b T OPTIONAL, c BIT STRING {x(0), y(9)} DEFAULT {x} }\n\
-    E ::= ENUMERATED {p, q(5), r}  w U ::= { a v, b {n 7} } END";
+    U ::= SEQUENCE { a INTEGER {one(1), two(2)}, b T OPTIONAL, c BIT STRING {x(0), y(9)} DEFAULT {x}, ..., d NULL }\n\
+    E ::= ENUMERATED {p, q(5), r, ..., s}  w U ::= { a v, b {n 7} } END";
 
 const B: &str =
     "B DEFINITIONS ::= BEGIN EXPORTS T, v; T ::= [1] SEQUENCE { n Num } Num ::= [2] [3] [4] INTEGER v Num ::= 1 END";
@@ -51,7 +51,7 @@ impl Starved for Linker {
             Ok(linked) => linked,
             Err(fault) => return refused(&fault),
         };
-        if linked.types().len() == 14 {
+        if linked.types().len() == 15 {
             Ok(true)
         } else {
             Err("other types".into())

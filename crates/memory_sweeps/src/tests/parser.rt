@@ -9,9 +9,9 @@ use text::{LexFault, lex};
 
 const MODULE: &str =
     "M {iso 3 other(7)} DEFINITIONS AUTOMATIC TAGS ::= BEGIN EXPORTS T, v; IMPORTS A, b FROM B;\n\
-    T ::= SEQUENCE { a INTEGER (0..7 | 9), b BIT STRING {x(0), y(1)}, c [1] EXPLICIT OCTET STRING (SIZE (1..4)) OPTIONAL }\n\
+    T ::= SEQUENCE { a INTEGER (0..7 | 9), b BIT STRING {x(0), y(1)}, c [1] EXPLICIT OCTET STRING (SIZE (1..4, ...)) OPTIONAL, ..., [[d RELATIVE-OID]] }\n\
     v T ::= { a 5, b '1010'B, c '00FF'H }\n\
-    U ::= CHOICE { x BOOLEAN, y NULL, z SEQUENCE (SIZE (2)) OF T, e ENUMERATED {p(1), q} }\n\
+    U ::= CHOICE { x BOOLEAN, y NULL, z SEQUENCE (SIZE (2)) OF T, e ENUMERATED {p(1), q, ..., r} }\n\
     w U ::= z : { v, {a 1, b {x}}, M.v }\n\
     END\n";
 

@@ -7,7 +7,6 @@ ghost use Rattle.asn_base.specs.Seen.{component_of, kind_of, types_of};
 ghost use Rattle.asn_base.specs.Types.{a_sequence, Resolved as Resolved'};
 ghost use Rattle.std.specs.Prelude.{◌≡◌, ◌++◌, ◌∷◌, ◌<◌, ◌≤◌, IfOk, IsSomeAnd, List, OnOk, [], false, length, map, slice_get, string_bytes};
 
-use super::taken::TakenSchema;
 use super::{Starved, sweep};
 use asn_base::constraint::Constraint;
 use asn_base::law::{accepted_are_schemas, schemas_grow};
@@ -15,12 +14,13 @@ use asn_base::schema::{Component, Core, Presence, Resolved, Schema, TypeId};
 use asn_base::tag::{Class, Tag};
 use asn_base::value::Value;
 use der_writer::{WriteFault, write_der};
+use first_path::FirstSchema;
 use std::alloc::{AllocError, Global};
 use std::test::Fail;
 
 #[derive(Drop)]
 struct Writer {
-    schema: TakenSchema,
+    schema: FirstSchema,
     value: Value,
     octets: Vec<u8>,
 }
@@ -116,7 +116,7 @@ fn write_der_with_ever_more_memory(rt: HostRuntime) -> Result<(), Fail> {
     let string = Value::Octets(vec![in alloc; 7; 300]?);
     let members = vec![in alloc; Some(Value::Int(-129)), Some(string)]?;
     let mut writer = Writer {
-        schema: TakenSchema::of(schema(alloc)?),
+        schema: FirstSchema::of(schema(alloc)?),
         value: Value::Fields(members),
         octets,
     };
