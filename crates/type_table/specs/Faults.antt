@@ -14,7 +14,8 @@ use Rattle.type_table.specs.Table.{Type', IsCircular}
 
 -- a name in assignment a stands for no type, and M is the module in which the assignment stands
 pub record HasUnknown
-    (ms : List (Name × Module)) (hs : List (Name × TagDefault)) (gs : List (ℕ × Name)) (roots : List Source) (M x : Name) : Type 0 where
+    (ms : List (Name × Module)) (hs : List (Name × TagDefault)) (gs : List (ℕ × Name))
+    (roots : List Source) (M x : Name) : Type 0 where
   pub assignment : ℕ
   pub owner : ℕ
   pub assigns : Name
@@ -26,7 +27,8 @@ pub record HasUnknown
   pub unknown : RefersToNothing ms M (form_of tree) x
 
 -- behind 65,536 others stands a type in the assignment of name x in module M
-pub record HasTooMany (hs : List (Name × TagDefault)) (gs : List (ℕ × Name)) (roots : List Source) (M x : Name) : Type 0 where
+pub record HasTooMany
+    (hs : List (Name × TagDefault)) (gs : List (ℕ × Name)) (roots : List Source) (M x : Name) : Type 0 where
   pub assignment : ℕ
   pub owner : ℕ
   pub default : TagDefault
@@ -44,7 +46,8 @@ IsNumberingFault ms hs gs roots e = ⊥
 
 -- type i comes back to itself; it stands in the assignment of name x in module M
 pub record IsCircularAt
-    (ms : List (Name × Module)) (hs : List (Name × TagDefault)) (gs : List (ℕ × Name)) (roots : List Source) (M x : Name) : Type 0 where
+    (ms : List (Name × Module)) (hs : List (Name × TagDefault)) (gs : List (ℕ × Name))
+    (roots : List Source) (M x : Name) : Type 0 where
   pub types : List Type'
   pub numbered : AreNumbered ms hs gs roots types
   pub number : ℕ

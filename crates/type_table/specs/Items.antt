@@ -1,6 +1,6 @@
--- The numbers of the items of enumerations (X.680, clauses 20.5 and 20.6). An item is its name, and its number if one is written.
+-- The numbers of the items of enumerations (X.680, clauses 20.5 and 20.6). An item is its name, and its number if one
+-- is written.
 use Rattle.std.specs.Prelude.{◌≡◌, ◌<◌, ◌≤◌, ℕ, zero, suc, max, ℤ, pos, negsuc, Bool, cond, List, [], ◌∷◌, ◌++◌, length, Option, Some, None}
-use Rattle.std.proofs.Common.{refl}
 use Rattle.std.specs.List.{list_any}
 use Rattle.std.specs.Ordering.{int_eq}
 use Rattle.trees.specs.Values.{Name}
@@ -31,25 +31,31 @@ pub record IsNext (used earlier : List ℤ) (n : ℕ) : Type 0 where
   pub above : (z : ℤ) → StandsIn earlier z → IsAbove n z
   pub least : (m : ℕ) → (StandsIn used (pos m) → ⊥) → ((z : ℤ) → StandsIn earlier z → IsAbove m z) → n ≤ m
 
--- The numbers of root items: what is written; and for the items without a number, in order, the successive numbers from 0 that
--- no root item has been given in writing. `earlier` are the numbers of those without one that stand before.
+-- The numbers of root items: what is written; and for the items without a number, in order, the successive numbers from
+-- 0 that are written behind no root item. `earlier` are the numbers of those without one that stand before.
 pub data AreRootNumbers (given : List ℤ) : (earlier : List ℤ) → List Item → List ℤ → Type 0 where
   no_root_item : {earlier : List ℤ} → AreRootNumbers given earlier [] []
   root_written : {earlier : List ℤ} (x : Name) (z : ℤ) {is : List Item} {zs : List ℤ} →
-      AreRootNumbers given earlier is zs → AreRootNumbers given earlier ((x, Some z) ∷ is) (z ∷ zs)
-  root_counted : {earlier : List ℤ} (x : Name) (n : ℕ) {is : List Item} {zs : List ℤ} → IsNext given earlier n →
-      AreRootNumbers given (pos n ∷ earlier) is zs → AreRootNumbers given earlier ((x, None) ∷ is) (pos n ∷ zs)
+      AreRootNumbers given earlier is zs →
+      AreRootNumbers given earlier ((x, Some z) ∷ is) (z ∷ zs)
+  root_counted : {earlier : List ℤ} (x : Name) (n : ℕ) {is : List Item} {zs : List ℤ} →
+      IsNext given earlier n →
+      AreRootNumbers given (pos n ∷ earlier) is zs →
+      AreRootNumbers given earlier ((x, None) ∷ is) (pos n ∷ zs)
 
--- The numbers of additions: what is written; and for each without a number the least from 0 that no root item has, and that
--- lies above each earlier addition's.
+-- The numbers of additions: what is written; and for each without a number the least from 0 that no root item has and
+-- that lies above each earlier addition's.
 pub data AreAdditionNumbers (root : List ℤ) : (earlier : List ℤ) → List Item → List ℤ → Type 0 where
   no_addition : {earlier : List ℤ} → AreAdditionNumbers root earlier [] []
   addition_written : {earlier : List ℤ} (x : Name) (z : ℤ) {is : List Item} {zs : List ℤ} →
-      AreAdditionNumbers root (z ∷ earlier) is zs → AreAdditionNumbers root earlier ((x, Some z) ∷ is) (z ∷ zs)
-  addition_counted : {earlier : List ℤ} (x : Name) (n : ℕ) {is : List Item} {zs : List ℤ} → IsNext root earlier n →
-      AreAdditionNumbers root (pos n ∷ earlier) is zs → AreAdditionNumbers root earlier ((x, None) ∷ is) (pos n ∷ zs)
+      AreAdditionNumbers root (z ∷ earlier) is zs →
+      AreAdditionNumbers root earlier ((x, Some z) ∷ is) (z ∷ zs)
+  addition_counted : {earlier : List ℤ} (x : Name) (n : ℕ) {is : List Item} {zs : List ℤ} →
+      IsNext root earlier n →
+      AreAdditionNumbers root (pos n ∷ earlier) is zs →
+      AreAdditionNumbers root earlier ((x, None) ∷ is) (pos n ∷ zs)
 
--- ---- the same, computed
+-- ---- the same, computed; the law `numbers_of_items` ties the two
 
 -- z is one of these
 abbrev pub is_among : ℤ → List ℤ → Bool
@@ -99,38 +105,3 @@ addition_numbers root is = additions_from (root_numbers root) 0 is
 -- the numbers of root items and additions
 abbrev pub numbers_of : List Item → List Item → List ℤ
 numbers_of root more = root_numbers root ++ addition_numbers root more
-
--- ---- rows
-
--- the number of an item `a`, `b` ..
-abbrev bare : ℕ → Item
-bare x = (x ∷ [], None)
-
-abbrev numbered : ℕ → ℤ → Item
-numbered x z = (x ∷ [], Some z)
-
--- `{a, b(3), c, ..., d}`: a 0, b 3, c 1, d 2
-row_root : root_numbers (bare 97 ∷ numbered 98 (pos 3) ∷ bare 99 ∷ []) ≡ pos 0 ∷ pos 3 ∷ pos 1 ∷ []
-row_root = refl
-
-row_addition : addition_numbers (bare 97 ∷ numbered 98 (pos 3) ∷ bare 99 ∷ []) (bare 100 ∷ []) ≡ pos 2 ∷ []
-row_addition = refl
-
--- `{a, b, ..., c(1)}` has 1 twice
-row_twice : numbers_of (bare 97 ∷ bare 98 ∷ []) (numbered 99 (pos 1) ∷ []) ≡ pos 0 ∷ pos 1 ∷ pos 1 ∷ []
-row_twice = refl
-
--- `{a, ..., b, c(0)}` has 0 twice
-row_zero : numbers_of (bare 97 ∷ []) (bare 98 ∷ numbered 99 (pos 0) ∷ []) ≡ pos 0 ∷ pos 1 ∷ pos 0 ∷ []
-row_zero = refl
-
--- `{a(-1), b, c(0), ..., d(-7), e, f(9), g}`: b 1, e 2, g 10
-row_below_zero : root_numbers (numbered 97 (negsuc 0) ∷ bare 98 ∷ numbered 99 (pos 0) ∷ []) ≡ negsuc 0 ∷ pos 1 ∷ pos 0 ∷ []
-row_below_zero = refl
-
-row_additions : addition_numbers (numbered 97 (negsuc 0) ∷ bare 98 ∷ numbered 99 (pos 0) ∷ []) (numbered 100 (negsuc 6) ∷ bare 101 ∷ numbered 102 (pos 9) ∷ bare 103 ∷ []) ≡ negsuc 6 ∷ pos 2 ∷ pos 9 ∷ pos 10 ∷ []
-row_additions = refl
-
--- `{a, ..., b(5), c(3), d}`: d lies above both
-row_above_all : addition_numbers (bare 97 ∷ []) (numbered 98 (pos 5) ∷ numbered 99 (pos 3) ∷ bare 100 ∷ []) ≡ pos 5 ∷ pos 3 ∷ pos 6 ∷ []
-row_above_all = refl

@@ -1,5 +1,5 @@
--- What the lists in written types have to keep (X.680, clauses 19.5, 19.6, 20.3 to 20.6, 22.4, 25.7, 27.3 and 29.3), with
--- this compiler's limits.
+-- What the lists in written types have to keep (X.680, clauses 19.5, 19.6, 20.3 to 20.6, 22.4, 25.7, 27.3 and 29.3),
+-- with this compiler's limits.
 use Rattle.std.specs.Prelude.{◌≡◌, ◌≤◌, ◌+◌, ℕ, ℤ, Some, List, [], ◌∷◌, ◌++◌, map, length, slice_get}
 use Rattle.asn_base.specs.Typed.{IsWithinLimit}
 use Rattle.trees.specs.declared.types.Standing.{Standing}

@@ -1,4 +1,5 @@
--- The numbers of written types: first come the types of the assignments, in order, and then the parts of each type in turn.
+-- The numbers of written types: first come the types of the assignments, in order, and then the parts of each type
+-- in turn.
 use Rattle.std.specs.Prelude.{◌≡◌, ℕ, suc, ◌+◌, List, [], ◌∷◌, ◌++◌, Some, None, length, slice_get}
 use Rattle.trees.specs.Values.{Name}
 use Rattle.trees.specs.Constraints.{ConstraintTree}
@@ -62,7 +63,8 @@ RefersToNothing ms M f y = ⊥
 -- type t of the table is what is written there, its parts numbered from n on. hs: the modules' names and tag defaults;
 -- gs: the assignments
 pub record IsTop
-    (ms : List (Name × Module)) (hs : List (Name × TagDefault)) (gs : List (ℕ × Name)) (n : ℕ) (s : Source) (t : Type') : Type 0 where
+    (ms : List (Name × Module)) (hs : List (Name × TagDefault)) (gs : List (ℕ × Name))
+    (n : ℕ) (s : Source) (t : Type') : Type 0 where
   pub owner : ℕ
   pub assigns : Name
   pub within : Name
@@ -83,7 +85,8 @@ AreTops ms hs gs i n ss ts = ⊥
 
 -- the types of a program are those that stand in its assignments
 pub record AreNumbered
-    (ms : List (Name × Module)) (hs : List (Name × TagDefault)) (gs : List (ℕ × Name)) (roots : List Source) (ts : List Type') : Type 0 where
+    (ms : List (Name × Module)) (hs : List (Name × TagDefault)) (gs : List (ℕ × Name))
+    (roots : List Source) (ts : List Type') : Type 0 where
   pub sources : List Source
   pub all : sources ≡ roots ++ all_parts 0 sources
   pub tops : AreTops ms hs gs 0 (length roots) sources ts
@@ -98,4 +101,6 @@ pub data Occurs (roots : List Source) (a : ℕ) : TypeTree → Type 0 where
 
 -- the types that stand in these assignments are more than n: type n stands in assignment a
 abbrev pub AreMore : ℕ → ℕ → List Source → Type 0
-AreMore n a roots = (ss : List Source) → ss ≡ roots ++ all_parts 0 ss → (s : Source) × (slice_get ss n ≡ Some s) × (s.assignment ≡ a)
+AreMore n a roots = (ss : List Source) →
+    ss ≡ roots ++ all_parts 0 ss →
+    (s : Source) × (slice_get ss n ≡ Some s) × (s.assignment ≡ a)

@@ -81,7 +81,8 @@ pub record Is (ts : List Type') (i : ℕ) (k : Kind) (d : TagDefault) (p : Optio
   pub constraints : List ConstraintTree
   pub assignment : ℕ
   pub found :
-      slice_get ts i ≡ Some (record { kind = k; constraints = constraints; default = d; place = p; assignment = assignment })
+      slice_get ts i
+      ≡ Some (record { kind = k; constraints = constraints; default = d; place = p; assignment = assignment })
 
 -- the members of a list are types of the table
 abbrev pub HasMembers : List Type' → Type 0

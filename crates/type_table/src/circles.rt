@@ -15,7 +15,8 @@ use std::alloc::{AllocError, Global};
 
 /// Whether ranks rise, and the components of a list with a DEFAULT have types of higher ranks than the list.
 fn is_above(ranks: &[usize], rise: bool, list: usize, components: &[Component]) -> bool
-    ensures { IsTrue result → IsTrue rise × DefaultsAbove (slice_index ranks.now list) ranks.now (map part_of components.now) }
+    ensures { IsTrue result →
+        IsTrue rise × DefaultsAbove (slice_index ranks.now list) ranks.now (map part_of components.now) }
 {
     rise && defaults_rise(components, rank_at(ranks, list), ranks)
 }
@@ -62,7 +63,9 @@ fn first_circle(
     requires ranked { IsTrue rise → Rise (types_of types.now) ranks.now }
     requires long { length marks.old ≡ length types.now }
     requires earlier { AreUpTo 0 marks.old }
-    ensures { IfOk result (λ o. MatchOption o (NoDefaultCircles (types_of types.now)) (λ i. (i < length types.now) × IsDefaultCircle (types_of types.now) i)) }
+    ensures { IfOk result
+            (λ o. MatchOption o (NoDefaultCircles (types_of types.now))
+            (λ i. (i < length types.now) × IsDefaultCircle (types_of types.now) i)) }
 {
     for list in 0..types.len() {
         if is_in_circle(alloc, types, ranks, rise, list, marks)? {
@@ -78,7 +81,9 @@ pub fn circle_of(alloc: Global, types: &[Written]) -> Result<Option<usize>, Allo
     requires closed { IsClosed (types_of types.now) }
     requires parts { HasMembers (types_of types.now) }
     requires inner { HasElements (types_of types.now) }
-    ensures { IfOk result (λ o. MatchOption o (NoDefaultCircles (types_of types.now)) (λ i. (i < length types.now) × IsDefaultCircle (types_of types.now) i)) }
+    ensures { IfOk result
+            (λ o. MatchOption o (NoDefaultCircles (types_of types.now))
+            (λ i. (i < length types.now) × IsDefaultCircle (types_of types.now) i)) }
 {
     let numbers = ranks_of(alloc, types)?;
     let ranks = numbers.as_slice();

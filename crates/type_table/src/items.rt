@@ -133,7 +133,9 @@ fn above(number: i128) -> u128
 fn number_or_free(used: &BTreeSet<i128>, from: u128, written: Option<i128>) -> Option<i128>
     requires within { AreWithinLimit used.now.keys }
     requires small { from ≤ 2 ^ 127 }
-    ensures { (list : List ℤ) → IsSetOf used.now.keys list → MatchOption result (number_or from list written ≡ pos (2 ^ 127)) (λ z. z ≡ number_or from list written) }
+    ensures { (list : List ℤ) →
+        IsSetOf used.now.keys list →
+        MatchOption result (number_or from list written ≡ pos (2 ^ 127)) (λ z. z ≡ number_or from list written) }
 {
     match written {
         Some(number) => Some(number),

@@ -15,30 +15,69 @@ ghost use Rattle.type_table.specs.Table.{Type', AllUnfold, IsClosed, IsLinked};
 
 /// The types of given names, headers, assignments and their types have one table.
 pub fn one_table()
-    ensures { (ms : List (Name × Module)) (hs : List (Name × Default)) (gs : List (ℕ × Name)) (roots : List Source) (ts us : List Type') → IsApart ms → AreNumbered ms hs gs roots ts → AreNumbered ms hs gs roots us → ts ≡ us }
+    ensures { (ms : List (Name × Module)) (hs : List (Name × Default)) (gs : List (ℕ × Name)) (roots : List Source)
+            (ts us : List Type') →
+        IsApart ms →
+        AreNumbered ms hs gs roots ts →
+        AreNumbered ms hs gs roots us →
+        ts ≡ us }
 {}
 
 /// Where a fault of the types stands, other than want of memory, there is no table that unfolds and passes no limit.
 pub fn table_faults_exclude()
-    ensures { (ms : List (Name × Module)) (hs : List (Name × Default)) (gs : List (ℕ × Name)) (roots : List Source) (ts : List Type') → AreNumbered ms hs gs roots ts → IsApart ms → length ts ≤ 65536 → AllUnfold ts → (e : NameFault) → (e ≡ faults.Memory → ⊥) → IsTableFault ms hs gs roots e → ⊥ }
+    ensures { (ms : List (Name × Module)) (hs : List (Name × Default)) (gs : List (ℕ × Name)) (roots : List Source)
+            (ts : List Type') →
+        AreNumbered ms hs gs roots ts →
+        IsApart ms →
+        length ts ≤ 65536 →
+        AllUnfold ts →
+        (e : NameFault) →
+        (e ≡ faults.Memory → ⊥) →
+        IsTableFault ms hs gs roots e →
+        ⊥ }
 {}
 
 /// Types that are numbered: those of the assignments are among them, and each stands in an assignment.
 pub fn numbered_there()
-    ensures roots { (ms : List (Name × Module)) (hs : List (Name × Default)) (gs : List (ℕ × Name)) (roots : List Source) (ts : List Type') → AreNumbered ms hs gs roots ts → length roots ≤ length ts }
-    ensures assigned { (ms : List (Name × Module)) (hs : List (Name × Default)) (gs : List (ℕ × Name)) (roots : List Source) (ts : List Type') → AreNumbered ms hs gs roots ts → (i : ℕ) (t : Type') → slice_get ts i ≡ Some t → t.assignment < length gs }
+    ensures roots { (ms : List (Name × Module)) (hs : List (Name × Default)) (gs : List (ℕ × Name))
+            (roots : List Source) (ts : List Type') →
+        AreNumbered ms hs gs roots ts →
+        length roots ≤ length ts }
+    ensures assigned { (ms : List (Name × Module)) (hs : List (Name × Default)) (gs : List (ℕ × Name))
+            (roots : List Source) (ts : List Type') →
+        AreNumbered ms hs gs roots ts →
+        (i : ℕ) (t : Type') →
+        slice_get ts i ≡ Some t →
+        t.assignment < length gs }
 {}
 
 /// Types that are numbered, whose references stand for types of the table, keep what a table of linked types keeps once they unfold.
 pub fn numbered_linked()
-    ensures closed { (ms : List (Name × Module)) (hs : List (Name × Default)) (gs : List (ℕ × Name)) (roots : List Source) (ts : List Type') → AreNumbered ms hs gs roots ts → ((M x : Name) (N : Option Name) (j : ℕ) → Refers ms M N x (assigned.Type j) → j < length ts) → IsClosed ts }
-    ensures linked { (ms : List (Name × Module)) (hs : List (Name × Default)) (gs : List (ℕ × Name)) (roots : List Source) (ts : List Type') → AreNumbered ms hs gs roots ts → ((M x : Name) (N : Option Name) (j : ℕ) → Refers ms M N x (assigned.Type j) → j < length ts) → HaveNoPlace roots → AllUnfold ts → IsLinked ts }
+    ensures closed { (ms : List (Name × Module)) (hs : List (Name × Default)) (gs : List (ℕ × Name))
+            (roots : List Source) (ts : List Type') →
+        AreNumbered ms hs gs roots ts →
+        ((M x : Name) (N : Option Name) (j : ℕ) → Refers ms M N x (assigned.Type j) → j < length ts) →
+        IsClosed ts }
+    ensures linked { (ms : List (Name × Module)) (hs : List (Name × Default)) (gs : List (ℕ × Name))
+            (roots : List Source) (ts : List Type') →
+        AreNumbered ms hs gs roots ts →
+        ((M x : Name) (N : Option Name) (j : ℕ) → Refers ms M N x (assigned.Type j) → j < length ts) →
+        HaveNoPlace roots →
+        AllUnfold ts →
+        IsLinked ts }
 {}
 
 /// The numbers of items, as they are computed, are those of X.680, 20.5 and 20.6, and there are no others.
 pub fn numbers_of_items()
     ensures root { (is : List Item) → AreRootNumbers (given_numbers is) [] is (root_numbers is) }
-    ensures additions { (is more : List Item) → AreAdditionNumbers (root_numbers is) [] more (addition_numbers is more) }
-    ensures one_root { (given earlier : List ℤ) (is : List Item) (ys zs : List ℤ) → AreRootNumbers given earlier is ys → AreRootNumbers given earlier is zs → ys ≡ zs }
-    ensures one_addition { (root earlier : List ℤ) (is : List Item) (ys zs : List ℤ) → AreAdditionNumbers root earlier is ys → AreAdditionNumbers root earlier is zs → ys ≡ zs }
+    ensures additions { (is more : List Item) →
+        AreAdditionNumbers (root_numbers is) [] more (addition_numbers is more) }
+    ensures one_root { (given earlier : List ℤ) (is : List Item) (ys zs : List ℤ) →
+        AreRootNumbers given earlier is ys →
+        AreRootNumbers given earlier is zs →
+        ys ≡ zs }
+    ensures one_addition { (root earlier : List ℤ) (is : List Item) (ys zs : List ℤ) →
+        AreAdditionNumbers root earlier is ys →
+        AreAdditionNumbers root earlier is zs →
+        ys ≡ zs }
 {}

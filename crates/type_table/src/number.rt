@@ -30,8 +30,11 @@ fn components_of(
     parts: &mut VecDeque<Source>,
 ) -> Result<Vec<Component>, AllocError>
     requires few { first + length members.items ≤ 65536 }
-    ensures components { IfOk result (λ v. map part_of v.items ≡ numbered first (type_members (map type_member_of members.items))) }
-    ensures parts { OnOk result (sources_of parts.new.items ≡ sources_of parts.old.items ++ member_sources assignment list 0 (type_members (map type_member_of members.items))) }
+    ensures components { IfOk result
+            (λ v. map part_of v.items ≡ numbered first (type_members (map type_member_of members.items))) }
+    ensures parts { OnOk result
+            (sources_of parts.new.items ≡ sources_of parts.old.items
+            ++ member_sources assignment list 0 (type_members (map type_member_of members.items))) }
 {
     let mut components = Vec::new(alloc);
     for Member {
@@ -76,8 +79,12 @@ fn meant_by(
     within: &str,
     reference: &Reference,
 ) -> Result<usize, NameFault>
-    ensures ok { IfOk result (λ j. Refers names.now within.now (option_map string_bytes reference.now.module) (string_bytes reference.now.name) (assigned.Type j)) }
-    ensures fault { IfErr result (IsNothing names.now within.now (option_map string_bytes reference.now.module) (string_bytes reference.now.name)) }
+    ensures ok { IfOk result
+            (λ j. Refers names.now within.now (option_map string_bytes reference.now.module)
+            (string_bytes reference.now.name) (assigned.Type j)) }
+    ensures fault { IfErr result
+            (IsNothing names.now within.now (option_map string_bytes reference.now.module)
+            (string_bytes reference.now.name)) }
 {
     let name = reference.name.as_str();
     match names.refers(within, &reference.module, name) {
@@ -88,7 +95,8 @@ fn meant_by(
 
 /// Puts a type that is no member behind the others.
 fn put(inner: TypeSyntax, assignment: usize, parts: &mut VecDeque<Source>) -> Result<(), AllocError>
-    ensures { OnOk result (sources_of parts.new.items ≡ sources_of parts.old.items ++ inner_source assignment (type_tree_of inner)) }
+    ensures { OnOk result
+            (sources_of parts.new.items ≡ sources_of parts.old.items ++ inner_source assignment (type_tree_of inner)) }
 {
     parts.push_back(Source {
         syntax: inner,
@@ -111,7 +119,9 @@ fn take_apart(
 ) -> Result<Shape, NameFault>
     requires few { first + length (form_parts assignment number (form_seen form)) ≤ 65536 }
     ensures kind { IfOk result (λ s. IsKind names.now within.now first (form_seen form) (kind_of s)) }
-    ensures parts { OnOk result (sources_of parts.new.items ≡ sources_of parts.old.items ++ form_parts assignment number (form_seen form)) }
+    ensures parts { OnOk result
+            (sources_of parts.new.items ≡ sources_of parts.old.items
+            ++ form_parts assignment number (form_seen form)) }
     ensures fault { IfErr result (IsUnknown names.now within.now (form_seen form)) }
 {
     match form {
@@ -158,10 +168,16 @@ fn written_of(
     requires assigned { source.assignment < length assignments.now }
     requires placed { (k : ℕ) (a : Assignment) → slice_get assignments.now k ≡ Some a → a.module < length headers.now }
     requires few { number + 1 + length parts.old.items ≤ 65536 }
-    ensures top { IfOk result (λ w. IsTop names.now (map header_of headers.now) (map assignment_of assignments.now) (number + 1 + length parts.old.items) (source_of source) (type_of w)) }
-    ensures parts { OnOk result (sources_of parts.new.items ≡ sources_of parts.old.items ++ parts_of source.assignment number (type_tree_of source.syntax)) }
+    ensures top { IfOk result
+            (λ w. IsTop names.now (map header_of headers.now) (map assignment_of assignments.now)
+            (number + 1 + length parts.old.items) (source_of source) (type_of w)) }
+    ensures parts { OnOk result
+            (sources_of parts.new.items ≡ sources_of parts.old.items
+            ++ parts_of source.assignment number (type_tree_of source.syntax)) }
     ensures few { OnOk result (number + 1 + length parts.new.items ≤ 65536) }
-    ensures fault { IfErr result (IsSourceFault names.now (map header_of headers.now) (map assignment_of assignments.now) number (number + 1 + length parts.old.items) (source_of source)) }
+    ensures fault { IfErr result
+            (IsSourceFault names.now (map header_of headers.now) (map assignment_of assignments.now) number
+            (number + 1 + length parts.old.items) (source_of source)) }
 {
     let assignment = &assignments[source.assignment];
     let header = &headers[assignment.module];
@@ -212,9 +228,13 @@ pub fn number_all(
     requires assigned { AllAssigned (length assignments.now) (sources_of roots.items) }
     requires placed { (k : ℕ) (a : Assignment) → slice_get assignments.now k ≡ Some a → a.module < length headers.now }
     requires few { length roots.items ≤ 65536 }
-    ensures ok { IfOk result (λ v. AreNumbered names.now (map header_of headers.now) (map assignment_of assignments.now) (sources_of roots.items) (types_of v.items)) }
+    ensures ok { IfOk result
+            (λ v. AreNumbered names.now (map header_of headers.now) (map assignment_of assignments.now)
+            (sources_of roots.items) (types_of v.items)) }
     ensures few { IfOk result (λ v. length v.items ≤ 65536) }
-    ensures fault { IfErr result (IsNumberingFault names.now (map header_of headers.now) (map assignment_of assignments.now) (sources_of roots.items)) }
+    ensures fault { IfErr result
+            (IsNumberingFault names.now (map header_of headers.now) (map assignment_of assignments.now)
+            (sources_of roots.items)) }
 {
     let mut sources = roots;
     let mut types = Vec::new(alloc);

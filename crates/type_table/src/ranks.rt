@@ -60,7 +60,10 @@ fn part_count(written: &Written) -> usize
 
 /// Whether the part at a place, if there is one, has no lower rank than this one.
 fn rises(written: &Written, number: usize, rank: usize, ranks: &[usize]) -> bool
-    ensures { IsTrue result → (j : ℕ) → slice_get (parts (type_of written.now).kind) number ≡ Some j → rank ≤ slice_index ranks.now j }
+    ensures { IsTrue result →
+        (j : ℕ) →
+        slice_get (parts (type_of written.now).kind) number ≡ Some j →
+        rank ≤ slice_index ranks.now j }
 {
     match part(written, number) {
         None => true,

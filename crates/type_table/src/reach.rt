@@ -36,8 +36,12 @@ fn mark_members(
     marks: &mut [usize],
     waiting: &mut Vec<usize>,
 ) -> Result<(), AllocError>
-    requires { (l : ListKind) (m : Bool) (k : ℕ) → IsPart k (members l m (map part_of components.now)) → k < length marks.old }
-    ensures { (l : ListKind) (m : Bool) → OnOk result (Marks search (λ k. IsPart k (members l m (map part_of components.now))) marks.old marks.new waiting.old.items waiting.new.items) }
+    requires { (l : ListKind) (m : Bool) (k : ℕ) →
+        IsPart k (members l m (map part_of components.now)) →
+        k < length marks.old }
+    ensures { (l : ListKind) (m : Bool) →
+        OnOk result (Marks search (λ k. IsPart k (members l m (map part_of components.now)))
+            marks.old marks.new waiting.old.items waiting.new.items) }
 {
     for component in components {
         mark(component.ty, search, marks, waiting)?;
@@ -64,7 +68,8 @@ fn mark_default(
     waiting: &mut Vec<usize>,
 ) -> Result<(), AllocError>
     requires { HasDefault (part_of component.now) → component.now.ty < length marks.old }
-    ensures { OnOk result (Marks search (λ j. HasDefault (part_of component.now) × (j ≡ component.now.ty)) marks.old marks.new waiting.old.items waiting.new.items) }
+    ensures { OnOk result (Marks search (λ j. HasDefault (part_of component.now) × (j ≡ component.now.ty))
+            marks.old marks.new waiting.old.items waiting.new.items) }
 {
     if !has_default(component) {
         return Ok(());
@@ -81,7 +86,8 @@ fn mark_defaults(
     waiting: &mut Vec<usize>,
 ) -> Result<(), AllocError>
     requires { (k : ℕ) → IsDefaulted (map part_of components.now) k → k < length marks.old }
-    ensures { OnOk result (Marks search (IsDefaulted (map part_of components.now)) marks.old marks.new waiting.old.items waiting.new.items) }
+    ensures { OnOk result (Marks search (IsDefaulted (map part_of components.now))
+            marks.old marks.new waiting.old.items waiting.new.items) }
 {
     for component in components {
         mark_default(component, search, marks, waiting)?;
@@ -97,7 +103,8 @@ fn mark_parts(
     waiting: &mut Vec<usize>,
 ) -> Result<(), AllocError>
     requires { (k : ℕ) → IsPart k (type_of written.now).kind → k < length marks.old }
-    ensures { OnOk result (Marks search (λ k. IsPart k (type_of written.now).kind) marks.old marks.new waiting.old.items waiting.new.items) }
+    ensures { OnOk result (Marks search (λ k. IsPart k (type_of written.now).kind)
+            marks.old marks.new waiting.old.items waiting.new.items) }
 {
     match &written.shape {
         Shape::Simple(_) => Ok(()),

@@ -63,6 +63,10 @@ pub record Marks (s : ℕ) (Q : ℕ → Type 0) (marks marks' waiting waiting' :
 pub record MarksReached (ts : List Type') (s : ℕ) (marks marks' : List ℕ) : Type 0 where
   pub long : length marks' ≡ length marks
   pub kept : (j : ℕ) → IsMarked s marks j → IsMarked s marks' j
-  pub closed : (i k : ℕ) (t : Type') → IsMarked s marks' i → slice_get ts i ≡ Some t → IsPart k t.kind → IsMarked s marks' k
+  pub closed : (i k : ℕ) (t : Type') →
+      IsMarked s marks' i →
+      slice_get ts i ≡ Some t →
+      IsPart k t.kind →
+      IsMarked s marks' k
   pub only : (j : ℕ) → IsMarked s marks' j → (i : ℕ) × IsMarked s marks i × Reaches ts i j
   pub others : (j n : ℕ) → slice_get marks' j ≡ Some n → slice_get marks j ≡ Some n ⊎ (n ≡ s)

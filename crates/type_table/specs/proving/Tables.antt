@@ -10,10 +10,16 @@ use Rattle.type_table.specs.declared.table.Written.{Written}
 use Rattle.type_table.specs.Seen.{type_of, types_of}
 use Rattle.type_table.specs.Table.{Type', AllUnfold, behind, behind_of, next}
 
-pub type_at : (ws : List Written) (i : ℕ) (w : Written) → i < length ws → w ≡ get_or ws i w → slice_get (types_of ws) i ≡ Some (type_of w)
+pub type_at : (ws : List Written) (i : ℕ) (w : Written) →
+    i < length ws →
+    w ≡ get_or ws i w →
+    slice_get (types_of ws) i ≡ Some (type_of w)
 type_at ws i w l e = item_at type_of ws i w l e
 
-pub next_at : (ws : List Written) (i : ℕ) (w : Written) → i < length ws → w ≡ get_or ws i w → next (types_of ws) i ≡ behind (type_of w).kind
+pub next_at : (ws : List Written) (i : ℕ) (w : Written) →
+    i < length ws →
+    w ≡ get_or ws i w →
+    next (types_of ws) i ≡ behind (type_of w).kind
 next_at ws i w l e = ap behind_of (type_at ws i w l e)
 
 pub as_long : (ws : List Written) → length (types_of ws) ≡ length ws
