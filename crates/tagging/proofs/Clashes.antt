@@ -9,6 +9,7 @@ use Rattle.std.specs.declared.cmp.Ordering.TheVariants.{Less, Equal, Greater}
 use Rattle.std.proofs.lemmas.Bool.{cases_lt}
 use Rattle.std.proofs.lemmas.Cmp.{ranked, tied_itself, nat_cmp_total}
 use Rattle.std.proofs.lemmas.Option.{slice_get-map, slice_get_read, slice_get_within}
+use Rattle.asn_base.specs.Tags.{class_rank}
 use Rattle.asn_base.specs.declared.tag.Class.{Class}
 use Rattle.asn_base.specs.declared.tag.Class.TheVariants.{Universal, Application, Context, Private}
 use Rattle.tagging.specs.Tags.{Label}
@@ -17,7 +18,7 @@ use Rattle.trees.specs.declared.types.ListKind.TheVariants.{Sequence, Set, Choic
 use Rattle.type_table.specs.Table.{Part, Type'}
 use Rattle.tagging.specs.First.{may_be_absent, Together, Distinct}
 use Rattle.tagging.specs.proving.Heads.{AreFirst}
-use Rattle.tagging.specs.proving.Lists.{Collected, none, one, tag_lists, Reaches, IsClear, Upto, class_number, key_of, key_cmp, IsIn, HasKey, Holds, Meets}
+use Rattle.tagging.specs.proving.Lists.{Collected, none, one, tag_lists, Reaches, IsClear, Upto, key_of, key_cmp, IsIn, HasKey, Holds, Meets}
 use Rattle.tagging.specs.Tagged.{Clash}
 use Rattle.tagging.proofs.Tables.{contains_at, contained_at}
 
@@ -107,7 +108,7 @@ key_itself x y e =
     ∙ ap (λ o. is_eq (ordering_then o (nat_cmp x.1 x.1))) (tied_itself nat_cmp_total x.0)
     ∙ ap is_eq (tied_itself nat_cmp_total x.1)
 
-class_exact : (c d : Class) → class_number c ≡ class_number d → c ≡ d
+class_exact : (c d : Class) → class_rank c ≡ class_rank d → c ≡ d
 class_exact Universal Universal e = refl
 class_exact Universal Application e = absurd (omega (arith, e))
 class_exact Universal Context e = absurd (omega (arith, e))

@@ -1,7 +1,7 @@
 //! Automatic tags, and the outermost tag of a type.
 
 ghost use Rattle.std.specs.Prelude.{ℕ, ◌≡◌, ◌<◌, ◌≤◌, length, IfOk, IsOk};
-ghost use Rattle.tagging.specs.Tags.{Path, automatic, label, path_of, Tags};
+ghost use Rattle.tagging.specs.Tags.{Path, automatic, path_of, Tags};
 ghost use Rattle.tagging.specs.Tagged.{IsTagged};
 ghost use Rattle.tagging.specs.proving.Heads.{Head};
 
@@ -26,17 +26,6 @@ pub(crate) fn automatic_number(columns: &Columns<'_>, ty: usize) -> Option<usize
                 None
             }
         }
-    }
-}
-
-/// The context tag of this number.
-fn context_tag(number: usize) -> Tag
-    requires { number < 2147483648 }
-    ensures { label result ≡ Rattle.tagging.specs.Tags.context_tag number }
-{
-    Tag {
-        class: Class::Context,
-        number: number as u32,
     }
 }
 
@@ -68,7 +57,7 @@ pub(crate) fn path_of(
         None => with_written(path, columns, ty),
         Some(number) => {
             let form = form_at(columns, Keyword::Absent, TagDefault::Automatic, ty);
-            let tag = context_tag(number);
+            let tag = Tag::of(Class::Context, number as u32);
             path.push_reserved(FormedTag { tag, form });
             with_written(path, columns, ty)
         }

@@ -9,13 +9,13 @@ ghost use Rattle.type_table.specs.Table.{Type', Is, IsLinked, tagged};
 ghost use Rattle.tagging.specs.First.{Distinct};
 ghost use Rattle.tagging.specs.proving.Heads.{IsFirstFault};
 ghost use Rattle.tagging.specs.proving.Lists.{Collected, tag_lists};
-ghost use Rattle.tagging.specs.Tagged.{Bears, BearTags, IsTagged};
+ghost use Rattle.tagging.specs.Tagged.{Bears, BearTags, Breaks, IsTagged};
 ghost use Rattle.tagging.specs.proving.Checks.{IsList, AreThere, HasFew, IsNumbered, Suits, SuitsAutomatic, SuitsList, SuitsTag};
-ghost use Rattle.tagging.specs.proving.Checks.{IsGood, StandsAt, BearsHere, BearsAt};
+ghost use Rattle.tagging.specs.proving.Checks.{IsGood, Checked, StandsAt, BearsHere, BearsAt};
 
 use crate::automatic::automatic_number;
 use crate::columns::Columns;
-use crate::first::{FrontFault, first_tags, fronts, member_type};
+use crate::first::{FrontFault, first_tags, fronts};
 use crate::lists::clash;
 use crate::path::{Label, has_few, written_outermost};
 use std::alloc::Global;
@@ -61,7 +61,8 @@ fn collect(
 {
     let mut lists = Vec::new(alloc);
     for place in 0..components.len() {
-        match first_tags(alloc, columns, member_type(&components[place])) {
+        let component = &components[place];
+        match first_tags(alloc, columns, component.ty) {
             Err(fault) => return Err(fault),
             Ok(tags) => match lists.push(tags) {
                 Ok(()) => {}
@@ -111,9 +112,7 @@ fn check_automatic(
     components: &[Component],
 ) -> Result<(), Fault>
     requires there { (k : ListKind) × IsList columns.now.types list k default (map part_of components.now) }
-    ensures { MatchResult result
-        (λ _. SuitsAutomatic columns.now.types (map part_of components.now) default)
-        (StandsAt columns.now.types) }
+    ensures { Checked columns.now.types result (SuitsAutomatic columns.now.types (map part_of components.now) default) }
 {
     match default {
         TagDefault::Explicit | TagDefault::Implicit => Ok(()),
@@ -171,9 +170,7 @@ fn check_distinct(
 ) -> Result<(), Fault>
     requires parts { AreThere columns.now.types (map part_of components.now) }
     requires there { (d : TagDefault) × IsList columns.now.types list kind d (map part_of components.now) }
-    ensures { MatchResult result
-        (λ _. Distinct columns.now.types kind (map part_of components.now))
-        (StandsAt columns.now.types) }
+    ensures { Checked columns.now.types result (Distinct columns.now.types kind (map part_of components.now)) }
 {
     match collect(alloc, columns, components) {
         Err(fault) => Err(fault_of(fault)),
@@ -198,9 +195,7 @@ fn check_list(
 ) -> Result<(), Fault>
     requires parts { AreThere columns.now.types (map part_of components.now) }
     requires there { IsList columns.now.types list kind default (map part_of components.now) }
-    ensures { MatchResult result
-        (λ _. SuitsList columns.now.types kind (map part_of components.now) default)
-        (StandsAt columns.now.types) }
+    ensures { Checked columns.now.types result (SuitsList columns.now.types kind (map part_of components.now) default) }
 {
     match check_automatic(columns, list, default, components) {
         Err(fault) => Err(fault),
@@ -224,9 +219,7 @@ fn check_tag(
     requires there { inner < length columns.now.types }
     requires is { (t : Tag) × (d : TagDefault) × (p : Option (ℕ × ℕ)) ×
         Is columns.now.types ty (tagged t keyword inner) d p }
-    ensures { MatchResult result
-        (λ _. SuitsTag columns.now.types keyword inner)
-        (StandsAt columns.now.types) }
+    ensures { Checked columns.now.types result (SuitsTag columns.now.types keyword inner) }
 {
     match keyword {
         Keyword::Absent => Ok(()),
@@ -246,9 +239,7 @@ fn check_written(
 ) -> Result<(), Fault>
     requires linked { IsLinked columns.now.types }
     requires is { slice_get columns.now.types ty ≡ Some (type_of written.now) }
-    ensures { MatchResult result
-        (λ _. Suits columns.now.types (kind_of written.now.shape) written.now.default)
-        (StandsAt columns.now.types) }
+    ensures { Checked columns.now.types result (Suits columns.now.types (kind_of written.now.shape) written.now.default) }
 {
     match &written.shape {
         Shape::Simple(_) => Ok(()),
@@ -261,53 +252,39 @@ fn check_written(
     }
 }
 
-fn check_count(columns: &Columns<'_>, ty: usize, at: usize) -> Result<(), Fault>
-    requires there { ty < length columns.now.types }
-    ensures { MatchResult result (λ _. HasFew columns.now.types ty) (StandsAt columns.now.types) }
+/// The rule on numbers of tags that a type breaks, if it breaks one.
+fn broken(columns: &Columns<'_>, ty: usize) -> Option<Rule>
+    requires { ty < length columns.now.types }
+    ensures { MatchOption result
+        (HasFew columns.now.types ty × IsNumbered columns.now.types ty)
+        (λ r. Breaks columns.now.types r ty) }
 {
-    if has_few(columns, ty) {
-        Ok(())
-    } else {
-        Err(Fault::At(Rule::Tags, ty, at))
+    if !has_few(columns, ty) {
+        return Some(Rule::Tags);
     }
-}
-
-fn check_number(columns: &Columns<'_>, ty: usize, at: usize) -> Result<(), Fault>
-    requires there { ty < length columns.now.types }
-    ensures { MatchResult result (λ _. IsNumbered columns.now.types ty) (StandsAt columns.now.types) }
-{
     match automatic_number(columns, ty) {
-        None => Ok(()),
-        Some(number) => {
-            if number < NUMBERS {
-                Ok(())
-            } else {
-                Err(Fault::At(Rule::TagNumber, ty, at))
-            }
-        }
+        Some(number) if number >= NUMBERS => Some(Rule::TagNumber),
+        _ => None,
     }
 }
 
 fn check_type(alloc: Global, columns: &Columns<'_>, ty: usize) -> Result<(), Fault>
     requires there { ty < length columns.now.types }
-    ensures { MatchResult result (λ _. IsGood columns.now.types ty) (StandsAt columns.now.types) }
+    ensures { Checked columns.now.types result (IsGood columns.now.types ty) }
 {
     let written = columns.written(ty);
-    match check_count(columns, ty, written.at) {
-        Err(fault) => Err(fault),
-        Ok(()) => match check_number(columns, ty, written.at) {
+    match broken(columns, ty) {
+        Some(rule) => Err(Fault::At(rule, ty, written.at)),
+        None => match check_written(alloc, columns, ty, written) {
             Err(fault) => Err(fault),
-            Ok(()) => match check_written(alloc, columns, ty, written) {
-                Err(fault) => Err(fault),
-                Ok(()) => Ok(()),
-            },
+            Ok(()) => Ok(()),
         },
     }
 }
 
 /// Whether all types of a table can be tagged, or which one breaks a rule.
 pub(crate) fn check(alloc: Global, columns: &Columns<'_>) -> Result<(), Fault>
-    ensures { MatchResult result (λ _. IsTagged columns.now.types) (StandsAt columns.now.types) }
+    ensures { Checked columns.now.types result (IsTagged columns.now.types) }
 {
     for ty in 0..columns.len() {
         match check_type(alloc, columns, ty) {

@@ -6,7 +6,7 @@ ghost use Rattle.type_table.specs.proving.Cores.{IsKnown};
 ghost use Rattle.type_table.specs.Seen.{kind_of, type_of, types_of};
 ghost use Rattle.type_table.specs.Table.{IsCore, IsLinked, reference};
 ghost use Rattle.resolve.specs.Program.{IsWhole};
-ghost use Rattle.tagging.specs.Tags.{is_tagged, bears_tag, automatic_kind, is_automatic};
+ghost use Rattle.tagging.specs.Tags.{bears_tag, automatic_kind, is_automatic};
 ghost use Rattle.tagging.specs.Faults.{StandsIn};
 ghost use Rattle.tagging.specs.proving.Columns.{is_reference, Front, AreKnown, AreFronts, all_automatic};
 
@@ -103,18 +103,12 @@ fn fronts_of(alloc: Global, types: &[Written]) -> Result<Vec<usize>, AllocError>
     Ok(fronts)
 }
 
-fn has_tag(written: &Written) -> bool
-    ensures { result ≡ is_tagged (kind_of written.now.shape) }
-{
-    matches!(&written.shape, Shape::Tagged(_, _, _))
-}
-
 fn bears_tag_at(types: &[Written], ty: usize) -> bool
     ensures { result ≡ bears_tag (slice_get (types_of types.now) ty) }
 {
     match types.get(ty) {
         None => false,
-        Some(written) => has_tag(written),
+        Some(written) => matches!(&written.shape, Shape::Tagged(_, _, _)),
     }
 }
 

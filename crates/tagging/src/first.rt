@@ -19,13 +19,6 @@ pub(crate) enum FrontFault {
     Untagged(usize, usize),
 }
 
-/// The number of a member's type.
-pub(crate) fn member_type(member: &Component) -> usize
-    ensures { result ≡ (part_of member.now).ty }
-{
-    member.ty
-}
-
 fn members(written: &Written) -> &[Component]
     ensures { map part_of result.now ≡ members_of (kind_of written.now.shape) }
 {
@@ -58,9 +51,9 @@ pub(crate) fn fronts(
 {
     let mut tags = Vec::new(alloc);
     for place in 0..members.len() {
-        let ty = member_type(&members[place]);
-        match head(columns, ty) {
-            None => return Err(FrontFault::Untagged(ty, members[place].name.at)),
+        let member = &members[place];
+        match head(columns, member.ty) {
+            None => return Err(FrontFault::Untagged(member.ty, member.name.at)),
             Some(tag) => match tags.push(tag) {
                 Ok(()) => {}
                 Err(_) => return Err(FrontFault::Memory),

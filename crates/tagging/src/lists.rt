@@ -3,6 +3,7 @@
 ghost use Rattle.std.specs.Prelude.{ℕ, ◌≡◌, ◌⊎◌, ◌<◌, ◌↔◌, IsTrue, IfOk, IfSome, OnOk, length, map, List, MatchOption};
 ghost use Rattle.type_table.specs.Seen.{part_of};
 ghost use Rattle.type_table.specs.Table.{Type'};
+ghost use Rattle.asn_base.specs.Tags.{class_rank};
 ghost use Rattle.tagging.specs.First;
 ghost use Rattle.tagging.specs.proving.Lists.{Collected, tag_lists, Reaches, key_of, IsIn, HasKey, Holds, Meets, TellsClash};
 ghost use Rattle.tagging.specs.Tags.{Label as Tag};
@@ -15,7 +16,7 @@ use trees::{ListKind, PresenceSyntax, Standing};
 use type_table::Component;
 
 fn class_number(class: Class) -> u8
-    ensures { result ≡ Rattle.tagging.specs.proving.Lists.class_number class }
+    ensures { result ≡ class_rank class }
 {
     match class {
         Class::Universal => 0,

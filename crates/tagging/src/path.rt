@@ -71,18 +71,6 @@ fn universal_tag(number: u8) -> Tag
     }
 }
 
-fn string_number(kind: StringKind) -> u8
-    ensures is { result ≡ Rattle.trees.specs.Types.string_number kind }
-    ensures above { 0 < result }
-{
-    match kind {
-        StringKind::Numeric => 18,
-        StringKind::Printable => 19,
-        StringKind::Ia5 => 22,
-        StringKind::Visible => 26,
-    }
-}
-
 /// The universal tag number of a type that holds no other (X.680, clause 8, table 1).
 fn universal_number(simple: &Simple) -> u8
     ensures is { result ≡ universal (plain_of simple.now) }
@@ -98,17 +86,10 @@ fn universal_number(simple: &Simple) -> u8
         Simple::Enumerated(_) => 10,
         Simple::Utf8String => 12,
         Simple::RelativeOid => 13,
-        Simple::Restricted(kind) => string_number(*kind),
-    }
-}
-
-fn elements_number(kind: ElementsKind) -> u8
-    ensures is { result ≡ Rattle.tagging.specs.Tags.elements_number kind }
-    ensures above { 0 < result }
-{
-    match kind {
-        ElementsKind::SequenceOf => 16,
-        ElementsKind::SetOf => 17,
+        Simple::Restricted(StringKind::Numeric) => 18,
+        Simple::Restricted(StringKind::Printable) => 19,
+        Simple::Restricted(StringKind::Ia5) => 22,
+        Simple::Restricted(StringKind::Visible) => 26,
     }
 }
 
@@ -121,7 +102,8 @@ fn own_tag(written: &Written) -> Option<Tag>
         Shape::Members(ListKind::Sequence, _, _) => Some(universal_tag(16)),
         Shape::Members(ListKind::Set, _, _) => Some(universal_tag(17)),
         Shape::Members(ListKind::Choice, _, _) => None,
-        Shape::Elements(kind, _) => Some(universal_tag(elements_number(*kind))),
+        Shape::Elements(ElementsKind::SequenceOf, _) => Some(universal_tag(16)),
+        Shape::Elements(ElementsKind::SetOf, _) => Some(universal_tag(17)),
         Shape::Reference(_) => None,
         Shape::Tagged(_, _, _) => None,
     }

@@ -1,5 +1,5 @@
 -- What the check of one type tells.
-use Rattle.std.specs.Prelude.{◌≡◌, ℕ, ◌<◌, ◌≤◌, Bool, true, false, length, List, [], Option, Some, slice_get, All}
+use Rattle.std.specs.Prelude.{◌≡◌, ℕ, ◌<◌, ◌≤◌, Bool, true, false, length, List, [], Option, Some, slice_get, All, Result, MatchResult}
 use Rattle.trees.specs.declared.types.Keyword.{Keyword}
 use Rattle.trees.specs.declared.types.Keyword.TheVariants.{Implicit}
 use Rattle.trees.specs.declared.module.TagDefault.{TagDefault}
@@ -63,6 +63,10 @@ pub record IsGood (ts : List Type') (i : ℕ) : Type 0 where
 abbrev pub StandsAt : List Type' → Fault → Type 0
 StandsAt ts Memory = Unit {0}
 StandsAt ts (At r i at) = Breaks ts r i
+
+-- what a check answers: this holds, or a fault that stands
+abbrev pub Checked : List Type' → Result (Unit {0}) Fault → Type 0 → Type 0
+Checked ts r P = MatchResult r (λ _. P) (StandsAt ts)
 
 -- the member is one of the additions, or of the root, and bears a tag that is written in the list
 pub record BearsHere (ts : List Type') (c : Part) (of_additions : Bool) : Type 0 where

@@ -4,8 +4,7 @@ use Rattle.std.specs.Global.{Global}
 use Rattle.std.specs.declared.cmp.Ordering.{Ordering}
 use Rattle.std.specs.List.{list_any}
 use Rattle.std.specs.Ordering.{is_eq, nat_cmp, ordering_then}
-use Rattle.asn_base.specs.declared.tag.Class.{Class}
-use Rattle.asn_base.specs.declared.tag.Class.TheVariants.{Universal, Application, Context, Private}
+use Rattle.asn_base.specs.Tags.{class_rank}
 use Rattle.tagging.specs.Tags.{Label}
 use Rattle.trees.specs.declared.types.ListKind.{ListKind}
 use Rattle.trees.specs.declared.types.ListKind.TheVariants.{Sequence, Set, Choice}
@@ -49,15 +48,9 @@ Upto Choice cs p q = Unit {0}
 
 -- ---- tags in an ordered set
 
-abbrev pub class_number : Class → ℕ
-class_number Universal = 0
-class_number Application = 1
-class_number Context = 2
-class_number Private = 3
-
 -- a tag as two numbers, by which tags are put in order
 abbrev pub key_of : Label → ℕ × ℕ
-key_of t = (class_number t.0, t.1)
+key_of t = (class_rank t.0, t.1)
 
 abbrev pub key_cmp : ℕ × ℕ → ℕ × ℕ → Ordering
 key_cmp x y = ordering_then (nat_cmp x.0 y.0) (nat_cmp x.1 y.1)

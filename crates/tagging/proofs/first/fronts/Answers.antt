@@ -1,7 +1,7 @@
-use Rattle.std.proofs.Common.{Some, ◌<◌, length, sym, subst}
+use Rattle.std.proofs.Common.{length, refl}
 use Rattle.std.specs.Prelude.{map}
 use Rattle.type_table.specs.Seen.{part_of}
-use Rattle.tagging.specs.proving.Heads.{none, Head}
+use Rattle.tagging.specs.proving.Heads.{none}
 use Rattle.tagging.proofs.Tables.{part_at, part_more}
 use Rattle.tagging.proofs.Fronts.{fronts_push, within_all}
 use Rattle.tagging.proofs.first.fronts.Goals as goal
@@ -12,16 +12,14 @@ loop-place-init c = rw c.new-tags.ensures.items none
 pub head-requires : goal.head-requires
 head-requires c = record {
   there =
-      subst (λ t. t < length c.args.columns.now.types) (sym c.member_type-ty.ensures)
-      (within_all (length c.args.columns.now.types) (map part_of c.args.members.now) c.loop-place.place (part_of c.index-members-place.result) c.requires.parts (part_at c.args.members.now c.loop-place.place c.index-members-place.result c.loop-place-test.true c.index-members-place.is));
+      within_all (length c.args.columns.now.types) (map part_of c.args.members.now) c.loop-place.place (part_of c.index-members-place.result) c.requires.parts (part_at c.args.members.now c.loop-place.place c.index-members-place.result c.loop-place-test.true c.index-members-place.is);
 }
 
 pub returns-in-None : goal.returns-in-None
 returns-in-None c =
-    (c.loop-place.place, part_of c.index-members-place.result, part_at c.args.members.now c.loop-place.place c.index-members-place.result c.loop-place-test.true c.index-members-place.is, sym c.member_type-ty.ensures, c.in-None.ensures)
+    (c.loop-place.place, part_of c.index-members-place.result, part_at c.args.members.now c.loop-place.place c.index-members-place.result c.loop-place-test.true c.index-members-place.is, refl, c.in-None.ensures)
 
 pub loop-place-preserved : goal.loop-place-preserved
 loop-place-preserved c =
     let e = part_more c.args.members.now c.loop-place.place c.index-members-place.result c.loop-place-test.true c.index-members-place.is in
-    let h = subst (λ t. Head c.args.columns.now.types t (Some c.in-Some.tag)) c.member_type-ty.ensures c.in-Some.ensures in
-    rw (e, c.in-Ok.ensures.items) (fronts_push c.args.columns.now.types _ _ _ c.in-Some.tag c.loop-place.invariant h)
+    rw (e, c.in-Ok.ensures.items) (fronts_push c.args.columns.now.types _ _ _ c.in-Some.tag c.loop-place.invariant c.in-Some.ensures)
