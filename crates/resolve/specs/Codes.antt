@@ -1,4 +1,5 @@
--- A code of values as they are written, by which a proof tells them apart: the parts in postfix order, which three stacks put together again.
+-- A code of values as they are written, by which a proof tells them apart: the parts in postfix order, which three
+-- stacks put together again.
 use Rattle.std.specs.Prelude.{◌≡◌, ◌⊎◌, ℕ, zero, suc, ℤ, List, [], ◌∷◌, ◌++◌, Option}
 use Rattle.std.proofs.Common.{refl, ap, ◌∙◌, inl, inr, append_assoc}
 use Rattle.std.specs.Coded.{Coded, code_by, coded_ℕ, coded_ℤ, coded_list, coded_option, coded×, coded⊎}
@@ -71,7 +72,8 @@ joined (suc (suc (suc zero))) go vs ts ms = go (nothing ∷ vs) ts ms
 joined (suc (suc (suc (suc zero)))) go vs ts ms = go (items (top_trees ts) ∷ vs) (below ts) ms
 joined (suc (suc (suc (suc (suc zero))))) go vs ts ms = go (fields (top_members ms) ∷ vs) ts (below ms)
 joined (suc (suc (suc (suc (suc (suc zero)))))) go vs ts ms = go vs (no_tree ∷ ts) ms
-joined (suc (suc (suc (suc (suc (suc (suc zero))))))) go vs ts ms = go (below vs) (tree_and (top vs) (top_trees ts) ∷ below ts) ms
+joined (suc (suc (suc (suc (suc (suc (suc zero))))))) go vs ts ms =
+    go (below vs) (tree_and (top vs) (top_trees ts) ∷ below ts) ms
 joined n go vs ts ms = go vs ts (no_member ∷ ms)
 
 abbrev step : Part → Rest → Rest
@@ -83,14 +85,16 @@ step (inr (inr (inr (inr (inl s))))) go vs ts ms = go (chars s ∷ vs) ts ms
 step (inr (inr (inr (inr (inr (inl p)))))) go vs ts ms = go (reference p.0 p.1 ∷ vs) ts ms
 step (inr (inr (inr (inr (inr (inr (inl x))))))) go vs ts ms = go (chosen x (top vs) ∷ below vs) ts ms
 step (inr (inr (inr (inr (inr (inr (inr (inl s)))))))) go vs ts ms = go (numbers s ∷ vs) ts ms
-step (inr (inr (inr (inr (inr (inr (inr (inr x)))))))) go vs ts ms = go (below vs) ts (member_and x (top vs) (top_members ms) ∷ below ms)
+step (inr (inr (inr (inr (inr (inr (inr (inr x)))))))) go vs ts ms =
+    go (below vs) ts (member_and x (top vs) (top_members ms) ∷ below ms)
 
 abbrev run : List Part → Rest
 run [] vs ts ms = top vs
 run (p ∷ ps) vs ts ms = step p (run ps) vs ts ms
 
 mutual
-  run_parts : (v : Tree) (ps : List Part) (vs : List Tree) (ts : List Trees) (ms : List Members) → run (parts v ++ ps) vs ts ms ≡ run ps (v ∷ vs) ts ms
+  run_parts : (v : Tree) (ps : List Part) (vs : List Tree) (ts : List Trees) (ms : List Members) →
+      run (parts v ++ ps) vs ts ms ≡ run ps (v ∷ vs) ts ms
   run_parts yes ps vs ts ms = refl
   run_parts no ps vs ts ms = refl
   run_parts null ps vs ts ms = refl
@@ -101,11 +105,16 @@ mutual
   run_parts (reference m x) ps vs ts ms = refl
   run_parts nothing ps vs ts ms = refl
   run_parts (numbers s) ps vs ts ms = refl
-  run_parts (chosen x t) ps vs ts ms = ap (λ q. run q vs ts ms) (append_assoc (parts t) (chose x ∷ []) ps) ∙ run_parts t (chose x ∷ ps) vs ts ms
-  run_parts (items us) ps vs ts ms = ap (λ q. run q vs ts ms) (append_assoc (trees_parts us) (join 4 ∷ []) ps) ∙ run_trees us (join 4 ∷ ps) vs ts ms
-  run_parts (fields us) ps vs ts ms = ap (λ q. run q vs ts ms) (append_assoc (members_parts us) (join 5 ∷ []) ps) ∙ run_members us (join 5 ∷ ps) vs ts ms
+  run_parts (chosen x t) ps vs ts ms =
+      ap (λ q. run q vs ts ms) (append_assoc (parts t) (chose x ∷ []) ps) ∙ run_parts t (chose x ∷ ps) vs ts ms
+  run_parts (items us) ps vs ts ms =
+      ap (λ q. run q vs ts ms) (append_assoc (trees_parts us) (join 4 ∷ []) ps) ∙ run_trees us (join 4 ∷ ps) vs ts ms
+  run_parts (fields us) ps vs ts ms =
+      ap (λ q. run q vs ts ms) (append_assoc (members_parts us) (join 5 ∷ []) ps)
+      ∙ run_members us (join 5 ∷ ps) vs ts ms
 
-  run_trees : (us : Trees) (ps : List Part) (vs : List Tree) (ts : List Trees) (ms : List Members) → run (trees_parts us ++ ps) vs ts ms ≡ run ps vs (us ∷ ts) ms
+  run_trees : (us : Trees) (ps : List Part) (vs : List Tree) (ts : List Trees) (ms : List Members) →
+      run (trees_parts us ++ ps) vs ts ms ≡ run ps vs (us ∷ ts) ms
   run_trees no_tree ps vs ts ms = refl
   run_trees (tree_and t us) ps vs ts ms =
       ap (λ q. run q vs ts ms) (append_assoc (parts t) (trees_parts us ++ join 7 ∷ []) ps)
@@ -113,7 +122,8 @@ mutual
       ∙ ap (λ q. run q (t ∷ vs) ts ms) (append_assoc (trees_parts us) (join 7 ∷ []) ps)
       ∙ run_trees us (join 7 ∷ ps) (t ∷ vs) ts ms
 
-  run_members : (us : Members) (ps : List Part) (vs : List Tree) (ts : List Trees) (ms : List Members) → run (members_parts us ++ ps) vs ts ms ≡ run ps vs ts (us ∷ ms)
+  run_members : (us : Members) (ps : List Part) (vs : List Tree) (ts : List Trees) (ms : List Members) →
+      run (members_parts us ++ ps) vs ts ms ≡ run ps vs ts (us ∷ ms)
   run_members no_member ps vs ts ms = refl
   run_members (member_and x t us) ps vs ts ms =
       ap (λ q. run q vs ts ms) (append_assoc (parts t) (members_parts us ++ named x ∷ []) ps)
@@ -135,7 +145,9 @@ abbrev name_code : Coded (List ℕ)
 name_code = coded_list coded_ℕ
 
 abbrev part_code : Coded Part
-part_code = coded⊎ coded_ℕ (coded⊎ coded_ℤ (coded⊎ name_code (coded⊎ name_code (coded⊎ name_code (coded⊎ (coded× (coded_option name_code) name_code) (coded⊎ name_code (coded⊎ name_code name_code)))))))
+part_code =
+    coded⊎ coded_ℕ (coded⊎ coded_ℤ (coded⊎ name_code (coded⊎ name_code (coded⊎ name_code
+    (coded⊎ (coded× (coded_option name_code) name_code) (coded⊎ name_code (coded⊎ name_code name_code)))))))
 
 abbrev pub tree_code : Coded Tree
 tree_code = code_by (List Part) (coded_list part_code) parts together back

@@ -1,15 +1,21 @@
 -- What a search for a name answers.
-use Rattle.std.specs.Prelude.{◌≡◌, ℕ, Option, Some, None, slice_get}
+use Rattle.std.specs.Prelude.{◌≡◌, ℕ, Option, Some, None, String, option_map, slice_get, string_bytes}
+use Rattle.std.specs.Global.{Global}
 use Rattle.trees.specs.Values.{Name, tree_of}
 use Rattle.names.specs.declared.scope.Assigned.{Assigned}
 use Rattle.names.specs.declared.scope.Assigned.TheVariants as assigned
-use Rattle.names.specs.Names.{Meaning}
+use Rattle.names.specs.Names.{Meaning, Refers}
 use Rattle.names.specs.Sources.{Value}
 use Rattle.resolve.specs.declared.linked.Found.{Found}
 use Rattle.resolve.specs.declared.linked.Found.TheVariants.{TypeNamed, ValueNamed}
 use Rattle.resolve.specs.Program.{Program}
 
--- nothing where name x, read in module M, has no meaning; a type's number, or the value as it is written, where it has one
+-- name x, behind a module's name if one is given, stands for a in module M
+abbrev pub RefersTo : Program → Name → Option (String Global) → Name → Assigned → Type 0
+RefersTo p M o x a = Refers p.modules M (option_map string_bytes o) x a
+
+-- nothing where name x, read in module M, has no meaning; a type's number, or the value as it is written, where it has
+-- one
 abbrev pub Finds : Program → Name → Name → Option Found → Type 0
 Finds p M x None = (a : Assigned) → Meaning p.modules M x a → ⊥
 Finds p M x (Some (TypeNamed t)) = Meaning p.modules M x (assigned.Type t.index)

@@ -39,3 +39,11 @@ IsLinkFault ms e =
     IsNamesFault ms e
     ⊎ (IsTableFault (scopes_from 0 0 ms) (headers_of ms) (owned_from 0 ms) (roots_of ms) e
     ⊎ ((p : Program) × IsProgramOf ms p × IsSoundFault p e))
+
+-- a fault that stands in modules, other than want of memory, excludes that they can be linked
+abbrev pub FaultsExclude : Type 0
+FaultsExclude = (ms : List ModuleTree) (p : Program) (e : NameFault) →
+    (e ≡ faults.Memory → ⊥) →
+    IsLinkFault ms e →
+    Links ms p →
+    ⊥

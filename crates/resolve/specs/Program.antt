@@ -1,11 +1,16 @@
 -- What linked modules are seen as: their names, and their types and values by number.
-use Rattle.std.specs.Prelude.{◌≡◌, ◌<◌, ℕ, Some, List, slice_get, length}
+use Rattle.std.specs.Prelude.{◌≡◌, ◌<◌, ℕ, Some, List, map, slice_get, length}
 use Rattle.trees.specs.Values.{Name}
 use Rattle.trees.specs.declared.module.TagDefault.{TagDefault}
 use Rattle.names.specs.declared.scope.Assigned.{Assigned}
 use Rattle.names.specs.declared.scope.Assigned.TheVariants as assigned
+use Rattle.names.specs.declared.sources.Assignment.{Assignment}
+use Rattle.names.specs.declared.sources.Header.{Header}
+use Rattle.names.specs.declared.sources.ValueAt.{ValueAt}
 use Rattle.names.specs.Names.{Module, Meaning}
-use Rattle.names.specs.Sources.{Value}
+use Rattle.names.specs.Sources.{Value, assignment_of, header_of, value_of}
+use Rattle.type_table.specs.declared.table.Written.{Written}
+use Rattle.type_table.specs.Seen.{types_of}
 use Rattle.type_table.specs.Table.{Type', IsLinked}
 
 pub record Program : Type 0 where
@@ -16,6 +21,17 @@ pub record Program : Type 0 where
   pub assignments : List (ℕ × Name)
   pub types : List Type'
   pub values : List Value
+
+-- the program that is seen of names, headers, assignments, types and values as they lie in memory
+abbrev pub program_seen :
+    List (Name × Module) → List Header → List Assignment → List Written → List ValueAt → Program
+program_seen ms hs gs ts vs = record {
+  modules = ms;
+  headers = map header_of hs;
+  assignments = map assignment_of gs;
+  types = types_of ts;
+  values = map value_of vs;
+}
 
 -- what a name is assigned is there
 abbrev pub IsThere : Program → Assigned → Type 0
@@ -39,6 +55,10 @@ pub record IsAssignment (p : Program) (assignment : ℕ) (M x : Name) : Type 0 w
   pub tags : TagDefault
   pub assigned : slice_get p.assignments assignment ≡ Some (owner, x)
   pub header : slice_get p.headers owner ≡ Some (M, tags)
+
+-- type i is written in the assignment of name x in module M
+abbrev pub IsHome : Program → ℕ → Name → Name → Type 0
+IsHome p i M x = (t : Type') → slice_get p.types i ≡ Some t → IsAssignment p t.assignment M x
 
 -- a written type of which Q holds, in the assignment of name x in module M
 pub record IsTypeIn (p : Program) (M x : Name) (Q : Type' → Type 0) : Type 0 where

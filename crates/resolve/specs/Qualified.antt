@@ -57,8 +57,11 @@ abbrev pub qualified_presence : PresenceTree → List (Name × Name)
 qualified_presence (default v) = qualified v
 qualified_presence o = []
 
+abbrev pub qualified_part : Part → List (Name × Name)
+qualified_part c = qualified_presence c.presence
+
 abbrev pub qualified_kind : Kind → List (Name × Name)
-qualified_kind (members l marker cs) = each (λ (c : Part). qualified_presence c.presence) cs
+qualified_kind (members l marker cs) = each qualified_part cs
 qualified_kind k = []
 
 -- in the defaults and constraints of a written type

@@ -2,10 +2,8 @@
 
 ghost use Rattle.std.specs.Prelude.{◌≡◌, List};
 ghost use Rattle.trees.specs.Modules.{ModuleTree};
-ghost use Rattle.names.specs.declared.fault.NameFault.TheVariants as faults;
-ghost use Rattle.names.specs.declared.fault.NameFault.{NameFault};
 ghost use Rattle.names.specs.Modules.{AreNamed};
-ghost use Rattle.resolve.specs.Links.{IsProgramOf, Links, IsLinkFault};
+ghost use Rattle.resolve.specs.Links.{FaultsExclude, IsProgramOf};
 ghost use Rattle.resolve.specs.Program.{Program};
 
 use names::law::{apart, name_faults_exclude};
@@ -19,9 +17,10 @@ pub fn one_program()
     one_table();
 }
 
-/// A fault that stands in modules, other than want of memory, excludes that they can be linked: so [`crate::link`] is Ok just where they can be.
+/// A fault that stands in modules, other than want of memory, excludes that they can be linked: so [`crate::link`] is
+/// Ok just where they can be.
 pub fn link_faults_exclude()
-    ensures { (ms : List ModuleTree) (p : Program) (e : NameFault) → (e ≡ faults.Memory → ⊥) → IsLinkFault ms e → Links ms p → ⊥ }
+    ensures { FaultsExclude }
 {
     apart();
     one_table();

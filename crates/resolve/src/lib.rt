@@ -1,4 +1,5 @@
-//! Modules that are linked: what their names stand for, their types by number, and that names in notations stand for values.
+//! Modules that are linked: what their names stand for, their types by number, and that names in notations stand for
+//! values.
 #![tactic(auto)]
 
 pub mod law;

@@ -1,14 +1,14 @@
 //! Linked modules.
 
-ghost use Rattle.std.specs.Prelude.{◌≡◌, ◌↔◌, ◌<◌, ◌≤◌, Some, map, IfOk, IfErr, slice_get, length, string_bytes, option_map};
+ghost use Rattle.std.specs.Prelude.{◌≡◌, ◌↔◌, ◌<◌, ◌≤◌, Some, map, IfOk, IfErr, length};
 ghost use Rattle.names.specs.declared.scope.Assigned.{Assigned};
-ghost use Rattle.names.specs.Names.{Meaning, Refers};
+ghost use Rattle.names.specs.Names.{Meaning};
 ghost use Rattle.names.specs.Sources.{value_of, assignment_of, header_of};
 ghost use Rattle.names.specs.proving.Ready.{IsReady};
 ghost use Rattle.type_table.specs.Seen.{type_of, types_of};
-ghost use Rattle.type_table.specs.Table.{Type', IsCore, IsLinked};
-ghost use Rattle.resolve.specs.Finds.{Finds};
-ghost use Rattle.resolve.specs.Program.{IsAssignment, IsWhole};
+ghost use Rattle.type_table.specs.Table.{IsCore, IsLinked};
+ghost use Rattle.resolve.specs.Finds.{Finds, RefersTo};
+ghost use Rattle.resolve.specs.Program.{IsAssignment, IsHome, IsWhole};
 ghost use Rattle.resolve.specs.proving.Assembled.{ArePlaced, IsOf, IsTablesFault, TellsType};
 
 use asn_base::schema::TypeId;
@@ -60,16 +60,13 @@ impl Model for Linked {
 
     ghost Value = { Program };
 
-    ghost use Rattle.std.specs.Prelude.{map};
-    ghost use Rattle.type_table.specs.Seen.{types_of};
-    ghost use Rattle.names.specs.Sources.{value_of, assignment_of, header_of};
+    ghost use Rattle.resolve.specs.Program.{program_seen};
 
-    ghost view = { λ l. record { modules = l.names; headers = map header_of l.headers.items; assignments = map assignment_of l.assignments.items; types = types_of l.types.items; values = map value_of l.values.items } };
+    ghost view = { λ l. program_seen l.names l.headers.items l.assignments.items l.types.items l.values.items };
 
-    ghost use Rattle.resolve.specs.Program.{IsWhole};
-    ghost use Rattle.type_table.specs.proving.Cores.{AreCores};
+    ghost use Rattle.resolve.specs.proving.Assembled.{IsKept};
 
-    ghost invariant = { λ l. IsWhole (record { modules = l.names; headers = map header_of l.headers.items; assignments = map assignment_of l.assignments.items; types = types_of l.types.items; values = map value_of l.values.items }) × AreCores (types_of l.types.items) l.cores.items };
+    ghost invariant = { λ l. IsKept l.names l.headers.items l.assignments.items l.types.items l.values.items l.cores.items };
 }
 
 /// The fault that a type comes back to itself.
@@ -97,8 +94,8 @@ fn circular_at(
 }
 
 impl Linked {
-    /// What a name stands for in a module (X.680, clause 13): what the module assigns it, or the module which it is imported from.
-    /// Nothing where there is no such module, or where the name has no meaning in it.
+    /// What a name stands for in a module (X.680, clause 13): what the module assigns it, or the module which it is
+    /// imported from. Nothing where there is no such module, or where the name has no meaning in it.
     pub fn find(&self, within: &str, name: &str) -> Option<Found<'_>>
         ensures { Finds self.now within.now name.now result }
     {
@@ -116,10 +113,10 @@ impl Linked {
         self.names.find(within, name)
     }
 
-    /// What a name, behind the name of a module if one is given, stands for in a module, by number. `M.x` may stand in M itself, or
-    /// where x is imported from M (X.680, clause 14.2).
+    /// What a name, behind the name of a module if one is given, stands for in a module, by number. `M.x` may stand in
+    /// M itself, or where x is imported from M (X.680, clause 14.2).
     pub fn refers(&self, within: &str, owner: &Option<String>, name: &str) -> Option<Assigned>
-        ensures { (a : Assigned) → (result ≡ Some a ↔ Refers self.now.modules within.now (option_map string_bytes owner.now) name.now a) }
+        ensures { (a : Assigned) → (result ≡ Some a ↔ RefersTo self.now within.now owner.now name.now a) }
     {
         self.names.refers(within, owner, name)
     }
@@ -131,8 +128,8 @@ impl Linked {
         let _types = &self.types;
     }
 
-    /// The type behind all references and tags that a type is: itself, where it is neither. All cores are found once, in time
-    /// that grows with the number of types.
+    /// The type behind all references and tags that a type is: itself, where it is neither. All cores are found once,
+    /// in time that grows with the number of types.
     pub fn core(&self, ty: TypeId) -> TypeId
         requires { ty.index < length self.now.types }
         ensures core { IsCore self.now.types ty.index result.index }
@@ -159,7 +156,7 @@ impl Linked {
     /// Where a type is written.
     pub fn home(&self, ty: TypeId) -> Home<'_>
         requires { ty.index < length self.now.types }
-        ensures { (t : Type') → slice_get self.now.types ty.index ≡ Some t → IsAssignment self.now t.assignment result.module.now result.name.now }
+        ensures { IsHome self.now ty.index result.module.now result.name.now }
     {
         self.assigned(self.types[ty.index].assignment)
     }

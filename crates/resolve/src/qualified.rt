@@ -5,8 +5,7 @@ ghost use Rattle.trees.specs.Constraints.{end_of, range_of, constraint_of};
 ghost use Rattle.trees.specs.Values.{tree_of, member_of};
 ghost use Rattle.trees.specs.Types.{presence_of};
 ghost use Rattle.type_table.specs.Seen.{kind_of, part_of, type_of};
-ghost use Rattle.type_table.specs.Table.{Part};
-ghost use Rattle.resolve.specs.Qualified.{each, qualified, qualified_end, qualified_bound, qualified_range, qualified_constraint, qualified_presence, qualified_kind, qualified_in};
+ghost use Rattle.resolve.specs.Qualified.{each, qualified, qualified_end, qualified_bound, qualified_range, qualified_constraint, qualified_presence, qualified_part, qualified_kind, qualified_in};
 ghost use Rattle.resolve.specs.proving.Unknown.{Answers, MeansValue, named};
 
 use crate::linked::Linked;
@@ -231,7 +230,7 @@ fn names_in_members(
     within: &str,
     given: &[Component],
 ) -> Result<(), NameFault>
-    ensures { Answers linked.now within.now (each (λ (c : Part). qualified_presence c.presence) (map part_of given.now)) result }
+    ensures { Answers linked.now within.now (each qualified_part (map part_of given.now)) result }
 {
     for component in given {
         names_in_presence(alloc, linked, within, &component.presence)?;

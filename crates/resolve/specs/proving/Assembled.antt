@@ -7,13 +7,18 @@ use Rattle.names.specs.declared.fault.NameFault.TheVariants as faults
 use Rattle.names.specs.declared.gather.Gathered.{Gathered}
 use Rattle.names.specs.declared.sources.Assignment.{Assignment}
 use Rattle.names.specs.declared.sources.Header.{Header}
+use Rattle.names.specs.declared.sources.ValueAt.{ValueAt}
 use Rattle.names.specs.Faults.{module_told, name_told}
+use Rattle.names.specs.Names.{Module}
 use Rattle.names.specs.Scopes.{seen, module_of}
 use Rattle.names.specs.Sources.{assignment_of, header_of, sources_of, value_of}
+use Rattle.type_table.specs.declared.table.Written.{Written}
 use Rattle.type_table.specs.Faults.{IsTableFault}
 use Rattle.type_table.specs.Numbering.{AreNumbered}
+use Rattle.type_table.specs.Seen.{types_of}
 use Rattle.type_table.specs.Table.{Type', AllUnfold}
-use Rattle.resolve.specs.Program.{Program}
+use Rattle.type_table.specs.proving.Cores.{AreCores}
+use Rattle.resolve.specs.Program.{Program, IsWhole, program_seen}
 use Rattle.resolve.specs.Sound.{IsSound, IsSoundFault}
 
 -- these types are those of what is gathered, by number
@@ -62,6 +67,11 @@ TellsType hs gs t (faults.Circular s) =
     × (slice_get gs t.assignment ≡ Some (owner, name_told s))
     × (slice_get hs owner ≡ Some (module_told s, default))
 TellsType hs gs t e = ⊥
+
+-- what Linked keeps: a whole program, and the cores of its types
+abbrev pub IsKept :
+    List (Name × Module) → List Header → List Assignment → List Written → List ValueAt → List ℕ → Type 0
+IsKept ms hs gs ts vs cores = IsWhole (program_seen ms hs gs ts vs) × AreCores (types_of ts) cores
 
 -- why it can't be put together
 abbrev pub IsAssemblyFault : Gathered → NameFault → Type 0
