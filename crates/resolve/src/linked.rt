@@ -66,7 +66,7 @@ impl Model for Linked {
 
     ghost use Rattle.resolve.specs.proving.Assembled.{IsKept};
 
-    ghost invariant = { λ l. IsKept l.names l.headers.items l.assignments.items l.types.items l.values.items l.cores.items };
+    ghost invariant = { λ l. IsKept l.names l.headers.items l.assignments.items l.types.items l.values.items l.cores };
 }
 
 /// The fault that a type comes back to itself.

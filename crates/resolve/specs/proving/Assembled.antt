@@ -1,5 +1,6 @@
 -- Programs of what is gathered.
-use Rattle.std.specs.Prelude.{◌≡◌, ◌<◌, ◌≤◌, ◌⊎◌, ℕ, List, Some, map, length, slice_get}
+use Rattle.std.specs.Prelude.{◌≡◌, ◌<◌, ◌≤◌, ◌⊎◌, ℕ, List, Some, map, length, slice_get, Vec}
+use Rattle.std.specs.Global.{Global}
 use Rattle.trees.specs.Values.{Name}
 use Rattle.trees.specs.declared.module.TagDefault.{TagDefault}
 use Rattle.names.specs.declared.fault.NameFault.{NameFault}
@@ -70,8 +71,8 @@ TellsType hs gs t e = ⊥
 
 -- what Linked keeps: a whole program, and the cores of its types
 abbrev pub IsKept :
-    List (Name × Module) → List Header → List Assignment → List Written → List ValueAt → List ℕ → Type 0
-IsKept ms hs gs ts vs cores = IsWhole (program_seen ms hs gs ts vs) × AreCores (types_of ts) cores
+    List (Name × Module) → List Header → List Assignment → List Written → List ValueAt → Vec ℕ Global → Type 0
+IsKept ms hs gs ts vs cores = IsWhole (program_seen ms hs gs ts vs) × AreCores (types_of ts) cores.items
 
 -- why it can't be put together
 abbrev pub IsAssemblyFault : Gathered → NameFault → Type 0
