@@ -1,5 +1,6 @@
 -- Circles through defaults, and the parts of types.
 use Rattle.std.proofs.Common.{◌≡◌, ℕ, ◌<◌, List, length, Some, Vec, Global, refl, sym, subst, ap, ◌∙◌}
+use Rattle.type_table.proofs.Marking.{same_at}
 use Rattle.std.specs.Prelude.{Bool, slice_get}
 use Rattle.std.proofs.lemmas.Option.{slice_get_within, get_or_from_slice_get}
 use Rattle.trees.specs.Values.{Tree}
@@ -36,15 +37,12 @@ circle_of_leads ts i t l marker cs e k h =
       back = subst (λ z. Reaches ts z i) (sym h.defaulted.ty) h.reaches;
     }
 
-same_type : (ts : List Type') (i : ℕ) (u t : Type') → slice_get ts i ≡ Some u → slice_get ts i ≡ Some t → u ≡ t
-same_type ts i u t e f = let g = sym e ∙ f in cc
-
 same_members : (l k : ListKind) (m n : Bool) (cs ds : List Part) → members l m cs ≡ members k n ds → cs ≡ ds
 same_members l k m n cs ds e = cc
 
 pub leads_of_circle : (ts : List Type') (i : ℕ) (t : Type') (l : ListKind) (marker : Bool) (cs : List Part) → slice_get ts i ≡ Some t → t.kind ≡ members l marker cs → IsDefaultCircle ts i → LeadsTo ts cs i
 leads_of_circle ts i t l marker cs e k h =
-    let w : h.written ≡ t = same_type ts i h.written t h.there e in
+    let w : h.written ≡ t = same_at ts i h.written t h.there e in
     let c : h.components ≡ cs = same_members h.list l h.marker marker h.components cs (sym h.is ∙ ap (λ (z : Type'). z.kind) w ∙ k) in
     record {
       from = h.component.ty;
@@ -61,7 +59,7 @@ no_members (shapes.Elements k j) n l m ps e = absurd cc
 
 -- what is no list is in no circle
 pub no_list : (ts : List Type') (i : ℕ) (t : Type') (s : Shape) → slice_get ts i ≡ Some t → t.kind ≡ kind_of s → ((l : ListKind) (m : Bool) (cs : Vec Component Global) → s ≡ shapes.Members l m cs → ⊥) → IsDefaultCircle ts i → ⊥
-no_list ts i t s e k n h = no_members s n h.list h.marker h.components (sym k ∙ ap (λ (z : Type'). z.kind) (same_type ts i t h.written e h.there) ∙ h.is)
+no_list ts i t s e k n h = no_members s n h.list h.marker h.components (sym k ∙ ap (λ (z : Type'). z.kind) (same_at ts i t h.written e h.there) ∙ h.is)
 
 is_of : (ts : List Type') (i : ℕ) (t : Type') (k : Kind) → slice_get ts i ≡ Some t → t.kind ≡ k → Is ts i k t.default t.place
 is_of ts i t k e q = record { constraints = t.constraints; assignment = t.assignment; found = e ∙ ap (λ z. Some (record { kind = z; constraints = t.constraints; default = t.default; place = t.place; assignment = t.assignment })) q }

@@ -1,5 +1,6 @@
 -- The least number that a list leaves free.
 use Rattle.std.proofs.Common.{◌≡◌, ◌⊎◌, inl, inr, ℕ, zero, suc, ◌+◌, ◌<◌, ◌≤◌, ◌||◌, Bool, true, false, cond, List, [], ◌∷◌, length, Some, refl, sym, subst, ap, ◌∙◌, arith}
+use Rattle.std.proofs.lemmas.Bool.{cases_order, cases_lt}
 use Rattle.std.specs.Prelude.{slice_get, ℤ, pos, negsuc}
 use Rattle.std.specs.List.{list_any, AllByRecursion, IsDistinct}
 use Rattle.std.specs.Ordering.{int_eq}
@@ -84,63 +85,28 @@ row_fits n k used h =
 -- ---- the least number from n on that is none of these
 
 pub one_free : (used other : List ℤ) (n y z : ℕ) → ((w : ℤ) → StandsIn used w → StandsIn other w) → ((w : ℤ) → StandsIn other w → StandsIn used w) → IsFree used n y → IsFree other n z → y ≡ z
-one_free used other n y z f g a b = by (leb_or y z)
-  where
-    leb_or : (y z : ℕ) → (y ≡ z) ⊎ ((y < z) ⊎ (z < y))
-    leb_or zero zero = inl refl
-    leb_or zero (suc z) = inr (inl (omega arith))
-    leb_or (suc y) zero = inr (inr (omega arith))
-    leb_or (suc y) (suc z) = elim (leb_or y z) [
-        | inl e ↦ inl (ap suc e)
-        | inr (inl l) ↦ inr (inl (omega (arith, l)))
-        | inr (inr l) ↦ inr (inr (omega (arith, l)))
-      ]
-
-    by : (y ≡ z) ⊎ ((y < z) ⊎ (z < y)) → y ≡ z
-    by (inl e) = e
-    by (inr (inl l)) = absurd (a.unused (g (pos y) (b.taken y a.from l)))
-    by (inr (inr l)) = absurd (b.unused (f (pos z) (a.taken z b.from l)))
+one_free used other n y z f g a b = elim (cases_order y z) [
+    | inl e ↦ e
+    | inr (inl l) ↦ absurd (a.unused (g (pos y) (b.taken y a.from l)))
+    | inr (inr l) ↦ absurd (b.unused (f (pos z) (a.taken z b.from l)))
+  ]
 
 -- numbers from n to m that are all taken
 abbrev pub AreTaken : List ℤ → ℕ → ℕ → Type 0
 AreTaken used n m = (k : ℕ) → n ≤ k → k < m → StandsIn used (pos k)
 
 pub taken_more : (used : List ℤ) (n m : ℕ) → AreTaken used n m → StandsIn used (pos m) → AreTaken used n (suc m)
-taken_more used n m h s k l r = by (k_or k m r)
-  where
-    k_or : (k m : ℕ) → k < suc m → (k < m) ⊎ (k ≡ m)
-    k_or zero zero r = inr refl
-    k_or zero (suc m) r = inl (omega arith)
-    k_or (suc k) zero r = absurd (omega (arith, r))
-    k_or (suc k) (suc m) r = elim (k_or k m (omega (arith, r))) [
-        | inl a ↦ inl (omega (arith, a))
-        | inr e ↦ inr (ap suc e)
-      ]
-
-    by : (k < m) ⊎ (k ≡ m) → StandsIn used (pos k)
-    by (inl a) = h k l a
-    by (inr e) = subst (λ z. StandsIn used (pos z)) (sym e) s
+taken_more used n m h s k l r = elim (cases_lt k m) [
+    | inl a ↦ h k l a
+    | inr b ↦ (let e : k ≡ m = omega (arith, b, r) in subst (λ z. StandsIn used (pos z)) (sym e) s)
+  ]
 
 -- where as many are taken as the list has, the next is free
 pub taken_all : (used : List ℤ) (n m : ℕ) → n + length used ≤ m → AreTaken used n m → StandsIn used (pos m) → ⊥
 taken_all used n m l h s =
-    let d = row_fits n (suc (length used)) used (λ k a b. taken_more used n (n + length used) (λ j c e. h j c (omega (arith, l, e))) (at used n m l h s) k a (omega (arith, b))) in
+    let all = taken_more used n m h s in
+    let d = row_fits n (suc (length used)) used (λ k a b. all k a (omega (arith, l, b))) in
     omega (arith, d)
-  where
-    at : (used : List ℤ) (n m : ℕ) → n + length used ≤ m → AreTaken used n m → StandsIn used (pos m) → StandsIn used (pos (n + length used))
-    at used n m l h s = elim (le_or (n + length used) m l) [
-        | inl e ↦ subst (λ z. StandsIn used (pos z)) (sym e) s
-        | inr r ↦ h (n + length used) (omega arith) r
-      ]
-      where
-        le_or : (a b : ℕ) → a ≤ b → (a ≡ b) ⊎ (a < b)
-        le_or zero zero l = inl refl
-        le_or zero (suc b) l = inr (omega arith)
-        le_or (suc a) zero l = absurd (omega (arith, l))
-        le_or (suc a) (suc b) l = elim (le_or a b (omega (arith, l))) [
-            | inl e ↦ inl (ap suc e)
-            | inr r ↦ inr (omega (arith, r))
-          ]
 
 first_on : (used : List ℤ) (n m k : ℕ) (b : Bool) → is_among (pos m) used ≡ b → n + length used ≤ m + suc k → n ≤ m → AreTaken used n m →
     (n + length used ≤ suc m + k → n ≤ suc m → AreTaken used n (suc m) → IsFree used n (first_free k (suc m) used)) → IsFree used n (cond b (first_free k (suc m) used) m)

@@ -2,7 +2,7 @@
 use Rattle.std.proofs.Common.{◌≡◌, ◌⊎◌, inl, inr, ℕ, zero, suc, ◌+◌, ◌<◌, ◌≤◌, List, [], ◌∷◌, length, Some, None, refl, sym, subst, ap, ◌∙◌, arith, set, replicate, take, ◌++◌}
 use Rattle.std.specs.Prelude.{slice_get}
 use Rattle.std.proofs.Math.Seq.{take-append_seam}
-use Rattle.std.proofs.lemmas.Option.{slice_get_within, slice_get-get_or}
+use Rattle.std.proofs.lemmas.Option.{slice_get_within, slice_get-get_or, same_Some}
 use Rattle.type_table.specs.proving.Cores.{IsKnown, AreKnown, AreUnknown, AreCores}
 use Rattle.type_table.specs.Table.{Type', next, onward, walk, IsCore, IsClosed, AllUnfold}
 use Rattle.type_table.proofs.Marking.{set_here, set_only}
@@ -61,12 +61,9 @@ known_first ts cores unknown i c e l = absurd (unknown i (c, e, l))
 -- a number that is noted is the one that is there
 pub known_at : (ts : List Type') (cores : List ℕ) (i : ℕ) → AreKnown ts cores → IsKnown (length ts) cores i → (c : ℕ) → slice_get cores i ≡ Some c → (c < length ts) × IsCore ts i c
 known_at ts cores i known k c e =
-    let f : k.0 ≡ c = some_same (sym k.1 ∙ e) in
+    let f : k.0 ≡ c = same_Some k.0 c (sym k.1 ∙ e) in
     let l : c < length ts = subst (λ z. z < length ts) f k.2 in
     (l, known i c e l)
-  where
-    some_same : {a b : ℕ} → Some a ≡ Some b → a ≡ b
-    some_same h = cc
 
 pub all_known : (ts : List Type') (cores : List ℕ) → length cores ≡ length ts → AreKnown ts cores → ((i : ℕ) → i < length ts → IsKnown (length ts) cores i) → AreCores ts cores
 all_known ts cores long known all = record {

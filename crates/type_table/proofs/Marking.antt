@@ -1,9 +1,9 @@
 -- Marks of types: one after the other, and what marked types lead to.
 use Rattle.std.proofs.Common.{◌≡◌, ◌⊎◌, inl, inr, ℕ, zero, suc, ◌+◌, ◌<◌, ◌≤◌, ◌==◌, Bool, true, false, cond, eqb, List, [], ◌∷◌, ◌++◌, length, Option, Some, refl, sym, subst, ap, ◌∙◌, arith, set, replicate, map, option_map, get_or, eq-eqb}
 use Rattle.std.specs.Prelude.{slice_get, IsTrue}
-use Rattle.std.proofs.lemmas.Bool.{eqb-true, cases_Bool}
+use Rattle.std.proofs.lemmas.Bool.{eqb-true, cases_Bool, cases_lt}
 use Rattle.std.proofs.lemmas.List.{length-set, get_or-replicate, length-replicate}
-use Rattle.std.proofs.lemmas.Option.{slice_get_within, slice_get-map, slice_get_read, slice_get-get_or, get_or_from_slice_get}
+use Rattle.std.proofs.lemmas.Option.{slice_get_within, slice_get-map, slice_get_read, slice_get-get_or, get_or_from_slice_get, same_Some}
 use Rattle.asn_base.specs.declared.tag.Tag.{Tag}
 use Rattle.trees.specs.declared.types.Keyword.{Keyword}
 use Rattle.type_table.specs.declared.table.Component.{Component}
@@ -204,16 +204,12 @@ no_member_below cs j b = absurd (omega (arith, b.few))
 pub members_none : (s : ℕ) (cs : List Part) (m w : List ℕ) → Marks s (λ j. IsMemberBelow cs 0 j) m m w w
 members_none s cs m w = marks_none s (λ j. IsMemberBelow cs 0 j) m w (no_member_below cs)
 
-same_part : (cs : List Part) (i : ℕ) (c d : Part) → slice_get cs i ≡ Some c → slice_get cs i ≡ Some d → c ≡ d
-same_part cs i c d e f = let g = sym e ∙ f in cc
+-- there is one at a place
+pub same_at : {X : Type 0} (xs : List X) (i : ℕ) (x y : X) → slice_get xs i ≡ Some x → slice_get xs i ≡ Some y → x ≡ y
+same_at xs i x y e f = same_Some x y (sym e ∙ f)
 
 pub last_or : (k n : ℕ) → k < n + 1 → (k < n) ⊎ (k ≡ n)
 last_or k n l = elim (cases_lt k n) [ inl h ↦ inl h | inr h ↦ inr (omega (arith, h, l)) ]
-  where
-    cases_lt : (k n : ℕ) → (k < n) ⊎ (n ≤ k)
-    cases_lt k zero = inr (omega arith)
-    cases_lt zero (suc n) = inl (omega arith)
-    cases_lt (suc k) (suc n) = elim (cases_lt k n) [ inl h ↦ inl (omega (arith, h)) | inr h ↦ inr (omega (arith, h)) ]
 
 pub members_more : (s n : ℕ) (cs : List Part) (c : Part) (m m' m'' w w' w'' : List ℕ) → slice_get cs n ≡ Some c → Marks s (λ j. IsMemberBelow cs n j) m m' w w' → Marks s (λ j. j ≡ c.ty) m' m'' w' w'' → Marks s (λ j. IsMemberBelow cs (n + 1) j) m m'' w w''
 members_more s n cs c m m' m'' w w' w'' e a b =
@@ -222,7 +218,7 @@ members_more s n cs c m m' m'' w w' w'' e a b =
     split : (n : ℕ) (cs : List Part) (c : Part) → slice_get cs n ≡ Some c → (j : ℕ) → IsMemberBelow cs (n + 1) j → IsMemberBelow cs n j ⊎ (j ≡ c.ty)
     split n cs c e j p = elim (last_or p.number n p.few) [
       | inl h ↦ inl (record { number = p.number; few = h; component = p.component; held = p.held; ty = p.ty })
-      | inr h ↦ inr (sym p.ty ∙ ap (λ (q : Part). q.ty) (same_part cs n p.component c (ap (λ z. slice_get cs z) (sym h) ∙ p.held) e))
+      | inr h ↦ inr (sym p.ty ∙ ap (λ (q : Part). q.ty) (same_at cs n p.component c (ap (λ z. slice_get cs z) (sym h) ∙ p.held) e))
     ]
 
     left : (n : ℕ) (cs : List Part) (j : ℕ) → IsMemberBelow cs n j → IsMemberBelow cs (n + 1) j
@@ -255,7 +251,7 @@ defaults_more s n cs c m m' m'' w w' w'' e a b =
     split : (n : ℕ) (cs : List Part) (c : Part) → slice_get cs n ≡ Some c → (j : ℕ) → IsDefaultedBelow cs (n + 1) j → IsDefaultedBelow cs n j ⊎ (HasDefault c × (j ≡ c.ty))
     split n cs c e j p = elim (last_or p.is.number n p.few) [
       | inl h ↦ inl (record { is = p.is; few = h })
-      | inr h ↦ (let q = same_part cs n p.is.component c (ap (λ z. slice_get cs z) (sym h) ∙ p.is.held) e in inr (subst HasDefault q p.is.defaulted, sym p.is.ty ∙ ap (λ (q : Part). q.ty) q))
+      | inr h ↦ (let q = same_at cs n p.is.component c (ap (λ z. slice_get cs z) (sym h) ∙ p.is.held) e in inr (subst HasDefault q p.is.defaulted, sym p.is.ty ∙ ap (λ (q : Part). q.ty) q))
     ]
 
     left : (n : ℕ) (cs : List Part) (j : ℕ) → IsDefaultedBelow cs n j → IsDefaultedBelow cs (n + 1) j

@@ -14,17 +14,8 @@ use Rattle.std.specs.List.{AllByRecursion}
 use Rattle.type_table.proofs.PartKinds.{Parts, plain, referring, tagging, listing, having, kind_parts, member_at, listed_at}
 use Rattle.names.specs.Sources.{Source}
 use Rattle.type_table.specs.Numbering.{member_sources, numbered, form_of, form_parts, parts_of, all_parts, IsTop, AreTops, AreNumbered}
-use Rattle.names.specs.proving.Distinct.{at_all}
+use Rattle.names.specs.proving.Distinct.{left, right, either, at_all}
 use Rattle.type_table.proofs.Queue.{parts_of_one}
-
-left : {X : Type 0} (xs ys : List X) (k : ℕ) (x : X) → slice_get xs k ≡ Some x → slice_get (xs ++ ys) k ≡ Some x
-left [] ys k x e = absurd cc
-left (z ∷ xs) ys zero x e = e
-left (z ∷ xs) ys (suc k) x e = left xs ys k x e
-
-right : {X : Type 0} (xs ys : List X) (k : ℕ) → slice_get (xs ++ ys) (length xs + k) ≡ slice_get ys k
-right [] ys k = let e : 0 + k ≡ k = omega arith in ap (λ n. slice_get ys n) e
-right (z ∷ xs) ys k = let e : suc (length xs) + k ≡ suc (length xs + k) = omega arith in ap (λ n. slice_get (z ∷ (xs ++ ys)) n) e ∙ right xs ys k
 
 module _ (ms : List (Name × Module)) (hs : List (Name × TagDefault)) (gs : List (ℕ × Name)) where
   -- type i + k: its source, and the numbers of its parts
@@ -101,15 +92,6 @@ no_place : (i n : ℕ) (o : Option (ℕ × ℕ)) → o ≡ None → o ≡ Some (
 no_place i n None e f = absurd cc
 no_place i n (Some p) e f = absurd cc
 
-split_at : {X : Type 0} (xs ys : List X) (m : ℕ) (x : X) → slice_get (xs ++ ys) m ≡ Some x → (slice_get xs m ≡ Some x) ⊎ ((q : ℕ) × (m ≡ length xs + q) × (slice_get ys q ≡ Some x))
-split_at [] ys m x e = let z : m ≡ 0 + m = omega arith in inr (m, z, e)
-split_at (y ∷ xs) ys zero x e = inl e
-split_at (y ∷ xs) ys (suc m) x e =
-    elim (split_at xs ys m x e) [
-      | inl f ↦ inl f
-      | inr r ↦ (let z : suc m ≡ suc (length xs) + r.0 = omega (arith, r.1) in inr (r.0, z, r.2))
-    ]
-
 module _ (ms : List (Name × Module)) (hs : List (Name × TagDefault)) (gs : List (ℕ × Name)) where
   source_at : (i n k : ℕ) (ss : List Source) (ts : List Type') (t : Type') → AreTops ms hs gs i n ss ts → slice_get ts k ≡ Some t → (s : Source) × (slice_get ss k ≡ Some s)
   source_at i n k [] [] t a e = absurd cc
@@ -133,7 +115,7 @@ module _ (ms : List (Name × Module)) (hs : List (Name × TagDefault)) (gs : Lis
   from i n m [] (t ∷ ts) a c e = absurd a
   from i n m (x ∷ ss) [] a c e = absurd a
   from i n m (x ∷ ss) (t ∷ ts) a c e =
-      elim (split_at (parts_of x.assignment i x.tree) (all_parts (suc i) ss) m c e) [
+      elim (either (parts_of x.assignment i x.tree) (all_parts (suc i) ss) m c e) [
         | inl f ↦ (let y : i ≡ i + 0 = omega arith in
             record { k = 0; q = m; s = x; there = refl; part = subst (λ j. slice_get (parts_of x.assignment j x.tree) m ≡ Some c) y f; number = (let z : m ≡ 0 + m = omega arith in z) })
         | inr r ↦ (let p = parts_of x.assignment i x.tree in
@@ -279,7 +261,7 @@ module _ (ms : List (Name × Module)) (hs : List (Name × TagDefault)) (gs : Lis
           let b = at ms hs gs 0 (length roots) j all.sources ts s.0 all.tops s.1 in
           let same : Some b.t ≡ Some (record { kind = k; constraints = is.constraints; default = d; place = Some (i, n); assignment = is.assignment }) = sym b.there ∙ is.found in
           let place : s.0.place ≡ Some (i, n) = sym b.top.place ∙ ap (place_or None) same in
-          elim (split_at roots (all_parts 0 all.sources) j s.0 (ap (λ l. slice_get l j) (sym all.all) ∙ s.1)) [
+          elim (either roots (all_parts 0 all.sources) j s.0 (ap (λ l. slice_get l j) (sym all.all) ∙ s.1)) [
             | inl f ↦ absurd (no_place i n s.0.place (at_all (λ x. x.place ≡ None) roots j s.0 none f) place)
             | inr r ↦ (let g = from 0 (length roots) r.0 all.sources ts all.tops s.0 r.2 in
                 let a = at ms hs gs 0 (length roots) g.k all.sources ts g.s all.tops g.there in

@@ -1,5 +1,6 @@
 -- The numbers of items are what the definition says, and the only ones.
 use Rattle.std.proofs.Common.{◌≡◌, ◌⊎◌, inl, inr, ℕ, zero, suc, ◌+◌, ◌<◌, ◌≤◌, Bool, true, false, List, [], ◌∷◌, length, Option, Some, None, refl, sym, subst, ap, ◌∙◌, arith}
+use Rattle.std.proofs.lemmas.Bool.{cases_lt}
 use Rattle.std.specs.Prelude.{slice_get, ℤ, pos, negsuc, max}
 use Rattle.trees.specs.Values.{Name}
 use Rattle.names.specs.Modules.{StandsIn}
@@ -46,21 +47,13 @@ front_counted earlier n k l f =
     let e : max n (suc k) ≡ suc k = omega (arith, l) in
     subst (λ m. IsFront (pos k ∷ earlier) m) e (front_written earlier n (pos k) f)
 
-le_or : (a b : ℕ) → (a ≤ b) ⊎ (b < a)
-le_or zero b = inl (omega arith)
-le_or (suc a) zero = inr (omega arith)
-le_or (suc a) (suc b) = elim (le_or a b) [
-    | inl l ↦ inl (omega (arith, l))
-    | inr r ↦ inr (omega (arith, r))
-  ]
-
 next_free : (used earlier : List ℤ) (n z : ℕ) → IsFront earlier n → IsFree used n z → IsNext used earlier z
 next_free used earlier n z f h = record {
   unused = h.unused;
   above = λ y s. weaker n z y h.from (f.above y s);
-  least = λ m u a. elim (le_or z m) [
-    | inl l ↦ l
-    | inr r ↦ absurd (u (h.taken m (f.least m a) r))
+  least = λ m u a. elim (cases_lt m z) [
+    | inl l ↦ absurd (u (h.taken m (f.least m a) l))
+    | inr r ↦ r
   ];
 }
 

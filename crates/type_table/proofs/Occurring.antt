@@ -1,7 +1,7 @@
 -- Each type that stands in an assignment is numbered, so a fault of the table excludes a table.
 use Rattle.std.proofs.Common.{◌≡◌, ℕ, zero, suc, ◌+◌, ◌≤◌, List, [], length, Some, refl, sym, subst, ap, ◌∙◌, arith, string_bytes}
 use Rattle.std.specs.Prelude.{slice_get}
-use Rattle.std.proofs.lemmas.Option.{slice_get_within}
+use Rattle.std.proofs.lemmas.Option.{slice_get_within, same_Some}
 use Rattle.trees.specs.Values.{Name}
 use Rattle.trees.specs.declared.module.TagDefault.{TagDefault}
 use Rattle.trees.specs.Types.{TypeTree, a_type, FormTree, a_simple, a_reference, a_list, an_elements, a_tagged, TypeMembers, no_member, member_and}
@@ -20,9 +20,6 @@ use Rattle.type_table.proofs.Once.{one_table}
 use Rattle.type_table.proofs.Queue.{parts_of_one}
 use Rattle.type_table.proofs.Walks.{core_not_circular}
 
-some_same : {X : Type 0} (a b : X) → Some a ≡ Some b → a ≡ b
-some_same a b e = cc
-
 -- item k of a list is a source with this type and assignment
 record Like (xs : List Source) (k : ℕ) (s : Source) : Type 0 where
   source : Source
@@ -36,7 +33,7 @@ like_itself xs k s e = record { source = s; there = e; tree = refl; assignment =
 members_like : (a i j n : ℕ) (ms : TypeMembers) (k : ℕ) (s : Source) → slice_get (member_sources a i n ms) k ≡ Some s → Like (member_sources a j n ms) k s
 members_like a i j n no_member k s e = absurd cc
 members_like a i j n (member_and x t o g ms) zero s e =
-    let q = some_same (record { tree = t; assignment = a; place = Some (i, n) }) s e in
+    let q = same_Some (record { tree = t; assignment = a; place = Some (i, n) }) s e in
     record { source = record { tree = t; assignment = a; place = Some (j, n) }; there = refl; tree = ap (λ z. z.tree) q; assignment = ap (λ z. z.assignment) q }
 members_like a i j n (member_and x t o g ms) (suc k) s e =
     let r = members_like a i j (suc n) ms k s e in
@@ -87,8 +84,8 @@ module _ (ms : List (Name × Module)) (hs : List (Name × TagDefault)) (gs : Lis
       let r = numbers u.assignment u.tree u.occurs in
       let here = at ms hs gs 0 (length roots) r.k all.sources ts r.source all.tops r.there in
       let top = here.top in
-      let o : top.owner ≡ u.owner = ap (λ z. z.0) (some_same (top.owner, top.assigns) (u.owner, u.assigns) (sym top.assigned ∙ ap (λ k. slice_get gs k) r.assignment ∙ u.assigned)) in
-      let h : top.within ≡ M = ap (λ z. z.0) (some_same (top.within, here.t.default) (M, u.default) (sym top.header ∙ ap (λ k. slice_get hs k) o ∙ u.header)) in
+      let o : top.owner ≡ u.owner = ap (λ z. z.0) (same_Some (top.owner, top.assigns) (u.owner, u.assigns) (sym top.assigned ∙ ap (λ k. slice_get gs k) r.assignment ∙ u.assigned)) in
+      let h : top.within ≡ M = ap (λ z. z.0) (same_Some (top.within, here.t.default) (M, u.default) (sym top.header ∙ ap (λ k. slice_get hs k) o ∙ u.header)) in
       nothing_not ms M (length roots + here.first) (form_of u.tree) here.t.kind x (subst (λ z. IsKind ms M (length roots + here.first) (form_of z) here.t.kind) r.tree (subst (λ z. IsKind ms z (length roots + here.first) (form_of r.source.tree) here.t.kind) h top.kind)) u.unknown
 
   circular_not : IsApart ms → AllUnfold ts → (M x : Name) → IsCircularAt ms hs gs roots M x → ⊥

@@ -1,5 +1,6 @@
 -- The table of types of given names, assignments and types is the only one.
 use Rattle.std.proofs.Common.{◌≡◌, ℕ, suc, ◌+◌, ◌<◌, ◌≤◌, ◌++◌, List, [], ◌∷◌, length, Some, refl, sym, subst, ap, ◌∙◌, append_assoc, arith}
+use Rattle.std.proofs.lemmas.Option.{same_Some}
 use Rattle.std.specs.Prelude.{slice_get, Option}
 use Rattle.trees.specs.Values.{Name}
 use Rattle.trees.specs.declared.module.TagDefault.{TagDefault}
@@ -60,9 +61,6 @@ head_same x y xs ys e = cc
 tail_same : {X : Type 0} (x y : X) (xs ys : List X) → x ∷ xs ≡ y ∷ ys → xs ≡ ys
 tail_same x y xs ys e = cc
 
-some_same : {X : Type 0} (a b : X) → Some a ≡ Some b → a ≡ b
-some_same a b e = cc
-
 one_sources : (k : ℕ) (r q w : List Source) → r ≡ w ++ all_parts k r → q ≡ w ++ all_parts k q → r ≡ q
 one_sources k [] [] w e f = refl
 one_sources k [] (y ∷ q) [] e f = let a = ap total f in absurd (omega (arith, a, all_strict k y q))
@@ -92,8 +90,8 @@ module _ (ms : List (Name × Module)) (apart : IsApart ms) where
   module _ (hs : List (Name × TagDefault)) (gs : List (ℕ × Name)) where
     one_top : (n : ℕ) (s : Source) (t u : Type') → IsTop ms hs gs n s t → IsTop ms hs gs n s u → t ≡ u
     one_top n s t u a b =
-        let o : a.owner ≡ b.owner = ap (λ z. z.0) (some_same (a.owner, a.assigns) (b.owner, b.assigns) (sym a.assigned ∙ b.assigned)) in
-        let h = some_same (a.within, t.default) (b.within, u.default) (sym a.header ∙ ap (λ k. slice_get hs k) o ∙ b.header) in
+        let o : a.owner ≡ b.owner = ap (λ z. z.0) (same_Some (a.owner, a.assigns) (b.owner, b.assigns) (sym a.assigned ∙ b.assigned)) in
+        let h = same_Some (a.within, t.default) (b.within, u.default) (sym a.header ∙ ap (λ k. slice_get hs k) o ∙ b.header) in
         let m : a.within ≡ b.within = ap (λ z. z.0) h in
         let d : t.default ≡ u.default = ap (λ z. z.1) h in
         let k : t.kind ≡ u.kind = one_kind b.within n (form_of s.tree) t.kind u.kind (subst (λ z. IsKind ms z n (form_of s.tree) t.kind) m a.kind) b.kind in

@@ -1,5 +1,6 @@
 -- Types that are numbered, and those that still wait.
 use Rattle.std.proofs.Common.{◌≡◌, ℕ, zero, suc, ◌<◌, ◌≤◌, ◌+◌, ◌++◌, List, [], ◌∷◌, length, Some, refl, sym, subst, ap, ◌∙◌, append_assoc, length-append, arith}
+use Rattle.std.proofs.lemmas.List.{append-nil}
 use Rattle.std.specs.Prelude.{slice_get}
 use Rattle.std.specs.List.{AllByRecursion}
 use Rattle.trees.specs.Values.{Name}
@@ -31,10 +32,6 @@ pub record IsHalfway (ms : List (Name × Module)) (hs : List (Name × TagDefault
   -- each numbering of all begins so
   pub begins : (ss : List Source) → ss ≡ roots ++ all_parts 0 ss → (rest : List Source) × (ss ≡ done ++ rest)
 
-append_nil : {X : Type 0} (xs : List X) → xs ++ [] ≡ xs
-append_nil [] = refl
-append_nil (x ∷ xs) = ap (λ l. x ∷ l) (append_nil xs)
-
 all_at : {X : Type 0} (P : X → Type 0) (xs : List X) → ((k : ℕ) (x : X) → slice_get xs k ≡ Some x → P x) → AllByRecursion P xs
 all_at P [] f = tt
 all_at P (x ∷ xs) f = (f 0 x refl, all_at P xs (λ k y e. f (suc k) y e))
@@ -62,7 +59,7 @@ all_append i (x ∷ xs) ys =
     ap (λ l. parts_of x.assignment i x.tree ++ l) (all_append (suc i) xs ys ∙ ap (λ k. all_parts (suc i) xs ++ all_parts k ys) e) ∙ sym (append_assoc (parts_of x.assignment i x.tree) (all_parts (suc i) xs) (all_parts (i + suc (length xs)) ys))
 
 all_one : (i : ℕ) (s : Source) → all_parts i (s ∷ []) ≡ parts_of s.assignment i s.tree
-all_one i s = append_nil (parts_of s.assignment i s.tree)
+all_one i s = append-nil (parts_of s.assignment i s.tree)
 
 -- b lies behind a, and not c further
 beyond : (a b c : ℕ) → a ≤ b → b < a + c → (q : ℕ) × (b ≡ a + q) × (q < c)
@@ -91,7 +88,7 @@ module _ (ms : List (Name × Module)) (hs : List (Name × TagDefault)) (gs : Lis
     done = [];
     count = refl;
     tops = tt;
-    all = append_nil roots;
+    all = append-nil roots;
     assigned = a;
     occur = all_at (λ s. Occurs roots s.assignment s.tree) roots (λ k s e. directly k s e refl);
     begins = λ ss e. (ss, refl);
@@ -128,7 +125,7 @@ module _ (ms : List (Name × Module)) (hs : List (Name × TagDefault)) (gs : Lis
       }
 
   pub halfway_end : (roots : List Source) (ts : List Type') (k : ℕ) → IsHalfway ms hs gs roots ts [] k → AreNumbered ms hs gs roots ts
-  halfway_end roots ts k h = record { sources = h.done; all = sym (h.all ∙ append_nil h.done); tops = h.tops }
+  halfway_end roots ts k h = record { sources = h.done; all = sym (h.all ∙ append-nil h.done); tops = h.tops }
 
   -- a numbering of all begins with the types that wait and the parts of the first of them
   begins_parts : (roots : List Source) (ts : List Type') (s : Source) (rest : List Source) (k : ℕ) → (h : IsHalfway ms hs gs roots ts (s ∷ rest) k) → (ss : List Source) → ss ≡ roots ++ all_parts 0 ss →

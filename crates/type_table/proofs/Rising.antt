@@ -1,7 +1,7 @@
 -- What ranks say of circles.
 use Rattle.std.proofs.Common.{◌≡◌, ◌⊎◌, inl, inr, ℕ, zero, suc, ◌+◌, ◌<◌, ◌≤◌, List, [], ◌∷◌, length, map, Some, None, refl, sym, subst, ap, ◌∙◌, get_or, arith}
 use Rattle.std.specs.Prelude.{slice_get, slice_index, Bool}
-use Rattle.std.proofs.lemmas.Option.{slice_get_within}
+use Rattle.std.proofs.lemmas.Option.{slice_get_within, same_Some}
 use Rattle.type_table.specs.declared.table.Component.{Component}
 use Rattle.trees.specs.declared.types.ListKind.{ListKind}
 use Rattle.names.specs.Modules.{StandsIn}
@@ -12,7 +12,7 @@ use Rattle.type_table.specs.Circles.{IsPart, referred, behind_tag, member, eleme
 use Rattle.type_table.specs.Table.{Part, Kind, simple, reference, tagged, members, elements, Type'}
 use Rattle.type_table.proofs.Circling.{leads_of_circle}
 use Rattle.names.specs.proving.Distinct.{stands_map as map_get, item_at}
-use Rattle.type_table.proofs.Marking.{IsDefaultedBelow, last_or}
+use Rattle.type_table.proofs.Marking.{IsDefaultedBelow, last_or, same_at}
 
 -- what is a part is among the parts
 pub among : (j : ℕ) (k : Kind) → IsPart j k → StandsIn (parts k) j
@@ -29,13 +29,7 @@ pub type_there : (cs : List Component) (n : ℕ) (c : Component) → n < length 
 type_there cs n c l e = sym (map_get (λ (p : Part). p.ty) (map part_of cs) n (part_of c) (item_at part_of cs n c l e))
 
 pub rise_here : (ts : List Type') (ranks : List ℕ) (i r : ℕ) (u t : Type') → slice_get ts i ≡ Some u → r ≡ slice_index ranks i → AreFrom r ranks u.kind → slice_get ts i ≡ Some t → AreFrom (slice_index ranks i) ranks t.kind
-rise_here ts ranks i r u t e q a f = subst (λ z. AreFrom z ranks t.kind) q (subst (λ (z : Type'). AreFrom r ranks z.kind) (some_same u t (sym e ∙ f)) a)
-  where
-    some_same : (u t : Type') → Some u ≡ Some t → u ≡ t
-    some_same u t g = cc
-
-same_part : (cs : List Part) (i : ℕ) (c d : Part) → slice_get cs i ≡ Some c → slice_get cs i ≡ Some d → c ≡ d
-same_part cs i c d e f = let g = sym e ∙ f in cc
+rise_here ts ranks i r u t e q a f = subst (λ z. AreFrom z ranks t.kind) q (subst (λ (z : Type'). AreFrom r ranks z.kind) (same_Some u t (sym e ∙ f)) a)
 
 -- one component more
 pub above_more : (r : ℕ) (ranks : List ℕ) (cs : List Part) (n : ℕ) (c : Part) → slice_get cs n ≡ Some c → ((j : ℕ) → IsDefaultedBelow cs n j → r < slice_index ranks j) → (HasDefault c → r < slice_index ranks c.ty) →
@@ -43,7 +37,7 @@ pub above_more : (r : ℕ) (ranks : List ℕ) (cs : List Part) (n : ℕ) (c : Pa
 above_more r ranks cs n c e before here j h =
     elim (last_or h.is.number n h.few) [
       | inl l ↦ before j (record { is = h.is; few = l })
-      | inr q ↦ (let s = same_part cs n h.is.component c (ap (λ z. slice_get cs z) (sym q) ∙ h.is.held) e in subst (λ z. r < slice_index ranks z) (sym (ap (λ (z : Part). z.ty) s) ∙ h.is.ty) (here (subst HasDefault s h.is.defaulted)))
+      | inr q ↦ (let s = same_at cs n h.is.component c (ap (λ z. slice_get cs z) (sym q) ∙ h.is.held) e in subst (λ z. r < slice_index ranks z) (sym (ap (λ (z : Part). z.ty) s) ∙ h.is.ty) (here (subst HasDefault s h.is.defaulted)))
     ]
 
 pub above_all : (r : ℕ) (ranks : List ℕ) (cs : List Part) (n : ℕ) → n ≡ length cs → ((j : ℕ) → IsDefaultedBelow cs n j → r < slice_index ranks j) → DefaultsAbove r ranks cs
