@@ -1,8 +1,10 @@
 pub mod Circling
+pub mod Counts
 pub mod Free
-pub mod Halfway
+pub mod Fronts
 pub mod Knowing
 pub mod Limits
+pub mod ListFaults
 pub mod Marking
 pub mod Numbered
 pub mod Numbers

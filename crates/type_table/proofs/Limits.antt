@@ -15,15 +15,15 @@ within_none i z e = absurd cc
 -- one number more
 pub within_more : (zs : List ℤ) (y : ℤ) → AreWithinLimit zs → IsWithinLimit y → AreWithinLimit (zs ++ y ∷ [])
 within_more zs y w l i z e = elim (either zs (y ∷ []) i z e) [
-    | inl f ↦ w i z f
-    | inr r ↦ subst IsWithinLimit (stands_one y z (r.0, r.2)) l
-  ]
+  | inl f ↦ w i z f
+  | inr r ↦ subst IsWithinLimit (stands_one y z (r.0, r.2)) l
+]
 
 pub within_puts : (old new : List ℤ) (y : ℤ) → Puts old new y → AreWithinLimit old → IsWithinLimit y → AreWithinLimit new
 within_puts old new y p w l i z e = elim ((p z).0 (i, e)) [
-    | inl s ↦ w s.0 z s.1
-    | inr q ↦ subst IsWithinLimit q l
-  ]
+  | inl s ↦ w s.0 z s.1
+  | inr q ↦ subst IsWithinLimit q l
+]
 
 -- the set of what comes first in a list
 pub set_more : (zs old new : List ℤ) (i : ℕ) (y : ℤ) → i < length zs → slice_get zs i ≡ Some y → IsSetOf old (take i zs) → Puts old new y → IsSetOf new (take (i + 1) zs)

@@ -1,18 +1,55 @@
--- Lists whose numbers go into a set one after the other.
-use Rattle.std.proofs.Common.{◌≡◌, ◌⊎◌, inl, inr, ℕ, zero, suc, ◌+◌, ◌<◌, Bool, true, false, cond, List, [], ◌∷◌, ◌++◌, length, map, drop, get_or, Some, refl, sym, subst, ap, ◌∙◌}
-use Rattle.std.specs.Prelude.{slice_get, ℤ, ◌<ℤ◌}
+-- Sets of names and numbers, which one more is put into.
+use Rattle.std.proofs.Common.{◌≡◌, ◌⊎◌, inl, inr, ℕ, suc, ◌<◌, ◌||◌, ◌++◌, Bool, true, false, cond, List, [], ◌∷◌, map, Some, refl, sym, ap, ◌∙◌, true≢false, string_bytes}
+use Rattle.std.specs.Prelude.{slice_get, ℤ, ◌<ℤ◌, String, bytes_eq, if◌then◌else◌}
 use Rattle.std.specs.Cmp.{IsTotalOrder}
+use Rattle.std.specs.Global.{Global}
 use Rattle.std.specs.List.{list_any}
 use Rattle.std.specs.Ordering.{is_eq, MatchOrdering, nat_cmp, int_cmp}
+use Rattle.std.specs.String.{string_eq}
 use Rattle.std.specs.declared.cmp.Ordering.{Ordering}
 use Rattle.std.specs.declared.cmp.Ordering.TheVariants.{Less, Equal, Greater}
-use Rattle.std.proofs.lemmas.Bool.{cases_Bool}
-use Rattle.std.proofs.lemmas.Cmp.{ranked, int_ranked, tied_itself, nat_cmp_total, int_cmp_total}
+use Rattle.std.proofs.lemmas.Cmp.{ranked, int_ranked, tied_itself}
+use Rattle.std.proofs.lemmas.List.{map-append}
 use Rattle.std.proofs.lemmas.Map.Keys.{any_passes_from_place}
-use Rattle.names.specs.Modules.{StandsIn, StandsTwice, AreDistinct}
+use Rattle.indexmap.specs.IndexSet.{insert_key}
+use Rattle.trees.specs.Values.{Name}
+use Rattle.names.specs.Modules.{StandsIn}
+use Rattle.names.specs.proving.Distinct.{mapped}
+use Rattle.type_table.specs.proving.Checks.{texts}
 use Rattle.type_table.specs.proving.Sets.{Puts}
-use Rattle.type_table.proofs.Halfway.{Halfway, halfway_start, halfway_step, halfway_twice, halfway_here, halfway_distinct, halfway_each, turn, any_here}
-use Rattle.names.specs.proving.Distinct.{stands_left, stands_right, stands_either, stands_one}
+
+-- ---- a test of all keys
+
+here_or : {K A : Type 0} (f : K → A) (q : A) (test : K → Bool) (k : K) (ks : List K) (b : Bool) → test k ≡ b → ((k : K) → test k ≡ true → q ≡ f k) → (b || list_any test ks) ≡ true →
+    (list_any test ks ≡ true → StandsIn (map f ks) q) → StandsIn (f k ∷ map f ks) q
+here_or f q test k ks true e says h rest = (0, ap Some (sym (says k e)))
+here_or f q test k ks false e says h rest = let r = rest h in (suc r.0, r.1)
+
+pub any_true : {K A : Type 0} (f : K → A) (q : A) (test : K → Bool) (ks : List K) → ((k : K) → test k ≡ true → q ≡ f k) → list_any test ks ≡ true → StandsIn (map f ks) q
+any_true f q test [] says h = absurd (true≢false (sym h))
+any_true f q test (k ∷ ks) says h = here_or f q test k ks (test k) refl says h (any_true f q test ks says)
+
+pub any_false : {K A : Type 0} (f : K → A) (q : A) (test : K → Bool) (ks : List K) → ((k : K) → q ≡ f k → test k ≡ true) → list_any test ks ≡ false → StandsIn (map f ks) q → ⊥
+any_false f q test ks says h s =
+    let m = mapped f ks s.0 q s.1 in
+    true≢false (sym (any_passes_from_place test ks s.0 m.0 m.1 (says m.0 (sym m.2))) ∙ h)
+
+same_list : {A : Type 0} (xs : List A) → map (λ x. x) xs ≡ xs
+same_list [] = refl
+same_list (x ∷ xs) = ap (λ q. x ∷ q) (same_list xs)
+
+any_here : {A : Type 0} (q : A) (test : A → Bool) (ks : List A) → ((k : A) → test k ≡ true → q ≡ k) → list_any test ks ≡ true → StandsIn ks q
+any_here q test ks says h = let s = any_true (λ k. k) q test ks says h in (s.0, ap (λ l. slice_get l s.0) (sym (same_list ks)) ∙ s.1)
+
+-- ---- one name more
+
+insert_new : {K : Type 0} (eq : K → K → Bool) (ks : List K) (k : K) → list_any (eq k) ks ≡ false → insert_key eq ks k ≡ ks ++ k ∷ []
+insert_new eq ks k e = ap (λ b. if b then ks else ks ++ k ∷ []) e
+
+pub added_text : (keys new : List (String Global)) (k : String Global) (x : Name) → string_bytes k ≡ x → list_any (λ y. bytes_eq x (string_bytes y)) keys ≡ false → new ≡ insert_key string_eq keys k → texts new ≡ texts keys ++ x ∷ []
+added_text keys new k x q none e =
+    let absent : list_any (string_eq k) keys ≡ false = ap (λ z. list_any (λ y. bytes_eq z (string_bytes y)) keys) q ∙ none in
+    ap texts (e ∙ insert_new string_eq keys k absent) ∙ map-append string_bytes keys (k ∷ []) ∙ ap (λ z. texts keys ++ z ∷ []) q
 
 -- ---- one number more
 
@@ -53,40 +90,3 @@ module _ {A : Type 0} (cmp : A → A → Ordering) (o : IsTotalOrder cmp) (exact
       either : (b d : Bool) → d ≡ true → cond b true d ≡ true
       either true d e = refl
       either false d e = e
-
--- ---- a list of which some elements, those of a set, are gone through, and `rest` is left
-
-pub record HalfwayBy {A : Type 0} (P : A → Type 0) (xs keys rest : List A) : Type 0 where
-  pub done : List A
-  pub same : (x : A) → (StandsIn keys x → StandsIn done x) × (StandsIn done x → StandsIn keys x)
-  pub halfway : Halfway P xs done rest
-
-pub by_start : {A : Type 0} (P : A → Type 0) (xs keys : List A) → keys ≡ [] → HalfwayBy P xs keys xs
-by_start P xs keys e = record { done = keys; same = λ x. (λ s. s, λ s. s); halfway = halfway_start P xs keys e }
-
-pub by_step : {A : Type 0} (P : A → Type 0) (xs keys rest new : List A) (x : A) → HalfwayBy P xs keys (x ∷ rest) → Puts keys new x → (StandsIn keys x → ⊥) → P x → HalfwayBy P xs new rest
-by_step P xs keys rest new x h put fresh p = record {
-  done = h.done ++ x ∷ [];
-  same = λ y. (
-    λ s. elim ((put y).0 s) [ inl a ↦ stands_left h.done (x ∷ []) y ((h.same y).0 a) | inr e ↦ stands_right h.done (x ∷ []) y (0, ap Some e) ],
-    λ s. elim (stands_either h.done (x ∷ []) y s) [ inl a ↦ (put y).1 (inl ((h.same y).1 a)) | inr b ↦ (put y).1 (inr (stands_one x y b)) ],
-  );
-  halfway = halfway_step P xs h.done rest (h.done ++ x ∷ []) x h.halfway refl (λ s. fresh ((h.same x).1 s)) p;
-}
-
-pub by_twice : {A : Type 0} (P : A → Type 0) (xs keys rest : List A) (x : A) → HalfwayBy P xs keys (x ∷ rest) → StandsIn keys x → StandsTwice xs x
-by_twice P xs keys rest x h s = halfway_twice P xs h.done rest x h.halfway ((h.same x).0 s)
-
-pub by_here : {A : Type 0} (P : A → Type 0) (xs keys rest : List A) (x : A) → HalfwayBy P xs keys (x ∷ rest) → StandsIn xs x
-by_here P xs keys rest x h = halfway_here P xs h.done rest x h.halfway
-
-pub by_distinct : {A : Type 0} (P : A → Type 0) (xs keys rest : List A) → rest ≡ [] → HalfwayBy P xs keys rest → AreDistinct xs
-by_distinct P xs keys rest e h = halfway_distinct P xs h.done rest e h.halfway
-
-pub by_each : {A : Type 0} (P : A → Type 0) (xs keys rest : List A) → rest ≡ [] → HalfwayBy P xs keys rest → (x : A) → StandsIn xs x → P x
-by_each P xs keys rest e h = halfway_each P xs h.done rest e h.halfway
-
--- what is left begins with this turn's element
-pub by_turn : {A X Y : Type 0} (P : A → Type 0) (h : Y → A) (g : X → Y) (all keys : List A) (xs : List X) (i : ℕ) (item : X) (x : A) → i < length xs → item ≡ get_or xs i item → x ≡ h (g item) →
-    HalfwayBy P all keys (map h (map g (drop i xs))) → HalfwayBy P all keys (x ∷ map h (map g (drop (i + 1) xs)))
-by_turn P h g all keys xs i item x l e q w = record { done = w.done; same = w.same; halfway = turn P h g all w.done xs i item x l e q w.halfway }

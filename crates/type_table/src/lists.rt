@@ -1,13 +1,405 @@
 //! The lists in written types: their names and numbers are distinct, and no limit is passed.
 
-ghost use Rattle.std.specs.Prelude.{MatchResult};
-ghost use Rattle.type_table.specs.Lists.{IsSoundKind};
-ghost use Rattle.type_table.specs.Seen.{kind_of};
-ghost use Rattle.type_table.specs.proving.Checks.{IsKindFault};
+ghost use Rattle.std.specs.Prelude.{ℕ, ℤ, Bool, ◌≡◌, ◌<◌, ◌≤◌, ◌+◌, ◌++◌, ◌∷◌, [], Some, IfOk, IfErr, OnOk, MatchOption, MatchResult, length, map, slice_get};
+ghost use Rattle.trees.specs.Values.{name_at};
+ghost use Rattle.trees.specs.Types.{number_of, bit_of, item_of, plain_of, an_integer, a_bit_string, an_enumerated};
+ghost use Rattle.trees.specs.declared.types.ListKind.{ListKind as Kinds};
+ghost use Rattle.names.specs.Modules.{StandsIn, StandsTwice, AreDistinct};
+ghost use Rattle.names.specs.proving.Gathering.{IsTaken, IsRepeated};
+ghost use Rattle.type_table.specs.Items.{numbers_of};
+ghost use Rattle.type_table.specs.Lists.{AreWithinLimit, IsSoundPlain, IsSoundKind, root_count, addition_count, in_root, in_additions};
+ghost use Rattle.type_table.specs.Seen.{part_of, kind_of, root_of, behind_marker, more_of};
+ghost use Rattle.type_table.specs.Table.{Part, simple, members as list_of};
+ghost use Rattle.type_table.specs.proving.Checks.{texts, TellsLimit, TellsName, IsNumberFault, IsKindFault};
+ghost use Rattle.type_table.specs.proving.Sets.{Puts, IsSetOf};
 
-use crate::table::Shape;
-use names::NameFault;
-use std::alloc::Global;
+use crate::items::{NumberFault, additions, item_numbers};
+use crate::table::{Component, Shape};
+use indexmap::IndexSet;
+use names::fault::spot;
+use names::{Limit, NameFault};
+use std::alloc::{AllocError, Global};
+use std::collections::BTreeSet;
+use trees::{
+    At, EnumeratedItem, EnumeratedSyntax, ListKind, NamedBit, NamedNumber, Simple, Standing,
+};
+
+/// The fault that a name, or its number, stands for the second time.
+fn twice(alloc: Global, within: &str, name: &At<String>) -> NameFault
+    ensures { TellsName within.now (name_at name.now) result }
+{
+    match spot(alloc, within, name.it.as_str(), name.at) {
+        Ok(spot) => NameFault::Twice(spot),
+        Err(_) => NameFault::Memory,
+    }
+}
+
+/// The fault that a limit is passed in an assignment.
+fn passed(alloc: Global, limit: Limit, within: &str, assigns: &str, at: usize) -> NameFault
+    ensures { TellsLimit limit within.now assigns.now result }
+{
+    match spot(alloc, within, assigns, at) {
+        Ok(spot) => NameFault::Limit(limit, spot),
+        Err(_) => NameFault::Memory,
+    }
+}
+
+/// Puts a name behind others, or refuses it where it is among them.
+fn name_once(
+    alloc: Global,
+    within: &str,
+    name: &At<String>,
+    names: &mut IndexSet<String>,
+) -> Result<(), NameFault>
+    ensures added { OnOk result (texts names.new.keys ≡ texts names.old.keys ++ name_at name.now ∷ []) }
+    ensures fresh { OnOk result (StandsIn (texts names.old.keys) (name_at name.now) → ⊥) }
+    ensures fault { IfErr result (IsTaken within.now (name_at name.now) (texts names.old.keys)) }
+{
+    let text = name.it.as_str();
+    if names.contains(text) {
+        return Err(NameFault::Twice(spot(alloc, within, text, name.at)?));
+    }
+    names.insert(String::from_str(alloc, text)?)?;
+    Ok(())
+}
+
+/// Puts the number of a name behind others, or refuses it where it is among them.
+fn number_once(
+    alloc: Global,
+    within: &str,
+    name: &At<String>,
+    number: i128,
+    numbers: &mut BTreeSet<i128>,
+) -> Result<(), NameFault>
+    ensures added { OnOk result (Puts numbers.old.keys numbers.new.keys number) }
+    ensures fresh { OnOk result (StandsIn numbers.old.keys number → ⊥) }
+    ensures fault { IfErr result (IsNumberFault within.now (name_at name.now) number numbers.old.keys) }
+{
+    if numbers.contains(&number) {
+        return Err(NameFault::Twice(spot(alloc, within, name.it.as_str(), name.at)?));
+    }
+    numbers.insert(number)?;
+    Ok(())
+}
+
+/// Puts the place of a bit behind others, or refuses it where it is among them.
+fn place_once(
+    alloc: Global,
+    within: &str,
+    name: &At<String>,
+    place: u128,
+    places: &mut BTreeSet<u128>,
+) -> Result<(), NameFault>
+    ensures added { OnOk result (Puts places.old.keys places.new.keys place) }
+    ensures fresh { OnOk result (StandsIn places.old.keys place → ⊥) }
+    ensures fault { IfErr result (IsNumberFault within.now (name_at name.now) place places.old.keys) }
+{
+    if places.contains(&place) {
+        return Err(NameFault::Twice(spot(alloc, within, name.it.as_str(), name.at)?));
+    }
+    places.insert(place)?;
+    Ok(())
+}
+
+/// Named numbers have distinct names and distinct numbers (X.680, clauses 19.5 and 19.6).
+fn named_numbers(
+    alloc: Global,
+    within: &str,
+    assigns: &str,
+    given: &[NamedNumber],
+) -> Result<(), NameFault>
+    ensures good { OnOk result (IsSoundPlain (an_integer (map number_of given.now))) }
+    ensures fault { IfErr result
+        (IsKindFault within.now assigns.now (simple (an_integer (map number_of given.now)))) }
+{
+    let _assigns = assigns;
+    let mut names = IndexSet::new(alloc);
+    let mut numbers = BTreeSet::new(alloc);
+    for item in given {
+        match name_once(alloc, within, &item.name, &mut names) {
+            Ok(()) => {}
+            Err(fault) => return Err(fault),
+        }
+        match number_once(alloc, within, &item.name, item.number, &mut numbers) {
+            Ok(()) => {}
+            Err(fault) => return Err(fault),
+        }
+    }
+    Ok(())
+}
+
+/// Named bits have distinct names and distinct places (X.680, clause 22.4).
+fn named_bits(
+    alloc: Global,
+    within: &str,
+    assigns: &str,
+    given: &[NamedBit],
+) -> Result<(), NameFault>
+    ensures good { OnOk result (IsSoundPlain (a_bit_string (map bit_of given.now))) }
+    ensures fault { IfErr result
+        (IsKindFault within.now assigns.now (simple (a_bit_string (map bit_of given.now)))) }
+{
+    let mut names = IndexSet::new(alloc);
+    let mut places = BTreeSet::new(alloc);
+    for item in given {
+        match name_once(alloc, within, &item.name, &mut names) {
+            Ok(()) => {}
+            Err(fault) => return Err(fault),
+        }
+        if item.place > 65535 {
+            return Err(passed(alloc, Limit::NamedBit, within, assigns, item.name.at));
+        }
+        match place_once(alloc, within, &item.name, item.place, &mut places) {
+            Ok(()) => {}
+            Err(fault) => return Err(fault),
+        }
+    }
+    Ok(())
+}
+
+/// At most 1,024 root items and at most 64 additions.
+fn few_items(
+    alloc: Global,
+    within: &str,
+    assigns: &str,
+    given: &EnumeratedSyntax,
+) -> Result<(), NameFault>
+    ensures root { OnOk result (length (root_of given.now) ≤ 1024) }
+    ensures more { OnOk result (length (more_of given.now) ≤ 64) }
+    ensures fault { IfErr result
+        (IsKindFault within.now assigns.now (simple (an_enumerated (root_of given.now) (behind_marker given.now)))) }
+{
+    if given.root.len() > 1024 {
+        let place = given.root[1024].name.at;
+        return Err(passed(alloc, Limit::Items, within, assigns, place));
+    }
+    let more = additions(given);
+    if more.len() > 64 {
+        let place = more[64].name.at;
+        return Err(passed(alloc, Limit::Items, within, assigns, place));
+    }
+    Ok(())
+}
+
+/// Puts the names of items behind others, or refuses one that stands twice.
+fn item_names(
+    alloc: Global,
+    within: &str,
+    items: &[EnumeratedItem],
+    names: &mut IndexSet<String>,
+) -> Result<(), NameFault>
+    requires distinct { AreDistinct (texts names.old.keys) }
+    ensures added { OnOk result
+        (texts names.new.keys ≡ texts names.old.keys ++ map (λ i. i.0) (map item_of items.now)) }
+    ensures distinct { OnOk result (AreDistinct (texts names.new.keys)) }
+    ensures fault { IfErr result
+        (IsRepeated within.now (texts names.old.keys ++ map (λ i. i.0) (map item_of items.now))) }
+{
+    for item in items {
+        match name_once(alloc, within, &item.name, names) {
+            Ok(()) => {}
+            Err(fault) => return Err(fault),
+        }
+    }
+    Ok(())
+}
+
+/// The place of a number that stands before it too, if there is one.
+fn first_again(alloc: Global, numbers: &[i128]) -> Result<Option<usize>, AllocError>
+    ensures { IfOk result (λ o. MatchOption o
+        (AreDistinct numbers.now)
+        (λ i. (z : ℤ) × (slice_get numbers.now i ≡ Some z) × StandsTwice numbers.now z)) }
+{
+    let mut before = BTreeSet::new(alloc);
+    for i in 0..numbers.len() {
+        let number = numbers[i];
+        if before.contains(&number) {
+            return Ok(Some(i));
+        }
+        before.insert(number)?;
+    }
+    Ok(None)
+}
+
+/// The name of one of these items.
+fn name_at_place(items: &[EnumeratedItem], number: usize) -> &At<String>
+    requires { number < length items.now }
+    ensures { slice_get (map (λ i. i.0) (map item_of items.now)) number ≡ Some (name_at result.now) }
+{
+    let item = &items[number];
+    &item.name
+}
+
+/// The name of an item, those of the root and then the additions being counted from 0.
+fn item_name(given: &EnumeratedSyntax, number: usize) -> &At<String>
+    requires { number < length (root_of given.now ++ more_of given.now) }
+    ensures { slice_get (map (λ i. i.0) (root_of given.now ++ more_of given.now)) number ≡ Some (name_at result.now) }
+{
+    let count = given.root.len();
+    if number < count {
+        name_at_place(&given.root, number)
+    } else {
+        name_at_place(additions(given), number - count)
+    }
+}
+
+/// The numbers of items, also those that are not written, are distinct (X.680, clauses 20.4 to 20.6).
+fn item_numbers_once(
+    alloc: Global,
+    within: &str,
+    assigns: &str,
+    given: &EnumeratedSyntax,
+) -> Result<(), NameFault>
+    ensures distinct { OnOk result (AreDistinct (numbers_of (root_of given.now) (more_of given.now))) }
+    ensures limit { OnOk result (AreWithinLimit (numbers_of (root_of given.now) (more_of given.now))) }
+    ensures fault { IfErr result
+        (IsKindFault within.now assigns.now (simple (an_enumerated (root_of given.now) (behind_marker given.now)))) }
+{
+    match item_numbers(alloc, given) {
+        Ok(numbers) => match first_again(alloc, &numbers) {
+            Ok(None) => Ok(()),
+            Ok(Some(i)) => Err(twice(alloc, within, item_name(given, i))),
+            Err(_) => Err(NameFault::Memory),
+        },
+        Err(NumberFault::Memory) => Err(NameFault::Memory),
+        Err(NumberFault::TooGreat(i)) => {
+            let place = name_at_place(additions(given), i).at;
+            Err(passed(alloc, Limit::Integer, within, assigns, place))
+        }
+    }
+}
+
+/// Items of an ENUMERATED have distinct names and distinct numbers (X.680, clauses 20.3 to 20.6).
+fn enumerated(
+    alloc: Global,
+    within: &str,
+    assigns: &str,
+    given: &EnumeratedSyntax,
+) -> Result<(), NameFault>
+    ensures good { OnOk result (IsSoundPlain (an_enumerated (root_of given.now) (behind_marker given.now))) }
+    ensures fault { IfErr result
+        (IsKindFault within.now assigns.now (simple (an_enumerated (root_of given.now) (behind_marker given.now)))) }
+{
+    match few_items(alloc, within, assigns, given) {
+        Ok(()) => {}
+        Err(fault) => return Err(fault),
+    }
+    let mut names = IndexSet::new(alloc);
+    match item_names(alloc, within, &given.root, &mut names) {
+        Ok(()) => {}
+        Err(fault) => return Err(fault),
+    }
+    match item_names(alloc, within, additions(given), &mut names) {
+        Ok(()) => {}
+        Err(fault) => return Err(fault),
+    }
+    match item_numbers_once(alloc, within, assigns, given) {
+        Ok(()) => Ok(()),
+        Err(fault) => Err(fault),
+    }
+}
+
+/// How many members of the root and how many additions were counted.
+#[derive(Drop)]
+struct Members {
+    root: usize,
+    more: usize,
+}
+
+/// Counts one more member.
+fn count_member(standing: Standing, counted: &mut Members)
+    requires root { counted.old.root ≤ 256 }
+    requires more { counted.old.more ≤ 64 }
+    ensures root { counted.new.root ≡ in_root standing + counted.old.root }
+    ensures more { counted.new.more ≡ in_additions standing + counted.old.more }
+{
+    match standing {
+        Standing::Root => counted.root += 1,
+        Standing::Addition(_) => counted.more += 1,
+    }
+}
+
+/// At most 256 members of the root and at most 64 additions, those in version brackets counted too.
+fn few_members(
+    alloc: Global,
+    within: &str,
+    assigns: &str,
+    given: &[Component],
+) -> Result<(), NameFault>
+    ensures root { OnOk result (root_count (map part_of given.now) ≤ 256) }
+    ensures more { OnOk result (addition_count (map part_of given.now) ≤ 64) }
+    ensures fault { (l : Kinds) (m : Bool) →
+        IfErr result (IsKindFault within.now assigns.now (list_of l m (map part_of given.now))) }
+{
+    let mut counted = Members { root: 0, more: 0 };
+    for component in given {
+        let place = component.name.at;
+        count_member(component.standing, &mut counted);
+        if counted.root > 256 {
+            return Err(passed(alloc, Limit::Members, within, assigns, place));
+        }
+        if counted.more > 64 {
+            return Err(passed(alloc, Limit::Members, within, assigns, place));
+        }
+    }
+    Ok(())
+}
+
+/// Members of a list have distinct identifiers (X.680, clauses 25.7, 27.3 and 29.3).
+fn member_names(alloc: Global, within: &str, given: &[Component]) -> Result<(), NameFault>
+    ensures distinct { OnOk result (AreDistinct (map (λ (c : Part). c.name) (map part_of given.now))) }
+    ensures fault { IfErr result (IsRepeated within.now (map (λ (c : Part). c.name) (map part_of given.now))) }
+{
+    let mut names = IndexSet::new(alloc);
+    for component in given {
+        match name_once(alloc, within, &component.name, &mut names) {
+            Ok(()) => {}
+            Err(fault) => return Err(fault),
+        }
+    }
+    Ok(())
+}
+
+/// A list has few members, with distinct identifiers.
+fn list_members(
+    alloc: Global,
+    within: &str,
+    assigns: &str,
+    kind: ListKind,
+    marker: bool,
+    given: &[Component],
+) -> Result<(), NameFault>
+    ensures good { OnOk result (IsSoundKind (list_of kind marker (map part_of given.now))) }
+    ensures fault { IfErr result (IsKindFault within.now assigns.now (list_of kind marker (map part_of given.now))) }
+{
+    match few_members(alloc, within, assigns, given) {
+        Ok(()) => {}
+        Err(fault) => return Err(fault),
+    }
+    match member_names(alloc, within, given) {
+        Ok(()) => Ok(()),
+        Err(fault) => Err(fault),
+    }
+}
+
+/// The list of a type that holds no other type.
+fn simple_list(alloc: Global, within: &str, assigns: &str, given: &Simple) -> Result<(), NameFault>
+    ensures good { OnOk result (IsSoundPlain (plain_of given.now)) }
+    ensures fault { IfErr result (IsKindFault within.now assigns.now (simple (plain_of given.now))) }
+{
+    match given {
+        Simple::Integer(numbers) => named_numbers(alloc, within, assigns, numbers),
+        Simple::BitString(bits) => named_bits(alloc, within, assigns, bits),
+        Simple::Enumerated(items) => enumerated(alloc, within, assigns, items),
+        Simple::Boolean => Ok(()),
+        Simple::OctetString => Ok(()),
+        Simple::Null => Ok(()),
+        Simple::ObjectIdentifier => Ok(()),
+        Simple::RelativeOid => Ok(()),
+        Simple::Utf8String => Ok(()),
+        Simple::Restricted(_) => Ok(()),
+    }
+}
 
 /// The list that stands at a type, if one does.
 pub fn sound_shape(
@@ -18,9 +410,13 @@ pub fn sound_shape(
 ) -> Result<(), NameFault>
     ensures { MatchResult result (λ _. IsSoundKind (kind_of shape.now)) (IsKindFault within.now assigns.now (kind_of shape.now)) }
 {
-    let _alloc = alloc;
-    let _within = within;
-    let _assigns = assigns;
-    let _shape = shape;
-    Err(NameFault::Memory)
+    match shape {
+        Shape::Simple(given) => simple_list(alloc, within, assigns, given),
+        Shape::Members(kind, marker, given) => {
+            list_members(alloc, within, assigns, *kind, *marker, given)
+        }
+        Shape::Reference(_) => Ok(()),
+        Shape::Tagged(_, _, _) => Ok(()),
+        Shape::Elements(_, _) => Ok(()),
+    }
 }

@@ -1,0 +1,58 @@
+use Rattle.std.proofs.Common.{◌≡◌, ◌++◌, List, [], map, sym, subst, ap, ◌∙◌, inl}
+use Rattle.std.proofs.lemmas.List.{map-append}
+use Rattle.trees.specs.Types.{an_enumerated, item_of}
+use Rattle.trees.specs.Values.{Name}
+use Rattle.names.specs.Modules.{AreDistinct, StandsTwice}
+use Rattle.names.specs.proving.Distinct.{twice_left}
+use Rattle.type_table.specs.Items.{Item}
+use Rattle.type_table.specs.Seen.{root_of, more_of, behind_marker}
+use Rattle.type_table.specs.Table.{simple}
+use Rattle.type_table.specs.proving.Checks.{texts}
+use Rattle.type_table.proofs.ListFaults.{kind_repeated}
+use Rattle.type_table.proofs.lists.enumerated.Goals as goal
+
+abbrev names_of : List Item → List Name
+names_of = map (λ i. i.0)
+
+-- the names of the root, and then those of the additions
+root_names : (none : List Name) (root : List Item) → none ≡ [] → none ++ names_of root ≡ names_of root
+root_names none root e = ap (λ l. l ++ names_of root) e
+
+all_names : (none first : List Name) (root more : List Item) → none ≡ [] → first ≡ none ++ names_of root → first ++ names_of more ≡ names_of (root ++ more)
+all_names none first root more e g = ap (λ l. l ++ names_of more) (g ∙ root_names none root e) ∙ sym (map-append (λ (i : Item). i.0) root more)
+
+pub returns-in-Err-item_names-clause-fault : goal.returns-in-Err-item_names-clause-fault
+returns-in-Err-item_names-clause-fault c =
+    let root = root_of c.args.given.now in
+    let more = more_of c.args.given.now in
+    let none = texts c.new-names.result.keys in
+    let same = ap (λ l. none ++ names_of (map item_of l)) c.deref.ensures.value ∙ root_names none root (ap texts c.new-names.ensures.empty) in
+    kind_repeated c.args.within.now c.args.assigns.now (simple (an_enumerated root (behind_marker c.args.given.now))) _ c.in-Err-item_names.fault
+    (λ y t. inl (subst (λ l. StandsTwice l y) (sym (map-append (λ (i : Item). i.0) root more)) (twice_left (names_of root) (names_of more) y (subst (λ l. StandsTwice l y) same t)))) c.in-Err-item_names.ensures.fault
+
+pub returns-in-Err-item_names-2-clause-fault : goal.returns-in-Err-item_names-2-clause-fault
+returns-in-Err-item_names-2-clause-fault c =
+    let root = root_of c.args.given.now in
+    let more = more_of c.args.given.now in
+    let none = texts c.new-names.result.keys in
+    let first = texts c.item_names.new.names.keys in
+    let g = c.in-Ok-item_names.ensures.added ∙ ap (λ l. none ++ names_of (map item_of l)) c.deref.ensures.value in
+    let same = ap (λ l. first ++ names_of l) c.additions.ensures ∙ all_names none first root more (ap texts c.new-names.ensures.empty) g in
+    kind_repeated c.args.within.now c.args.assigns.now (simple (an_enumerated root (behind_marker c.args.given.now))) _ c.in-Err-item_names-2.fault
+    (λ y t. inl (subst (λ l. StandsTwice l y) same t)) c.in-Err-item_names-2.ensures.fault
+
+pub returns-in-Ok-item_numbers_once-clause-good : goal.returns-in-Ok-item_numbers_once-clause-good
+returns-in-Ok-item_numbers_once-clause-good c =
+    let root = root_of c.args.given.now in
+    let more = more_of c.args.given.now in
+    let none = texts c.new-names.result.keys in
+    let first = texts c.item_names.new.names.keys in
+    let g = c.in-Ok-item_names.ensures.added ∙ ap (λ l. none ++ names_of (map item_of l)) c.deref.ensures.value in
+    let same = c.in-Ok-item_names-2.ensures.added ∙ ap (λ l. first ++ names_of l) c.additions.ensures ∙ all_names none first root more (ap texts c.new-names.ensures.empty) g in
+    record {
+      names = subst AreDistinct same c.in-Ok-item_names-2.ensures.distinct;
+      numbers = c.in-Ok-item_numbers_once.ensures.distinct;
+      within = c.in-Ok-item_numbers_once.ensures.limit;
+      root_few = c.in-Ok.ensures.root;
+      more_few = c.in-Ok.ensures.more;
+    }

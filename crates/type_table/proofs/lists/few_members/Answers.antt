@@ -1,0 +1,62 @@
+use Rattle.std.proofs.Common.{◌≡◌, ◌+◌, ◌<◌, ◌≤◌, ℕ, length, drop, map, ap, inl, inr, arith}
+use Rattle.names.specs.declared.fault.Limit.TheVariants as limits
+use Rattle.names.specs.proving.Distinct.{drop_at, none_left}
+use Rattle.type_table.specs.Lists.{in_root, in_additions, root_count, addition_count}
+use Rattle.type_table.specs.Seen.{part_of}
+use Rattle.type_table.specs.Table.{members}
+use Rattle.type_table.proofs.ListFaults.{kind_limit}
+use Rattle.type_table.proofs.lists.few_members.Goals as goal
+
+pub loop-component-preserved : goal.loop-component-preserved
+loop-component-preserved c =
+    let gs = c.args.given.now in
+    let i = c.loop-component.component-index in
+    let l : i < length gs = omega arith in
+    let g = c.component-item.result in
+    let d = drop_at gs i g l c.component-item.is in
+    let root : root_count (map part_of (drop i gs)) ≡ in_root g.standing + root_count (map part_of (drop (i + 1) gs)) = ap (λ r. root_count (map part_of r)) d in
+    let more : addition_count (map part_of (drop i gs)) ≡ in_additions g.standing + addition_count (map part_of (drop (i + 1) gs)) = ap (λ r. addition_count (map part_of r)) d in
+    record {
+      root = omega (arith, root, c.count_member.ensures.root, c.loop-component.invariant.root);
+      more = omega (arith, more, c.count_member.ensures.more, c.loop-component.invariant.more);
+      few_root = omega arith;
+      few_more = omega arith;
+    }
+
+pub returns-then-counted-gt256-clause-fault : goal.returns-then-counted-gt256-clause-fault
+returns-then-counted-gt256-clause-fault c = λ k m.
+    let gs = c.args.given.now in
+    let i = c.loop-component.component-index in
+    let l : i < length gs = omega arith in
+    let g = c.component-item.result in
+    let root : root_count (map part_of (drop i gs)) ≡ in_root g.standing + root_count (map part_of (drop (i + 1) gs)) = ap (λ r. root_count (map part_of r)) (drop_at gs i g l c.component-item.is) in
+    let many : 256 < root_count (map part_of gs) = omega (arith, root, c.count_member.ensures.root, c.loop-component.invariant.root) in
+    kind_limit c.args.within.now c.args.assigns.now (members k m (map part_of gs)) limits.Members c.passed.result (inl many) c.passed.ensures
+
+pub returns-then-counted-gt64-clause-fault : goal.returns-then-counted-gt64-clause-fault
+returns-then-counted-gt64-clause-fault c = λ k m.
+    let gs = c.args.given.now in
+    let i = c.loop-component.component-index in
+    let l : i < length gs = omega arith in
+    let g = c.component-item.result in
+    let more : addition_count (map part_of (drop i gs)) ≡ in_additions g.standing + addition_count (map part_of (drop (i + 1) gs)) = ap (λ r. addition_count (map part_of r)) (drop_at gs i g l c.component-item.is) in
+    let many : 64 < addition_count (map part_of gs) = omega (arith, more, c.count_member.ensures.more, c.loop-component.invariant.more) in
+    kind_limit c.args.within.now c.args.assigns.now (members k m (map part_of gs)) limits.Members c.passed-then-counted-gt64.result (inr many) c.passed-then-counted-gt64.ensures
+
+pub returns-clause-root : goal.returns-clause-root
+returns-clause-root c =
+    let gs = c.args.given.now in
+    let i = c.loop-component.component-index in
+    let l : length gs ≤ i = omega arith in
+    let e : root_count (map part_of (drop i gs)) ≡ 0 = ap (λ r. root_count (map part_of r)) (none_left gs i l) in
+    let few = c.loop-component.invariant.few_root in
+    omega (arith, e, few, c.loop-component.invariant.root)
+
+pub returns-clause-more : goal.returns-clause-more
+returns-clause-more c =
+    let gs = c.args.given.now in
+    let i = c.loop-component.component-index in
+    let l : length gs ≤ i = omega arith in
+    let e : addition_count (map part_of (drop i gs)) ≡ 0 = ap (λ r. addition_count (map part_of r)) (none_left gs i l) in
+    let few = c.loop-component.invariant.few_more in
+    omega (arith, e, few, c.loop-component.invariant.more)

@@ -1,0 +1,50 @@
+use Rattle.std.proofs.Common.{◌≡◌, ℕ, ◌+◌, ◌<◌, ◌≤◌, ◌++◌, length, map, Some, sym, subst, ◌∙◌, length-append, arith}
+use Rattle.std.specs.Prelude.{slice_get}
+use Rattle.std.proofs.Math.Seq.{take-append_seam}
+use Rattle.trees.specs.Types.{item_of}
+use Rattle.names.specs.Modules.{AreDistinct}
+use Rattle.names.specs.proving.Distinct.{right}
+use Rattle.type_table.specs.Items.{Item}
+use Rattle.type_table.specs.proving.Checks.{texts}
+use Rattle.type_table.proofs.Fronts.{Kept, seen_at, seen_long, kept_more, kept_all}
+use Rattle.type_table.proofs.ListFaults.{taken_repeated}
+use Rattle.type_table.proofs.lists.item_names.Goals as goal
+
+pub loop-item-init : goal.loop-item-init
+loop-item-init c =
+    let old = texts c.args.names.now.keys in
+    let more = map (λ (i : Item). i.0) (map item_of c.args.items.now) in
+    let z : length old ≡ length old + 0 = omega arith in
+    subst (Kept (old ++ more) old) z (record { same = sym (take-append_seam old more); apart = subst AreDistinct (sym (take-append_seam old more)) c.requires.distinct })
+
+pub loop-item-preserved : goal.loop-item-preserved
+loop-item-preserved c =
+    let old = texts c.args.names.now.keys in
+    let gs = c.args.items.now in
+    let i = c.loop-item.item-index in
+    let l : i < length gs = omega arith in
+    let more = map (λ (i : Item). i.0) (map item_of gs) in
+    let here = right old more i ∙ seen_at (λ (i : Item). i.0) item_of gs i c.item-item.result l c.item-item.is in
+    let z : length old + i + 1 ≡ length old + (i + 1) = omega arith in
+    subst (Kept (old ++ more) (texts c.name_once.new.names.keys)) z (kept_more (old ++ more) (texts c.loop-item.names.keys) (texts c.name_once.new.names.keys) (length old + i) _ here c.loop-item.invariant c.in-Ok.ensures.added c.in-Ok.ensures.fresh)
+
+pub returns-in-Err-clause-fault : goal.returns-in-Err-clause-fault
+returns-in-Err-clause-fault c =
+    let old = texts c.args.names.now.keys in
+    let gs = c.args.items.now in
+    let i = c.loop-item.item-index in
+    let l : i < length gs = omega arith in
+    let more = map (λ (i : Item). i.0) (map item_of gs) in
+    let here = right old more i ∙ seen_at (λ (i : Item). i.0) item_of gs i c.item-item.result l c.item-item.is in
+    taken_repeated c.args.within.now (old ++ more) (texts c.loop-item.names.keys) (length old + i) _ c.in-Err.fault here c.loop-item.invariant c.in-Err.ensures.fault
+
+pub returns : goal.returns
+returns c =
+    let old = texts c.args.names.now.keys in
+    let gs = c.args.items.now in
+    let i = c.loop-item.item-index in
+    let l : length gs ≤ i = omega arith in
+    let more = map (λ (i : Item). i.0) (map item_of gs) in
+    let m = seen_long (λ (i : Item). i.0) item_of gs i l in
+    let k = kept_all (old ++ more) (texts c.loop-item.names.keys) (length old + i) (omega (arith, m, length-append old more)) c.loop-item.invariant in
+    record { added = k.0; distinct = subst AreDistinct (sym k.0) k.1; fault = tt }

@@ -1,0 +1,48 @@
+use Rattle.std.proofs.Common.{◌≡◌, ◌<◌, ◌++◌, ℕ, ℤ, Some, None, length, map, sym, subst, ap, ◌∙◌, arith}
+use Rattle.std.specs.Prelude.{slice_get, MatchOption}
+use Rattle.std.proofs.lemmas.List.{length-map}
+use Rattle.std.proofs.lemmas.Option.{slice_get_within}
+use Rattle.trees.specs.Types.{an_enumerated, item_of}
+use Rattle.trees.specs.Values.{name_at}
+use Rattle.names.specs.declared.fault.Limit.TheVariants as limits
+use Rattle.names.specs.Modules.{AreDistinct, StandsTwice}
+use Rattle.type_table.specs.Items.{Item, additions_from, numbers_of, root_numbers}
+use Rattle.type_table.specs.Seen.{root_of, more_of, behind_marker}
+use Rattle.type_table.specs.Table.{simple}
+use Rattle.type_table.proofs.Counts.{more_long, numbers_long}
+use Rattle.type_table.proofs.ListFaults.{kind_again, kind_limit}
+use Rattle.type_table.proofs.lists.item_numbers_once.Goals as goal
+
+pub returns-in-Ok-None-clause-distinct : goal.returns-in-Ok-None-clause-distinct
+returns-in-Ok-None-clause-distinct c =
+    let e = c.deref.ensures.value ∙ c.in-Ok.ensures.numbers in
+    subst AreDistinct e (rw c.in-Ok-None.field-0-is at c.in-Ok-None.ensures)
+
+pub item_name-requires : goal.item_name-requires
+item_name-requires c =
+    let root = root_of c.args.given.now in
+    let more = more_of c.args.given.now in
+    let e : c.deref.result.now ≡ numbers_of root more = c.deref.ensures.value ∙ c.in-Ok.ensures.numbers in
+    let s = rw c.in-Ok-Some.field-0-is at c.in-Ok-Some.ensures in
+    let w : c.in-Ok-Some.i < length c.deref.result.now = slice_get_within c.deref.result.now c.in-Ok-Some.i s.0 s.1 in
+    let l : length c.deref.result.now ≡ length (numbers_of root more) = ap length e in
+    omega (arith, w, l, numbers_long root more)
+
+pub returns-in-Ok-Some-clause-fault : goal.returns-in-Ok-Some-clause-fault
+returns-in-Ok-Some-clause-fault c =
+    let root = root_of c.args.given.now in
+    let more = more_of c.args.given.now in
+    let i = c.in-Ok-Some.i in
+    let e : c.deref.result.now ≡ numbers_of root more = c.deref.ensures.value ∙ c.in-Ok.ensures.numbers in
+    let s = rw c.in-Ok-Some.field-0-is at c.in-Ok-Some.ensures in
+    kind_again c.args.within.now c.args.assigns.now (simple (an_enumerated root (behind_marker c.args.given.now))) (map (λ (i : Item). i.0) (root ++ more)) (numbers_of root more) i (name_at c.item_name.result.now) s.0 c.twice.result (λ y t. t)
+    c.item_name.ensures (subst (λ l. slice_get l i ≡ Some s.0) e s.1) (subst (λ l. StandsTwice l s.0) e s.2) c.twice.ensures
+
+pub name_at_place-requires : goal.name_at_place-requires
+name_at_place-requires c =
+    let root = root_of c.args.given.now in
+    let more = more_of c.args.given.now in
+    let s = rw c.in-Err-TooGreat.field-0-is at c.in-Err-TooGreat.ensures.fault in
+    let w = slice_get_within (additions_from (root_numbers root) 0 more) c.in-Err-TooGreat.i _ s in
+    let l : length c.additions.result.now ≡ length more = sym (length-map c.additions.result.now item_of) ∙ ap length c.additions.ensures in
+    omega (arith, w, l, more_long (root_numbers root) 0 more)

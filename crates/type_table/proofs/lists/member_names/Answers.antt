@@ -1,0 +1,32 @@
+use Rattle.std.proofs.Common.{◌≡◌, ◌<◌, ◌≤◌, length, map, sym, subst, ap, ◌∙◌, arith}
+use Rattle.names.specs.Modules.{StandsIn, StandsTwice}
+use Rattle.type_table.specs.Seen.{part_of}
+use Rattle.type_table.specs.Table.{Part}
+use Rattle.type_table.specs.proving.Checks.{texts}
+use Rattle.type_table.proofs.Fronts.{seen_at, seen_long, kept_start, kept_more, kept_all}
+use Rattle.type_table.proofs.ListFaults.{taken_repeated}
+use Rattle.type_table.proofs.lists.member_names.Goals as goal
+
+pub loop-component-init : goal.loop-component-init
+loop-component-init c = kept_start _ (texts c.new-names.result.keys) (ap texts c.new-names.ensures.empty)
+
+pub loop-component-preserved : goal.loop-component-preserved
+loop-component-preserved c =
+    let gs = c.args.given.now in
+    let i = c.loop-component.component-index in
+    let l : i < length gs = omega arith in
+    kept_more _ (texts c.loop-component.names.keys) (texts c.name_once.new.names.keys) i _ (seen_at (λ (p : Part). p.name) part_of gs i c.component-item.result l c.component-item.is) c.loop-component.invariant c.in-Ok.ensures.added c.in-Ok.ensures.fresh
+
+pub returns-in-Err-clause-fault : goal.returns-in-Err-clause-fault
+returns-in-Err-clause-fault c =
+    let gs = c.args.given.now in
+    let i = c.loop-component.component-index in
+    let l : i < length gs = omega arith in
+    taken_repeated c.args.within.now (map (λ (p : Part). p.name) (map part_of gs)) (texts c.loop-component.names.keys) i _ c.in-Err.fault (seen_at (λ (p : Part). p.name) part_of gs i c.component-item.result l c.component-item.is) c.loop-component.invariant c.in-Err.ensures.fault
+
+pub returns-clause-distinct : goal.returns-clause-distinct
+returns-clause-distinct c =
+    let gs = c.args.given.now in
+    let i = c.loop-component.component-index in
+    let l : length gs ≤ i = omega arith in
+    (kept_all _ (texts c.loop-component.names.keys) i (seen_long (λ (p : Part). p.name) part_of gs i l) c.loop-component.invariant).1

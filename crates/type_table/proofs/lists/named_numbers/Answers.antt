@@ -1,0 +1,58 @@
+use Rattle.std.proofs.Common.{◌≡◌, ℤ, ◌<◌, ◌≤◌, length, map, subst, ap, inl, arith, rules}
+use mir.Syntax.{w128}
+use mir.Val.{SFits}
+use Rattle.std.proofs.lemmas.Int.{to_z-of_z}
+use Rattle.trees.specs.Values.{Name, name_at}
+use Rattle.trees.specs.Types.{number_of, an_integer}
+use Rattle.type_table.specs.Table.{simple}
+use Rattle.type_table.specs.proving.Checks.{texts, IsNumberFault}
+use Rattle.type_table.specs.proving.Sets.{Puts}
+use Rattle.names.specs.Modules.{StandsIn}
+use Rattle.type_table.proofs.Fronts.{seen_at, seen_long, kept_start, kept_more, kept_all, kept_in_start, kept_in_more, kept_in_all}
+use Rattle.type_table.proofs.ListFaults.{kind_taken, kind_numbered}
+use Rattle.type_table.proofs.lists.named_numbers.Goals as goal
+
+pub loop-item-init : goal.loop-item-init
+loop-item-init c = record {
+  names = kept_start _ (texts c.new-names.result.keys) (ap texts c.new-names.ensures.empty);
+  numbers = kept_in_start _ c.new-numbers.result.keys c.new-numbers.ensures.empty;
+}
+
+pub loop-item-preserved : goal.loop-item-preserved
+loop-item-preserved c =
+    let gs = c.args.given.now in
+    let i = c.loop-item.item-index in
+    let l : i < length gs = omega arith in
+    let f : SFits w128 c.item-item.result.number = search rules in
+    let same = to_z-of_z w128 c.item-item.result.number f in
+    let ks = c.loop-item.numbers.keys in
+    record {
+      names = kept_more _ (texts c.loop-item.names.keys) (texts c.name_once.new.names.keys) i _ (seen_at (λ (n : Name × ℤ). n.0) number_of gs i c.item-item.result l c.item-item.is) c.loop-item.invariant.names c.in-Ok.ensures.added c.in-Ok.ensures.fresh;
+      numbers = kept_in_more _ c.loop-item.numbers.keys c.number_once.new.numbers.keys i _ (seen_at (λ (n : Name × ℤ). n.1) number_of gs i c.item-item.result l c.item-item.is) c.loop-item.invariant.numbers (subst (λ z. Puts ks c.number_once.new.numbers.keys z) same c.in-Ok-number_once.ensures.added) (subst (λ z. StandsIn ks z → ⊥) same c.in-Ok-number_once.ensures.fresh);
+    }
+
+pub returns-in-Err-clause-fault : goal.returns-in-Err-clause-fault
+returns-in-Err-clause-fault c =
+    let gs = c.args.given.now in
+    let i = c.loop-item.item-index in
+    let l : i < length gs = omega arith in
+    kind_taken c.args.within.now c.args.assigns.now (simple (an_integer (map number_of gs))) (map (λ (n : Name × ℤ). n.0) (map number_of gs)) (texts c.loop-item.names.keys) i _ c.in-Err.fault (λ y t. inl t)
+    (seen_at (λ (n : Name × ℤ). n.0) number_of gs i c.item-item.result l c.item-item.is) c.loop-item.invariant.names c.in-Err.ensures.fault
+
+pub returns-in-Err-number_once-clause-fault : goal.returns-in-Err-number_once-clause-fault
+returns-in-Err-number_once-clause-fault c =
+    let gs = c.args.given.now in
+    let i = c.loop-item.item-index in
+    let l : i < length gs = omega arith in
+    let f : SFits w128 c.item-item.result.number = search rules in
+    let e = subst (λ z. IsNumberFault c.args.within.now (name_at c.item-item.result.name) z c.loop-item.numbers.keys c.in-Err-number_once.fault) (to_z-of_z w128 c.item-item.result.number f) c.in-Err-number_once.ensures.fault in
+    kind_numbered c.args.within.now c.args.assigns.now (simple (an_integer (map number_of gs))) (map (λ (n : Name × ℤ). n.0) (map number_of gs)) (map (λ (n : Name × ℤ). n.1) (map number_of gs)) c.loop-item.numbers.keys i _ _ c.in-Err-number_once.fault (λ y t. t)
+    (seen_at (λ (n : Name × ℤ). n.0) number_of gs i c.item-item.result l c.item-item.is) (seen_at (λ (n : Name × ℤ). n.1) number_of gs i c.item-item.result l c.item-item.is) c.loop-item.invariant.numbers e
+
+pub returns-clause-good : goal.returns-clause-good
+returns-clause-good c =
+    let gs = c.args.given.now in
+    let i = c.loop-item.item-index in
+    let l : length gs ≤ i = omega arith in
+    let n = kept_all _ (texts c.loop-item.names.keys) i (seen_long (λ (n : Name × ℤ). n.0) number_of gs i l) c.loop-item.invariant.names in
+    (n.1, kept_in_all _ c.loop-item.numbers.keys i (seen_long (λ (n : Name × ℤ). n.1) number_of gs i l) c.loop-item.invariant.numbers)
