@@ -34,6 +34,16 @@ module _ {A : Type 0} (zs : List A) (i : ℕ) (x : A) (e : slice_get zs i ≡ So
   pub front_distinct : AreDistinct (take i zs) → (StandsIn (take i zs) x → ⊥) → AreDistinct (take (i + 1) zs)
   front_distinct d fresh = subst AreDistinct (sym front_more) (distinct_more (take i zs) x d fresh)
 
+set_more : {A : Type 0} (old new ys : List A) (z : A) → IsSetOf old ys → Puts old new z → IsSetOf new (ys ++ z ∷ [])
+set_more old new ys z h put y = (
+  λ s. elim ((put y).0 s) [ inl a ↦ stands_left ys (z ∷ []) y ((h y).0 a) | inr q ↦ stands_right ys (z ∷ []) y (0, ap Some q) ],
+  λ s. elim (stands_either ys (z ∷ []) y s) [ inl a ↦ (put y).1 (inl ((h y).1 a)) | inr b ↦ (put y).1 (inr (stands_one z y b)) ],
+)
+
+-- the set of those that come first, and this one
+pub front_set : {A : Type 0} (zs : List A) (i : ℕ) (x : A) → slice_get zs i ≡ Some x → (old new : List A) → IsSetOf old (take i zs) → Puts old new x → IsSetOf new (take (i + 1) zs)
+front_set zs i x e old new h put = subst (IsSetOf new) (sym (front_more zs i x e)) (set_more old new (take i zs) x h put)
+
 -- what holds of the first items of a list, and of the next
 pub each_more : {A : Type 0} (P : A → Type 0) (zs : List A) (i : ℕ) (x : A) → slice_get zs i ≡ Some x → ((k : ℕ) (z : A) → k < i → slice_get zs k ≡ Some z → P z) → P x → (k : ℕ) (z : A) → k < i + 1 → slice_get zs k ≡ Some z → P z
 each_more P zs i x e below here k z l h = below_more (λ j. (u : _) → slice_get zs j ≡ Some u → P u) i (λ j m u q. below j u m q) (λ u q. subst P (same_Some x u (sym e ∙ q)) here) k l z h
@@ -69,15 +79,9 @@ pub record KeptIn {A : Type 0} (zs keys : List A) (i : ℕ) : Type 0 where
 pub kept_in_start : {A : Type 0} (zs keys : List A) → keys ≡ [] → KeptIn zs keys 0
 kept_in_start zs keys e = record { same = λ y. (subst (λ l. StandsIn l y) e, subst (λ l. StandsIn l y) (sym e)); apart = distinct_none }
 
-set_more : {A : Type 0} (old new ys : List A) (z : A) → IsSetOf old ys → Puts old new z → IsSetOf new (ys ++ z ∷ [])
-set_more old new ys z h put y = (
-  λ s. elim ((put y).0 s) [ inl a ↦ stands_left ys (z ∷ []) y ((h y).0 a) | inr q ↦ stands_right ys (z ∷ []) y (0, ap Some q) ],
-  λ s. elim (stands_either ys (z ∷ []) y s) [ inl a ↦ (put y).1 (inl ((h y).1 a)) | inr b ↦ (put y).1 (inr (stands_one z y b)) ],
-)
-
 pub kept_in_more : {A : Type 0} (zs keys new : List A) (i : ℕ) (x : A) → slice_get zs i ≡ Some x → KeptIn zs keys i → Puts keys new x → (StandsIn keys x → ⊥) → KeptIn zs new (i + 1)
 kept_in_more zs keys new i x e k put fresh = record {
-  same = subst (IsSetOf new) (sym (front_more zs i x e)) (set_more keys new (take i zs) x k.same put);
+  same = front_set zs i x e keys new k.same put;
   apart = front_distinct zs i x e k.apart (λ s. fresh ((k.same x).1 s));
 }
 

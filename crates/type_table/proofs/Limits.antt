@@ -24,10 +24,3 @@ within_puts old new y p w l i z e = elim ((p z).0 (i, e)) [
   | inl s ↦ w s.0 z s.1
   | inr q ↦ subst IsWithinLimit q l
 ]
-
--- the set of what comes first in a list
-pub set_more : (zs old new : List ℤ) (i : ℕ) (y : ℤ) → i < length zs → slice_get zs i ≡ Some y → IsSetOf old (take i zs) → Puts old new y → IsSetOf new (take (i + 1) zs)
-set_more zs old new i y l e s p = subst (λ q. IsSetOf new q) (sym (take_more zs i y l ∙ ap (λ q. take i zs ++ q ∷ []) (get_or_from_slice_get zs i y y e))) (λ z. (
-  λ h. elim ((p z).0 h) [ inl a ↦ stands_left (take i zs) (y ∷ []) z ((s z).0 a) | inr q ↦ stands_right (take i zs) (y ∷ []) z (0, ap Some q) ],
-  λ h. elim (stands_either (take i zs) (y ∷ []) z h) [ inl a ↦ (p z).1 (inl ((s z).1 a)) | inr b ↦ (p z).1 (inr (stands_one y z b)) ],
-))
