@@ -136,3 +136,11 @@ impl<'t, 'p, P: Part<'t>> Part<'t> for &'p P {
         (**self).read(alloc, text, tokens)
     }
 }
+
+impl<'t, 'p, P: Begun<'t>> Begun<'t> for &'p P {
+    ghost begins = { P.begins };
+
+    fn is_here(&self, text: &[u8], tokens: &'t [Token]) -> bool {
+        (**self).is_here(text, tokens)
+    }
+}

@@ -1,5 +1,5 @@
 -- Reading types from left to right.
-use Rattle.std.specs.Prelude.{ℕ, zero, suc, Bool, true, false, [], ◌∷◌, Option, Ok}
+use Rattle.std.specs.Prelude.{◌⊎◌, ℕ, zero, suc, Bool, true, false, List, [], ◌∷◌, Option, Ok}
 use Rattle.text.specs.declared.token.Mark.TheVariants.{OpenBrace, OpenBracket}
 use Rattle.text.specs.declared.reserved.Word.TheVariants as words
 use Rattle.grammar.specs.Extensions.{is_ellipsis}
@@ -8,7 +8,7 @@ use Rattle.grammar.specs.Lists.{is_ident}
 use Rattle.grammar.specs.Parts.{perhaps}
 use Rattle.grammar.specs.Reading.{Reader, ◌>>=◌, stop, opened, named_at, braces_at, extensible_at, rootless_at, addition_at}
 use Rattle.grammar.specs.Rules.{either}
-use Rattle.trees.specs.Values.{Name, Tree}
+use Rattle.trees.specs.Values.{Tree}
 use Rattle.notation.specs.Reading.{value_at}
 use Rattle.trees.specs.declared.types.ListKind.TheVariants as lists
 use Rattle.trees.specs.Types.{mandatory, TypeTree, a_type, FormTree, a_simple, a_tagged}
@@ -30,7 +30,7 @@ is_listing = either is_ellipsis is_ident
 -- fits: the test that numbers with no minus meet
 module _ (fits : ℕ → Bool) where
   -- what stands in the braces of a SEQUENCE or SET; part reads a member
-  unfoldable pub listing_at : Reader (Name × Component) → Reader (Option Listing)
+  unfoldable pub listing_at : {A : Type 0} → Reader A → Reader (Option (List A × Option (List (A ⊎ List A))))
   listing_at part ts = perhaps is_listing (rootless_at part (addition_at fits part)) ts
 
   -- n: how many more things may be open

@@ -1,20 +1,144 @@
 //! Reading a type from its first token on.
 
-ghost use Rattle.std.specs.Prelude.{IfOk};
+ghost use Rattle.std.specs.Prelude.{◌≡◌, ◌-◌, map, option_map, IfOk};
 ghost use Rattle.grammar.specs.Lexeme.{lexemes};
 ghost use Rattle.grammar.specs.Places.{small};
+ghost use Rattle.grammar.specs.Reading.{inside_at, braces_at, named_at};
 ghost use Rattle.kernel.specs.Given.{Gives, AreTokens};
-ghost use Rattle.trees.specs.Types.{type_tree_of};
-ghost use Rattle.type_syntax.specs.TypeReading.{type_at};
+ghost use Rattle.notation.specs.Reading.{value_at};
+ghost use Rattle.trees.specs.Constraints.{constraint_of};
+ghost use Rattle.trees.specs.Types.{type_tree_of, a_type};
+ghost use Rattle.type_syntax.specs.TypeGrammar.{of_listing, list_kind as list_kind_of, elements_kind as elements_kind_of, size_constraints};
+ghost use Rattle.type_syntax.specs.TypeReading.{component_at, bare_at, listing_at, body_at, alternatives_at, choice_at, inside_tag_at, tagged_at, one_type_at, plain_at, of_at, list_at, structure_at, behind_at, type_step, type_at};
+ghost use Rattle.type_syntax.specs.Listings.{component_of, listing_tree, form_tree};
 
-use kernel::ReadError;
-use std::alloc::Global;
-use text::Token;
-use trees::TypeSyntax;
+use crate::braces::{alternatives, members};
+use crate::listing::{Component, all_members};
+use kernel::{Addition, Extensible, Limit, Production, ReadError, WithName, reads_by};
+use std::alloc::{AllocError, Global};
+use std::marker::PhantomData;
+use text::reserved::Word;
+use text::{Mark, Token, TokenKind};
+use trees::{
+    ConstraintSyntax, ElementsKind, ListKind, Named, PresenceSyntax, TypeForm, TypeSyntax,
+};
+use type_parts::constrained::{behind_type, list_size};
+use type_parts::presences::presence;
+use type_parts::references::reference;
+use type_parts::simple_types::simple;
+use type_parts::tags::{keyword, tag};
+
+/// The members of a SEQUENCE or SET behind their names, as a production that types read again.
+pub struct Components;
+
+impl Production for Components {
+    ghost use Rattle.grammar.specs.Places.{small};
+    ghost use Rattle.notation.specs.Reading.{value_at};
+    ghost use Rattle.type_syntax.specs.Listings.{component_of};
+    ghost use Rattle.type_syntax.specs.TypeGrammar.{Component as ComponentTree};
+    ghost use Rattle.type_syntax.specs.TypeReading.{component_at, type_at};
+
+    type Tree = Component;
+
+    ghost Shape = { ComponentTree };
+
+    ghost view = { component_of };
+
+    ghost reader = { λ n. component_at (type_at small n) (value_at small n) };
+}
+
+/// The alternatives of a CHOICE behind their names.
+pub struct Alternatives;
+
+impl Production for Alternatives {
+    ghost use Rattle.grammar.specs.Places.{small};
+    ghost use Rattle.type_syntax.specs.Listings.{component_of};
+    ghost use Rattle.type_syntax.specs.TypeGrammar.{Component as ComponentTree};
+    ghost use Rattle.type_syntax.specs.TypeReading.{bare_at, type_at};
+
+    type Tree = Component;
+
+    ghost Shape = { ComponentTree };
+
+    ghost view = { component_of };
+
+    ghost reader = { λ n. bare_at (type_at small n) };
+}
+
+/// Where these tokens begin.
+fn start(tokens: &[Token]) -> usize {
+    match tokens.first() {
+        Some(first) => first.span.start,
+        None => 0,
+    }
+}
+
+/// A type, with the constraints behind it.
+#[tactic(auto, using(crate::proofs::Loop::type_tree))]
+fn typed(at: usize, form: TypeForm<TypeSyntax>, constraints: Vec<ConstraintSyntax>) -> TypeSyntax
+    ensures { type_tree_of result ≡ a_type (form_tree form) (map constraint_of constraints.items) }
+{
+    TypeSyntax {
+        at,
+        form,
+        constraints,
+    }
+}
+
+/// SET where `set` holds, and otherwise SEQUENCE.
+fn list_kind(set: bool) -> ListKind
+    ensures { result ≡ list_kind_of set }
+{
+    if set {
+        ListKind::Set
+    } else {
+        ListKind::Sequence
+    }
+}
+
+/// SET OF where `set` holds, and otherwise SEQUENCE OF.
+fn elements_kind(set: bool) -> ElementsKind
+    ensures { result ≡ elements_kind_of set }
+{
+    if set {
+        ElementsKind::SetOf
+    } else {
+        ElementsKind::SequenceOf
+    }
+}
+
+/// The constraints of a list type: its size, if one is given.
+fn size_alone(
+    alloc: Global,
+    size: Option<ConstraintSyntax>,
+) -> Result<Vec<ConstraintSyntax>, AllocError>
+    ensures { IfOk result (λ v. map constraint_of v.items ≡ size_constraints (option_map constraint_of size)) }
+{
+    let mut constraints = Vec::new(alloc);
+    if let Some(size) = size {
+        constraints.push(size)?;
+    }
+    Ok(constraints)
+}
+
+/// The list of these members.
+fn list_form(
+    alloc: Global,
+    kind: ListKind,
+    list: Extensible<Named<Component>, Addition<Named<Component>>>,
+) -> Result<TypeForm<TypeSyntax>, AllocError>
+    ensures { IfOk result (λ f. form_tree f ≡ of_listing kind (listing_tree list)) }
+{
+    let marker = list.additions.is_some();
+    let members = all_members(alloc, list)?;
+    Ok(TypeForm::List(kind, marker, members))
+}
 
 /// Reads a type, where so many more things may be open.
+#[tactic(auto, using(crate::proofs::Loop::type_stepped))]
+#[cycle(type_syntax)]
 pub fn type_syntax<'a>(
-    _alloc: Global,
+    alloc: Global,
     text: &[u8],
     tokens: &'a [Token],
     depth: usize,
@@ -23,5 +147,472 @@ pub fn type_syntax<'a>(
     ensures read { Gives (λ x. (type_tree_of x.0, lexemes text.now x.1.now)) result (type_at small depth (lexemes text.now tokens.now)) }
     ensures rest { IfOk result (λ x. AreTokens text.now x.1.now) }
 {
-    Err(ReadError::Memory)
+    step(alloc, text, tokens, depth)
+}
+
+/// Reads a type by its first token.
+#[tactic(auto, unfolding(crate::specs::TypeReading::type_step))]
+#[cycle(type_syntax)]
+fn step<'a>(
+    alloc: Global,
+    text: &[u8],
+    tokens: &'a [Token],
+    depth: usize,
+) -> Result<(TypeSyntax, &'a [Token]), ReadError>
+    requires tokens { AreTokens text.now tokens.now }
+    ensures read { Gives (λ x. (type_tree_of x.0, lexemes text.now x.1.now)) result (type_step small depth (type_at small (depth - 1)) (value_at small (depth - 1)) (lexemes text.now tokens.now)) }
+    ensures rest { IfOk result (λ x. AreTokens text.now x.1.now) }
+{
+    match tokens {
+        [
+            Token {
+                kind: TokenKind::Mark(Mark::OpenBracket),
+                ..
+            },
+            ..
+        ] => tagged(alloc, text, tokens, depth),
+        [
+            first @ Token {
+                kind: TokenKind::Reserved(Word::Sequence),
+                ..
+            },
+            rest @ ..,
+        ] => behind(alloc, text, first.span.start, rest, depth, false),
+        [
+            first @ Token {
+                kind: TokenKind::Reserved(Word::Set),
+                ..
+            },
+            rest @ ..,
+        ] => behind(alloc, text, first.span.start, rest, depth, true),
+        _ => plain(alloc, text, tokens, depth),
+    }
+}
+
+/// Reads a tag and the type behind it.
+#[tactic(auto, unfolding(crate::specs::TypeReading::tagged_at))]
+#[cycle(type_syntax)]
+fn tagged<'a>(
+    alloc: Global,
+    text: &[u8],
+    tokens: &'a [Token],
+    depth: usize,
+) -> Result<(TypeSyntax, &'a [Token]), ReadError>
+    requires tokens { AreTokens text.now tokens.now }
+    ensures read { Gives (λ x. (type_tree_of x.0, lexemes text.now x.1.now)) result (tagged_at small depth (type_at small (depth - 1)) (lexemes text.now tokens.now)) }
+    ensures rest { IfOk result (λ x. AreTokens text.now x.1.now) }
+{
+    match tokens {
+        [
+            first @ Token {
+                kind: TokenKind::Mark(Mark::OpenBracket),
+                ..
+            },
+            rest @ ..,
+        ] => {
+            if depth == 0 {
+                return Err(ReadError::Limit(Limit::Nesting, tokens.len()));
+            }
+            inside_tag(alloc, text, first.span.start, rest, depth - 1)
+        }
+        _ => Err(ReadError::Unexpected(tokens.len())),
+    }
+}
+
+/// Reads what stands behind the bracket that opens a tag (X.680, clause 31.2.1).
+#[tactic(auto, unfolding(crate::specs::TypeReading::inside_tag_at))]
+#[cycle(type_syntax)]
+fn inside_tag<'a>(
+    alloc: Global,
+    text: &[u8],
+    at: usize,
+    tokens: &'a [Token],
+    depth: usize,
+) -> Result<(TypeSyntax, &'a [Token]), ReadError>
+    requires tokens { AreTokens text.now tokens.now }
+    ensures read { Gives (λ x. (type_tree_of x.0, lexemes text.now x.1.now)) result (inside_tag_at small (type_at small depth) (lexemes text.now tokens.now)) }
+    ensures rest { IfOk result (λ x. AreTokens text.now x.1.now) }
+{
+    let (tag, rest) = tag(text, tokens)?;
+    let (keyword, rest) = keyword(text, rest)?;
+    let (inner, rest) = type_syntax(alloc, text, rest, depth)?;
+    let form = TypeForm::Tagged(tag, keyword, Box::new(alloc, inner)?);
+    Ok((typed(at, form, Vec::new(alloc)), rest))
+}
+
+/// Reads what is no SEQUENCE and no SET, and the constraints behind it.
+#[tactic(auto, unfolding(crate::specs::TypeReading::plain_at, crate::specs::TypeReading::with_constraints_at))]
+#[cycle(type_syntax)]
+fn plain<'a>(
+    alloc: Global,
+    text: &[u8],
+    tokens: &'a [Token],
+    depth: usize,
+) -> Result<(TypeSyntax, &'a [Token]), ReadError>
+    requires tokens { AreTokens text.now tokens.now }
+    ensures read { Gives (λ x. (type_tree_of x.0, lexemes text.now x.1.now)) result (plain_at small depth (type_at small (depth - 1)) (lexemes text.now tokens.now)) }
+    ensures rest { IfOk result (λ x. AreTokens text.now x.1.now) }
+{
+    let (form, rest) = one_type(alloc, text, tokens, depth)?;
+    let (constraints, rest) = behind_type(alloc, text, rest)?;
+    Ok((typed(start(tokens), form, constraints), rest))
+}
+
+/// Reads what is no SEQUENCE and no SET.
+#[tactic(auto, unfolding(crate::specs::TypeReading::one_type_at, crate::specs::TypeReading::plain_form_at))]
+#[cycle(type_syntax)]
+fn one_type<'a>(
+    alloc: Global,
+    text: &[u8],
+    tokens: &'a [Token],
+    depth: usize,
+) -> Result<(TypeForm<TypeSyntax>, &'a [Token]), ReadError>
+    requires tokens { AreTokens text.now tokens.now }
+    ensures read { Gives (λ x. (form_tree x.0, lexemes text.now x.1.now)) result (one_type_at small depth (type_at small (depth - 1)) (lexemes text.now tokens.now)) }
+    ensures rest { IfOk result (λ x. AreTokens text.now x.1.now) }
+{
+    match tokens {
+        [
+            first @ Token {
+                kind: TokenKind::TypeReference,
+                ..
+            },
+            rest @ ..,
+        ] => {
+            let (name, rest) = reference(alloc, text, *first, rest)?;
+            Ok((TypeForm::Reference(name), rest))
+        }
+        [
+            Token {
+                kind: TokenKind::Reserved(Word::Choice),
+                ..
+            },
+            rest @ ..,
+        ] => choice(alloc, text, rest, depth),
+        _ => {
+            let (ty, rest) = simple(alloc, text, tokens, depth)?;
+            Ok((TypeForm::Simple(ty), rest))
+        }
+    }
+}
+
+/// Reads what stands behind `CHOICE` (X.680, clause 29.1).
+#[tactic(auto, unfolding(crate::specs::TypeReading::choice_at))]
+#[cycle(type_syntax)]
+fn choice<'a>(
+    alloc: Global,
+    text: &[u8],
+    tokens: &'a [Token],
+    depth: usize,
+) -> Result<(TypeForm<TypeSyntax>, &'a [Token]), ReadError>
+    requires tokens { AreTokens text.now tokens.now }
+    ensures read { Gives (λ x. (form_tree x.0, lexemes text.now x.1.now)) result (choice_at small depth (type_at small (depth - 1)) (lexemes text.now tokens.now)) }
+    ensures rest { IfOk result (λ x. AreTokens text.now x.1.now) }
+{
+    let (list, rest) = choice_braces(alloc, text, tokens, depth)?;
+    Ok((list_form(alloc, ListKind::Choice, list)?, rest))
+}
+
+/// Reads alternatives in braces.
+#[tactic(auto, unfolding(grammar::specs::Reading::braces_at))]
+#[cycle(type_syntax)]
+fn choice_braces<'a>(
+    alloc: Global,
+    text: &[u8],
+    tokens: &'a [Token],
+    depth: usize,
+) -> Result<
+    (
+        Extensible<Named<Component>, Addition<Named<Component>>>,
+        &'a [Token],
+    ),
+    ReadError,
+>
+    requires tokens { AreTokens text.now tokens.now }
+    ensures read { Gives (λ x. (listing_tree x.0, lexemes text.now x.1.now)) result (braces_at depth (alternatives_at small (type_at small (depth - 1))) (lexemes text.now tokens.now)) }
+    ensures rest { IfOk result (λ x. AreTokens text.now x.1.now) }
+{
+    match tokens {
+        [
+            Token {
+                kind: TokenKind::Mark(Mark::OpenBrace),
+                ..
+            },
+            rest @ ..,
+        ] => {
+            if depth == 0 {
+                return Err(ReadError::Limit(Limit::Nesting, tokens.len()));
+            }
+            inside_choice(alloc, text, rest, depth - 1)
+        }
+        _ => Err(ReadError::Unexpected(tokens.len())),
+    }
+}
+
+/// Reads alternatives as far as the closing brace, with an extension marker among them or not.
+#[tactic(auto, unfolding(grammar::specs::Reading::inside_at, crate::specs::TypeReading::alternatives_at), using(crate::proofs::Loop::bare_short))]
+#[cycle(type_syntax)]
+fn inside_choice<'a>(
+    alloc: Global,
+    text: &[u8],
+    tokens: &'a [Token],
+    depth: usize,
+) -> Result<
+    (
+        Extensible<Named<Component>, Addition<Named<Component>>>,
+        &'a [Token],
+    ),
+    ReadError,
+>
+    requires tokens { AreTokens text.now tokens.now }
+    ensures read { Gives (λ x. (listing_tree x.0, lexemes text.now x.1.now)) result (inside_at (alternatives_at small (type_at small depth)) (lexemes text.now tokens.now)) }
+    ensures rest { IfOk result (λ x. AreTokens text.now x.1.now) }
+{
+    type_parts::law::parts_are_read();
+    let inner = reads_by(
+        PhantomData::<Alternatives>,
+        |ts|
+            requires { AreTokens text.now ts.now }
+            ensures read { Gives (λ x. (component_of x.0, lexemes text.entry.now x.1.now)) result (bare_at (type_at small depth) (lexemes text.entry.now ts.now)) }
+            ensures rest { IfOk result (λ x. AreTokens text.entry.now x.1.now) }
+        { bare(alloc, text, ts, depth) },
+        depth,
+    );
+    alternatives(alloc, text, &WithName { part: inner }, tokens)
+}
+
+/// Reads the type of an alternative.
+#[tactic(auto, unfolding(crate::specs::TypeReading::bare_at))]
+#[cycle(type_syntax)]
+fn bare<'a>(
+    alloc: Global,
+    text: &[u8],
+    tokens: &'a [Token],
+    depth: usize,
+) -> Result<(Component, &'a [Token]), ReadError>
+    requires tokens { AreTokens text.now tokens.now }
+    ensures read { Gives (λ x. (component_of x.0, lexemes text.now x.1.now)) result (bare_at (type_at small depth) (lexemes text.now tokens.now)) }
+    ensures rest { IfOk result (λ x. AreTokens text.now x.1.now) }
+{
+    let (syntax, rest) = type_syntax(alloc, text, tokens, depth)?;
+    let presence = PresenceSyntax::Mandatory;
+    Ok((Component { syntax, presence }, rest))
+}
+
+/// Reads what stands behind `SEQUENCE`, or behind `SET` where `set` holds.
+#[tactic(auto, unfolding(crate::specs::TypeReading::behind_at))]
+#[cycle(type_syntax)]
+fn behind<'a>(
+    alloc: Global,
+    text: &[u8],
+    at: usize,
+    tokens: &'a [Token],
+    depth: usize,
+    set: bool,
+) -> Result<(TypeSyntax, &'a [Token]), ReadError>
+    requires tokens { AreTokens text.now tokens.now }
+    ensures read { Gives (λ x. (type_tree_of x.0, lexemes text.now x.1.now)) result (behind_at small depth (type_at small (depth - 1)) (value_at small (depth - 1)) set (lexemes text.now tokens.now)) }
+    ensures rest { IfOk result (λ x. AreTokens text.now x.1.now) }
+{
+    match tokens {
+        [
+            Token {
+                kind: TokenKind::Mark(Mark::OpenBrace),
+                ..
+            },
+            ..
+        ] => structure(alloc, text, at, tokens, depth, set),
+        _ => list(alloc, text, at, tokens, depth, set),
+    }
+}
+
+/// Reads members in braces and the constraints behind them.
+#[tactic(auto, unfolding(crate::specs::TypeReading::structure_at, crate::specs::TypeReading::with_constraints_at))]
+#[cycle(type_syntax)]
+fn structure<'a>(
+    alloc: Global,
+    text: &[u8],
+    at: usize,
+    tokens: &'a [Token],
+    depth: usize,
+    set: bool,
+) -> Result<(TypeSyntax, &'a [Token]), ReadError>
+    requires tokens { AreTokens text.now tokens.now }
+    ensures read { Gives (λ x. (type_tree_of x.0, lexemes text.now x.1.now)) result (structure_at small depth (type_at small (depth - 1)) (value_at small (depth - 1)) set (lexemes text.now tokens.now)) }
+    ensures rest { IfOk result (λ x. AreTokens text.now x.1.now) }
+{
+    let (list, rest) = body(alloc, text, tokens, depth)?;
+    let form = list_form(alloc, list_kind(set), list)?;
+    let (constraints, rest) = behind_type(alloc, text, rest)?;
+    Ok((typed(at, form, constraints), rest))
+}
+
+/// Reads what may stand in braces: members, with an extension marker among them or not, or nothing (X.680, clause 25.1).
+#[tactic(auto, unfolding(crate::specs::TypeReading::body_at))]
+#[cycle(type_syntax)]
+fn body<'a>(
+    alloc: Global,
+    text: &[u8],
+    tokens: &'a [Token],
+    depth: usize,
+) -> Result<
+    (
+        Extensible<Named<Component>, Addition<Named<Component>>>,
+        &'a [Token],
+    ),
+    ReadError,
+>
+    requires tokens { AreTokens text.now tokens.now }
+    ensures read { Gives (λ x. (listing_tree x.0, lexemes text.now x.1.now)) result (body_at small depth (type_at small (depth - 1)) (value_at small (depth - 1)) (lexemes text.now tokens.now)) }
+    ensures rest { IfOk result (λ x. AreTokens text.now x.1.now) }
+{
+    let (list, rest) = list_braces(alloc, text, tokens, depth)?;
+    match list {
+        Some(list) => Ok((list, rest)),
+        None => Ok((
+            Extensible {
+                root: Vec::new(alloc),
+                additions: None,
+            },
+            rest,
+        )),
+    }
+}
+
+/// Reads members in braces.
+#[tactic(auto, unfolding(grammar::specs::Reading::braces_at))]
+#[cycle(type_syntax)]
+fn list_braces<'a>(
+    alloc: Global,
+    text: &[u8],
+    tokens: &'a [Token],
+    depth: usize,
+) -> Result<
+    (
+        Option<Extensible<Named<Component>, Addition<Named<Component>>>>,
+        &'a [Token],
+    ),
+    ReadError,
+>
+    requires tokens { AreTokens text.now tokens.now }
+    ensures read { Gives (λ x. (option_map listing_tree x.0, lexemes text.now x.1.now)) result (braces_at depth (listing_at small (named_at (component_at (type_at small (depth - 1)) (value_at small (depth - 1))))) (lexemes text.now tokens.now)) }
+    ensures rest { IfOk result (λ x. AreTokens text.now x.1.now) }
+{
+    match tokens {
+        [
+            Token {
+                kind: TokenKind::Mark(Mark::OpenBrace),
+                ..
+            },
+            rest @ ..,
+        ] => {
+            if depth == 0 {
+                return Err(ReadError::Limit(Limit::Nesting, tokens.len()));
+            }
+            inside_list(alloc, text, rest, depth - 1)
+        }
+        _ => Err(ReadError::Unexpected(tokens.len())),
+    }
+}
+
+/// Reads members as far as the closing brace.
+#[tactic(auto, using(crate::proofs::Loop::component_short))]
+#[cycle(type_syntax)]
+fn inside_list<'a>(
+    alloc: Global,
+    text: &[u8],
+    tokens: &'a [Token],
+    depth: usize,
+) -> Result<
+    (
+        Option<Extensible<Named<Component>, Addition<Named<Component>>>>,
+        &'a [Token],
+    ),
+    ReadError,
+>
+    requires tokens { AreTokens text.now tokens.now }
+    ensures read { Gives (λ x. (option_map listing_tree x.0, lexemes text.now x.1.now)) result (inside_at (listing_at small (named_at (component_at (type_at small depth) (value_at small depth)))) (lexemes text.now tokens.now)) }
+    ensures rest { IfOk result (λ x. AreTokens text.now x.1.now) }
+{
+    type_parts::law::parts_are_read();
+    let inner = reads_by(
+        PhantomData::<Components>,
+        |ts|
+            requires { AreTokens text.now ts.now }
+            ensures read { Gives (λ x. (component_of x.0, lexemes text.entry.now x.1.now)) result (component_at (type_at small depth) (value_at small depth) (lexemes text.entry.now ts.now)) }
+            ensures rest { IfOk result (λ x. AreTokens text.entry.now x.1.now) }
+        { component(alloc, text, ts, depth) },
+        depth,
+    );
+    members(alloc, text, &WithName { part: inner }, tokens)
+}
+
+/// Reads a member's type, and whether it may be absent (X.680, clause 25.1).
+#[tactic(auto, unfolding(crate::specs::TypeReading::component_at))]
+#[cycle(type_syntax)]
+fn component<'a>(
+    alloc: Global,
+    text: &[u8],
+    tokens: &'a [Token],
+    depth: usize,
+) -> Result<(Component, &'a [Token]), ReadError>
+    requires tokens { AreTokens text.now tokens.now }
+    ensures read { Gives (λ x. (component_of x.0, lexemes text.now x.1.now)) result (component_at (type_at small depth) (value_at small depth) (lexemes text.now tokens.now)) }
+    ensures rest { IfOk result (λ x. AreTokens text.now x.1.now) }
+{
+    let (syntax, rest) = type_syntax(alloc, text, tokens, depth)?;
+    let (presence, rest) = presence(alloc, text, rest, depth)?;
+    Ok((Component { syntax, presence }, rest))
+}
+
+/// Reads a list type behind `SEQUENCE`, or behind `SET` where `set` holds (X.680, clauses 26.1 and 28.1).
+#[tactic(auto, unfolding(crate::specs::TypeReading::list_at))]
+#[cycle(type_syntax)]
+fn list<'a>(
+    alloc: Global,
+    text: &[u8],
+    at: usize,
+    tokens: &'a [Token],
+    depth: usize,
+    set: bool,
+) -> Result<(TypeSyntax, &'a [Token]), ReadError>
+    requires tokens { AreTokens text.now tokens.now }
+    ensures read { Gives (λ x. (type_tree_of x.0, lexemes text.now x.1.now)) result (list_at small depth (type_at small (depth - 1)) set (lexemes text.now tokens.now)) }
+    ensures rest { IfOk result (λ x. AreTokens text.now x.1.now) }
+{
+    let (size, rest) = list_size(alloc, text, tokens)?;
+    let (element, rest) = of(alloc, text, rest, depth)?;
+    let form = TypeForm::Elements(elements_kind(set), Box::new(alloc, element)?);
+    let constraints = size_alone(alloc, size)?;
+    Ok((typed(at, form, constraints), rest))
+}
+
+/// Reads `OF` and the type of the elements.
+#[tactic(auto, unfolding(crate::specs::TypeReading::of_at))]
+#[cycle(type_syntax)]
+fn of<'a>(
+    alloc: Global,
+    text: &[u8],
+    tokens: &'a [Token],
+    depth: usize,
+) -> Result<(TypeSyntax, &'a [Token]), ReadError>
+    requires tokens { AreTokens text.now tokens.now }
+    ensures read { Gives (λ x. (type_tree_of x.0, lexemes text.now x.1.now)) result (of_at small depth (type_at small (depth - 1)) (lexemes text.now tokens.now)) }
+    ensures rest { IfOk result (λ x. AreTokens text.now x.1.now) }
+{
+    match tokens {
+        [
+            Token {
+                kind: TokenKind::Reserved(Word::Of),
+                ..
+            },
+            rest @ ..,
+        ] => {
+            if depth == 0 {
+                return Err(ReadError::Limit(Limit::Nesting, tokens.len()));
+            }
+            type_syntax(alloc, text, rest, depth - 1)
+        }
+        _ => Err(ReadError::Unexpected(tokens.len())),
+    }
 }

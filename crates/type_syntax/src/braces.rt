@@ -1,0 +1,118 @@
+//! Reading what stands in the braces of a list of members.
+
+ghost use Rattle.std.specs.Prelude.{◌≡◌, option_map, IfOk};
+ghost use Rattle.grammar.specs.Lexeme.{lexemes};
+ghost use Rattle.grammar.specs.Manies.{is_begun_by};
+ghost use Rattle.grammar.specs.Places.{small};
+ghost use Rattle.grammar.specs.Reading.{inside_at, extensible_at, rootless_at, addition_at};
+ghost use Rattle.kernel.specs.Given.{Gives, AreTokens};
+ghost use Rattle.kernel.specs.Parts.{extensible_of, addition_of};
+ghost use Rattle.type_syntax.specs.TypeReading.{is_listing, listing_at};
+
+use kernel::marks::closed;
+use kernel::{Added, Addition, Extensible, ExtensibleList, Part, ReadError, RootlessList};
+use std::alloc::Global;
+use text::{Mark, Token, TokenKind};
+
+/// Parts, one at least before an extension marker, with version brackets behind it.
+fn rooted<'t, P: Part<'t>>(
+    alloc: Global,
+    text: &[u8],
+    part: &P,
+    tokens: &'t [Token],
+) -> Result<(Extensible<P::Tree, Addition<P::Tree>>, &'t [Token]), ReadError>
+    requires ready { P.is_ready part.now text.now }
+    requires tokens { AreTokens text.now tokens.now }
+    ensures read { Gives (λ x. (extensible_of P.view (addition_of P.view) x.0, lexemes text.now x.1.now)) result (extensible_at (P.reader part.now) (addition_at small (P.reader part.now)) (lexemes text.now tokens.now)) }
+    ensures rest { IfOk result (λ x. AreTokens text.now x.1.now) }
+{
+    let addition = Added { part };
+    ExtensibleList { part, addition }.read(alloc, text, tokens)
+}
+
+/// The same, where the marker may stand at once.
+fn rootless<'t, P: Part<'t>>(
+    alloc: Global,
+    text: &[u8],
+    part: &P,
+    tokens: &'t [Token],
+) -> Result<(Extensible<P::Tree, Addition<P::Tree>>, &'t [Token]), ReadError>
+    requires ready { P.is_ready part.now text.now }
+    requires tokens { AreTokens text.now tokens.now }
+    ensures read { Gives (λ x. (extensible_of P.view (addition_of P.view) x.0, lexemes text.now x.1.now)) result (rootless_at (P.reader part.now) (addition_at small (P.reader part.now)) (lexemes text.now tokens.now)) }
+    ensures rest { IfOk result (λ x. AreTokens text.now x.1.now) }
+{
+    let addition = Added { part };
+    RootlessList { part, addition }.read(alloc, text, tokens)
+}
+
+/// Whether a list of members begins here.
+fn begins(text: &[u8], tokens: &[Token]) -> bool
+    ensures { result ≡ is_begun_by is_listing (lexemes text.now tokens.now) }
+{
+    matches!(
+        tokens,
+        [
+            Token {
+                kind: TokenKind::Identifier | TokenKind::Mark(Mark::Ellipsis),
+                ..
+            },
+            ..
+        ]
+    )
+}
+
+/// Reads alternatives as far as the closing brace, with an extension marker among them or not.
+#[tactic(auto, unfolding(grammar::specs::Reading::inside_at))]
+pub fn alternatives<'t, P: Part<'t>>(
+    alloc: Global,
+    text: &[u8],
+    part: &P,
+    tokens: &'t [Token],
+) -> Result<(Extensible<P::Tree, Addition<P::Tree>>, &'t [Token]), ReadError>
+    requires ready { P.is_ready part.now text.now }
+    requires tokens { AreTokens text.now tokens.now }
+    ensures read { Gives (λ x. (extensible_of P.view (addition_of P.view) x.0, lexemes text.now x.1.now)) result (inside_at (extensible_at (P.reader part.now) (addition_at small (P.reader part.now))) (lexemes text.now tokens.now)) }
+    ensures rest { IfOk result (λ x. AreTokens text.now x.1.now) }
+{
+    let (list, rest) = rooted(alloc, text, part, tokens)?;
+    Ok((list, closed(text, rest)?))
+}
+
+/// Reads members, if there are any, with an extension marker among them or not.
+#[tactic(auto, using(crate::proofs::Begins::listing_begins, crate::proofs::Begins::no_listing))]
+fn listing<'t, P: Part<'t>>(
+    alloc: Global,
+    text: &[u8],
+    part: &P,
+    tokens: &'t [Token],
+) -> Result<(Option<Extensible<P::Tree, Addition<P::Tree>>>, &'t [Token]), ReadError>
+    requires ready { P.is_ready part.now text.now }
+    requires tokens { AreTokens text.now tokens.now }
+    ensures read { Gives (λ x. (option_map (λ l. extensible_of P.view (addition_of P.view) l) x.0, lexemes text.now x.1.now)) result (listing_at small (P.reader part.now) (lexemes text.now tokens.now)) }
+    ensures rest { IfOk result (λ x. AreTokens text.now x.1.now) }
+{
+    if begins(text, tokens) {
+        let (list, rest) = rootless(alloc, text, part, tokens)?;
+        Ok((Some(list), rest))
+    } else {
+        Ok((None, tokens))
+    }
+}
+
+/// Reads members as far as the closing brace, if there are any, with an extension marker among them or not.
+#[tactic(auto, unfolding(grammar::specs::Reading::inside_at))]
+pub fn members<'t, P: Part<'t>>(
+    alloc: Global,
+    text: &[u8],
+    part: &P,
+    tokens: &'t [Token],
+) -> Result<(Option<Extensible<P::Tree, Addition<P::Tree>>>, &'t [Token]), ReadError>
+    requires ready { P.is_ready part.now text.now }
+    requires tokens { AreTokens text.now tokens.now }
+    ensures read { Gives (λ x. (option_map (λ l. extensible_of P.view (addition_of P.view) l) x.0, lexemes text.now x.1.now)) result (inside_at (listing_at small (P.reader part.now)) (lexemes text.now tokens.now)) }
+    ensures rest { IfOk result (λ x. AreTokens text.now x.1.now) }
+{
+    let (list, rest) = listing(alloc, text, part, tokens)?;
+    Ok((list, closed(text, rest)?))
+}

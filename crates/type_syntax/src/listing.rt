@@ -1,0 +1,80 @@
+//! The members of a list in order, each with where it stands.
+
+ghost use Rattle.std.specs.Prelude.{◌≡◌, ◌++◌, map, IfOk};
+ghost use Rattle.kernel.specs.Parts.{addition_of};
+ghost use Rattle.trees.specs.Types.{type_member_of};
+ghost use Rattle.type_syntax.specs.TypeGrammar.{a_member, additions_from, all_members as all_members_of};
+ghost use Rattle.type_syntax.specs.Listings.{named_component, listing_tree};
+
+use kernel::{Addition, Extensible};
+use std::alloc::{AllocError, Global};
+use trees::{Member, Named, PresenceSyntax, Standing, TypeSyntax};
+
+/// A member's type, and whether it may be absent.
+#[derive(Drop)]
+pub struct Component {
+    pub syntax: TypeSyntax,
+    pub presence: PresenceSyntax,
+}
+
+/// A member where it stands.
+fn member(part: Named<Component>, standing: Standing) -> Member<TypeSyntax>
+    ensures { type_member_of result ≡ a_member standing (named_component part) }
+{
+    Member {
+        name: part.name,
+        syntax: part.value.syntax,
+        presence: part.value.presence,
+        standing,
+    }
+}
+
+/// Puts members that stand so behind others.
+fn put_parts(
+    members: Vec<Member<TypeSyntax>>,
+    parts: Vec<Named<Component>>,
+    standing: Standing,
+) -> Result<Vec<Member<TypeSyntax>>, AllocError>
+    ensures { IfOk result (λ v. map type_member_of v.items ≡ map type_member_of members.items ++ map (a_member standing) (map named_component parts.items)) }
+{
+    let mut members = members;
+    for part in parts {
+        members.push(member(part, standing))?;
+    }
+    Ok(members)
+}
+
+/// Puts additions behind the members of the root.
+fn put_additions(
+    members: Vec<Member<TypeSyntax>>,
+    additions: Vec<Addition<Named<Component>>>,
+) -> Result<Vec<Member<TypeSyntax>>, AllocError>
+    ensures { IfOk result (λ v. map type_member_of v.items ≡ map type_member_of members.items ++ additions_from 0 (map (addition_of named_component) additions.items)) }
+{
+    let mut members = members;
+    let mut number = 0;
+    for addition in additions {
+        match addition {
+            Addition::Alone(part) => members.push(member(part, Standing::Addition(None)))?,
+            Addition::Bracket(parts) => {
+                members = put_parts(members, parts, Standing::Addition(Some(number)))?;
+                number += 1;
+            }
+        }
+    }
+    Ok(members)
+}
+
+/// All members, those of the root first, each with where it stands.
+pub fn all_members(
+    alloc: Global,
+    list: Extensible<Named<Component>, Addition<Named<Component>>>,
+) -> Result<Vec<Member<TypeSyntax>>, AllocError>
+    ensures { IfOk result (λ v. map type_member_of v.items ≡ all_members_of (listing_tree list)) }
+{
+    let root = put_parts(Vec::new(alloc), list.root, Standing::Root)?;
+    match list.additions {
+        Some(additions) => put_additions(root, additions),
+        None => Ok(root),
+    }
+}
