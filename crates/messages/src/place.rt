@@ -112,7 +112,11 @@ fn text_of_spot(
     let is_twice = matches!(fault, Fault::Name(NameFault::Twice(_)));
     match first {
         Some(number) if is_twice && spot.module.as_str() == spot.name.as_str() => {
-            module_text(alloc, texts, number.saturating_add(1), spot.module.as_str())
+            let behind = number.saturating_add(1);
+            match module_text(alloc, texts, behind, spot.module.as_str())? {
+                Some(second) => Ok(Some(second)),
+                None => Ok(first),
+            }
         }
         other => Ok(other),
     }
