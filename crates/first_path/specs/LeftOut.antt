@@ -17,9 +17,7 @@ use Rattle.asn_base.specs.declared.strings.StringKind.TheVariants as strings
 use Rattle.names.specs.declared.sources.Header.{Header}
 use Rattle.names.specs.Faults.{module_told, name_told}
 use Rattle.names.specs.Modules.{StandsIn}
-use Rattle.resolve.specs.Program.{Program}
-use Rattle.resolve.specs.Sound.{IsAssignment}
-use Rattle.resolve.specs.SoundFaults.{IsTypeIn, IsValueIn}
+use Rattle.resolve.specs.Program.{Program, IsAssignment, IsTypeIn, IsValueIn}
 use Rattle.type_table.specs.Table.{Part, Kind, simple, reference, tagged, members, elements, Type'}
 use Rattle.first_path.specs.declared.fault.Construct.{Construct}
 use Rattle.first_path.specs.declared.fault.Construct.TheVariants as constructs

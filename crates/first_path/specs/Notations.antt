@@ -10,9 +10,8 @@ use Rattle.trees.specs.declared.place.Spot.{Spot}
 use Rattle.names.specs.declared.scope.Assigned.TheVariants as assigned
 use Rattle.names.specs.Faults.{module_told, name_told}
 use Rattle.names.specs.Names.{Refers}
-use Rattle.resolve.specs.Program.{Program}
+use Rattle.resolve.specs.Program.{Program, IsAssignment}
 use Rattle.names.specs.Sources.{Value}
-use Rattle.resolve.specs.Sound.{IsAssignment}
 use Rattle.first_path.specs.declared.fault.ValueFault.{ValueFault}
 use Rattle.first_path.specs.declared.fault.ValueFault.TheVariants as faults
 

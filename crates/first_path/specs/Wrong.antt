@@ -7,9 +7,8 @@ use Rattle.asn_base.specs.Types.{Kind, a_boolean, an_integer, an_octet_string, a
 use Rattle.trees.specs.Values.{Name, Tree, reference}
 use Rattle.names.specs.Faults.{module_told, name_told}
 use Rattle.names.specs.Modules.{StandsIn, StandsTwice, AreDistinct}
-use Rattle.resolve.specs.Program.{Program}
+use Rattle.resolve.specs.Program.{Program, IsAssignment}
 use Rattle.names.specs.Sources.{Value}
-use Rattle.resolve.specs.Sound.{IsAssignment}
 use Rattle.first_path.specs.declared.fault.ValueFault.{ValueFault}
 use Rattle.first_path.specs.declared.fault.ValueFault.TheVariants as faults
 use Rattle.first_path.specs.Notations.{truth_in, number_in, binary_in, hex_in, fields_in, IsLast, Tells, IsValueAt, MeansValue, RefersTo, Notation}

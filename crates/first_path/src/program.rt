@@ -4,7 +4,7 @@ ghost use Rattle.std.specs.Prelude.{◌≡◌, ◌<◌, ◌↔◌, ℕ, length, 
 ghost use Rattle.trees.specs.Values.{tree_of};
 ghost use Rattle.names.specs.Sources.{assignment_of, header_of, value_of};
 ghost use Rattle.type_table.specs.Seen.{type_of};
-ghost use Rattle.resolve.specs.Sound.{IsAssignment};
+ghost use Rattle.resolve.specs.Program.{IsAssignment};
 ghost use Rattle.first_path.specs.Notations.{IsValueAt, MeansValue, RefersTo};
 
 use names::{Assigned, Assignment, Header, ValueAt};
