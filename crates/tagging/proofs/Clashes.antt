@@ -8,7 +8,7 @@ use Rattle.std.specs.declared.cmp.Ordering.{Ordering}
 use Rattle.std.specs.declared.cmp.Ordering.TheVariants.{Less, Equal, Greater}
 use Rattle.std.proofs.lemmas.Bool.{cases_lt}
 use Rattle.std.proofs.lemmas.Cmp.{ranked, tied_itself, nat_cmp_total}
-use Rattle.std.proofs.lemmas.Option.{slice_get-map, slice_get_read, slice_get_within}
+use Rattle.std.proofs.lemmas.Option.{slice_get-map, slice_get_read, slice_get_within, same_Some}
 use Rattle.asn_base.specs.Tags.{class_rank}
 use Rattle.asn_base.specs.declared.tag.Class.{Class}
 use Rattle.asn_base.specs.declared.tag.Class.TheVariants.{Universal, Application, Context, Private}
@@ -18,39 +18,33 @@ use Rattle.trees.specs.declared.types.ListKind.TheVariants.{Sequence, Set, Choic
 use Rattle.type_table.specs.Table.{Part, Type'}
 use Rattle.tagging.specs.First.{may_be_absent, Together, Distinct}
 use Rattle.tagging.specs.proving.Heads.{AreFirst}
-use Rattle.tagging.specs.proving.Lists.{Collected, none, one, tag_lists, Reaches, IsClear, Upto, key_of, key_cmp, IsIn, HasKey, Holds, Meets}
+use Rattle.tagging.specs.proving.Lists.{Collected, none, one, tag_lists, Passes, IsClear, key_of, key_cmp, IsIn, HasKey, Meets}
 use Rattle.tagging.specs.Tagged.{Clash}
 use Rattle.tagging.proofs.Tables.{contains_at, contained_at}
 
-pub together : (k : ListKind) (cs : List Part) (p q : ℕ) → Upto k cs p q → Reaches k cs q → Together k cs p q
-together Sequence cs p q u h = λ r c l m e. elim (cases_lt (r + 1) q) [ inl x ↦ u r c l x e | inr y ↦ h r c (omega arith) e ]
-together Set cs p q u h = tt
-together Choice cs p q u h = tt
+-- what can stand together with the member at a place can with that behind it, where the one at this place may be absent
+together_next : (k : ListKind) (cs : List Part) (p q : ℕ) (c : Part) → slice_get cs q ≡ Some c → Passes k c → Together k cs p q → Together k cs p (q + 1)
+together_next Sequence cs p q c e h t = λ r d l m f. elim (cases_lt r q) [
+  | inl x ↦ t r d l x f
+  | inr y ↦ (let s : q ≡ r = omega (arith, y, m) in subst (λ z. may_be_absent z ≡ true) (same_Some c d (sym e ∙ ap (slice_get cs) s ∙ f)) h)
+]
+together_next Set cs p q c e h t = tt
+together_next Choice cs p q c e h t = tt
 
-pub upto_next : (k : ListKind) (cs : List Part) (p q : ℕ) → Together k cs p q → Upto k cs p (q + 1)
-upto_next Sequence cs p q t = λ r c l m e. t r c l (omega arith) e
-upto_next Set cs p q t = tt
-upto_next Choice cs p q t = tt
+together_here : (k : ListKind) (cs : List Part) (q : ℕ) (c : Part) → slice_get cs q ≡ Some c → Passes k c → Together k cs q (q + 1)
+together_here Sequence cs q c e h = λ r d l m f. let s : q ≡ r = omega (arith, l, m) in subst (λ z. may_be_absent z ≡ true) (same_Some c d (sym e ∙ ap (slice_get cs) s ∙ f)) h
+together_here Set cs q c e h = tt
+together_here Choice cs q c e h = tt
 
-upto_of : (k : ListKind) (cs : List Part) (p q : ℕ) → Together k cs p q → Upto k cs p q
-upto_of Sequence cs p q t = λ r c l m e. t r c l (omega arith) e
-upto_of Set cs p q t = tt
-upto_of Choice cs p q t = tt
+together_back : (k : ListKind) (cs : List Part) (p q : ℕ) → Together k cs p (q + 1) → Together k cs p q
+together_back Sequence cs p q t = λ r c l m e. t r c l (omega arith) e
+together_back Set cs p q t = tt
+together_back Choice cs p q t = tt
 
-together_of : (k : ListKind) (cs : List Part) (p q : ℕ) → Upto k cs p (q + 1) → Together k cs p q
-together_of Sequence cs p q u = λ r c l m e. u r c l (omega arith) e
-together_of Set cs p q u = tt
-together_of Choice cs p q u = tt
-
-pub upto_first : (k : ListKind) (cs : List Part) (p : ℕ) → Upto k cs p (p + 1)
-upto_first Sequence cs p = λ r c l m e. absurd (omega arith)
-upto_first Set cs p = tt
-upto_first Choice cs p = tt
-
-pub not_reached : (k : ListKind) (cs : List Part) (p q n : ℕ) → (Reaches k cs q → ⊥) → p < q → q ≤ n → Together k cs p n → ⊥
-not_reached Sequence cs p q n f l m t = f (λ r c e g. t r c (omega arith) (omega arith) g)
-not_reached Set cs p q n f l m t = f tt
-not_reached Choice cs p q n f l m t = f tt
+not_passed : (k : ListKind) (cs : List Part) (p q : ℕ) (c : Part) → slice_get cs q ≡ Some c → (Passes k c → ⊥) → p < q + 1 → Together k cs p (q + 1) → ⊥
+not_passed Sequence cs p q c e f l t = f (t q c (omega arith) (omega arith) e)
+not_passed Set cs p q c e f l t = f tt
+not_passed Choice cs p q c e f l t = f tt
 
 pub collected_at : (ts : List Type') (cs : List Part) (us : List (List Label)) (k : ℕ) (c : Part) (u : List Label) → Collected ts cs us → slice_get cs k ≡ Some c → slice_get us k ≡ Some u → AreFirst ts c.ty u
 collected_at ts cs us k c u none e f = absurd cc
@@ -62,22 +56,6 @@ collected_at ts cs us (suc k) c u (one {cs = cs'} {vs = vs} a w) e f = collected
 
 pub list_at : (vs : List (Vec Label Global)) (k : ℕ) (v : Vec Label Global) → k < length vs → v ≡ get_or vs k v → slice_get (tag_lists vs) k ≡ Some v.items
 list_at vs k v l e = slice_get-map (λ x. x.items) vs k ∙ ap (option_map (λ x. x.items)) (slice_get_read vs (length vs) k v refl l e)
-
-pub absent_before : (k : ListKind) (cs : List Part) (q p : ℕ) (c : Part) → p + 1 ≡ q → slice_get cs p ≡ Some c → may_be_absent c ≡ true → Reaches k cs q
-absent_before Sequence cs q p c e f t = λ r d s g.
-    let u : r ≡ p = omega arith in
-    let v : c ≡ d = some_one (sym f ∙ ap (slice_get cs) (sym u) ∙ g) in
-    subst (λ z. may_be_absent z ≡ true) v t
-  where
-    some_one : {a b : Part} → Some a ≡ Some b → a ≡ b
-    some_one h = cc
-absent_before Set cs q p c e f t = tt
-absent_before Choice cs q p c e f t = tt
-
-pub absent_there : (k : ListKind) (cs : List Part) (q p : ℕ) (c : Part) → p + 1 ≡ q → slice_get cs p ≡ Some c → k ≡ Sequence → Reaches k cs q → may_be_absent c ≡ true
-absent_there Sequence cs q p c e f s r = r p c e f
-absent_there Set cs q p c e f s r = absurd cc
-absent_there Choice cs q p c e f s r = absurd cc
 
 -- ---- tags in an ordered set
 
@@ -174,10 +152,7 @@ pub put_none : (us : List Label) (keys : List (ℕ × ℕ)) → PutsTo us 0 keys
 put_none us keys x = (λ h. inl h, λ h. elim h [ inl a ↦ a | inr b ↦ absurd (omega (arith, b.few)) ])
 
 same_tag : (us : List Label) (i : ℕ) (t u : Label) → slice_get us i ≡ Some t → slice_get us i ≡ Some u → t ≡ u
-same_tag us i t u e f = some_one (sym e ∙ f)
-  where
-    some_one : {a b : Label} → Some a ≡ Some b → a ≡ b
-    some_one h = cc
+same_tag us i t u e f = same_Some t u (sym e ∙ f)
 
 pub put_next : (us : List Label) (n : ℕ) (t : Label) (old mid new : List (ℕ × ℕ)) → slice_get us n ≡ Some t → PutsTo us n old mid → PutsOne mid new (key_of t) → PutsTo us (n + 1) old new
 put_next us n t old mid new e f g x = (
@@ -220,47 +195,26 @@ none_next us n t keys e f g x b h =
 pub none_end : (us : List Label) (n : ℕ) (keys : List (ℕ × ℕ)) → length us ≤ n → NoneTo us n keys → (x : ℕ × ℕ) → HasKey us x → IsIn keys x → ⊥
 none_end us n keys l f x b h = let w = slice_get_within us b.place b.tag b.there in f x (record { has = b; few = omega (arith, l, w) }) h
 
--- ---- tags that the members before a place have left
+-- ---- tags that the member at a place can meet
 
-pub holds_first : (k : ListKind) (cs : List Part) (vs : List (List Label)) (keys : List (ℕ × ℕ)) → keys ≡ [] → Holds k cs vs 0 keys
-holds_first k cs vs keys e x = (λ h. absurd (none_in keys x e h), λ m. absurd (omega (arith, m.before)))
+pub meets_first : (k : ListKind) (cs : List Part) (vs : List (List Label)) (keys : List (ℕ × ℕ)) → keys ≡ [] → Meets k cs vs 0 keys
+meets_first k cs vs keys e x = (λ h. absurd (none_in keys x e h), λ m. absurd (omega (arith, m.before)))
 
-pub left_first : (k : ListKind) (cs : List Part) (vs : List (List Label)) (q : ℕ) (keys : List (ℕ × ℕ)) → q ≡ 0 → Holds k cs vs q keys → Meets k cs vs q keys
-left_first k cs vs q keys z f x = (
-  λ h. let m = (f x).0 h in absurd (omega (arith, m.before, z)),
-  λ m. absurd (omega (arith, m.before, z)),
-)
-
-pub left_on : (k : ListKind) (cs : List Part) (vs : List (List Label)) (q : ℕ) (keys : List (ℕ × ℕ)) → Reaches k cs q → Holds k cs vs q keys → Meets k cs vs q keys
-left_on k cs vs q keys r f x = (
-  λ h. let m = (f x).0 h in record { place = m.place; before = m.before; together = together k cs m.place q m.upto r; tags = m.tags; there = m.there; has = m.has },
-  λ m. (f x).1 (record { place = m.place; before = m.before; upto = upto_of k cs m.place q m.together; tags = m.tags; there = m.there; has = m.has }),
-)
-
-pub left_none : (k : ListKind) (cs : List Part) (vs : List (List Label)) (q : ℕ) (keys : List (ℕ × ℕ)) → keys ≡ [] → (Reaches k cs q → ⊥) → Meets k cs vs q keys
-left_none k cs vs q keys e f x = (
-  λ h. absurd (none_in keys x e h),
-  λ m. absurd (not_reached k cs m.place q q f m.before (omega arith) m.together),
-)
-
-same_list : (vs : List (List Label)) (i : ℕ) (t u : List Label) → slice_get vs i ≡ Some t → slice_get vs i ≡ Some u → t ≡ u
-same_list vs i t u e f = some_one (sym e ∙ f)
-  where
-    some_one : {a b : List Label} → Some a ≡ Some b → a ≡ b
-    some_one h = cc
-
-pub holds_next : (k : ListKind) (cs : List Part) (vs : List (List Label)) (q : ℕ) (us : List Label) (mid new : List (ℕ × ℕ)) → slice_get vs q ≡ Some us → Meets k cs vs q mid →
-    ((x : ℕ × ℕ) → (IsIn new x → IsIn mid x ⊎ HasKey us x) × (IsIn mid x ⊎ HasKey us x → IsIn new x)) → Holds k cs vs (q + 1) new
-holds_next k cs vs q us mid new e f g x = (
+pub meets_next : (k : ListKind) (cs : List Part) (vs : List (List Label)) (q : ℕ) (c : Part) (us : List Label) (mid new : List (ℕ × ℕ)) → slice_get cs q ≡ Some c → slice_get vs q ≡ Some us → Passes k c → Meets k cs vs q mid →
+    ((x : ℕ × ℕ) → (IsIn new x → IsIn mid x ⊎ HasKey us x) × (IsIn mid x ⊎ HasKey us x → IsIn new x)) → Meets k cs vs (q + 1) new
+meets_next k cs vs q c us mid new d e r f g x = (
   λ h. elim ((g x).0 h) [
-    | inl a ↦ (let m = (f x).0 a in record { place = m.place; before = omega (arith, m.before); upto = upto_next k cs m.place q m.together; tags = m.tags; there = m.there; has = m.has })
-    | inr b ↦ record { place = q; before = omega arith; upto = upto_first k cs q; tags = us; there = e; has = b }
+    | inl a ↦ (let m = (f x).0 a in record { place = m.place; before = omega (arith, m.before); together = together_next k cs m.place q c d r m.together; tags = m.tags; there = m.there; has = m.has })
+    | inr b ↦ record { place = q; before = omega arith; together = together_here k cs q c d r; tags = us; there = e; has = b }
   ],
   λ m. elim (cases_lt m.place q) [
-    | inl l ↦ (g x).1 (inl ((f x).1 (record { place = m.place; before = l; together = together_of k cs m.place q m.upto; tags = m.tags; there = m.there; has = m.has })))
-    | inr l ↦ (let s : m.place ≡ q = omega (arith, l, m.before) in (g x).1 (inr (subst (λ z. HasKey z x) (same_list vs q m.tags us (ap (slice_get vs) (sym s) ∙ m.there) e) m.has)))
+    | inl l ↦ (g x).1 (inl ((f x).1 (record { place = m.place; before = l; together = together_back k cs m.place q m.together; tags = m.tags; there = m.there; has = m.has })))
+    | inr l ↦ (let s : m.place ≡ q = omega (arith, l, m.before) in (g x).1 (inr (subst (λ z. HasKey z x) (same_Some m.tags us (sym m.there ∙ ap (slice_get vs) s ∙ e)) m.has)))
   ],
 )
+
+pub meets_none : (k : ListKind) (cs : List Part) (vs : List (List Label)) (q : ℕ) (c : Part) (keys : List (ℕ × ℕ)) → slice_get cs q ≡ Some c → (Passes k c → ⊥) → keys ≡ [] → Meets k cs vs (q + 1) keys
+meets_none k cs vs q c keys d r e x = (λ h. absurd (none_in keys x e h), λ m. absurd (not_passed k cs m.place q c d r m.before m.together))
 
 tags_at : (ts : List Type') (cs : List Part) (vs : List (List Label)) (k : ℕ) (c : Part) → Collected ts cs vs → slice_get cs k ≡ Some c → (u : List Label) × (slice_get vs k ≡ Some u) × AreFirst ts c.ty u
 tags_at ts cs vs k c none e = absurd cc

@@ -1,11 +1,11 @@
 //! Lists whose members' tags differ.
 
-ghost use Rattle.std.specs.Prelude.{ℕ, ◌≡◌, ◌⊎◌, ◌<◌, ◌↔◌, IsTrue, IfOk, IfSome, OnOk, length, map, List, MatchOption};
+ghost use Rattle.std.specs.Prelude.{ℕ, ◌≡◌, ◌⊎◌, ◌+◌, ◌<◌, ◌↔◌, Some, slice_get, IsTrue, IfOk, IfSome, OnOk, length, map, List, MatchOption};
 ghost use Rattle.type_table.specs.Seen.{part_of};
-ghost use Rattle.type_table.specs.Table.{Type'};
+ghost use Rattle.type_table.specs.Table.{Part, Type'};
 ghost use Rattle.asn_base.specs.Tags.{class_rank};
 ghost use Rattle.tagging.specs.First;
-ghost use Rattle.tagging.specs.proving.Lists.{Collected, tag_lists, Reaches, key_of, IsIn, HasKey, Holds, Meets, TellsClash};
+ghost use Rattle.tagging.specs.proving.Lists.{Collected, tag_lists, Passes, key_of, IsIn, HasKey, Meets, TellsClash};
 ghost use Rattle.tagging.specs.Tags.{Label as Tag};
 
 use crate::path::Label;
@@ -45,38 +45,15 @@ fn may_be_absent(component: &Component) -> bool
     }
 }
 
-fn reaches(kind: ListKind, members: &[Component], place: usize) -> bool
-    requires within { place < length members.now }
-    requires later { 0 < place }
-    ensures { IsTrue result ↔ Reaches kind (map part_of members.now) place }
+/// Whether the member behind one can be the next that stands where this one could be: in a SEQUENCE where this one may be
+/// absent, else always.
+fn passes(kind: ListKind, member: &Component) -> bool
+    ensures { IsTrue result ↔ Passes kind (part_of member.now) }
 {
     match kind {
-        ListKind::Sequence => may_be_absent(&members[place - 1]),
+        ListKind::Sequence => may_be_absent(member),
         _ => true,
     }
-}
-
-/// Of the tags which the members before a place have left, those that the member at this place can meet: all, or none
-/// where the member before it has to stand.
-fn left(
-    alloc: Global,
-    kind: ListKind,
-    members: &[Component],
-    place: usize,
-    seen: BTreeSet<(u8, usize)>,
-) -> BTreeSet<(u8, usize)>
-    requires within { place < length members.now }
-    ensures { (vs : List (List Tag)) →
-        Holds kind (map part_of members.now) vs place seen.keys →
-        Meets kind (map part_of members.now) vs place result.keys }
-{
-    if place == 0 {
-        return seen;
-    }
-    if reaches(kind, members, place) {
-        return seen;
-    }
-    BTreeSet::new(alloc)
 }
 
 /// One of these tags that is in a set.
@@ -108,6 +85,28 @@ fn put_all(seen: &mut BTreeSet<(u8, usize)>, tags: &[Label]) -> Result<(), Alloc
     Ok(())
 }
 
+/// The tags that the member behind one can meet: those that this one could, and its own, or none where it has to stand.
+fn behind(
+    alloc: Global,
+    kind: ListKind,
+    member: &Component,
+    tags: &[Label],
+    seen: BTreeSet<(u8, usize)>,
+) -> Result<BTreeSet<(u8, usize)>, AllocError>
+    ensures { (cs : List Part) (vs : List (List Tag)) (q : ℕ) →
+        slice_get cs q ≡ Some (part_of member.now) →
+        slice_get vs q ≡ Some tags.now →
+        Meets kind cs vs q seen.keys →
+        IfOk result (λ s. Meets kind cs vs (q + 1) s.keys) }
+{
+    if passes(kind, member) {
+        let mut more = seen;
+        put_all(&mut more, tags)?;
+        return Ok(more);
+    }
+    Ok(BTreeSet::new(alloc))
+}
+
 /// The first member that clashes with one before it. The first tags of those before it which can be the next one together
 /// with it are held in order, so each tag is looked up once.
 pub(crate) fn clash(
@@ -124,11 +123,10 @@ pub(crate) fn clash(
 {
     let mut seen = BTreeSet::new(alloc);
     for place in 0..members.len() {
-        seen = left(alloc, kind, members, place, seen);
         let tags = firsts[place].as_slice();
         match met(&seen, tags) {
             Some(_key) => return Ok(Some(place)),
-            None => put_all(&mut seen, tags)?,
+            None => seen = behind(alloc, kind, &members[place], tags, seen)?,
         }
     }
     Ok(None)

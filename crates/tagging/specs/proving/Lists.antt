@@ -1,5 +1,5 @@
 -- The first tags of a list's members, as the check of a list goes on.
-use Rattle.std.specs.Prelude.{◌≡◌, ◌↔◌, ℕ, ◌+◌, ◌<◌, ◌≤◌, true, List, [], ◌∷◌, Option, Some, slice_get, map, Vec, MatchOption}
+use Rattle.std.specs.Prelude.{◌≡◌, ◌↔◌, ℕ, ◌<◌, true, List, [], ◌∷◌, Option, Some, slice_get, map, Vec, MatchOption}
 use Rattle.std.specs.Global.{Global}
 use Rattle.std.specs.declared.cmp.Ordering.{Ordering}
 use Rattle.std.specs.List.{list_any}
@@ -24,11 +24,11 @@ pub data Collected (ts : List Type') : List Part → List (List Label) → Type 
 abbrev pub tag_lists : List (Vec Label Global) → List (List Label)
 tag_lists = map (λ v. v.items)
 
--- the member at q can be reached from the one before it
-abbrev pub Reaches : ListKind → List Part → ℕ → Type 0
-Reaches Sequence cs q = (r : ℕ) (c : Part) → r + 1 ≡ q → slice_get cs r ≡ Some c → may_be_absent c ≡ true
-Reaches Set cs q = Unit {0}
-Reaches Choice cs q = Unit {0}
+-- the member behind this one can be the next that stands where this one could be
+abbrev pub Passes : ListKind → Part → Type 0
+Passes Sequence c = may_be_absent c ≡ true
+Passes Set c = Unit {0}
+Passes Choice c = Unit {0}
 
 -- the member at p has its first tags apart from those of the members up to q
 abbrev pub IsClear : List Type' → ListKind → List Part → ℕ → ℕ → Type 0
@@ -39,12 +39,6 @@ IsClear ts k cs p n = (q : ℕ) (c d : Part) →
     slice_get cs q ≡ Some d →
     Together k cs p q →
     Apart ts c.ty d.ty
-
--- each member from place p to before the one before q may be absent
-abbrev pub Upto : ListKind → List Part → ℕ → ℕ → Type 0
-Upto Sequence cs p q = (r : ℕ) (c : Part) → p ≤ r → r + 1 < q → slice_get cs r ≡ Some c → may_be_absent c ≡ true
-Upto Set cs p q = Unit {0}
-Upto Choice cs p q = Unit {0}
 
 -- ---- tags in an ordered set
 
@@ -66,15 +60,6 @@ pub record HasKey (us : List Label) (x : ℕ × ℕ) : Type 0 where
   pub there : slice_get us place ≡ Some tag
   pub is : key_of tag ≡ x
 
--- key x is that of a first tag of a member before place q, from which on to before the one before q each may be absent
-pub record IsHeld (k : ListKind) (cs : List Part) (vs : List (List Label)) (q : ℕ) (x : ℕ × ℕ) : Type 0 where
-  pub place : ℕ
-  pub before : place < q
-  pub upto : Upto k cs place q
-  pub tags : List Label
-  pub there : slice_get vs place ≡ Some tags
-  pub has : HasKey tags x
-
 -- key x is that of a first tag of a member before place q that can be the next one together with the member at q
 pub record IsMet (k : ListKind) (cs : List Part) (vs : List (List Label)) (q : ℕ) (x : ℕ × ℕ) : Type 0 where
   pub place : ℕ
@@ -84,11 +69,7 @@ pub record IsMet (k : ListKind) (cs : List Part) (vs : List (List Label)) (q : �
   pub there : slice_get vs place ≡ Some tags
   pub has : HasKey tags x
 
--- the set holds the tags that the members before place q have left
-abbrev pub Holds : ListKind → List Part → List (List Label) → ℕ → List (ℕ × ℕ) → Type 0
-Holds k cs vs q keys = (x : ℕ × ℕ) → IsIn keys x ↔ IsHeld k cs vs q x
-
--- of those it holds what the member at place q can meet
+-- the set holds the tags that the member at place q can meet
 abbrev pub Meets : ListKind → List Part → List (List Label) → ℕ → List (ℕ × ℕ) → Type 0
 Meets k cs vs q keys = (x : ℕ × ℕ) → IsIn keys x ↔ IsMet k cs vs q x
 

@@ -2,8 +2,8 @@ use Rattle.std.proofs.Common.{◌≡◌, ◌≤◌, length, Some, sym, ap, ◌�
 use Rattle.std.specs.Prelude.{map, slice_get}
 use Rattle.type_table.specs.Seen.{part_of}
 use Rattle.tagging.specs.proving.Lists.{tag_lists}
-use Rattle.tagging.proofs.Tables.{parts_long}
-use Rattle.tagging.proofs.Clashes.{list_at, holds_next, clear_next, clash_met, distinct_all}
+use Rattle.tagging.proofs.Tables.{part_at, parts_long}
+use Rattle.tagging.proofs.Clashes.{list_at, clear_next, clash_met, distinct_all}
 use Rattle.tagging.proofs.lists.clash.Goals as goal
 
 pub returns-in-Some-clause-clash : goal.returns-in-Some-clause-clash
@@ -11,18 +11,17 @@ returns-in-Some-clause-clash c = λ ts col.
     let cs = map part_of c.args.members.now in
     let vs = tag_lists c.args.firsts.now in
     let e : slice_get vs c.loop-place.place ≡ Some c.as_slice-tags.result.now = list_at c.args.firsts.now c.loop-place.place c.index-firsts-place.result (omega (arith, c.loop-place-test.true, c.requires.as_long)) c.index-firsts-place.is ∙ ap Some (sym c.as_slice-tags.ensures.value) in
-    let f = c.left-seen.ensures vs c.loop-place.invariant.holds in
-    clash_met ts c.args.kind cs vs c.loop-place.place c.as_slice-tags.result.now c.left-seen.result.keys c.in-Some._key col (omega (arith, c.loop-place-test.true, parts_long c.args.members.now)) e f c.in-Some.ensures.0 c.in-Some.ensures.1
+    clash_met ts c.args.kind cs vs c.loop-place.place c.as_slice-tags.result.now c.loop-place.seen.keys c.in-Some._key col (omega (arith, c.loop-place-test.true, parts_long c.args.members.now)) e c.loop-place.invariant.meets c.in-Some.ensures.0 c.in-Some.ensures.1
 
 pub loop-place-preserved : goal.loop-place-preserved
 loop-place-preserved c =
     let cs = map part_of c.args.members.now in
     let vs = tag_lists c.args.firsts.now in
+    let d = part_at c.args.members.now c.loop-place.place c.index-members-place.result c.loop-place-test.true c.index-members-place.is in
     let e : slice_get vs c.loop-place.place ≡ Some c.as_slice-tags.result.now = list_at c.args.firsts.now c.loop-place.place c.index-firsts-place.result (omega (arith, c.loop-place-test.true, c.requires.as_long)) c.index-firsts-place.is ∙ ap Some (sym c.as_slice-tags.ensures.value) in
-    let f = c.left-seen.ensures vs c.loop-place.invariant.holds in
     record {
-      holds = holds_next c.args.kind cs vs c.loop-place.place c.as_slice-tags.result.now c.left-seen.result.keys c.put_all.new.seen.keys e f c.in_ok-put_all-in-None.ensures;
-      clear = λ ts col. clear_next ts c.args.kind cs vs c.loop-place.place c.as_slice-tags.result.now c.left-seen.result.keys col e f c.in-None.ensures (c.loop-place.invariant.clear ts col);
+      meets = c.in_ok-seen-in-None.ensures cs vs c.loop-place.place d e c.loop-place.invariant.meets;
+      clear = λ ts col. clear_next ts c.args.kind cs vs c.loop-place.place c.as_slice-tags.result.now c.loop-place.seen.keys col e c.loop-place.invariant.meets c.in-None.ensures (c.loop-place.invariant.clear ts col);
     }
 
 pub returns-clause-clash : goal.returns-clause-clash
