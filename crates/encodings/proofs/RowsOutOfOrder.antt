@@ -107,7 +107,7 @@ default_stands (leaf con) e z = elim con [ ]
 pub not_der_default : (w : AbstractValue) (n : ℕ) → Says rows Distinguished 8 w n (48 ∷ 8 ∷ 49 ∷ 6 ∷ 2 ∷ 1 ∷ 1 ∷ 2 ∷ 1 ∷ 2 ∷ []) → ⊥
 unfolding identifier
 not_der_default w n a =
-    let s = says_same rows Basic rows_tagged rows_tellable (basic_of a) default_present refl in
+    let s = says_same rows Basic Basic rows_tagged rows_tellable (basic_of a) default_present refl in
     default_stands (inside {x = 49 ∷ 6 ∷ 2 ∷ 1 ∷ 1 ∷ 2 ∷ 1 ∷ 2 ∷ []} (record { found = refl }) (short_header u16 true 8 (lit< tt)) refl a) s.values s.counts
 
 -- 3106020102020101 is none of a SET OF by them: the greater encoding stands first
