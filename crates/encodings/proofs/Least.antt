@@ -129,7 +129,7 @@ module _ (s : List Resolved) (turn : (t : ℕ) (v w : AbstractValue) → Alike s
     least (says i h fr) z (alike j a) (says k g fr') y =
         frames_least (strict_frame fr) (framed_at (same_tags i k) fr') (holds_least h z (alike_by_at (same_kind i j) a) (holds_at (same_kind i k) g) y)
 
-    holds_least : {r : Rules} {k : Kind} {j : ℕ} {v : AbstractValue} {b : Bool} {x : List ℕ} → Holds s Unsorted k v j b x → j ≡ 0 → {w : AbstractValue} {n : ℕ} {c : Bool} {y : List ℕ} → AlikeBy s k v w → Holds s r k w n c y → n ≡ 0 → length x ≤ length y
+    pub holds_least : {r : Rules} {k : Kind} {j : ℕ} {v : AbstractValue} {b : Bool} {x : List ℕ} → Holds s Unsorted k v j b x → j ≡ 0 → {w : AbstractValue} {n : ℕ} {c : Bool} {y : List ℕ} → AlikeBy s k v w → Holds s r k w n c y → n ≡ 0 → length x ≤ length y
     holds_least (leaf con) z a g y = (leaves_best a (strict_contents con) (leaf_in (contents_leaf con) g)).least
     holds_least (sequence ms u) z (equal l) g y = absurd l
     holds_least (sequence ms u) z (alike_sequence a) (leaf con) y = elim con [ ]

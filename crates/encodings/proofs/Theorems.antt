@@ -1,5 +1,5 @@
 -- What stands of encodings as wholes.
-use Rattle.std.proofs.Common.{◌∙◌, ◌≡◌, ℕ, ◌≤◌, Bool, List, [], ◌++◌, length, refl, sym, subst}
+use Rattle.std.proofs.Common.{arith, ◌∙◌, ◌≡◌, ◌⊎◌, inl, inr, ⊎_elim, ℕ, ◌<◌, ◌≤◌, Bool, List, [], ◌++◌, length, refl, sym, subst}
 use Rattle.std.proofs.lemmas.List.{append-nil}
 use Rattle.asn_base.specs.declared.tag.Tag.{Tag}
 use Rattle.asn_base.specs.Abstract.{AbstractValue, Row}
@@ -14,6 +14,7 @@ use Rattle.encodings.proofs.Only.{only}
 use Rattle.encodings.proofs.Weaker.{basic_of}
 use Rattle.encodings.proofs.Units.{says_unit, units_front}
 use Rattle.encodings.specs.Levels.{levels}
+use Rattle.encodings.proofs.Shortests.{lt_or_ge}
 use Rattle.encodings.proofs.Unique.{says_same}
 
 -- what octets say of a value by the distinguished rules is one of its encodings by them
@@ -66,3 +67,16 @@ nothing_behind o p x e f = (f [] (sym e ∙ sym (append-nil p))).1
 -- by whatever rules octets are read, the levels of headers are as many
 pub one_depth : (s : List Resolved) (q r : Rules) (t j k : ℕ) (v w : AbstractValue) (o : List ℕ) (d : Says s q t v j o) (e : Says s r t w k o) → AllTagged s → AllTellable s → levels d ≡ levels e
 one_depth s q r t j k v w o d e all tell = (says_same s q r all tell d e refl).depths
+
+-- what has an encoding has one by the distinguished rules, of no more octets
+pub no_longer : (s : List Resolved) (t : ℕ) (v : AbstractValue) (p : List ℕ) → Ber s t v 0 p → ((o : List ℕ) × Der s t v 0 o) ⊎ ((p : List ℕ) → Ber s t v 0 p → ⊥) → ((o : List ℕ) → Der s t v 0 o → Shortest s t v o) → (o : List ℕ) × Der s t v 0 o × (length o ≤ length p)
+no_longer s t v p b (inl d) least = (d.0, d.1, (least d.0 d.1).least p b)
+no_longer s t v p b (inr none) least = absurd (none p b)
+
+-- one of at most m octets, or each has more
+pub within : (s : List Resolved) (t m : ℕ) (v : AbstractValue) → ((o : List ℕ) × Der s t v 0 o) ⊎ ((p : List ℕ) → Ber s t v 0 p → ⊥) → ((o : List ℕ) → Der s t v 0 o → Shortest s t v o) → ((o : List ℕ) × Der s t v 0 o × (length o ≤ m)) ⊎ ((p : List ℕ) → Ber s t v 0 p → m < length p)
+within s t m v (inr none) least = inr (λ p b. absurd (none p b))
+within s t m v (inl d) least = ⊎_elim
+    (λ l. inr (λ p b. (let k = (least d.0 d.1).least p b in omega arith)))
+    (λ g. inl (d.0, d.1, g))
+    (lt_or_ge m (length d.0))

@@ -1,6 +1,6 @@
 //! The laws of encodings (X.690, 8 to 11).
 
-ghost use Rattle.std.specs.Prelude.{◌≡◌, ℕ, ◌*◌, ◌^◌, ◌<◌, ◌≤◌, List, [], ◌++◌, length};
+ghost use Rattle.std.specs.Prelude.{◌≡◌, ◌⊎◌, ℕ, ◌*◌, ◌^◌, ◌<◌, ◌≤◌, List, [], ◌++◌, length};
 ghost use Rattle.asn_base.specs.Abstract.{AbstractValue};
 ghost use Rattle.asn_base.specs.Accepted.{IsAccepted};
 ghost use Rattle.asn_base.specs.Schemas.{IsSchema};
@@ -70,9 +70,11 @@ pub fn reading_laws()
     sameness();
 }
 
-/// An encoding by the distinguished rules has at most six levels of headers for each level of its value, so that one of a
-/// value has at most 400.
+/// Levels of headers belong to the octets: each reading of them has as many. An encoding by the distinguished rules has at
+/// most six for each level of its value, so that one of a value has at most 400.
 pub fn level_laws()
+    // By whatever rules octets say a value, and whichever, they have one number of levels.
+    ensures one { (s : List Resolved) (q r : Rules) (t j k : ℕ) (v w : AbstractValue) (o : List ℕ) (d : Says s q t v j o) (e : Says s r t w k o) → AllTagged s → AllTellable s → levels d ≡ levels e }
     ensures few { (s : List Resolved) (n t : ℕ) (v : AbstractValue) (o : List ℕ) (d : Says s Distinguished t v 0 o) → HasFewTags s → ValueIn s n t v → levels d ≤ 6 * n }
     ensures within_limit { (s : List Resolved) (t : ℕ) (v : AbstractValue) (o : List ℕ) (d : Says s Distinguished t v 0 o) → HasFewTags s → IsValueWithoutNodes s t v → levels d ≤ 400 }
 {}
@@ -84,6 +86,19 @@ pub fn existence_laws()
 {
     sameness();
     alike_values();
+}
+
+/// Nothing but its length keeps a value from having an encoding by the distinguished rules, and within any limit it has
+/// one just where it has any.
+pub fn length_laws()
+    // What has an encoding by the basic rules has one by the distinguished rules, which is no longer.
+    ensures least { (s : List Resolved) (t : ℕ) (v : AbstractValue) (p : List ℕ) → IsSchema s → Ber s t v 0 p → (o : List ℕ) × Der s t v 0 o × (length o ≤ length p) }
+    // A value has such an encoding of at most m octets, or each of its encodings has more.
+    ensures within { (s : List Resolved) (t m : ℕ) (v : AbstractValue) → IsSchema s → IsValueWithoutNodes s t v → ((o : List ℕ) × Der s t v 0 o × (length o ≤ m)) ⊎ ((p : List ℕ) → Ber s t v 0 p → m < length p) }
+{
+    sameness();
+    alike_values();
+    der_laws();
 }
 
 /// A value that octets say has at most as many nodes as there are octets, so that one within a message's limit is within
