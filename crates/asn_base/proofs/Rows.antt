@@ -32,7 +32,7 @@ free = record { allowed = None; visible = bounds }
 abbrev some : Constraint
 some = record { allowed = Some (record { least = Some (pos 1); greatest = None } ∷ []); visible = bounds }
 
-abbrev row : Kind → Resolved
+abbrev pub row : Kind → Resolved
 row k = record { tags = tag ∷ []; kind = k }
 
 abbrev part : ℕ → Presence → Component

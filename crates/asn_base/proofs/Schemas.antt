@@ -145,7 +145,7 @@ all_sizes = record {
     no_greatest (pos n) f = let h = f (pos (suc n)) (tt, tt) in omega (arith, ints)
     no_greatest (negsuc n) f = let h = f (pos 0) (tt, tt) in omega (arith, ints)
 
-nil_right : {A : Type 0} (xs : List A) → xs ≡ xs ++ []
+pub nil_right : {A : Type 0} (xs : List A) → xs ≡ xs ++ []
 nil_right [] = refl
 nil_right (x ∷ xs) = ap (λ q. x ∷ q) (nil_right xs)
 
