@@ -3,7 +3,8 @@ use Rattle.std.proofs.Common.{arith, lit<, ◌≡◌, ℕ, zero, suc, ◌+◌, �
 use Rattle.std.proofs.lemmas.Int.{ints}
 use Rattle.std.specs.Prelude.{ℤ, pos, negsuc, ◌<ℤ◌, ◌≤ℤ◌, Option, None, Some, IfSome}
 use Rattle.std.specs.List.{AllByRecursion}
-use Rattle.asn_base.specs.declared.tag.Class.TheVariants.{Application, Context}
+use Rattle.asn_base.specs.declared.tag.Class.{Class}
+use Rattle.asn_base.specs.declared.tag.Class.TheVariants.{Universal, Application, Context, Private}
 use Rattle.asn_base.specs.declared.tag.Tag.{Tag}
 use Rattle.asn_base.specs.declared.strings.StringKind.TheVariants.{Numeric, Printable, Ia5, Visible}
 use Rattle.asn_base.specs.Abstract.{AbstractValue, integer, null}
@@ -239,6 +240,28 @@ pub bit_name_twice : AreNamedBits (bit a_name 9 ∷ bit a_name 0 ∷ []) → ⊥
 bit_name_twice a = a.names.distinct.0 is_first
 
 -- ---- tags
+
+-- the six pairs of classes, whatever the numbers
+universal_before : (g f : Tag) → g.class ≡ Universal → (f.class ≡ Universal → ⊥) → TagBefore g f
+universal_before g f e n = by f.class refl
+  where
+    by : (c : Class) → f.class ≡ c → TagBefore g f
+    by Universal d = absurd (n d)
+    by Application d = inl (let x = ap class_rank e in let y = ap class_rank d in omega arith)
+    by Context d = inl (let x = ap class_rank e in let y = ap class_rank d in omega arith)
+    by Private d = inl (let x = ap class_rank e in let y = ap class_rank d in omega arith)
+
+application_before_context : (g f : Tag) → g.class ≡ Application → f.class ≡ Context → TagBefore g f
+application_before_context g f e d = inl (let x = ap class_rank e in let y = ap class_rank d in omega arith)
+
+before_private : (g f : Tag) → (g.class ≡ Private → ⊥) → f.class ≡ Private → TagBefore g f
+before_private g f n d = by g.class refl
+  where
+    by : (c : Class) → g.class ≡ c → TagBefore g f
+    by Universal e = inl (let x = ap class_rank e in let y = ap class_rank d in omega arith)
+    by Application e = inl (let x = ap class_rank e in let y = ap class_rank d in omega arith)
+    by Context e = inl (let x = ap class_rank e in let y = ap class_rank d in omega arith)
+    by Private e = absurd (n e)
 
 -- a tag doesn't stand before itself, nor [0] before [APPLICATION 1], nor [1] before [0]
 pub not_before_itself : (g : Tag) → TagBefore g g → ⊥

@@ -31,7 +31,7 @@ c3 = context 3 (lit< tt)
 abbrev c4 : Tag
 c4 = context 4 (lit< tt)
 
-abbrev more : List Resolved
+abbrev pub more : List Resolved
 more = record { tags = u1 ∷ []; kind = a_boolean }
     ∷ record { tags = a0 ∷ []; kind = a_boolean }
     ∷ record { tags = c0 ∷ []; kind = a_boolean }
