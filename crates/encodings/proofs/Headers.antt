@@ -7,7 +7,8 @@ use Rattle.std.proofs.lemmas.Int.Digits.{number_lt, length-digits_of-le, all_bel
 use Rattle.asn_base.specs.declared.tag.Class.{Class}
 use Rattle.asn_base.specs.declared.tag.Tag.{Tag}
 use Rattle.encodings.specs.Rules.{Rules, Distinguished}
-use Rattle.encodings.specs.Header.{class_bits, form_bit, septets, identifier, LongForm, LengthOf, short, long, HeaderBy, shortest_size, shortest_header}
+use Rattle.encodings.specs.Header.{class_bits, form_bit, septets, identifier, LongForm, LengthOf, short, long, HeaderBy}
+use Rattle.encodings.specs.Fewest.{shortest_size, shortest_header}
 use Rattle.encodings.proofs.Digits.{same_digits}
 
 -- the fewest octets of a length, by cases

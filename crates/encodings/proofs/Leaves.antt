@@ -13,7 +13,8 @@ use Rattle.asn_base.specs.Typed.{arcs, Fits, fits_boolean, fits_integer, fits_en
 use Rattle.asn_base.specs.Schemas.{IsSound}
 use Rattle.asn_base.specs.Same.{AlikeBy, equal, zeros}
 use Rattle.encodings.specs.Rules.{Basic, Distinguished}
-use Rattle.encodings.specs.Header.{septets, identifier, shortest_size, HeaderBy}
+use Rattle.encodings.specs.Header.{septets, identifier, HeaderBy}
+use Rattle.encodings.specs.Fewest.{shortest_size}
 use Rattle.encodings.specs.Strings.{whole, whole_bits}
 use Rattle.encodings.specs.Contents.{Contents, of_false, of_true, of_integer, of_enumerated, of_bits, of_named_bits, of_octets, of_null, of_oid, of_relative_oid, of_utf8, of_restricted}
 use Rattle.encodings.specs.Encoding.{Framed, bare, innermost, outer}

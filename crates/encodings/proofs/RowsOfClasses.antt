@@ -8,7 +8,8 @@ use Rattle.asn_base.specs.Types.{Presence, mandatory, optional, default, additio
 use Rattle.asn_base.specs.Typed.{arcs}
 use Rattle.asn_base.specs.Tags.{First, TagBefore}
 use Rattle.encodings.specs.Rules.{Basic, Distinguished}
-use Rattle.encodings.specs.Header.{identifier, Header, short, shortest_header}
+use Rattle.encodings.specs.Header.{identifier, Header, short}
+use Rattle.encodings.specs.Fewest.{shortest_header}
 use Rattle.encodings.specs.Contents.{of_false, of_true, of_oid, of_relative_oid, of_enumerated}
 use Rattle.encodings.specs.Orders.{ascending_one, ascending_more, InTagOrder, permutes_none, permutes_more, here as list_here, there as list_there, merges_none, merges_first, merges_second}
 use Rattle.encodings.specs.Encoding.{innermost, closed, extensible, no_unknown, unknown, Says, says, leaf, sequence, set, no_member, left_out, member}

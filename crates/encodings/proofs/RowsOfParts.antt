@@ -6,7 +6,8 @@ use Rattle.asn_base.specs.Types.{Presence, mandatory, optional, default, additio
 use Rattle.asn_base.specs.Tags.{First}
 use Rattle.asn_base.specs.Same.{Alike, alike, equal, alike_set_of, pair, none_left, here, there}
 use Rattle.encodings.specs.Rules.{Basic, Distinguished}
-use Rattle.encodings.specs.Header.{identifier, shortest_header}
+use Rattle.encodings.specs.Header.{identifier}
+use Rattle.encodings.specs.Fewest.{shortest_header}
 use Rattle.encodings.specs.Contents.{of_false, of_true, of_integer}
 use Rattle.encodings.specs.Orders.{ascending_one, ascending_more, InTagOrder, permutes_none, permutes_more, here as list_here, there as list_there, merges_none, merges_first}
 use Rattle.encodings.specs.Encoding.{bare, innermost, no_unknown, unknown, closed, extensible, Says, says, leaf, sequence, set, sequence_of, set_of, choice, no_member, member, no_element, element}

@@ -5,7 +5,8 @@ use Rattle.asn_base.specs.Abstract.{AbstractValue, boolean, integer, enumerated,
 use Rattle.asn_base.specs.Typed.{arcs}
 use Rattle.asn_base.specs.Tags.{First}
 use Rattle.encodings.specs.Rules.{Basic, Distinguished}
-use Rattle.encodings.specs.Header.{identifier, Header, short, long, shortest_header}
+use Rattle.encodings.specs.Header.{identifier, Header, short, long}
+use Rattle.encodings.specs.Fewest.{shortest_header}
 use Rattle.encodings.specs.Strings.{whole, cut, no_segment, segment, WholeBits, whole_bits, cut_bits, last_segment, bit_segment, octet_string_tag, bit_string_tag}
 use Rattle.encodings.specs.Contents.{of_true, of_bits, of_named_bits, of_octets, of_oid, of_restricted}
 use Rattle.encodings.specs.Encoding.{innermost, outer, closed, extensible, no_unknown, unknown, Says, says, leaf, sequence, no_member, left_out, member}

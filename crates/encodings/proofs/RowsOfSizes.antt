@@ -4,7 +4,8 @@ use Rattle.std.proofs.lemmas.Int.Digits.{digits_of_step}
 use Rattle.std.specs.Prelude.{flat_map, nat_lt}
 use Rattle.std.specs.Int.Digits.{digits_of, AllBelowBase}
 use Rattle.asn_base.specs.declared.tag.Class.TheVariants.{Universal, Application, Context, Private}
-use Rattle.encodings.specs.Header.{septets, identifier, LengthOf, short, long, LongForm, shortest_size}
+use Rattle.encodings.specs.Header.{septets, identifier, LengthOf, short, long, LongForm}
+use Rattle.encodings.specs.Fewest.{shortest_size}
 use Rattle.encodings.specs.Contents.{joined}
 
 -- ---- identifiers: [APPLICATION 30] is 5E, [APPLICATION 31] is 5F1F, [127] is 9F7F, [128] is 9F8100 and constructed BF8100

@@ -6,7 +6,8 @@ use Rattle.asn_base.specs.declared.tag.Tag.{Tag}
 use Rattle.asn_base.specs.Abstract.{AbstractValue}
 use Rattle.asn_base.specs.Types.{any_size, Kind, a_boolean, an_integer, a_bit_string, an_octet_string, Is}
 use Rattle.encodings.specs.Rules.{Rules, Basic, Distinguished}
-use Rattle.encodings.specs.Header.{identifier, Header, long, shortest_header}
+use Rattle.encodings.specs.Header.{identifier, Header, long}
+use Rattle.encodings.specs.Fewest.{shortest_header}
 use Rattle.encodings.specs.Strings.{BitPieces, whole_bits, cut_bits, BitSegments, last_segment, bit_segment, bit_string_tag}
 use Rattle.encodings.specs.Contents.{TwosComplement, not_negative, negative, of_false, of_true, of_integer, of_bits}
 use Rattle.encodings.specs.Encoding.{Framed, innermost, Says, says, Holds, leaf}

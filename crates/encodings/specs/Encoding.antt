@@ -1,12 +1,13 @@
 -- What octets say: the encodings of a value by the basic and the distinguished rules (X.690, 8.9 to 8.14, 10 and 11).
-use Rattle.std.specs.Prelude.{◌≡◌, ℕ, suc, ◌+◌, ◌≤◌, Bool, true, false, List, [], ◌∷◌, ◌++◌, length, Some, slice_get, if◌then◌else◌, ◌||◌}
+use Rattle.std.specs.Prelude.{◌≡◌, ℕ, suc, ◌+◌, ◌≤◌, Bool, true, false, if◌then◌else◌, ◌||◌}
+use Rattle.std.specs.Prelude.{List, [], ◌∷◌, ◌++◌, length, Some, slice_get}
 use Rattle.std.specs.List.{concat, AllByRecursion}
 use Rattle.std.specs.Int.Digits.{AllBelowBase}
 use Rattle.asn_base.specs.declared.tag.Tag.{Tag}
 use Rattle.asn_base.specs.Abstract.{AbstractValue, fields, list, alternative, Row, end, absent, present}
-use Rattle.asn_base.specs.Types.{Constraint, Alternative, Kind, a_sequence, a_set, a_sequence_of, a_set_of, a_choice, default, Component, Resolved, Is}
+use Rattle.asn_base.specs.Types.{Constraint, Alternative, Kind, a_sequence, a_set, a_sequence_of, a_set_of, a_choice}
+use Rattle.asn_base.specs.Types.{default, Component, Resolved, Is}
 use Rattle.asn_base.specs.Tags.{First, is_mandatory}
-use Rattle.asn_base.specs.Typed.{IsValueWithoutNodes}
 use Rattle.asn_base.specs.Same.{Alike, Same}
 use Rattle.encodings.specs.Rules.{Rules, Basic, Distinguished, Strictly, Sorted}
 use Rattle.encodings.specs.Header.{Octets, Header, HeaderBy}
@@ -17,12 +18,10 @@ use Rattle.encodings.specs.Orders.{Ascending, AtMost, InTagOrder, Permutes, Merg
 -- and an untagged CHOICE has none
 pub data Framed (r : Rules) : List Tag → Bool → Octets → Octets → Type 0 where
   bare : {c : Bool} {x : Octets} → Framed r [] c x x
-  innermost : {t : Tag} {c : Bool} {h x : Octets}
-      → HeaderBy r t c (length x) h
-      → Framed r (t ∷ []) c x (h ++ x)
+  innermost : {t : Tag} {c : Bool} {h x : Octets} → HeaderBy r t c (length x) h → Framed r (t ∷ []) c x (h ++ x)
   outer : {t u : Tag} {ts : List Tag} {c : Bool} {h x y : Octets}
       → Framed r (u ∷ ts) c x y
-      → HeaderBy r t true (length y) h
+      → HeaderBy r t true (length y) h  -- 8.14.2
       → Framed r (t ∷ u ∷ ts) c x (h ++ y)
 
 -- Encodings of k additions that the type lacks: each is a header, whose tag no known component can have, and as many
@@ -39,9 +38,7 @@ pub data Unknown (s : List Resolved) (known : List Component) : ℕ → List Oct
 -- an extensible type may have them
 pub data UnknownIf (s : List Resolved) (known : List Component) : Bool → ℕ → List Octets → Type 0 where
   closed : UnknownIf s known false 0 []
-  extensible : {k : ℕ} {xs : List Octets}
-      → Unknown s known k xs
-      → UnknownIf s known true k xs
+  extensible : {k : ℕ} {xs : List Octets} → Unknown s known k xs → UnknownIf s known true k xs
 
 abbrev pub any_mandatory : List Component → Bool
 any_mandatory [] = false
@@ -67,48 +64,47 @@ mutual
 
   -- contents, constructed or not, hold a value of this kind
   pub data Holds (s : List Resolved) (r : Rules) : Kind → AbstractValue → ℕ → Bool → Octets → Type 0 where
-    leaf : {k : Kind} {w : AbstractValue} {c : Bool} {x : Octets}
-        → Contents r k w c x
-        → Holds s r k w 0 c x
-    -- in order of definition, unknown additions at the end (8.9)
+    leaf : {k : Kind} {w : AbstractValue} {c : Bool} {x : Octets} → Contents r k w c x → Holds s r k w 0 c x
+    -- in order of definition, unknown additions at the end
     sequence : {j k : ℕ} {e : Bool} {cs : List Component} {ws : Row} {xs us : List Octets}
-        → Members s r cs ws j xs
+        → Members s r cs ws j xs  -- 8.9.2
         → UnknownIf s (last_run cs) e k us
         → Holds s r (a_sequence e cs) (fields ws) (j + k) true (concat (xs ++ us))
-    -- in any order (8.11), sorted by their tags (10.3); unknown additions anywhere
+    -- in any order, sorted by their tags; unknown additions anywhere
     set : {j k : ℕ} {e : Bool} {cs : List Component} {ws : Row} {xs zs us ys : List Octets}
-        → Members s r cs ws j xs
-        → Permutes xs zs
-        → Sorted r (Ascending InTagOrder zs)
+        → Members s r cs ws j xs  -- 8.11.2
+        → Permutes xs zs  -- 8.11.3
+        → Sorted r (Ascending InTagOrder zs)  -- 10.3
         → UnknownIf s cs e k us
         → Merges zs us ys
         → Holds s r (a_set e cs) (fields ws) (j + k) true (concat ys)
-    -- in order of the value (8.10)
+    -- in order of the value
     sequence_of : {u n : ℕ} {c : Constraint} {ws : Row} {xs : List Octets}
-        → Elements s r u ws n xs
+        → Elements s r u ws n xs  -- 8.10.2, 8.10.3
         → Holds s r (a_sequence_of c u) (list ws) n true (concat xs)
-    -- in order of the value as it stands (8.12), sorted by their encodings (11.6)
+    -- in order of the value as it stands, sorted by their encodings
     set_of : {u n : ℕ} {c : Constraint} {ws : Row} {xs : List Octets}
-        → Elements s r u ws n xs
-        → Sorted r (Ascending AtMost xs)
+        → Elements s r u ws n xs  -- 8.12.2, 8.12.3
+        → Sorted r (Ascending AtMost xs)  -- 11.6
         → Holds s r (a_set_of c u) (list ws) n true (concat xs)
-    -- the encoding of the alternative (8.13), behind explicit tags if any
+    -- the encoding of the alternative, behind explicit tags if any
     choice : {i n : ℕ} {e : Bool} {root more : List Alternative} {a : Alternative} {w : AbstractValue} {x : Octets}
         → slice_get (root ++ more) i ≡ Some a
-        → Says s r a.type w n x
+        → Says s r a.type w n x  -- 8.13
         → Holds s r (a_choice root e more) (alternative i w) n true x
 
   -- The encodings of the components that are present, those that must stand among them; by the distinguished rules none
-  -- that is the same as its DEFAULT (11.5), unless additions were skipped within it.
+  -- that is the same as its DEFAULT, unless additions were skipped within it.
   pub data Members (s : List Resolved) (r : Rules) : List Component → Row → ℕ → List Octets → Type 0 where
     no_member : Members s r [] end 0 []
     left_out : {c : Component} {cs : List Component} {ws : Row} {n : ℕ} {xs : List Octets}
         → is_mandatory c ≡ false
         → Members s r cs ws n xs
         → Members s r (c ∷ cs) (absent ws) n xs
-    member : {c : Component} {cs : List Component} {w : AbstractValue} {ws : Row} {j n : ℕ} {x : Octets} {xs : List Octets}
+    member : {c : Component} {cs : List Component} {w : AbstractValue} {ws : Row} {j n : ℕ} {x : Octets}
+        {xs : List Octets}
         → Says s r c.type w j x
-        → Strictly r (j ≡ 0 → IsDefault s c w → ⊥)
+        → Strictly r (j ≡ 0 → IsDefault s c w → ⊥)  -- 11.5
         → Members s r cs ws n xs
         → Members s r (c ∷ cs) (present w ws) (j + n) (x ∷ xs)
 
@@ -119,12 +115,6 @@ mutual
         → Says s r u w j x
         → Elements s r u ws n xs
         → Elements s r u (present w ws) (j + n) (x ∷ xs)
-
--- octets encode w as it stands: it is a value of the type, the limit on nodes apart, and they say it, with k unknown
--- additions
-pub record Encodes (s : List Resolved) (r : Rules) (t : ℕ) (w : AbstractValue) (k : ℕ) (o : Octets) : Type 0 where
-  pub value : IsValueWithoutNodes s t w
-  pub says_it : Says s r t w k o
 
 -- by these rules octets encode v: they say a value that is the same, with k unknown additions
 abbrev pub EncodesBy : Rules → List Resolved → ℕ → AbstractValue → ℕ → Octets → Type 0

@@ -4,9 +4,13 @@ use Rattle.std.specs.Prelude.{ℕ, suc, ◌+◌, max, Bool, List, length}
 use Rattle.asn_base.specs.Abstract.{AbstractValue, Row}
 use Rattle.asn_base.specs.Types.{Kind, Component, Resolved}
 use Rattle.encodings.specs.Rules.{Rules}
-use Rattle.encodings.specs.Strings.{Pieces, whole, cut, Segments, no_segment, segment, BitPieces, whole_bits, cut_bits, BitSegments, last_segment, bit_segment}
-use Rattle.encodings.specs.Contents.{Contents, of_false, of_true, of_integer, of_enumerated, of_bits, of_named_bits, of_octets, of_null, of_oid, of_relative_oid, of_utf8, of_restricted}
-use Rattle.encodings.specs.Encoding.{no_unknown, unknown, UnknownIf, closed, extensible, Says, says, Holds, leaf, sequence, set, sequence_of, set_of, choice, Members, no_member, left_out, member, Elements, no_element, element}
+use Rattle.encodings.specs.Strings.{Pieces, whole, cut, Segments, no_segment, segment, BitPieces, whole_bits, cut_bits}
+use Rattle.encodings.specs.Strings.{BitSegments, last_segment, bit_segment}
+use Rattle.encodings.specs.Contents.{Contents, of_false, of_true, of_integer, of_enumerated, of_bits, of_named_bits}
+use Rattle.encodings.specs.Contents.{of_octets, of_null, of_oid, of_relative_oid, of_utf8, of_restricted}
+use Rattle.encodings.specs.Encoding.{no_unknown, unknown, UnknownIf, closed, extensible, Says, says, Holds, leaf}
+use Rattle.encodings.specs.Encoding.{sequence, set, sequence_of, set_of, choice, Members, no_member, left_out, member}
+use Rattle.encodings.specs.Encoding.{Elements, no_element, element}
 
 abbrev mutual
   pub piece_levels : {s : List ℕ} {c : Bool} {o : List ℕ} → Pieces s c o → ℕ

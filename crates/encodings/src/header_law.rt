@@ -2,7 +2,8 @@
 
 ghost use Rattle.std.specs.Prelude.{◌≡◌, ℕ, ◌<◌, ◌≤◌, ◌^◌, Bool, List, ◌++◌, length};
 ghost use Rattle.asn_base.specs.declared.tag.Tag.{Tag};
-ghost use Rattle.encodings.specs.Header.{Header, HeaderBy, shortest_header};
+ghost use Rattle.encodings.specs.Header.{Header, HeaderBy};
+ghost use Rattle.encodings.specs.Fewest.{shortest_header};
 ghost use Rattle.encodings.specs.Rules.{Rules, Distinguished};
 
 /// The shortest header is the one by the distinguished rules, and no header of as much or more has fewer octets.

@@ -1,6 +1,7 @@
 //! The header with the fewest octets.
 
-ghost use Rattle.encodings.specs.Header.{HeaderBy, class_bits, form_bit, identifier, shortest_header, shortest_size};
+ghost use Rattle.encodings.specs.Header.{HeaderBy, class_bits, form_bit, identifier};
+ghost use Rattle.encodings.specs.Fewest.{shortest_header, shortest_size};
 ghost use Rattle.encodings.specs.Rules.{Rules};
 ghost use Rattle.octets.specs.Adds.{AddsHeader};
 ghost use Rattle.octets.specs.Forms.{is_constructed};
