@@ -171,23 +171,57 @@ plain n h l k t a d = record { tagged = λ e. absurd (let m = ap length e in ome
 
 all_fine : AllByRecursion Fine every
 all_fine = (
-  plain 1 (lit< tt) (lit< tt) a_boolean tt tt tt, (
-  plain 2 (lit< tt) (lit< tt) (an_integer to_7) tt bounds_of_0_to_7 tt, (
-  plain 10 (lit< tt) (lit< tt) _ tt an_item_behind tt, (
-  plain 3 (lit< tt) (lit< tt) (a_bit_string any_size) tt all_sizes tt, (
-  plain 3 (lit< tt) (lit< tt) _ tt two_bits tt, (
-  plain 4 (lit< tt) (lit< tt) (an_octet_string to_7_octets) tt sizes_to_7 tt, (
-  plain 5 (lit< tt) (lit< tt) a_null tt tt tt, (
-  plain 6 (lit< tt) (lit< tt) an_object_identifier tt tt tt, (
-  plain 13 (lit< tt) (lit< tt) a_relative_oid tt tt tt, (
-  plain 12 (lit< tt) (lit< tt) (a_utf8_string any_size) tt all_sizes tt, (
-  plain 18 (lit< tt) (lit< tt) _ tt (digits_and_space, all_sizes) tt, (
-  plain 16 (lit< tt) (lit< tt) (a_sequence true with_a_default) ((λ e. (by_number {t = 1} {u = 0} refl refl (λ e. omega arith), tt)), ((λ e. tt), tt)) sequence_is_listed ((λ d e. refl), ((λ d e. absurd (cc)), tt)), (
-  plain 17 (lit< tt) (lit< tt) (a_set false with_an_option) ((by_number {t = 6} {u = 0} refl refl (λ e. omega arith), tt), (tt, tt)) (set_is_listed, (omega arith, (omega arith, tt))) ((λ d e. absurd (cc)), ((λ d e. absurd (cc)), tt)), (
-  plain 16 (lit< tt) (lit< tt) (a_sequence_of any_size 13) tt (record { bounds = all_sizes; type = omega arith }) tt, (
-  plain 17 (lit< tt) (lit< tt) (a_set_of any_size 15) tt (record { bounds = all_sizes; type = omega arith }) tt, (
-  record { tagged = λ e. tt; few = omega arith; tellable = ((by_number {t = 6} {u = 0} refl refl (λ e. omega arith), tt), (tt, tt)); sound = choice_is; defaults = tt }, (
-  record { tagged = λ e. absurd (let m = ap length e in omega arith); few = omega arith; tellable = tt; sound = tt; defaults = tt }, tt)))))))))))))))))
+  plain 1 (lit< tt) (lit< tt) a_boolean tt tt tt,
+  (
+    plain 2 (lit< tt) (lit< tt) (an_integer to_7) tt bounds_of_0_to_7 tt,
+    (
+      plain 10 (lit< tt) (lit< tt) _ tt an_item_behind tt,
+      (
+        plain 3 (lit< tt) (lit< tt) (a_bit_string any_size) tt all_sizes tt,
+        (
+          plain 3 (lit< tt) (lit< tt) _ tt two_bits tt,
+          (
+            plain 4 (lit< tt) (lit< tt) (an_octet_string to_7_octets) tt sizes_to_7 tt,
+            (
+              plain 5 (lit< tt) (lit< tt) a_null tt tt tt,
+              (
+                plain 6 (lit< tt) (lit< tt) an_object_identifier tt tt tt,
+                (
+                  plain 13 (lit< tt) (lit< tt) a_relative_oid tt tt tt,
+                  (
+                    plain 12 (lit< tt) (lit< tt) (a_utf8_string any_size) tt all_sizes tt,
+                    (
+                      plain 18 (lit< tt) (lit< tt) _ tt (digits_and_space, all_sizes) tt,
+                      (
+                        plain 16 (lit< tt) (lit< tt) (a_sequence true with_a_default) ((λ e. (by_number {t = 1} {u = 0} refl refl (λ e. omega arith), tt)), ((λ e. tt), tt)) sequence_is_listed ((λ d e. refl), ((λ d e. absurd (cc)), tt)),
+                        (
+                          plain 17 (lit< tt) (lit< tt) (a_set false with_an_option) ((by_number {t = 6} {u = 0} refl refl (λ e. omega arith), tt), (tt, tt)) (set_is_listed, (omega arith, (omega arith, tt))) ((λ d e. absurd (cc)), ((λ d e. absurd (cc)), tt)),
+                          (
+                            plain 16 (lit< tt) (lit< tt) (a_sequence_of any_size 13) tt (record { bounds = all_sizes; type = omega arith }) tt,
+                            (
+                              plain 17 (lit< tt) (lit< tt) (a_set_of any_size 15) tt (record { bounds = all_sizes; type = omega arith }) tt,
+                              (
+                                record { tagged = λ e. tt; few = omega arith; tellable = ((by_number {t = 6} {u = 0} refl refl (λ e. omega arith), tt), (tt, tt)); sound = choice_is; defaults = tt },
+                                (
+                                  record { tagged = λ e. absurd (let m = ap length e in omega arith); few = omega arith; tellable = tt; sound = tt; defaults = tt },
+                                  tt,
+                                ),
+                              ),
+                            ),
+                          ),
+                        ),
+                      ),
+                    ),
+                  ),
+                ),
+              ),
+            ),
+          ),
+        ),
+      ),
+    ),
+  ),
+)
 
 -- ---- no default depends on itself
 
@@ -217,8 +251,8 @@ every_kind = record {
   few_tags = λ t tags k i. (at_place Fine every t _ i.found all_fine).few;
   sound = λ t tags k i. (at_place Fine every t _ i.found all_fine).sound;
   no_circle = λ t q. (let f = (at_place Fine every t _ q.is.found all_fine).defaults in
-  let k = leads_to_integer (default_before (components q.kind) q.value f q.stands q.has_default) q.back in
-  member_of_none (ap components k) q.stands);
+      let k = leads_to_integer (default_before (components q.kind) q.value f q.stands q.has_default) q.back in
+      member_of_none (ap components k) q.stands);
 }
 
 -- A ::= SEQUENCE {a A DEFAULT {}}

@@ -1,4 +1,4 @@
--- Contents octets of the kinds that hold no other type's encodings (X.690, 8.2 to 8.8, 8.19, 8.20, 8.23, 10.2, 11.1, 11.2).
+-- Contents octets of the kinds that hold no others (X.690, 8.2 to 8.8, 8.19, 8.20, 8.23, 10.2, 11.1 and 11.2).
 use Rattle.std.specs.Prelude.{◌≡◌, ℕ, suc, ◌+◌, ◌*◌, ◌^◌, ◌<◌, ◌≤◌, ℤ, pos, negsuc, Bool, true, false}
 use Rattle.std.specs.Prelude.{List, [], ◌∷◌, ◌++◌, length, flat_map, replicate}
 use Rattle.std.specs.Int.Digits.{number_from_digits, AllBelowBase}

@@ -8,10 +8,7 @@ use Rattle.encodings.specs.Header.{Octets, Header}
 pub data Ascending (R : Octets → Octets → Type 0) : List Octets → Type 0 where
   ascending_none : Ascending R []
   ascending_one : {x : Octets} → Ascending R (x ∷ [])
-  ascending_more : {x y : Octets} {ys : List Octets}
-      → R x y
-      → Ascending R (y ∷ ys)
-      → Ascending R (x ∷ y ∷ ys)
+  ascending_more : {x y : Octets} {ys : List Octets} → R x y → Ascending R (y ∷ ys) → Ascending R (x ∷ y ∷ ys)
 
 -- the first list is at most the second, octet by octet, where the shorter one is filled with zeros (11.6)
 abbrev pub AtMost : Octets → Octets → Type 0
@@ -44,10 +41,7 @@ pub data Inserted : Octets → List Octets → List Octets → Type 0 where
 -- the same lists in some order
 pub data Permutes : List Octets → List Octets → Type 0 where
   permutes_none : Permutes [] []
-  permutes_more : {x : Octets} {xs ys zs : List Octets}
-      → Permutes xs ys
-      → Inserted x ys zs
-      → Permutes (x ∷ xs) zs
+  permutes_more : {x : Octets} {xs ys zs : List Octets} → Permutes xs ys → Inserted x ys zs → Permutes (x ∷ xs) zs
 
 -- the third list has the members of the first two, each in their order
 pub data Merges : List Octets → List Octets → List Octets → Type 0 where
