@@ -121,7 +121,7 @@ mutual
       let b : s ≡ s' = bit_segments_value gs gs' r.rest in
       ap (λ q. q ++ s) a ∙ ap (λ q. x' ++ q) b
 
-septets_some : (n : ℕ) → 1 ≤ length (septets n)
+pub septets_some : (n : ℕ) → 1 ≤ length (septets n)
 septets_some n = omega (arith, length-append (map (λ d. 128 + d) (digits_of 128 (n / 128))) ((n % 128) ∷ []))
 
 septet_lists : (ms ns : List ℕ) → flat_map septets ms ≡ flat_map septets ns → ms ≡ ns

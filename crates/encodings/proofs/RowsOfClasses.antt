@@ -23,7 +23,7 @@ a0 = record { class = Application; number = 5; in_range = lit< tt; not_reserved 
 abbrev p0 : Tag
 p0 = record { class = Private; number = 3; in_range = lit< tt; not_reserved = λ e. lit< tt }
 
-abbrev u13 : Tag
+abbrev pub u13 : Tag
 u13 = universal 13 (lit< tt) (lit< tt)
 
 abbrev c3 : Tag

@@ -29,7 +29,7 @@ small n h = record {
     one : (p : List ℕ) → TwosComplement (pos n) p → 1 ≤ length p
     one p (not_negative l b e h) = l
 
-some_octet : {z : ℤ} {p : List ℕ} → TwosComplement z p → 1 ≤ length p
+pub some_octet : {z : ℤ} {p : List ℕ} → TwosComplement z p → 1 ≤ length p
 some_octet (not_negative l b g h) = l
 some_octet (negative l b g h) = l
 
