@@ -55,7 +55,7 @@ fn size_len(contents: u64) -> usize
 /// (X.690, 8.1.2, 8.1.3 and 10.1).
 ///
 /// An `Err` is `Memory`, and adds nothing.
-#[tactic(auto, unfolding(encodings::specs::Header::shortest_header))]
+#[tactic(auto, unfolding(encodings::specs::Fewest::shortest_header))]
 pub fn write_header(
     alloc: Global,
     tag: Tag,
