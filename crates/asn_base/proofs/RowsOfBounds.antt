@@ -327,6 +327,26 @@ no_marker_no_addition a = by a.root a.more a.parts (a.marked refl) a.in_root
         is_new : Component → Bool
         is_new d = is_addition d
 
+pub addition_in_front : {s : List Resolved} {e : Bool} → AreListed s e (component a_name (addition false None) ∷ component b_name mandatory ∷ []) → ⊥
+addition_in_front a = by a.root a.more a.parts a.in_root a.behind
+  where
+    is_new : Component → Bool
+    is_new d = is_addition d
+
+    first : List Component → Component
+    first [] = component a_name optional
+    first (d ∷ ds) = d
+
+    second : List Component → Component
+    second (c ∷ d ∷ ds) = d
+    second ds = component a_name optional
+
+    by : (root more : List Component) → component a_name (addition false None) ∷ component b_name mandatory ∷ [] ≡ root ++ more → AllByRecursion (λ c. is_addition c ≡ false) root → AllByRecursion (λ c. is_addition c ≡ true) more → ⊥
+    by [] [] e h i = let l = ap length e in omega arith
+    by [] (c ∷ []) e h i = let l = ap length e in omega arith
+    by [] (c ∷ d ∷ ds) e h i = let g : false ≡ true = ap is_new (ap second e) ∙ i.1.0 in cc
+    by (c ∷ cs) more e h i = let g : true ≡ false = ap is_new (ap first e) ∙ h.0 in cc
+
 pub component_name_twice : {s : List Resolved} {e : Bool} → AreListed s e (component a_name mandatory ∷ component a_name optional ∷ []) → ⊥
 component_name_twice a = a.names.distinct.0 is_first
 

@@ -8,6 +8,7 @@ use Rattle.asn_base.specs.Names.{IsMember, is_first, is_later}
 use Rattle.asn_base.specs.Types.{Constraint, NamedBit, Alternative, Presence, mandatory, optional, default, addition, Component, Kind, a_boolean, an_integer, an_enumerated, a_bit_string, a_named_bit_string, an_octet_string, a_null, a_utf8_string, a_restricted_string, a_sequence, a_set, a_sequence_of, a_set_of, a_choice, Resolved, Is}
 use Rattle.asn_base.specs.Typed.{Fits, fits_integer, fits_enumerated, fits_bits, fits_octets, fits_utf8, fits_restricted, ValueIn, value_in, ValueOf, of_leaf, of_sequence, of_set, of_sequence_of, of_set_of, of_choice, members, MayBeAbsent, AreComponents, component_absent, component_present}
 use Rattle.asn_base.specs.Same.{Alike, alike, AlikeBy, equal, zeros, alike_choice, AlikeComponents, first_default, AlikeElements, alike_element, AlikeInAnyOrder, none_left, pair, Inserted, here, there}
+use Rattle.asn_base.specs.Tags.{first_tag, AllTellable}
 use Rattle.asn_base.proofs.Rows.{to_7, row}
 use Rattle.asn_base.proofs.Sameness.{by_at, same_kind}
 
@@ -157,3 +158,30 @@ other_default (first_default e a b) = let h : pos 5 ≡ pos 6 = ap number_of (ap
 -- {} and {a 6} of SEQUENCE {a INTEGER OPTIONAL}
 pub no_default : AlikeComponents numbers (part optional ∷ []) (absent end) (present (integer (pos 6)) end) → ⊥
 no_default (first_default e a b) = cc
+
+-- ---- groups: half of one is in no value
+
+abbrev of_group : Bool → Component
+of_group o = part (addition o (Some 1))
+
+pub half_a_group : {n : ℕ} → ValueOf s n (a_sequence true (of_group false ∷ of_group true ∷ [])) (fields (absent (present null end))) → ⊥
+half_a_group (of_sequence a g) = g 1 (inl refl) (inl refl)
+half_a_group (of_leaf f) = elim f [ ]
+
+pub half_a_group_of_set : {n : ℕ} → ValueOf s n (a_set true (of_group false ∷ of_group true ∷ [])) (fields (absent (present null end))) → ⊥
+half_a_group_of_set (of_set a g) = g 1 (inl refl) (inl refl)
+half_a_group_of_set (of_leaf f) = elim f [ ]
+
+-- ---- first tags that are not distinct: SET, CHOICE with an addition, and SEQUENCE of two NULL
+
+abbrev twice : Kind → List Resolved
+twice k = row a_null ∷ row k ∷ []
+
+pub twice_in_set : AllTellable (twice (a_set false (part mandatory ∷ part mandatory ∷ []))) → ⊥
+twice_in_set a = (a 1 _ _ (record { found = refl })).0.0 _ (first_tag (record { found = refl })) (first_tag (record { found = refl }))
+
+pub twice_in_choice : AllTellable (twice (a_choice (an_alternative 0 ∷ []) true (an_alternative 0 ∷ []))) → ⊥
+twice_in_choice a = (a 1 _ _ (record { found = refl })).0.0 _ (first_tag (record { found = refl })) (first_tag (record { found = refl }))
+
+pub twice_in_sequence : AllTellable (twice (a_sequence true (part optional ∷ part (addition false None) ∷ []))) → ⊥
+twice_in_sequence a = ((a 1 _ _ (record { found = refl })).0 refl).0 _ (first_tag (record { found = refl })) (first_tag (record { found = refl }))

@@ -8,7 +8,7 @@ use Rattle.asn_base.specs.Abstract.{AbstractValue, text, bits_of_octet}
 use Rattle.asn_base.specs.Types.{Presence, mandatory, addition, a_boolean, a_sequence, Component, Resolved, Is}
 use Rattle.encodings.specs.Rules.{Rules, Basic}
 use Rattle.encodings.specs.Header.{identifier, Header}
-use Rattle.encodings.specs.Strings.{whole, cut, Segments, no_segment, segment, WholeBits, octet_string_tag, bit_string_tag}
+use Rattle.encodings.specs.Strings.{whole, cut, Segments, no_segment, segment, WholeBits, BitSegments, last_segment, bit_segment, octet_string_tag, bit_string_tag}
 use Rattle.encodings.specs.Contents.{of_restricted}
 use Rattle.encodings.specs.Orders.{Permutes, permutes_none, permutes_more, Inserted, here, there, Merges, merges_none, merges_first, merges_second}
 use Rattle.encodings.specs.Encoding.{Framed, innermost, UnknownIf, closed, extensible, no_unknown, Says, says, Holds, leaf, sequence, Members, no_member, left_out, member}
@@ -116,3 +116,16 @@ pub other_order : {w : AbstractValue} {n : ℕ} {c : Bool} {x : List ℕ} → Ho
 other_order (sequence (left_out m ms) u) e = let f : true ≡ false = m in cc
 other_order (sequence {us = us} (member {xs = xs} a nd ms) u) e = says_boolean (concat (xs ++ us)) a e
 other_order (leaf con) e = elim con [ ]
+
+-- a segment of bits has the tag of BIT STRING: 0402 0080 is none
+of_octets : Header octet_string_tag false 2 (4 ∷ 2 ∷ [])
+unfolding identifier
+of_octets = short_header octet_string_tag false 2 (lit< tt)
+
+pub other_bit_segment : {s : List Bool} {o : List ℕ} → BitSegments s o → o ≡ 4 ∷ 2 ∷ 0 ∷ 128 ∷ [] → ⊥
+other_bit_segment (last_segment {c = c} {h = h} {p = p} hd ps) e =
+    let n = (any_front bit_string_tag octet_string_tag c false (length p) 2 h (4 ∷ 2 ∷ []) p (0 ∷ 128 ∷ []) hd of_octets e).numbers in
+    omega arith
+other_bit_segment (bit_segment {c = c} {h = h} {p = p} {o = o} hd ps m gs) e =
+    let n = (any_front bit_string_tag octet_string_tag c false (length p) 2 h (4 ∷ 2 ∷ []) (p ++ o) (0 ∷ 128 ∷ []) hd of_octets (sym (append_assoc h p o) ∙ e)).numbers in
+    omega arith
