@@ -14,8 +14,9 @@ use Rattle.encodings.specs.Encoding.{innermost, Says, says, Holds, leaf}
 use Rattle.encodings.proofs.Headers.{shortest_is}
 use Rattle.encodings.proofs.LeafValues.{septets_some}
 use Rattle.encodings.proofs.Shortests.{lt_or_ge}
-use Rattle.encodings.proofs.RowTypes.{rows}
-use Rattle.encodings.proofs.RowsThatHold.{some_octet}
+use Rattle.encodings.proofs.RowTypes.{rows, u2, u6}
+use Rattle.encodings.proofs.RowsThatHold.{short_header, some_octet}
+use Rattle.encodings.proofs.RowsThatFail.{inside}
 use Rattle.encodings.proofs.RowsOfSizes.{greatest_number}
 use Rattle.encodings.proofs.RowsOfClasses.{more, u13}
 
@@ -50,19 +51,39 @@ not_none (n ∷ ns) l e = let k = ap length e in omega (arith, k, septets_some n
 joined_some : {ns : List ℕ} → IsObjectIdentifier ns → 1 ≤ length (joined ns)
 joined_some (arcs a b c d e) = omega arith
 
--- 0600, 06028001, 0D00 and 0D028001 say nothing
-pub no_relative_of_none : {r : Rules} {w : AbstractValue} {n : ℕ} {c : Bool} {x : List ℕ} → Holds more r a_relative_oid w n c x → x ≡ [] → ⊥
-no_relative_of_none (leaf (of_relative_oid {ns = ns} a)) e = not_none ns a.some e
+-- 0D00 and 0D028001, 0600 and 06028001 say nothing
+relative_of_none : {r : Rules} {w : AbstractValue} {n : ℕ} {c : Bool} {x : List ℕ} → Holds more r a_relative_oid w n c x → x ≡ [] → ⊥
+relative_of_none (leaf (of_relative_oid {ns = ns} a)) e = not_none ns a.some e
 
-pub no_relative_from_80 : {r : Rules} {w : AbstractValue} {n : ℕ} {c : Bool} {x : List ℕ} → Holds more r a_relative_oid w n c x → x ≡ 128 ∷ 1 ∷ [] → ⊥
-no_relative_from_80 (leaf (of_relative_oid {ns = ns} a)) e = not_80 ns (1 ∷ []) e
+relative_from_80 : {r : Rules} {w : AbstractValue} {n : ℕ} {c : Bool} {x : List ℕ} → Holds more r a_relative_oid w n c x → x ≡ 128 ∷ 1 ∷ [] → ⊥
+relative_from_80 (leaf (of_relative_oid {ns = ns} a)) e = not_80 ns (1 ∷ []) e
 
-pub no_oid_of_none : {r : Rules} {w : AbstractValue} {n : ℕ} {c : Bool} {x : List ℕ} → Holds rows r an_object_identifier w n c x → x ≡ [] → ⊥
-no_oid_of_none (leaf (of_oid {ns = ns} a)) e = not_none (joined ns) (joined_some a) e
+oid_of_none : {r : Rules} {w : AbstractValue} {n : ℕ} {c : Bool} {x : List ℕ} → Holds rows r an_object_identifier w n c x → x ≡ [] → ⊥
+oid_of_none (leaf (of_oid {ns = ns} a)) e = not_none (joined ns) (joined_some a) e
 
-pub no_oid_from_80 : {r : Rules} {w : AbstractValue} {n : ℕ} {c : Bool} {x : List ℕ} → Holds rows r an_object_identifier w n c x → x ≡ 128 ∷ 1 ∷ [] → ⊥
-no_oid_from_80 (leaf (of_oid {ns = ns} a)) e = not_80 (joined ns) (1 ∷ []) e
+oid_from_80 : {r : Rules} {w : AbstractValue} {n : ℕ} {c : Bool} {x : List ℕ} → Holds rows r an_object_identifier w n c x → x ≡ 128 ∷ 1 ∷ [] → ⊥
+oid_from_80 (leaf (of_oid {ns = ns} a)) e = not_80 (joined ns) (1 ∷ []) e
+
+pub no_relative_of_none : (w : AbstractValue) (n : ℕ) → Says more Basic 10 w n (13 ∷ 0 ∷ []) → ⊥
+unfolding identifier
+no_relative_of_none w n a = relative_of_none (inside {x = []} (record { found = refl }) (short_header u13 false 0 (lit< tt)) refl a) refl
+
+pub no_relative_from_80 : (w : AbstractValue) (n : ℕ) → Says more Basic 10 w n (13 ∷ 2 ∷ 128 ∷ 1 ∷ []) → ⊥
+unfolding identifier
+no_relative_from_80 w n a = relative_from_80 (inside {x = 128 ∷ 1 ∷ []} (record { found = refl }) (short_header u13 false 2 (lit< tt)) refl a) refl
+
+pub no_oid_of_none : (w : AbstractValue) (n : ℕ) → Says rows Basic 6 w n (6 ∷ 0 ∷ []) → ⊥
+unfolding identifier
+no_oid_of_none w n a = oid_of_none (inside {x = []} (record { found = refl }) (short_header u6 false 0 (lit< tt)) refl a) refl
+
+pub no_oid_from_80 : (w : AbstractValue) (n : ℕ) → Says rows Basic 6 w n (6 ∷ 2 ∷ 128 ∷ 1 ∷ []) → ⊥
+unfolding identifier
+no_oid_from_80 w n a = oid_from_80 (inside {x = 128 ∷ 1 ∷ []} (record { found = refl }) (short_header u6 false 2 (lit< tt)) refl a) refl
 
 -- nor does 0200
-pub no_integer_of_none : {r : Rules} {k : Constraint} {w : AbstractValue} {n : ℕ} {c : Bool} {x : List ℕ} → Holds rows r (an_integer k) w n c x → x ≡ [] → ⊥
-no_integer_of_none (leaf (of_integer a)) e = let l = some_octet a.is in let m = ap length e in omega arith
+integer_of_none : {r : Rules} {k : Constraint} {w : AbstractValue} {n : ℕ} {c : Bool} {x : List ℕ} → Holds rows r (an_integer k) w n c x → x ≡ [] → ⊥
+integer_of_none (leaf (of_integer a)) e = let l = some_octet a.is in let m = ap length e in omega arith
+
+pub no_integer_of_none : (w : AbstractValue) (n : ℕ) → Says rows Basic 1 w n (2 ∷ 0 ∷ []) → ⊥
+unfolding identifier
+no_integer_of_none w n a = integer_of_none (inside {x = []} (record { found = refl }) (short_header u2 false 0 (lit< tt)) refl a) refl

@@ -14,7 +14,8 @@ use Rattle.encodings.specs.Orders.{Permutes, permutes_none, permutes_more, Inser
 use Rattle.encodings.specs.Encoding.{Framed, innermost, UnknownIf, closed, extensible, no_unknown, Says, says, Holds, leaf, sequence, Members, no_member, left_out, member}
 use Rattle.encodings.proofs.Identifiers.{any_front}
 use Rattle.encodings.proofs.Least.{same_tags, framed_at}
-use Rattle.encodings.proofs.RowTypes.{rows, universal, u1, u18, c0, a_component}
+use Rattle.encodings.proofs.RowsThatFail.{inside}
+use Rattle.encodings.proofs.RowTypes.{rows, u1, u16, u18, c0, a_component}
 use Rattle.encodings.proofs.RowsThatHold.{short_header}
 use Rattle.encodings.proofs.RowsOfClasses.{more}
 
@@ -129,3 +130,7 @@ other_bit_segment (last_segment {c = c} {h = h} {p = p} hd ps) e =
 other_bit_segment (bit_segment {c = c} {h = h} {p = p} {o = o} hd ps m gs) e =
     let n = (any_front bit_string_tag octet_string_tag c false (length p) 2 h (4 ∷ 2 ∷ []) (p ++ o) (0 ∷ 128 ∷ []) hd of_octets (sym (append_assoc h p o) ∙ e)).numbers in
     omega arith
+
+pub components_turned : (w : AbstractValue) (n : ℕ) → Says more Basic 7 w n (48 ∷ 6 ∷ 128 ∷ 1 ∷ 0 ∷ 1 ∷ 1 ∷ 0 ∷ []) → ⊥
+unfolding identifier
+components_turned w n a = other_order (inside {x = 128 ∷ 1 ∷ 0 ∷ 1 ∷ 1 ∷ 0 ∷ []} (record { found = refl }) (short_header u16 true 6 (lit< tt)) refl a) refl

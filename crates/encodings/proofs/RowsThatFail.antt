@@ -4,7 +4,7 @@ use Rattle.std.specs.Prelude.{ℤ}
 use Rattle.std.specs.Int.Digits.{number_from_digits}
 use Rattle.asn_base.specs.declared.tag.Tag.{Tag}
 use Rattle.asn_base.specs.Abstract.{AbstractValue}
-use Rattle.asn_base.specs.Types.{any_size, Kind, a_boolean, an_integer, a_bit_string, an_octet_string, Is}
+use Rattle.asn_base.specs.Types.{any_size, Kind, a_boolean, an_integer, a_bit_string, an_octet_string, Resolved, Is}
 use Rattle.encodings.specs.Rules.{Rules, Basic, Distinguished}
 use Rattle.encodings.specs.Header.{identifier, Header, long}
 use Rattle.encodings.specs.Fewest.{shortest_header}
@@ -26,10 +26,10 @@ framed_inside {g = g} {c = c} {d = d} {x = x} {y = y} {h = h} (innermost {h = h'
     let r = any_front g g d c (length y) (length x) h' h y x a.header hd e in record { forms = r.forms; inside = r.rest }
 
 -- what stands behind the one header of octets
-pub inside : {r : Rules} {t : ℕ} {g : Tag} {k : Kind} {w : AbstractValue} {n : ℕ} {c : Bool} {h x o : List ℕ} → Is rows t (g ∷ []) k → Header g c (length x) h → o ≡ h ++ x → Says rows r t w n o → Holds rows r k w n c x
-inside {r} {k = k} {w = w} {n = n} {c = c} {x = x} i hd e (says {c = d} j h fr) =
-    let s = framed_inside (framed_at (same_tags i j) fr) hd e in
-    subst (λ q. Holds rows r k w n q x) s.forms (subst (λ q. Holds rows r k w n d q) s.inside (holds_at (same_kind i j) h))
+pub inside : {s : List Resolved} {r : Rules} {t : ℕ} {g : Tag} {k : Kind} {w : AbstractValue} {n : ℕ} {c : Bool} {h x o : List ℕ} → Is s t (g ∷ []) k → Header g c (length x) h → o ≡ h ++ x → Says s r t w n o → Holds s r k w n c x
+inside {s} {r} {k = k} {w = w} {n = n} {c = c} {x = x} i hd e (says {c = d} j h fr) =
+    let f = framed_inside (framed_at (same_tags i j) fr) hd e in
+    subst (λ q. Holds s r k w n q x) f.forms (subst (λ q. Holds s r k w n d q) f.inside (holds_at (same_kind i j) h))
 
 is_0 : Is rows 0 (u1 ∷ []) a_boolean
 is_0 = record { found = refl }
