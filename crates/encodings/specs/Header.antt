@@ -11,6 +11,10 @@ use Rattle.encodings.specs.Rules.{Rules, Strictly}
 abbrev pub Octets : Type 0
 Octets = List ℕ
 
+-- encodings, one behind the other
+abbrev pub Encodings : Type 0
+Encodings = List Octets
+
 -- two bits of class (8.1.2.2)
 abbrev pub class_bits : Class → ℕ
 class_bits Universal = 0
