@@ -1,19 +1,19 @@
 -- Worked rows: bounds, alphabets, items, bits and names that a schema keeps, and those that it must not have.
-use Rattle.std.proofs.Common.{arith, lit<, ◌≡◌, ℕ, zero, suc, ◌+◌, ◌<◌, ◌≤◌, ◌^◌, ⊎_elim, inl, inr, Bool, true, false, List, [], ◌∷◌, ◌++◌, length, map, refl, sym, ap, subst, ◌∙◌}
+use Rattle.std.proofs.Common.{arith, lit<, ◌≡◌, ℕ, ⊎_elim, inl, inr, Bool, true, false, List, [], ◌∷◌, ◌++◌, length, refl, sym, ap, subst, ◌∙◌}
 use Rattle.std.proofs.lemmas.Int.{ints}
-use Rattle.std.specs.Prelude.{ℤ, pos, negsuc, ◌<ℤ◌, ◌≤ℤ◌, Option, None, Some, IfSome}
+use Rattle.std.specs.Prelude.{ℤ, pos, negsuc, ◌≤ℤ◌, Option, None, Some, IfSome}
 use Rattle.std.specs.List.{AllByRecursion}
 use Rattle.asn_base.specs.declared.tag.Class.{Class}
 use Rattle.asn_base.specs.declared.tag.Class.TheVariants.{Universal, Application, Context, Private}
 use Rattle.asn_base.specs.declared.tag.Tag.{Tag}
-use Rattle.asn_base.specs.declared.strings.StringKind.TheVariants.{Numeric, Printable, Ia5, Visible}
+use Rattle.asn_base.specs.declared.strings.StringKind.TheVariants.{Numeric, Printable, Visible}
 use Rattle.asn_base.specs.Abstract.{AbstractValue, integer, null}
-use Rattle.asn_base.specs.Names.{IsIdentifier, IsMember, is_first, is_later, AreDistinct, AreNames}
-use Rattle.asn_base.specs.Types.{Range, Bounds, Constraint, any_number, any_size, Item, NamedBit, Alternative, Presence, mandatory, optional, default, addition, Component, Kind, a_null, a_choice, Resolved, Is}
-use Rattle.asn_base.specs.Tags.{First, first_tag, first_of_choice, class_rank, TagBefore, HasFewTags, AllTagged, IsChoice, AllApart}
-use Rattle.asn_base.specs.Typed.{IsInRange, IsInSome, IsAllowed, HasNumber, IsWithinLimit, IsOfGroup, Fits, fits_null, ValueIn, value_in, ValueOf, of_leaf, of_sequence, of_set, of_sequence_of, of_set_of, of_choice}
-use Rattle.asn_base.specs.Schemas.{IsLeast, IsGreatest, AreBounds, IsNumber, IsSize, IsAlphabet, CodesAscend, NumbersAscend, AreItems, AreNamedBits, HasTag, is_addition, HasValue, GroupsTogether, AreListed, TagsAscend, AreAlternatives, AreElementsOf}
-use Rattle.asn_base.proofs.Rows.{to_7, bounds, row}
+use Rattle.asn_base.specs.Names.{IsMember, is_first, is_later, AreNames}
+use Rattle.asn_base.specs.Types.{Range, Bounds, Constraint, Item, NamedBit, Alternative, Presence, mandatory, optional, default, addition, Component, Kind, a_null, a_choice, Resolved}
+use Rattle.asn_base.specs.Tags.{First, first_tag, first_of_choice, class_rank, TagBefore, HasFewTags, AllTagged, AllApart}
+use Rattle.asn_base.specs.Typed.{IsInRange, IsInSome, IsWithinLimit, Fits, fits_null, ValueIn, value_in, ValueOf, of_leaf, of_sequence, of_set, of_sequence_of, of_set_of, of_choice}
+use Rattle.asn_base.specs.Schemas.{AreBounds, IsNumber, IsSize, IsAlphabet, AreItems, AreNamedBits, is_addition, GroupsTogether, AreListed, AreAlternatives, AreElementsOf}
+use Rattle.asn_base.proofs.Rows.{to_7, row}
 use Rattle.asn_base.proofs.Sameness.{same_kind}
 
 -- ---- ranges

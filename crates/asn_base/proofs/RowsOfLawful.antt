@@ -1,6 +1,6 @@
 -- A worked row: a schema with every kind of type keeps all that a schema keeps; and one whose default leads back to its
 -- own type does not.
-use Rattle.std.proofs.Common.{arith, lit<, ◌≡◌, ℕ, zero, suc, ◌<◌, ◌≤◌, inl, inr, Bool, true, false, List, [], ◌∷◌, length, refl, sym, ap, subst, ◌∙◌}
+use Rattle.std.proofs.Common.{arith, lit<, ◌≡◌, ℕ, suc, ◌<◌, ◌≤◌, inl, true, false, List, [], ◌∷◌, length, refl, sym, ap, subst, ◌∙◌}
 use Rattle.std.proofs.lemmas.Int.{ints}
 use Rattle.std.specs.Prelude.{pos, Option, Some, None, slice_get}
 use Rattle.std.specs.List.{AllByRecursion}
@@ -9,11 +9,11 @@ use Rattle.asn_base.specs.declared.tag.Class.TheVariants.{Universal, Application
 use Rattle.asn_base.specs.declared.tag.Tag.{Tag}
 use Rattle.asn_base.specs.declared.strings.StringKind.TheVariants.{Numeric}
 use Rattle.asn_base.specs.Abstract.{AbstractValue, integer, fields, null, end, absent}
-use Rattle.asn_base.specs.Names.{IsMember, is_first, is_later, AreNames}
+use Rattle.asn_base.specs.Names.{IsMember, is_first, is_later}
 use Rattle.asn_base.specs.Types.{Constraint, any_size, Alternative, Presence, mandatory, optional, default, addition, Component, Kind, a_boolean, an_integer, an_enumerated, a_bit_string, a_named_bit_string, an_octet_string, a_null, an_object_identifier, a_relative_oid, a_utf8_string, a_restricted_string, a_sequence, a_set, a_sequence_of, a_set_of, a_choice, Resolved, Is}
 use Rattle.asn_base.specs.Tags.{First, first_tag, first_of_choice, AreApart, IsTellable, IsChoice}
 use Rattle.asn_base.specs.Typed.{fits_integer, value_in, of_leaf, IsValue}
-use Rattle.asn_base.specs.Schemas.{HasValue, AreListed, AreAlternatives, IsSound, components, types_in, LeadsTo, leads_itself, leads_onward, IsDefaultCircle, IsSchema}
+use Rattle.asn_base.specs.Schemas.{HasValue, AreListed, AreAlternatives, IsSound, components, types_in, LeadsTo, leads_itself, leads_onward, IsSchema}
 use Rattle.asn_base.proofs.Lists.{at_place}
 use Rattle.asn_base.proofs.Rows.{to_7}
 use Rattle.asn_base.proofs.Schemas.{all_sizes}

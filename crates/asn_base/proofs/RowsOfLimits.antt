@@ -1,18 +1,17 @@
 -- Worked rows at the edges of the limits: what just holds, and one past it, which must not.
-use Rattle.std.proofs.Common.{arith, lit<, ◌≡◌, ℕ, zero, suc, ◌+◌, ◌<◌, ◌≤◌, ◌^◌, ⊎_elim, inl, inr, Bool, true, false, List, [], ◌∷◌, ◌++◌, length, map, refl, sym, ap, subst, ◌∙◌}
+use Rattle.std.proofs.Common.{arith, lit<, ◌≡◌, ℕ, zero, suc, ◌<◌, ◌≤◌, ◌^◌, ⊎_elim, Bool, true, false, List, [], ◌∷◌, ◌++◌, length, map, refl, sym, ap, subst, ◌∙◌}
 use Rattle.std.proofs.lemmas.Int.{ints}
-use Rattle.std.specs.Prelude.{ℤ, pos, negsuc, ◌<ℤ◌, Option, None, Some, slice_get}
+use Rattle.std.specs.Prelude.{pos, negsuc, ◌<ℤ◌, Option, None, Some, slice_get}
 use Rattle.std.specs.List.{AllByRecursion}
-use Rattle.asn_base.specs.declared.strings.StringKind.TheVariants.{Ia5, Visible}
+use Rattle.asn_base.specs.declared.strings.StringKind.TheVariants.{Ia5}
 use Rattle.asn_base.specs.declared.tag.Tag.{Tag}
 use Rattle.asn_base.specs.Abstract.{AbstractValue, list, null, Row, end, present}
 use Rattle.asn_base.specs.Names.{goes_on, IsIdentifier, IsMember, is_first, is_later, AreDistinct, AreNames}
-use Rattle.asn_base.specs.Types.{any_size, Item, NamedBit, Alternative, Presence, mandatory, optional, default, addition, Component, Kind, a_null, a_sequence_of, Resolved, Is}
-use Rattle.asn_base.specs.Typed.{HasNumber, IsInRange, IsWithinLimit, IsObjectIdentifier, arcs, IsRelativeOid, Fits, ValueIn, value_in, ValueOf, of_leaf, of_sequence, of_set, of_sequence_of, of_set_of, of_choice, AreElements, no_element, one_element, fits_null, nodes, row_nodes, IsValue}
+use Rattle.asn_base.specs.Types.{any_size, Item, NamedBit, Alternative, Presence, mandatory, default, addition, Component, Kind, a_null, a_sequence_of, Resolved, Is}
+use Rattle.asn_base.specs.Typed.{HasNumber, IsWithinLimit, IsObjectIdentifier, arcs, IsRelativeOid, Fits, ValueIn, value_in, ValueOf, of_leaf, of_sequence, of_set, of_sequence_of, of_set_of, of_choice, AreElements, no_element, one_element, fits_null, row_nodes, IsValue}
 use Rattle.asn_base.specs.Schemas.{IsAlphabet, NumbersAscend, AreItems, AreNamedBits, HasTag, is_addition, HasValue, AreListed, AreAlternatives}
 use Rattle.asn_base.proofs.Rows.{row}
 use Rattle.asn_base.proofs.Schemas.{nil_right}
-use Rattle.asn_base.proofs.Sameness.{same_kind}
 
 -- ---- names of any number, each longer than those behind it
 

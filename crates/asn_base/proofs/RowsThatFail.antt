@@ -1,12 +1,12 @@
 -- Worked rows: what is no value of a type, and what is not alike.
-use Rattle.std.proofs.Common.{arith, lit<, ◌≡◌, ℕ, zero, suc, ⊎_elim, inl, inr, Bool, true, false, List, [], ◌∷◌, ◌++◌, length, replicate, refl, sym, ap, subst, ◌∙◌}
+use Rattle.std.proofs.Common.{arith, ◌≡◌, ℕ, suc, ⊎_elim, inl, Bool, true, false, List, [], ◌∷◌, ◌++◌, length, replicate, refl, sym, ap, ◌∙◌}
 use Rattle.std.proofs.lemmas.Int.{ints}
-use Rattle.std.specs.Prelude.{ℤ, pos, negsuc, Option, Some, None, slice_get, chars}
+use Rattle.std.specs.Prelude.{ℤ, pos, Some, None, chars}
 use Rattle.asn_base.specs.declared.strings.StringKind.TheVariants.{Numeric}
-use Rattle.asn_base.specs.Abstract.{AbstractValue, boolean, integer, enumerated, bits, octets, text, null, fields, list, alternative, Row, end, absent, present}
+use Rattle.asn_base.specs.Abstract.{AbstractValue, integer, enumerated, bits, octets, text, null, fields, list, alternative, Row, end, absent, present}
 use Rattle.asn_base.specs.Names.{IsMember, is_first, is_later}
-use Rattle.asn_base.specs.Types.{Constraint, NamedBit, Alternative, Presence, mandatory, optional, default, addition, Component, Kind, a_boolean, an_integer, an_enumerated, a_bit_string, a_named_bit_string, an_octet_string, a_null, a_utf8_string, a_restricted_string, a_sequence, a_set, a_sequence_of, a_set_of, a_choice, Resolved, Is}
-use Rattle.asn_base.specs.Typed.{Fits, fits_integer, fits_enumerated, fits_bits, fits_octets, fits_utf8, fits_restricted, ValueIn, value_in, ValueOf, of_leaf, of_sequence, of_set, of_sequence_of, of_set_of, of_choice, members, MayBeAbsent, AreComponents, component_absent, component_present}
+use Rattle.asn_base.specs.Types.{Constraint, NamedBit, Alternative, Presence, mandatory, optional, default, addition, Component, Kind, a_boolean, an_integer, an_enumerated, a_bit_string, a_named_bit_string, an_octet_string, a_null, a_utf8_string, a_restricted_string, a_sequence, a_set, a_sequence_of, a_set_of, a_choice, Resolved}
+use Rattle.asn_base.specs.Typed.{Fits, fits_integer, fits_enumerated, fits_bits, fits_octets, fits_utf8, fits_restricted, ValueOf, of_leaf, of_sequence, of_set, of_sequence_of, of_set_of, of_choice, members, component_absent, component_present}
 use Rattle.asn_base.specs.Same.{Alike, alike, AlikeBy, equal, zeros, alike_choice, AlikeComponents, first_default, AlikeElements, alike_element, AlikeInAnyOrder, none_left, pair, Inserted, here, there}
 use Rattle.asn_base.specs.Tags.{first_tag, AllTellable}
 use Rattle.asn_base.proofs.Rows.{to_7, row}

@@ -1,5 +1,5 @@
 -- Each value of a type of a schema has an encoding by the distinguished rules, or none at all: no lengths tell it.
-use Rattle.std.proofs.Common.{arith, ◌≡◌, ℕ, zero, suc, ◌+◌, ◌*◌, ◌<◌, ◌≤◌, ◌^◌, ◌⊎◌, inl, inr, ⊎_elim, Bool, true, false, List, [], ◌∷◌, ◌++◌, length, map, refl, sym, ap, subst, ◌∙◌, length-append}
+use Rattle.std.proofs.Common.{arith, ◌≡◌, ℕ, suc, ◌+◌, ◌<◌, ◌≤◌, ◌^◌, ◌⊎◌, inl, inr, ⊎_elim, Bool, true, false, List, [], ◌∷◌, ◌++◌, length, map, refl, sym, ap, subst, ◌∙◌, length-append}
 use Rattle.std.proofs.lemmas.List.{append-nil}
 use Rattle.std.proofs.lemmas.Int.Digits.{length-digits_of-le}
 use Rattle.std.specs.List.{concat, AllByRecursion}
@@ -11,11 +11,11 @@ use Rattle.asn_base.specs.Abstract.{AbstractValue, null, fields, list, alternati
 use Rattle.asn_base.specs.Types.{Constraint, Alternative, Kind, a_sequence, a_set, a_sequence_of, a_set_of, a_choice, Presence, mandatory, optional, default, addition, Component, Resolved, Is}
 use Rattle.asn_base.specs.Tags.{First, AreApart, AllApart, class_rank, TagBefore, IsTellable, AllTagged, is_mandatory}
 use Rattle.asn_base.specs.Typed.{IsAllowedSize, GroupsAreWhole, members, ValueIn, value_in, ValueOf, of_leaf, of_sequence, of_set, of_sequence_of, of_set_of, of_choice, MayBeAbsent, where_optional, where_default, where_addition, AreComponents, no_component, component_absent, component_present, AreElements, no_element as no_value, one_element}
-use Rattle.asn_base.specs.Same.{Alike, alike, AlikeBy, equal, alike_sequence, alike_set, alike_sequence_of, alike_set_of, alike_choice, AlikeComponents, no_components, both_absent, both_present, first_default, second_default, AlikeElements, no_elements, alike_element, AlikeInAnyOrder, none_left, pair, Inserted, here, there, Same}
+use Rattle.asn_base.specs.Same.{Alike, alike, AlikeBy, equal, alike_sequence, alike_set, alike_sequence_of, alike_set_of, alike_choice, AlikeComponents, no_components, both_absent, both_present, first_default, second_default, AlikeElements, no_elements, alike_element, AlikeInAnyOrder, none_left, pair, Inserted, here, there}
 use Rattle.asn_base.specs.Schemas.{HasValue, IsSound, IsSchema}
 use Rattle.std.specs.Prelude.{Some, slice_get}
 use Rattle.encodings.specs.Rules.{Basic, Distinguished}
-use Rattle.encodings.specs.Orders.{AtMost, InTagOrder, Ascending, ascending_none, ascending_one, ascending_more, Permutes, Merges, merges_none, merges_first}
+use Rattle.encodings.specs.Orders.{AtMost, InTagOrder, Ascending, ascending_none, ascending_one, ascending_more, Merges, merges_none, merges_first}
 use Rattle.encodings.specs.Encoding.{UnknownIf, closed, extensible, no_unknown, IsDefault, Says, says, Holds, leaf, sequence, set, sequence_of, set_of, choice, Members, no_member, left_out, member, Elements, no_element, element, Ber, Der}
 use Rattle.encodings.specs.Weight.{weight, row_weight}
 use Rattle.encodings.proofs.TagLaws.{tag_same}

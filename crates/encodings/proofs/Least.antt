@@ -1,5 +1,5 @@
 -- An encoding by the distinguished rules, but for the order in sets, is no longer than any of a value that is alike.
-use Rattle.std.proofs.Common.{arith, ◌≡◌, ℕ, ◌+◌, ◌≤◌, Bool, true, false, List, [], ◌∷◌, ◌++◌, length, replicate, refl, sym, ap, subst, ◌∙◌, length-append}
+use Rattle.std.proofs.Common.{arith, ◌≡◌, ℕ, ◌+◌, ◌≤◌, Bool, false, List, [], ◌∷◌, ◌++◌, length, replicate, refl, sym, ap, subst, ◌∙◌, length-append}
 use Rattle.std.specs.Prelude.{Option, Some, None}
 use Rattle.std.specs.List.{concat, AllByRecursion}
 use Rattle.std.proofs.lemmas.List.{append-nil}
@@ -7,10 +7,9 @@ use Rattle.asn_base.specs.declared.tag.Tag.{Tag}
 use Rattle.asn_base.specs.Abstract.{AbstractValue, Row}
 use Rattle.asn_base.specs.Types.{Alternative, Kind, a_null, Component, Resolved, Is}
 use Rattle.asn_base.specs.Same.{IsLeaf, Inserted, here, there, Alike, alike, AlikeBy, equal, zeros, alike_sequence, alike_set, alike_sequence_of, alike_set_of, alike_choice, AlikeComponents, no_components, both_absent, both_present, first_default, second_default, AlikeElements, no_elements, alike_element, AlikeInAnyOrder, none_left, pair}
-use Rattle.asn_base.specs.Tags.{AllTagged}
 use Rattle.encodings.specs.Rules.{Rules, Basic, Unsorted, Distinguished, Strictly}
 use Rattle.encodings.specs.Contents.{Contents, EndsInOne, of_named_bits}
-use Rattle.encodings.specs.Orders.{Permutes, permutes_none, permutes_more, Inserted as ListInserted, here as list_here, there as list_there, Merges, merges_none, merges_first, merges_second, AtMost, InTagOrder, Ascending}
+use Rattle.encodings.specs.Orders.{Permutes, permutes_none, permutes_more, Inserted as ListInserted, here as list_here, there as list_there, Merges, merges_none, merges_first, merges_second}
 use Rattle.encodings.specs.Encoding.{Framed, no_unknown, unknown, UnknownIf, closed, extensible, Says, says, Holds, leaf, sequence, set, sequence_of, set_of, choice, Members, no_member, left_out, member, Elements, no_element, element}
 use Rattle.encodings.proofs.BitLaws.{trimmed_short, trimmed_same}
 use Rattle.encodings.proofs.LeafLaws.{Best, contents_best, contents_leaf, bits_best}

@@ -1,5 +1,5 @@
 -- Values that hold no others have contents by the distinguished rules, and contents have headers or are too long for any.
-use Rattle.std.proofs.Common.{arith, ◌≡◌, ℕ, zero, suc, ◌+◌, ◌*◌, ◌/◌, ◌<◌, ◌≤◌, ◌^◌, ◌⊎◌, inl, inr, ⊎_elim, Bool, true, false, cond, List, [], ◌∷◌, ◌++◌, length, replicate, refl, sym, ap, ◌∙◌, length-append}
+use Rattle.std.proofs.Common.{arith, ℕ, ◌+◌, ◌*◌, ◌/◌, ◌<◌, ◌≤◌, ◌^◌, ◌⊎◌, inl, inr, ⊎_elim, Bool, true, false, cond, List, [], ◌∷◌, ◌++◌, length, refl, ◌∙◌, length-append}
 use Rattle.std.proofs.lemmas.List.{append-nil}
 use Rattle.std.proofs.lemmas.Int.Digits.{length-digits_of-le}
 use Rattle.std.specs.Prelude.{nat_lt, flat_map, IsUtf8}
@@ -22,7 +22,7 @@ use Rattle.encodings.specs.Weight.{weight}
 use Rattle.encodings.proofs.Frames.{frames_least}
 use Rattle.encodings.proofs.Headers.{few_digits, fewest_size, header_of, identifier_long, size_long, septets_most, septets_length}
 use Rattle.encodings.proofs.BitLaws.{whole_short}
-use Rattle.encodings.proofs.Filling.{FilledBits, filled_bits, Trimmed, trimmed_bits}
+use Rattle.encodings.proofs.Filling.{filled_bits, trimmed_bits}
 use Rattle.encodings.proofs.Shortests.{short_number, lt_or_ge}
 
 -- ---- headers

@@ -1,11 +1,11 @@
 -- Worked rows of numbers in seven bits an octet: the greatest, and octets that are none.
-use Rattle.std.proofs.Common.{arith, lit<, ◌≡◌, ℕ, zero, suc, ◌+◌, ◌/◌, ◌%◌, ◌<◌, ◌≤◌, ◌^◌, ⊎_elim, Bool, true, false, List, [], ◌∷◌, ◌++◌, length, map, get_or, refl, sym, ap, subst, ◌∙◌, length-append}
+use Rattle.std.proofs.Common.{arith, lit<, ◌≡◌, ℕ, ◌+◌, ◌/◌, ◌%◌, ◌<◌, ◌≤◌, ◌^◌, ⊎_elim, Bool, false, List, [], ◌∷◌, ◌++◌, length, map, get_or, refl, sym, ap, subst, ◌∙◌, length-append}
 use Rattle.std.proofs.lemmas.Int.Digits.{first_digits_of}
 use Rattle.std.specs.Prelude.{flat_map}
 use Rattle.std.specs.Int.Digits.{digits_of}
 use Rattle.asn_base.specs.Abstract.{AbstractValue, relative_oid}
-use Rattle.asn_base.specs.Types.{Constraint, an_integer, an_object_identifier, a_relative_oid, Resolved}
-use Rattle.asn_base.specs.Typed.{IsObjectIdentifier, arcs, IsRelativeOid}
+use Rattle.asn_base.specs.Types.{Constraint, an_integer, an_object_identifier, a_relative_oid}
+use Rattle.asn_base.specs.Typed.{IsObjectIdentifier, arcs}
 use Rattle.encodings.specs.Rules.{Rules, Basic, Distinguished}
 use Rattle.encodings.specs.Header.{identifier, septets}
 use Rattle.encodings.specs.Fewest.{shortest_header}

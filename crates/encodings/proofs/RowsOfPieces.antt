@@ -1,17 +1,16 @@
 -- Worked rows: segments of strings with segments in them, and pieces and lists of encodings that say nothing.
-use Rattle.std.proofs.Common.{arith, lit<, ◌≡◌, ℕ, zero, suc, ◌+◌, ◌<◌, ◌≤◌, Bool, true, false, List, [], ◌∷◌, ◌++◌, length, refl, sym, ap, subst, ◌∙◌, append_assoc, length-append}
+use Rattle.std.proofs.Common.{arith, lit<, ◌≡◌, ℕ, suc, Bool, true, false, List, [], ◌∷◌, ◌++◌, length, refl, sym, ap, subst, ◌∙◌, append_assoc, length-append}
 use Rattle.std.specs.Prelude.{None, flat_map}
 use Rattle.std.specs.List.{concat}
 use Rattle.std.specs.Int.Digits.{AllBelowBase}
-use Rattle.asn_base.specs.declared.tag.Tag.{Tag}
 use Rattle.asn_base.specs.Abstract.{AbstractValue, text, bits_of_octet}
-use Rattle.asn_base.specs.Types.{Presence, mandatory, addition, a_boolean, a_sequence, Component, Resolved, Is}
+use Rattle.asn_base.specs.Types.{mandatory, addition, a_boolean, a_sequence, Component, Resolved, Is}
 use Rattle.encodings.specs.Rules.{Rules, Basic}
 use Rattle.encodings.specs.Header.{identifier, Header}
 use Rattle.encodings.specs.Strings.{whole, cut, Segments, no_segment, segment, WholeBits, BitSegments, last_segment, bit_segment, octet_string_tag, bit_string_tag}
 use Rattle.encodings.specs.Contents.{of_restricted}
-use Rattle.encodings.specs.Orders.{Permutes, permutes_none, permutes_more, Inserted, here, there, Merges, merges_none, merges_first, merges_second}
-use Rattle.encodings.specs.Encoding.{Framed, innermost, UnknownIf, closed, extensible, no_unknown, Says, says, Holds, leaf, sequence, Members, no_member, left_out, member}
+use Rattle.encodings.specs.Orders.{Permutes, permutes_none, permutes_more, Inserted, here, there, Merges, merges_first}
+use Rattle.encodings.specs.Encoding.{Framed, innermost, UnknownIf, closed, Says, says, Holds, leaf, sequence, left_out, member}
 use Rattle.encodings.proofs.Identifiers.{any_front}
 use Rattle.encodings.proofs.Least.{same_tags, framed_at}
 use Rattle.encodings.proofs.RowsThatFail.{inside}

@@ -18,7 +18,7 @@ use Rattle.encodings.proofs.Firsts.{says_first, one_tag, units_list, members_uni
 use Rattle.encodings.proofs.Unique.{says_same}
 use Rattle.encodings.proofs.Least.{merged_alone, all_permutes}
 use Rattle.encodings.proofs.Weaker.{basic_of}
-use Rattle.encodings.proofs.RowTypes.{rows, free, u2, u3, u4, u16, u17, c0, c1, one_and_two, a_component, rows_tagged, rows_tellable, first_only}
+use Rattle.encodings.proofs.RowTypes.{rows, u2, u3, u4, u16, u17, c0, c1, one_and_two, a_component, rows_tagged, rows_tellable, first_only}
 use Rattle.encodings.proofs.RowsThatHold.{short_header}
 use Rattle.encodings.proofs.RowsOfParts.{tags_ascend, default_present}
 use Rattle.encodings.proofs.RowsThatFail.{inside}

@@ -1,9 +1,8 @@
 -- What stands of encodings as wholes.
-use Rattle.std.proofs.Common.{arith, ◌∙◌, ◌≡◌, ◌⊎◌, inl, inr, ⊎_elim, ℕ, ◌<◌, ◌≤◌, Bool, List, [], ◌++◌, length, refl, sym, subst}
+use Rattle.std.proofs.Common.{arith, ◌∙◌, ◌≡◌, ◌⊎◌, inl, inr, ⊎_elim, ℕ, ◌<◌, ◌≤◌, List, [], ◌++◌, length, refl, sym, subst}
 use Rattle.std.proofs.lemmas.List.{append-nil}
-use Rattle.asn_base.specs.declared.tag.Tag.{Tag}
-use Rattle.asn_base.specs.Abstract.{AbstractValue, Row}
-use Rattle.asn_base.specs.Types.{Kind, Component, Resolved}
+use Rattle.asn_base.specs.Abstract.{AbstractValue}
+use Rattle.asn_base.specs.Types.{Resolved}
 use Rattle.asn_base.specs.Typed.{IsValueWithoutNodes}
 use Rattle.asn_base.specs.Same.{Alike, Same}
 use Rattle.asn_base.specs.Tags.{AllTagged, AllTellable}

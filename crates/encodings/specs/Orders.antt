@@ -1,5 +1,5 @@
 -- Encodings in order, in some order, and mixed (X.690, 8.11.2, 8.12.3, 10.3 and 11.6).
-use Rattle.std.specs.Prelude.{◌≡◌, ℕ, ◌<◌, ◌⊎◌, Bool, List, [], ◌∷◌, ◌++◌}
+use Rattle.std.specs.Prelude.{◌≡◌, ℕ, ◌<◌, ◌⊎◌, Bool, [], ◌∷◌, ◌++◌}
 use Rattle.asn_base.specs.declared.tag.Tag.{Tag}
 use Rattle.asn_base.specs.Tags.{TagBefore}
 use Rattle.encodings.specs.Header.{Octets, Encodings, Header}
