@@ -9,7 +9,7 @@ use Rattle.asn_base.specs.Abstract.{AbstractValue, list, null, Row, end, present
 use Rattle.asn_base.specs.Names.{goes_on, IsIdentifier, IsMember, is_first, is_later, AreDistinct, AreNames}
 use Rattle.asn_base.specs.Types.{any_size, Item, NamedBit, Alternative, Presence, mandatory, default, addition, Component, Kind, a_null, a_sequence_of, Resolved, Is}
 use Rattle.asn_base.specs.Typed.{HasNumber, IsWithinLimit, IsObjectIdentifier, arcs, IsRelativeOid, Fits, ValueIn, value_in, ValueOf, of_leaf, of_sequence, of_set, of_sequence_of, of_set_of, of_choice, AreElements, no_element, one_element, fits_null, row_nodes, IsValue}
-use Rattle.asn_base.specs.Schemas.{IsAlphabet, NumbersAscend, AreItems, AreNamedBits, HasTag, is_addition, HasValue, AreListed, AreAlternatives}
+use Rattle.asn_base.specs.Schemas.{IsAlphabet, NumbersAscend, AreItems, AreNamedBits, HasTag, is_addition, HasValue, GroupsTogether, AreListed, AreAlternatives}
 use Rattle.asn_base.proofs.Rows.{row}
 use Rattle.asn_base.proofs.Schemas.{nil_right}
 
@@ -87,8 +87,26 @@ in_root n h = record {
   defaults = no_default mandatory (λ d e. cc) n;
 }
 
-together : (n : ℕ) → AllByRecursion (λ c. c.presence ≡ addition false None) (several (addition false None) n)
-together n = all_several (λ c. c.presence ≡ addition false None) (addition false None) n (λ x. refl)
+groups_apart : (n : ℕ) → GroupsTogether (several (addition false None) n)
+groups_apart zero = tt
+groups_apart (suc zero) = tt
+groups_apart (suc (suc n)) = ((λ g e. absurd (cc)), groups_apart (suc n))
+
+pub additions_64 : AreListed one true (several (addition false None) 64)
+additions_64 = record {
+  root = [];
+  more = several (addition false None) 64;
+  parts = refl;
+  in_root = tt;
+  behind = all_several (λ c. is_addition c ≡ true) (addition false None) 64 (λ x. refl);
+  groups = groups_apart 64;
+  marked = λ e. absurd (cc);
+  few_root = omega arith;
+  few_more = omega (arith, several_long (addition false None) 64);
+  names = subst AreNames (several_names (addition false None) 64) (are_names 64);
+  types = all_several (λ c. c.type < 1) (addition false None) 64 (λ x. omega arith);
+  defaults = no_default (addition false None) (λ d e. cc) 64;
+}
 
 pub components_256 : AreListed one false (several mandatory 256)
 components_256 = in_root 256 (lit< tt)
