@@ -3,7 +3,7 @@ use Rattle.std.proofs.Common.{◌≡◌, ℕ, zero, suc, List, [], ◌∷◌, �
 use Rattle.std.specs.Prelude.{Option, Some, None, slice_get, IsSomeAnd}
 use Rattle.std.specs.List.{AllByRecursion}
 
-abbrev or_else : {A : Type 0} → A → Option A → A
+abbrev pub or_else : {A : Type 0} → A → Option A → A
 or_else x None = x
 or_else x (Some y) = y
 

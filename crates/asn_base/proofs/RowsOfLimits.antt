@@ -1,16 +1,20 @@
 -- Worked rows at the edges of the limits: what just holds, and one past it, which must not.
-use Rattle.std.proofs.Common.{arith, lit<, ◌≡◌, ℕ, zero, suc, ◌<◌, ◌≤◌, ◌^◌, ⊎_elim, Bool, true, false, List, [], ◌∷◌, ◌++◌, length, map, refl, sym, ap, subst, ◌∙◌}
+use Rattle.std.proofs.Common.{arith, lit<, ◌≡◌, ℕ, zero, suc, ◌<◌, ◌≤◌, ◌^◌, ⊎_elim, inr, Bool, true, false, List, [], ◌∷◌, ◌++◌, length, map, refl, sym, ap, subst, ◌∙◌}
 use Rattle.std.proofs.lemmas.Int.{ints}
-use Rattle.std.specs.Prelude.{pos, negsuc, ◌<ℤ◌, Option, None, Some, slice_get}
+use Rattle.std.specs.Prelude.{◌+◌, ◌-◌, ◌%◌, pos, negsuc, ◌<ℤ◌, Option, None, Some, slice_get}
 use Rattle.std.specs.List.{AllByRecursion}
 use Rattle.asn_base.specs.declared.strings.StringKind.TheVariants.{Ia5}
+use Rattle.asn_base.specs.declared.tag.Class.{Class}
+use Rattle.asn_base.specs.declared.tag.Class.TheVariants.{Universal, Application, Context, Private}
 use Rattle.asn_base.specs.declared.tag.Tag.{Tag}
 use Rattle.asn_base.specs.Abstract.{AbstractValue, list, null, Row, end, present}
 use Rattle.asn_base.specs.Names.{goes_on, IsIdentifier, IsMember, is_first, is_later, AreDistinct, AreNames}
 use Rattle.asn_base.specs.Types.{any_size, Item, NamedBit, Alternative, Presence, mandatory, default, addition, Component, Kind, a_null, a_sequence_of, Resolved, Is}
 use Rattle.asn_base.specs.Typed.{HasNumber, IsWithinLimit, IsObjectIdentifier, arcs, IsRelativeOid, Fits, ValueIn, value_in, ValueOf, of_leaf, of_sequence, of_set, of_sequence_of, of_set_of, of_choice, AreElements, no_element, one_element, fits_null, row_nodes, IsValue}
-use Rattle.asn_base.specs.Schemas.{IsAlphabet, NumbersAscend, AreItems, AreNamedBits, HasTag, is_addition, HasValue, GroupsTogether, AreListed, AreAlternatives}
+use Rattle.asn_base.specs.Tags.{First, first_tag, first_of_choice, class_rank, TagBefore}
+use Rattle.asn_base.specs.Schemas.{IsAlphabet, NumbersAscend, AreItems, AreNamedBits, HasTag, TagsAscend, is_addition, HasValue, GroupsTogether, AreListed, AreAlternatives}
 use Rattle.asn_base.proofs.Rows.{row}
+use Rattle.asn_base.proofs.Lists.{or_else}
 use Rattle.asn_base.proofs.Schemas.{nil_right}
 
 -- ---- names of any number, each longer than those behind it
@@ -234,6 +238,83 @@ alternatives_256 = record {
 
 pub alternatives_257 : {s : List Resolved} {e : Bool} {more : List Alternative} → AreAlternatives s e (alternatives 257) more → ⊥
 alternatives_257 a = omega (arith, a.few_root, alternatives_long 257)
+
+-- 64 behind a marker: types 0 to 63 have the tags [64] to [1], and the alternatives are of types 63 to 0
+abbrev IsContext : Class → Type 0
+IsContext Universal = ⊥
+IsContext Application = ⊥
+IsContext Context = Unit {0}
+IsContext Private = ⊥
+
+abbrev context : ℕ → Tag
+context n = record { class = Context; number = n % 128; in_range = omega arith; not_reserved = λ e. absurd (subst IsContext e tt) }
+
+abbrev tagged : ℕ → List Resolved
+tagged zero = []
+tagged (suc n) = record { tags = context (suc n) ∷ []; kind = a_null } ∷ tagged n
+
+abbrev behind : ℕ → List Alternative
+behind zero = []
+behind (suc n) = record { name = 97 ∷ letters n; type = n } ∷ behind n
+
+behind_long : (n : ℕ) → length (behind n) ≡ n
+behind_long zero = refl
+behind_long (suc n) = ap suc (behind_long n)
+
+behind_names : (n : ℕ) → names n ≡ map (λ a. a.name) (behind n)
+behind_names zero = refl
+behind_names (suc n) = ap (λ q. (97 ∷ letters n) ∷ q) (behind_names n)
+
+abbrev IsTagOnly : ℕ → List Tag → Type 0
+IsTagOnly n [] = ⊥
+IsTagOnly n (g ∷ gs) = (g.class ≡ Context) × (g.number ≡ n % 128)
+
+equal_to : (m n : ℕ) → 0 + m ≡ n → n ≡ m
+equal_to m n l = omega arith
+
+tags_are : (n i m : ℕ) (r : Resolved) → i + m ≡ n → slice_get (tagged n) i ≡ Some r → IsTagOnly m r.tags
+tags_are zero i m r l e = absurd (cc)
+tags_are (suc n) zero m r l e = subst (λ q. IsTagOnly m q.tags) (ap (or_else r) e) (refl, ap (λ q. q % 128) (equal_to m (suc n) l))
+tags_are (suc n) (suc i) m r l e = tags_are n i m r (omega arith) e
+
+first_is : (i m : ℕ) {g : Tag} → i + m ≡ 64 → First (tagged 64) i g → (g.class ≡ Context) × (g.number ≡ m % 128)
+first_is i m l (first_tag j) = tags_are 64 i m _ l j.found
+first_is i m l (first_of_choice k j g h) = absurd (tags_are 64 i m _ l j.found)
+
+before : (k m : ℕ) (g f : Tag) → k < m → m ≤ 63 → First (tagged 64) m g → First (tagged 64) k f → TagBefore g f
+before k m g f l h a b =
+    let x = first_is m (64 - m) (omega arith) a in
+    let y = first_is k (64 - k) (omega arith) b in
+    let p = x.1 in let q = y.1 in
+    inr (ap class_rank (x.0 ∙ sym y.0), omega arith)
+
+all_before : (m n : ℕ) → n ≤ m → m ≤ 63 → AllByRecursion (λ b. (g f : Tag) → First (tagged 64) m g → First (tagged 64) b.type f → TagBefore g f) (behind n)
+all_before m zero l h = tt
+all_before m (suc n) l h = ((λ g f. before n m g f (omega arith) h), all_before m n (omega arith) h)
+
+all_ascend : (n : ℕ) → n ≤ 64 → TagsAscend (tagged 64) (behind n)
+all_ascend zero h = tt
+all_ascend (suc n) h = (all_before n n (omega arith) (omega arith), all_ascend n (omega arith))
+
+tag_there : (n i : ℕ) → i < n → HasTag (tagged n) i
+tag_there zero i l = absurd (omega arith)
+tag_there (suc n) zero l = omega arith
+tag_there (suc n) (suc i) l = tag_there n i (omega arith)
+
+all_there : (n : ℕ) → n ≤ 64 → AllByRecursion (λ a. HasTag (tagged 64) a.type) (behind n)
+all_there zero h = tt
+all_there (suc n) h = (tag_there 64 n (omega arith), all_there n (omega arith))
+
+pub alternatives_64_behind : AreAlternatives (tagged 64) true (record { name = 98 ∷ []; type = 0 } ∷ []) (behind 64)
+alternatives_64_behind = record {
+  some = omega arith;
+  names = record { identifiers = (refl, subst (AllByRecursion IsIdentifier) (behind_names 64) (all_identifiers 64)); distinct = ((λ m. not_b 64 (subst (IsMember (98 ∷ [])) (sym (behind_names 64)) m) refl), subst AreDistinct (behind_names 64) (all_distinct 64)) };
+  types = (tag_there 64 0 (omega arith), all_there 64 (omega arith));
+  more_ascend = all_ascend 64 (omega arith);
+  marked = λ e. absurd (cc);
+  few_root = omega arith;
+  few_more = omega (arith, behind_long 64);
+}
 
 pub alternatives_65_behind : {s : List Resolved} {e : Bool} {root : List Alternative} → AreAlternatives s e root (alternatives 65) → ⊥
 alternatives_65_behind a = omega (arith, a.few_more, alternatives_long 65)
