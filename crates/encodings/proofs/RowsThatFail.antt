@@ -5,7 +5,7 @@ use Rattle.std.specs.Int.Digits.{number_from_digits}
 use Rattle.asn_base.specs.declared.tag.Tag.{Tag}
 use Rattle.asn_base.specs.Abstract.{AbstractValue}
 use Rattle.asn_base.specs.Types.{any_size, Kind, a_boolean, an_integer, a_bit_string, an_octet_string, Resolved, Is}
-use Rattle.encodings.specs.Rules.{Rules, Basic, Distinguished}
+use Rattle.encodings.specs.Rules.{Rules, Basic, Unsorted, Distinguished}
 use Rattle.encodings.specs.Header.{identifier, Header, long}
 use Rattle.encodings.specs.Fewest.{shortest_header}
 use Rattle.encodings.specs.Strings.{BitPieces, whole_bits, cut_bits, BitSegments, last_segment, bit_segment, bit_string_tag}
@@ -55,6 +55,15 @@ true_is_255 (leaf (of_true l m f)) e = let h = ap head_or_0 e in omega arith
 pub not_der_true : (w : AbstractValue) (n : ℕ) → Says rows Distinguished 0 w n (1 ∷ 1 ∷ 1 ∷ []) → ⊥
 unfolding identifier
 not_der_true w n a = true_is_255 (inside {x = 1 ∷ []} is_0 (short_header u1 false 1 (lit< tt)) refl a) refl
+
+-- which ask this whatever the order
+unsorted_true_is_255 : {w : AbstractValue} {n : ℕ} {c : Bool} {x : List ℕ} → Holds rows Unsorted a_boolean w n c x → x ≡ 1 ∷ [] → ⊥
+unsorted_true_is_255 (leaf of_false) e = let h = ap head_or_0 e in omega arith
+unsorted_true_is_255 (leaf (of_true l m f)) e = let h = ap head_or_0 e in omega arith
+
+pub not_unsorted_true : (w : AbstractValue) (n : ℕ) → Says rows Unsorted 0 w n (1 ∷ 1 ∷ 1 ∷ []) → ⊥
+unfolding identifier
+not_unsorted_true w n a = unsorted_true_is_255 (inside {x = 1 ∷ []} is_0 (short_header u1 false 1 (lit< tt)) refl a) refl
 
 -- 02020005 says nothing: the octets are not the fewest
 needless : {w : AbstractValue} {n : ℕ} {c : Bool} {x : List ℕ} → Holds rows Basic (an_integer free) w n c x → x ≡ 0 ∷ 5 ∷ [] → ⊥
