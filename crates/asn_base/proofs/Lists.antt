@@ -1,9 +1,9 @@
 -- What holds of each member of a list holds of the one at a place.
-use Rattle.std.proofs.Common.{arith, ◌≡◌, ℕ, zero, suc, ◌<◌, List, [], ◌∷◌, ◌++◌, length, map, get_or, sym, ap, subst}
+use Rattle.std.proofs.Common.{◌≡◌, ℕ, zero, suc, List, [], ◌∷◌, ◌++◌, ap, subst}
 use Rattle.std.specs.Prelude.{Option, Some, None, slice_get, IsSomeAnd}
 use Rattle.std.specs.List.{AllByRecursion}
 
-abbrev or_else : {A : Type 0} → A → Option A → A
+abbrev pub or_else : {A : Type 0} → A → Option A → A
 or_else x None = x
 or_else x (Some y) = y
 

@@ -7,11 +7,11 @@ use Rattle.std.proofs.Math.Utf8.{encode}
 use Rattle.std.specs.Int.Digits.{AllBelowBase}
 use Rattle.asn_base.specs.declared.tag.Class.TheVariants.{Universal}
 use Rattle.asn_base.specs.declared.tag.Tag.{Tag}
-use Rattle.asn_base.specs.Abstract.{AbstractValue, integer, octets, null, fields, list, alternative, end, absent, present}
+use Rattle.asn_base.specs.Abstract.{AbstractValue, boolean, integer, octets, text, null, oid, fields, list, alternative, end, absent, present}
 use Rattle.asn_base.specs.Names.{IsMember, is_first, is_later}
-use Rattle.asn_base.specs.Types.{Bounds, Constraint, Presence, mandatory, optional, default, addition, Component, Kind, an_integer, an_octet_string, a_sequence, a_sequence_of, a_choice, Resolved}
-use Rattle.asn_base.specs.Typed.{IsWithinLimit, IsAllowed, HasNumber, IsObjectIdentifier, arcs, Fits, fits_integer, fits_octets, ValueIn, value_in, of_leaf, of_sequence, of_sequence_of, of_choice, ValueOf, members, one_element, MayBeAbsent, where_optional, where_default, where_addition, no_component, component_absent, component_present, no_element, nodes}
-use Rattle.asn_base.specs.Same.{Alike, alike, AlikeBy, alike_choice, equal}
+use Rattle.asn_base.specs.Types.{Bounds, Constraint, Presence, mandatory, optional, default, addition, Component, Kind, a_boolean, an_integer, an_octet_string, an_object_identifier, a_utf8_string, a_sequence, a_sequence_of, a_choice, Resolved}
+use Rattle.asn_base.specs.Typed.{IsWithinLimit, IsAllowed, HasNumber, IsObjectIdentifier, arcs, Fits, fits_boolean, fits_integer, fits_octets, fits_oid, fits_utf8, ValueIn, value_in, of_leaf, of_sequence, of_sequence_of, of_choice, ValueOf, members, one_element, MayBeAbsent, where_optional, where_default, where_addition, no_component, component_absent, component_present, no_element, nodes}
+use Rattle.asn_base.specs.Same.{Alike, alike, AlikeBy, alike_sequence, alike_sequence_of, alike_choice, equal, no_components, both_absent, first_default, no_elements, alike_element}
 use Rattle.asn_base.proofs.Sameness.{by_at, same_kind}
 use Rattle.asn_base.proofs.Groups.{no_groups}
 
@@ -32,7 +32,7 @@ free = record { allowed = None; visible = bounds }
 abbrev some : Constraint
 some = record { allowed = Some (record { least = Some (pos 1); greatest = None } ∷ []); visible = bounds }
 
-abbrev row : Kind → Resolved
+abbrev pub row : Kind → Resolved
 row k = record { tags = tag ∷ []; kind = k }
 
 abbrev part : ℕ → Presence → Component
@@ -204,3 +204,25 @@ new_alternative = value_in (record { found = refl }) (of_choice refl five)
 -- two values of an alternative are alike, of two alternatives not
 alternatives_alike : Alike s 7 (alternative 1 (integer (pos 5))) (alternative 1 (integer (pos 5)))
 alternatives_alike = alike (record { found = refl }) (alike_choice refl (alike (record { found = refl }) (equal tt)))
+
+-- {1, 2} of a SEQUENCE OF is alike itself, and {} of SEQUENCE {a INTEGER DEFAULT 5} alike {a 5}
+list_alike : Alike s 5 (list (present (integer (pos 1)) (present (integer (pos 2)) end))) (list (present (integer (pos 1)) (present (integer (pos 2)) end)))
+list_alike = alike (record { found = refl }) (alike_sequence_of (alike_element (alike (record { found = refl }) (equal tt)) (alike_element (alike (record { found = refl }) (equal tt)) no_elements)))
+
+default_alike : Alike s 4 (fields (absent end)) (fields (present (integer (pos 5)) end))
+default_alike = alike (record { found = refl }) (alike_sequence (first_default refl (alike (record { found = refl }) (equal tt)) no_components))
+
+absent_alike : Alike s 3 (fields (absent (absent end))) (fields (absent (absent end)))
+absent_alike = alike (record { found = refl }) (alike_sequence (both_absent (both_absent no_components)))
+
+-- values of kinds that hold no others
+a_truth : Fits a_boolean (boolean true)
+a_truth = fits_boolean
+
+an_identifier : Fits an_object_identifier (oid (2 ∷ 999 ∷ 3 ∷ []))
+an_identifier = fits_oid an_oid
+
+-- U+00E9 has one character
+a_letter : Fits (a_utf8_string to_7) (text (195 ∷ 169 ∷ []))
+unfolding encode
+a_letter = fits_utf8 (233 ∷ [], (refl, refl)) (inl (omega (arith, ints), omega (arith, ints, one_character)))

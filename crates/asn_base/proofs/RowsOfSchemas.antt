@@ -1,19 +1,19 @@
 -- Worked rows: what a schema's types keep, at the limits; the order of classes; sizes, groups and kinds of values.
-use Rattle.std.proofs.Common.{arith, lit<, ◌≡◌, ℕ, suc, ◌<◌, ◌≤◌, ⊎_elim, inl, inr, Bool, true, false, List, [], ◌∷◌, ◌++◌, length, map, refl, sym, ap, ◌∙◌}
+use Rattle.std.proofs.Common.{arith, lit<, ◌≡◌, ℕ, suc, ◌<◌, ◌≤◌, inl, inr, Bool, true, false, List, [], ◌∷◌, length, map, refl, ap}
 use Rattle.std.proofs.lemmas.Int.{ints}
-use Rattle.std.specs.Prelude.{ℤ, pos, ◌<ℤ◌, ◌≤ℤ◌, Option, Some, None, IsTrue}
+use Rattle.std.specs.Prelude.{◌<ℤ◌, Some}
 use Rattle.std.specs.List.{AllByRecursion}
 use Rattle.asn_base.specs.declared.tag.Class.TheVariants.{Universal, Application, Context, Private}
 use Rattle.asn_base.specs.declared.tag.Tag.{Tag}
 use Rattle.asn_base.specs.declared.strings.StringKind.{StringKind}
 use Rattle.asn_base.specs.declared.strings.StringKind.TheVariants.{Numeric, Printable, Ia5, Visible}
-use Rattle.asn_base.specs.Abstract.{AbstractValue, bits, octets, text, relative_oid, fields, list, null, Row, end, absent, present}
-use Rattle.asn_base.specs.Names.{IsIdentifier, is_identifier, IsMember, is_first, AreNames, AreDistinct}
-use Rattle.asn_base.specs.Types.{Constraint, any_size, Item, NamedBit, Alternative, Kind, a_bit_string, a_named_bit_string, an_octet_string, a_null, a_relative_oid, a_restricted_string, a_set, a_set_of, Presence, mandatory, optional, addition, default, Component, Resolved}
+use Rattle.asn_base.specs.Abstract.{bits, octets, text, relative_oid, fields, list, null, end, absent, present}
+use Rattle.asn_base.specs.Names.{IsIdentifier, is_identifier, is_first, AreNames}
+use Rattle.asn_base.specs.Types.{Constraint, Item, NamedBit, Alternative, a_bit_string, a_named_bit_string, an_octet_string, a_null, a_relative_oid, a_restricted_string, a_set, a_set_of, Presence, mandatory, optional, addition, default, Component, Resolved}
 use Rattle.asn_base.specs.Tags.{First, class_rank, TagBefore}
-use Rattle.asn_base.specs.Typed.{HasNumber, IsOfGroup, HasOfGroup, LacksOfGroup, GroupsAreWhole, IsRelativeOid, Fits, fits_bits, fits_named_bits, fits_octets, fits_relative_oid, fits_restricted, ValueIn, value_in, ValueOf, of_leaf, of_set, of_set_of, AreElements, no_element, one_element, no_component, component_present, component_absent, where_addition, fits_null, IsValue}
+use Rattle.asn_base.specs.Typed.{HasNumber, GroupsAreWhole, IsRelativeOid, Fits, fits_bits, fits_named_bits, fits_octets, fits_relative_oid, fits_restricted, ValueIn, value_in, of_leaf, of_set, of_set_of, no_element, one_element, no_component, fits_null}
 use Rattle.asn_base.specs.Same.{AlikeBy, alike_set, zeros, no_components}
-use Rattle.asn_base.specs.Schemas.{AreBounds, IsSize, IsAlphabet, is_character, NumbersAscend, AreItems, AreNamedBits, HasTag, is_addition, HasValue, GroupsTogether, AreListed, TagsAscend, AreAlternatives, AreElementsOf, IsSound, IsDefaultCircle, IsSchema}
+use Rattle.asn_base.specs.Schemas.{IsAlphabet, is_character, NumbersAscend, AreItems, AreNamedBits, HasTag, is_addition, AreListed, TagsAscend, AreAlternatives, AreElementsOf, IsSound, IsDefaultCircle, IsSchema}
 use Rattle.asn_base.proofs.Rows.{to_7}
 
 -- ---- limits

@@ -8,7 +8,7 @@ use Rattle.asn_base.specs.Abstract.{AbstractValue, Row}
 use Rattle.asn_base.specs.Types.{any_number, any_size, Kind, a_boolean, an_integer, an_enumerated, a_bit_string, a_named_bit_string, an_octet_string, a_null, an_object_identifier, a_relative_oid, a_utf8_string, a_restricted_string, a_sequence, a_set, a_sequence_of, a_set_of, a_choice, Presence, mandatory, optional, default, addition, Component, Resolved, Is}
 use Rattle.asn_base.specs.Typed.{Fits, fits_boolean, fits_integer, fits_octets, ValueIn, value_in, ValueOf, of_leaf, of_sequence, of_set, of_sequence_of, of_set_of, of_choice, AreComponents, no_component, component_absent, component_present, nodes, row_nodes, IsValue}
 use Rattle.asn_base.specs.Accepted.{IsSimple, IsSimpleMember, AreSimpleMembers, IsOfFirstStage, IsAcceptedType, IsAccepted}
-use Rattle.asn_base.specs.Schemas.{IsLeast, IsGreatest, AreBounds, IsNumber, IsSize, is_addition, HasValue, AreListed, IsSound, components, IsDefaultCircle, IsSchema}
+use Rattle.asn_base.specs.Schemas.{AreBounds, IsNumber, IsSize, is_addition, HasValue, AreListed, IsSound, components, IsSchema}
 use Rattle.asn_base.specs.Names.{IsMember, is_first, is_later}
 use Rattle.asn_base.specs.Tags.{is_mandatory, RunsApart, IsTellable, AllTellable, AllTagged}
 use Rattle.asn_base.proofs.Lists.{at_place, all_mapped, all_append, found_still}
@@ -145,7 +145,7 @@ all_sizes = record {
     no_greatest (pos n) f = let h = f (pos (suc n)) (tt, tt) in omega (arith, ints)
     no_greatest (negsuc n) f = let h = f (pos 0) (tt, tt) in omega (arith, ints)
 
-nil_right : {A : Type 0} (xs : List A) → xs ≡ xs ++ []
+pub nil_right : {A : Type 0} (xs : List A) → xs ≡ xs ++ []
 nil_right [] = refl
 nil_right (x ∷ xs) = ap (λ q. x ∷ q) (nil_right xs)
 

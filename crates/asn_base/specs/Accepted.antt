@@ -2,7 +2,8 @@
 use Rattle.std.specs.Prelude.{◌≡◌, ◌<◌, ◌≤◌, false, List, length, map, slice_get, IsSomeAnd}
 use Rattle.std.specs.List.{AllByRecursion}
 use Rattle.asn_base.specs.Names.{AreNames}
-use Rattle.asn_base.specs.Types.{any_number, any_size, Kind, a_boolean, an_integer, an_octet_string, a_sequence, mandatory, Component, Resolved}
+use Rattle.asn_base.specs.Types.{any_number, any_size, Kind, a_boolean, an_integer, an_octet_string, a_sequence}
+use Rattle.asn_base.specs.Types.{mandatory, Component, Resolved}
 
 -- BOOLEAN, INTEGER and OCTET STRING without constraints
 abbrev pub IsSimple : Kind → Type 0

@@ -3,7 +3,7 @@ use Rattle.std.specs.Prelude.{ℕ, Bool, true, false, ◌&&◌, ◌==◌, if◌t
 use Rattle.std.specs.Char.{is_ascii_lowercase, is_ascii_alphanumeric}
 use Rattle.std.specs.List.{AllByRecursion}
 
--- letters, digits and hyphens, where no hyphen is last and none stands behind another; what is before is a hyphen or not
+-- letters, digits and hyphens, where no hyphen is last and none stands behind another; before them stands one or not
 abbrev pub goes_on : (behind_hyphen : Bool) → List ℕ → Bool
 goes_on true [] = false
 goes_on false [] = true

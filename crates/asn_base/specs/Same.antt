@@ -3,7 +3,8 @@
 use Rattle.std.specs.Prelude.{◌≡◌, ℕ, Bool, false, List, [], ◌∷◌, ◌++◌, replicate, Some, slice_get}
 use Rattle.asn_base.specs.declared.tag.Tag.{Tag}
 use Rattle.asn_base.specs.Abstract.{AbstractValue, bits, fields, list, alternative, Row, end, absent, present}
-use Rattle.asn_base.specs.Types.{Constraint, NamedBit, Alternative, Kind, a_named_bit_string, a_sequence, a_set, a_sequence_of, a_set_of, a_choice, default, Component, Resolved, Is}
+use Rattle.asn_base.specs.Types.{Constraint, NamedBit, Alternative, Kind, a_named_bit_string, a_sequence, a_set}
+use Rattle.asn_base.specs.Types.{a_sequence_of, a_set_of, a_choice, default, Component, Resolved, Is}
 use Rattle.asn_base.specs.Typed.{IsValueWithoutNodes}
 
 -- kinds whose values hold no other values

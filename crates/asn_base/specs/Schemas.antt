@@ -1,6 +1,7 @@
 -- What the types of a schema keep, of every kind (X.680, 20, 22, 25, 27, 29, 31, 41, 51 and 52; the limits are this
 -- project's).
-use Rattle.std.specs.Prelude.{◌≡◌, ◌⊎◌, ⊤, ℕ, ◌<◌, ◌≤◌, ℤ, pos, negsuc, ◌≤ℤ◌, ◌<ℤ◌, Bool, true, false, ◌||◌, ◌==◌, List, [], ◌∷◌, ◌++◌, length, map, Option, Some, None, slice_get, IfSome, IsSomeAnd, IsTrue}
+use Rattle.std.specs.Prelude.{◌≡◌, ◌⊎◌, ℕ, ◌<◌, ◌≤◌, ℤ, pos, negsuc, ◌≤ℤ◌, ◌<ℤ◌, Bool, true, false, ◌||◌, ◌==◌, List}
+use Rattle.std.specs.Prelude.{[], ◌∷◌, ◌++◌, length, map, Option, Some, None, slice_get, IfSome, IsSomeAnd, IsTrue}
 use Rattle.std.specs.Char.{is_ascii, is_ascii_digit, is_ascii_alphanumeric, is_ascii_graphic}
 use Rattle.std.specs.List.{AllByRecursion}
 use Rattle.asn_base.specs.declared.tag.Tag.{Tag}
@@ -8,7 +9,10 @@ use Rattle.asn_base.specs.declared.strings.StringKind.{StringKind}
 use Rattle.asn_base.specs.declared.strings.StringKind.TheVariants.{Numeric, Printable, Ia5, Visible}
 use Rattle.asn_base.specs.Abstract.{AbstractValue}
 use Rattle.asn_base.specs.Names.{IsMember, AreDistinct, AreNames}
-use Rattle.asn_base.specs.Types.{Range, Constraint, Item, NamedBit, Alternative, Kind, an_integer, an_enumerated, a_bit_string, a_named_bit_string, an_octet_string, a_utf8_string, a_restricted_string, a_sequence, a_set, a_sequence_of, a_set_of, a_choice, mandatory, optional, default, addition, Component, Resolved, Is}
+use Rattle.asn_base.specs.Types.{Range, Constraint, Item, NamedBit, Alternative, Kind, an_integer, an_enumerated}
+use Rattle.asn_base.specs.Types.{a_bit_string, a_named_bit_string, an_octet_string, a_utf8_string, a_restricted_string}
+use Rattle.asn_base.specs.Types.{a_sequence, a_set, a_sequence_of, a_set_of, a_choice, mandatory, optional, default}
+use Rattle.asn_base.specs.Types.{addition, Component, Resolved, Is}
 use Rattle.asn_base.specs.Tags.{First, TagBefore, AllTagged, AllTellable, HasFewTags}
 use Rattle.asn_base.specs.Typed.{HasNumber, IsInSome, IsOfGroup, IsWithinLimit, IsValue}
 

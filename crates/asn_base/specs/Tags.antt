@@ -1,10 +1,12 @@
 -- First tags, by which a reader tells components and alternatives apart (X.680, 25.6.1, 27.3 and 29.3).
-use Rattle.std.specs.Prelude.{◌≡◌, ℕ, ◌<◌, ◌≤◌, ◌⊎◌, length, Bool, true, false, List, [], ◌∷◌, ◌++◌, Some, slice_get, map, if◌then◌else◌}
+use Rattle.std.specs.Prelude.{◌≡◌, ℕ, ◌<◌, ◌≤◌, ◌⊎◌, length, Bool, true, false, List, [], ◌∷◌, ◌++◌, Some, slice_get}
+use Rattle.std.specs.Prelude.{map, if◌then◌else◌}
 use Rattle.std.specs.List.{AllByRecursion}
 use Rattle.asn_base.specs.declared.tag.Class.{Class}
 use Rattle.asn_base.specs.declared.tag.Class.TheVariants.{Universal, Application, Context, Private}
 use Rattle.asn_base.specs.declared.tag.Tag.{Tag}
-use Rattle.asn_base.specs.Types.{Alternative, Kind, a_sequence, a_set, a_choice, mandatory, optional, default, addition, Component, Resolved, Is}
+use Rattle.asn_base.specs.Types.{Alternative, Kind, a_sequence, a_set, a_choice, mandatory, optional, default, addition}
+use Rattle.asn_base.specs.Types.{Component, Resolved, Is}
 
 -- a tag that can stand first before a value of the type: its outermost one,
 -- or those of the alternatives of an untagged CHOICE

@@ -1,12 +1,18 @@
 -- The values of a type: shape, constraints, items, mandatory components and limits (X.680, 18 to 33, 41 and 51).
-use Rattle.std.specs.Prelude.{◌≡◌, ℕ, suc, ◌+◌, ◌++◌, ◌<◌, ◌≤◌, ◌^◌, ◌⊎◌, ℤ, pos, negsuc, ◌≤ℤ◌, Bool, false, List, [], ◌∷◌, length, Option, Some, None, slice_get, IfSome, IsUtf8, chars}
+use Rattle.std.specs.Prelude.{◌≡◌, ℕ, suc, ◌+◌, ◌++◌, ◌<◌, ◌≤◌, ◌^◌, ◌⊎◌, ℤ, pos, negsuc, ◌≤ℤ◌, Bool, false, List, []}
+use Rattle.std.specs.Prelude.{◌∷◌, length, Option, Some, None, slice_get, IfSome, IsUtf8, chars}
 use Rattle.std.specs.List.{AllByRecursion}
 use Rattle.std.specs.Int.Digits.{AllBelowBase}
 use Rattle.asn_base.specs.declared.tag.Tag.{Tag}
 use Rattle.asn_base.specs.declared.strings.StringKind.{StringKind}
-use Rattle.asn_base.specs.Abstract.{AbstractValue, boolean, integer, enumerated, bits, octets, text, null, oid, relative_oid, fields, list, alternative, Row, end, absent, present}
+use Rattle.asn_base.specs.Abstract.{AbstractValue, boolean, integer, enumerated, bits, octets, text, null, oid}
+use Rattle.asn_base.specs.Abstract.{relative_oid, fields, list, alternative, Row, end, absent, present}
 use Rattle.asn_base.specs.Names.{IsMember}
-use Rattle.asn_base.specs.Types.{Range, Constraint, Item, NamedBit, Alternative, Kind, a_boolean, an_integer, an_enumerated, a_bit_string, a_named_bit_string, an_octet_string, a_null, an_object_identifier, a_relative_oid, a_utf8_string, a_restricted_string, a_sequence, a_set, a_sequence_of, a_set_of, a_choice, Presence, mandatory, optional, default, addition, Component, Resolved, Is}
+use Rattle.asn_base.specs.Types.{Range, Constraint, Item, NamedBit, Alternative, Kind, a_boolean, an_integer}
+use Rattle.asn_base.specs.Types.{an_enumerated, a_bit_string, a_named_bit_string, an_octet_string, a_null}
+use Rattle.asn_base.specs.Types.{an_object_identifier, a_relative_oid, a_utf8_string, a_restricted_string, a_sequence}
+use Rattle.asn_base.specs.Types.{a_set, a_sequence_of, a_set_of, a_choice, Presence, mandatory, optional, default}
+use Rattle.asn_base.specs.Types.{addition, Component, Resolved, Is}
 
 -- from -2^127 to 2^127 - 1
 abbrev pub IsWithinLimit : ℤ → Type 0

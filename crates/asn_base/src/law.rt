@@ -25,7 +25,8 @@ pub fn abstract_values()
     ensures null_ { abstract Null ≡ null }
     ensures oid_ { (v : Vec ℕ Global') → abstract (Oid v) ≡ oid v.items }
     ensures relative_oid_ { (v : Vec ℕ Global') → abstract (RelativeOid v) ≡ relative_oid v.items }
-    ensures fields_ { (v : Vec (Option Value) Global') → abstract (Fields v) ≡ fields (row_of_options (map (option_map abstract) v.items)) }
+    ensures fields_ { (v : Vec (Option Value) Global')
+        → abstract (Fields v) ≡ fields (row_of_options (map (option_map abstract) v.items)) }
     ensures list_ { (v : Vec Value Global') → abstract (List' v) ≡ list (row_of_list (map abstract v.items)) }
     ensures alt { (i : ℕ) (b : Box Value Global') → abstract (Alt i b) ≡ alternative i (abstract b.value) }
 {}
@@ -38,9 +39,15 @@ pub fn integer_within_limit(number: i128)
 /// Each type of a schema that today's writer takes is one that it takes. A schema without types is taken, and one stays
 /// so with one more type that is.
 pub fn schemas_grow()
-    ensures each { (s : List Resolved) (t : ℕ) (r : Resolved) → slice_get s t ≡ Some r → IsAccepted s → IsAcceptedType s r }
+    ensures each { (s : List Resolved) (t : ℕ) (r : Resolved)
+        → slice_get s t ≡ Some r
+        → IsAccepted s
+        → IsAcceptedType s r }
     ensures empty { IsAccepted [] }
-    ensures grows { (s : List Resolved) (r : Resolved) → IsAccepted s → IsAcceptedType s r → IsAccepted (s ++ (r ∷ [])) }
+    ensures grows { (s : List Resolved) (r : Resolved)
+        → IsAccepted s
+        → IsAcceptedType s r
+        → IsAccepted (s ++ (r ∷ [])) }
 {}
 
 /// What the types of today's writer keep is what a schema keeps.
@@ -57,20 +64,35 @@ pub fn accepted_are_told_apart()
 /// In an accepted schema of today the limit on nodes is never passed: members are at most 256, and hold no others.
 pub fn few_nodes()
     ensures nodes { (s : List Resolved) (n t : ℕ) (v : AbstractValue) → IsAccepted s → ValueIn s n t v → nodes v ≤ 257 }
-    ensures value { (s : List Resolved) (t : ℕ) (v : AbstractValue) → IsAccepted s → IsValueWithoutNodes s t v → IsValue s t v }
+    ensures value { (s : List Resolved) (t : ℕ) (v : AbstractValue)
+        → IsAccepted s
+        → IsValueWithoutNodes s t v
+        → IsValue s t v }
 {}
 
 /// Where no component stands in version brackets, all groups are whole.
 pub fn without_groups()
-    ensures { (cs : List Component) (vs : Row) → AllByRecursion (λ c. group_of c.presence ≡ None) cs → GroupsAreWhole cs vs }
+    ensures { (cs : List Component) (vs : Row)
+        → AllByRecursion (λ c. group_of c.presence ≡ None) cs
+        → GroupsAreWhole cs vs }
 {}
 
 /// Values that are alike have the same groups whole, and as many levels.
 pub fn alike_values()
-    ensures groups { (s : List Resolved) (cs : List Component) (vs ws : Row) → AlikeComponents s cs vs ws → GroupsAreWhole cs vs → GroupsAreWhole cs ws }
-    ensures levels { (s : List Resolved) (m n t : ℕ) (v w : AbstractValue) → Alike s t v w → ValueIn s n t v → ValueIn s m t w → ValueIn s n t w }
+    ensures groups { (s : List Resolved) (cs : List Component) (vs ws : Row)
+        → AlikeComponents s cs vs ws
+        → GroupsAreWhole cs vs
+        → GroupsAreWhole cs ws }
+    ensures levels { (s : List Resolved) (m n t : ℕ) (v w : AbstractValue)
+        → Alike s t v w
+        → ValueIn s n t v
+        → ValueIn s m t w
+        → ValueIn s n t w }
     // Whether they are alike can be decided.
-    ensures decided { (s : List Resolved) (m n t : ℕ) (v w : AbstractValue) → ValueIn s n t v → ValueIn s m t w → Alike s t v w ⊎ (Alike s t v w → ⊥) }
+    ensures decided { (s : List Resolved) (m n t : ℕ) (v w : AbstractValue)
+        → ValueIn s n t v
+        → ValueIn s m t w
+        → Alike s t v w ⊎ (Alike s t v w → ⊥) }
 {}
 
 /// Being the same is an equivalence on the values of a type, the limit on nodes apart.
@@ -79,5 +101,8 @@ pub fn sameness()
     ensures turned { (s : List Resolved) (t : ℕ) (v w : AbstractValue) → Same s t v w → Same s t w v }
     ensures joined { (s : List Resolved) (t : ℕ) (v w x : AbstractValue) → Same s t v w → Same s t w x → Same s t v x }
     ensures alike_turned { (s : List Resolved) (t : ℕ) (v w : AbstractValue) → Alike s t v w → Alike s t w v }
-    ensures alike_joined { (s : List Resolved) (t : ℕ) (v w x : AbstractValue) → Alike s t v w → Alike s t w x → Alike s t v x }
+    ensures alike_joined { (s : List Resolved) (t : ℕ) (v w x : AbstractValue)
+        → Alike s t v w
+        → Alike s t w x
+        → Alike s t v x }
 {}

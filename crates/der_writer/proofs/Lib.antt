@@ -4,3 +4,4 @@ pub mod LeafSteps
 pub mod FrameSteps
 pub mod Values
 pub mod Going
+pub mod Limits

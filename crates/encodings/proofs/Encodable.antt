@@ -1,5 +1,5 @@
--- Each value of a type of a schema has an encoding by the distinguished rules.
-use Rattle.std.proofs.Common.{arith, ◌≡◌, ℕ, zero, suc, ◌+◌, ◌*◌, ◌<◌, ◌≤◌, ◌^◌, ◌⊎◌, inl, inr, ⊎_elim, Bool, true, false, List, [], ◌∷◌, ◌++◌, length, map, refl, sym, ap, subst, ◌∙◌, length-append}
+-- Each value of a type of a schema has an encoding by the distinguished rules, or none at all: no lengths tell it.
+use Rattle.std.proofs.Common.{arith, ◌≡◌, ℕ, suc, ◌+◌, ◌<◌, ◌≤◌, ◌^◌, ◌⊎◌, inl, inr, ⊎_elim, Bool, true, false, List, [], ◌∷◌, ◌++◌, length, map, refl, sym, ap, subst, ◌∙◌, length-append}
 use Rattle.std.proofs.lemmas.List.{append-nil}
 use Rattle.std.proofs.lemmas.Int.Digits.{length-digits_of-le}
 use Rattle.std.specs.List.{concat, AllByRecursion}
@@ -8,22 +8,24 @@ use Rattle.asn_base.specs.declared.tag.Class.{Class}
 use Rattle.asn_base.specs.declared.tag.Class.TheVariants.{Universal, Application, Context, Private}
 use Rattle.asn_base.specs.declared.tag.Tag.{Tag}
 use Rattle.asn_base.specs.Abstract.{AbstractValue, null, fields, list, alternative, Row, end, absent, present}
-use Rattle.asn_base.specs.Types.{Kind, Presence, mandatory, optional, default, addition, Component, Resolved}
+use Rattle.asn_base.specs.Types.{Constraint, Alternative, Kind, a_sequence, a_set, a_sequence_of, a_set_of, a_choice, Presence, mandatory, optional, default, addition, Component, Resolved, Is}
 use Rattle.asn_base.specs.Tags.{First, AreApart, AllApart, class_rank, TagBefore, IsTellable, AllTagged, is_mandatory}
 use Rattle.asn_base.specs.Typed.{IsAllowedSize, GroupsAreWhole, members, ValueIn, value_in, ValueOf, of_leaf, of_sequence, of_set, of_sequence_of, of_set_of, of_choice, MayBeAbsent, where_optional, where_default, where_addition, AreComponents, no_component, component_absent, component_present, AreElements, no_element as no_value, one_element}
-use Rattle.asn_base.specs.Same.{Alike, alike, AlikeBy, alike_sequence, alike_set, alike_sequence_of, alike_set_of, alike_choice, AlikeComponents, no_components, both_absent, both_present, second_default, AlikeElements, no_elements, alike_element, AlikeInAnyOrder, none_left, pair, Inserted, here, there, Same}
+use Rattle.asn_base.specs.Same.{Alike, alike, AlikeBy, equal, alike_sequence, alike_set, alike_sequence_of, alike_set_of, alike_choice, AlikeComponents, no_components, both_absent, both_present, first_default, second_default, AlikeElements, no_elements, alike_element, AlikeInAnyOrder, none_left, pair, Inserted, here, there}
 use Rattle.asn_base.specs.Schemas.{HasValue, IsSound, IsSchema}
-use Rattle.encodings.specs.Rules.{Distinguished}
-use Rattle.encodings.specs.Orders.{AtMost, InTagOrder, Ascending, ascending_none, ascending_one, ascending_more, Permutes, Merges, merges_none, merges_first}
-use Rattle.encodings.specs.Encoding.{UnknownIf, closed, extensible, no_unknown, IsDefault, Says, says, Holds, leaf, sequence, set, sequence_of, set_of, choice, Members, no_member, left_out, member, Elements, no_element, element, Der}
+use Rattle.std.specs.Prelude.{Some, slice_get}
+use Rattle.encodings.specs.Rules.{Basic, Distinguished}
+use Rattle.encodings.specs.Orders.{AtMost, InTagOrder, Ascending, ascending_none, ascending_one, ascending_more, Merges, merges_none, merges_first}
+use Rattle.encodings.specs.Encoding.{UnknownIf, closed, extensible, no_unknown, IsDefault, Says, says, Holds, leaf, sequence, set, sequence_of, set_of, choice, Members, no_member, left_out, member, Elements, no_element, element, Ber, Der}
 use Rattle.encodings.specs.Weight.{weight, row_weight}
 use Rattle.encodings.proofs.TagLaws.{tag_same}
-use Rattle.encodings.proofs.Least.{concat_permutes}
+use Rattle.encodings.proofs.Least.{concat_permutes, same_tags, same_kind, alike_by_at, holds_at, framed_at, alternative_type, alike_at, says_at, take_out, holds_least}
+use Rattle.encodings.proofs.Weaker.{unsorted_holds}
 use Rattle.encodings.proofs.Firsts.{FirstOf, says_first}
 use Rattle.encodings.proofs.Sorts.{Either, AllEither, sorted, at_most_either}
 use Rattle.encodings.proofs.Shortests.{lt_or_ge}
 use Rattle.encodings.proofs.Utf8.{utf8_octets}
-use Rattle.encodings.proofs.Leaves.{frame, leaf_in}
+use Rattle.encodings.proofs.Leaves.{NoFrame, frame, leaf_in}
 
 -- ---- tags in order
 
@@ -211,97 +213,219 @@ record SetIn (s : List Resolved) (n u : ℕ) (vs : Row) : Type 0 where
   few : length (concat xs) ≤ row_weight vs
   count : members ws ≡ members vs
 
+-- what has no encoding at all, whatever is alike: it is too long
+record NotEncoded (most : ℕ) (s : List Resolved) (t : ℕ) (v : AbstractValue) : Type 0 where
+  heavy : most ≤ weight v
+  none : {w : AbstractValue} {n : ℕ} {p : List ℕ} → Alike s t v w → Says s Basic t w n p → n ≡ 0 → ⊥
+
+record NotHeld (most : ℕ) (s : List Resolved) (k : Kind) (v : AbstractValue) : Type 0 where
+  heavy : most ≤ weight v
+  none : {w : AbstractValue} {n : ℕ} {c : Bool} {y : List ℕ} → AlikeBy s k v w → Holds s Basic k w n c y → n ≡ 0 → ⊥
+
+record NoMembers (most : ℕ) (s : List Resolved) (cs : List Component) (vs : Row) : Type 0 where
+  heavy : most ≤ row_weight vs
+  none : {ws : Row} {n : ℕ} {xs : List (List ℕ)} → AlikeComponents s cs vs ws → Members s Basic cs ws n xs → n ≡ 0 → ⊥
+
+record NoElements (most : ℕ) (s : List Resolved) (u : ℕ) (vs : Row) : Type 0 where
+  heavy : most ≤ row_weight vs
+  none : {ws : Row} {n : ℕ} {xs : List (List ℕ)} → AlikeElements s u vs ws → Elements s Basic u ws n xs → n ≡ 0 → ⊥
+
+record NoSet (most : ℕ) (s : List Resolved) (u : ℕ) (vs : Row) : Type 0 where
+  heavy : most ≤ row_weight vs
+  none : {ws : Row} {n : ℕ} {xs : List (List ℕ)} → AlikeInAnyOrder s u vs ws → Elements s Basic u ws n xs → n ≡ 0 → ⊥
+
+no_sequence : {most : ℕ} {s : List Resolved} {e : Bool} {cs : List Component} {vs : Row} → NoMembers most s cs vs → {w : AbstractValue} {n : ℕ} {c : Bool} {y : List ℕ} → AlikeBy s (a_sequence e cs) (fields vs) w → Holds s Basic (a_sequence e cs) w n c y → n ≡ 0 → ⊥
+no_sequence q (equal l) h z = l
+no_sequence q (alike_sequence a) (leaf con) z = elim con [ ]
+no_sequence q (alike_sequence a) (sequence ms u) z = q.none a ms (omega arith)
+
+no_set : {most : ℕ} {s : List Resolved} {e : Bool} {cs : List Component} {vs : Row} → NoMembers most s cs vs → {w : AbstractValue} {n : ℕ} {c : Bool} {y : List ℕ} → AlikeBy s (a_set e cs) (fields vs) w → Holds s Basic (a_set e cs) w n c y → n ≡ 0 → ⊥
+no_set q (equal l) h z = l
+no_set q (alike_set a) (leaf con) z = elim con [ ]
+no_set q (alike_set a) (set ms p st u m) z = q.none a ms (omega arith)
+
+no_sequence_of : {most : ℕ} {s : List Resolved} {k : Constraint} {u : ℕ} {vs : Row} → NoElements most s u vs → {w : AbstractValue} {n : ℕ} {c : Bool} {y : List ℕ} → AlikeBy s (a_sequence_of k u) (list vs) w → Holds s Basic (a_sequence_of k u) w n c y → n ≡ 0 → ⊥
+no_sequence_of q (equal l) h z = l
+no_sequence_of q (alike_sequence_of a) (leaf con) z = elim con [ ]
+no_sequence_of q (alike_sequence_of a) (sequence_of es) z = q.none a es z
+
+no_set_of : {most : ℕ} {s : List Resolved} {k : Constraint} {u : ℕ} {vs : Row} → NoSet most s u vs → {w : AbstractValue} {n : ℕ} {c : Bool} {y : List ℕ} → AlikeBy s (a_set_of k u) (list vs) w → Holds s Basic (a_set_of k u) w n c y → n ≡ 0 → ⊥
+no_set_of q (equal l) h z = l
+no_set_of q (alike_set_of a) (leaf con) z = elim con [ ]
+no_set_of q (alike_set_of a) (set_of es st) z = q.none a es z
+
+no_choice : {most : ℕ} {s : List Resolved} {i : ℕ} {e : Bool} {root more : List Alternative} {a : Alternative} {v : AbstractValue} → slice_get (root ++ more) i ≡ Some a → NotEncoded most s a.type v → {w : AbstractValue} {n : ℕ} {c : Bool} {y : List ℕ} → AlikeBy s (a_choice root e more) (alternative i v) w → Holds s Basic (a_choice root e more) w n c y → n ≡ 0 → ⊥
+no_choice g q (equal l) h z = l
+no_choice g q (alike_choice f a) (leaf con) z = elim con [ ]
+no_choice g q (alike_choice f a) (choice h b) z = q.none (alike_at (alternative_type g f) a) (says_at (alternative_type g h) b) z
+
+-- members of which one has no encoding, or others have none
+none_absent : {most : ℕ} {s : List Resolved} {c : Component} {cs : List Component} {vs : Row} → NoMembers most s cs vs → {ws : Row} {n : ℕ} {xs : List (List ℕ)} → AlikeComponents s (c ∷ cs) (absent vs) ws → Members s Basic (c ∷ cs) ws n xs → n ≡ 0 → ⊥
+none_absent q (both_absent a) (left_out m ms) z = q.none a ms z
+none_absent q (first_default e sm a) (member b d ms) z = q.none a ms (omega arith)
+
+none_present : {most : ℕ} {s : List Resolved} {c : Component} {cs : List Component} {v : AbstractValue} {vs : Row} → NoMembers most s cs vs → {ws : Row} {n : ℕ} {xs : List (List ℕ)} → AlikeComponents s (c ∷ cs) (present v vs) ws → Members s Basic (c ∷ cs) ws n xs → n ≡ 0 → ⊥
+none_present q (both_present sm a) (member b d ms) z = q.none a ms (omega arith)
+none_present q (second_default e sm a) (left_out m ms) z = q.none a ms z
+
+none_member : {most : ℕ} {s : List Resolved} {c : Component} {cs : List Component} {v : AbstractValue} {vs : Row} → NotEncoded most s c.type v → (IsDefault s c v → ⊥) → {ws : Row} {n : ℕ} {xs : List (List ℕ)} → AlikeComponents s (c ∷ cs) (present v vs) ws → Members s Basic (c ∷ cs) ws n xs → n ≡ 0 → ⊥
+none_member q nd (both_present sm a) (member b d ms) z = q.none sm b (omega arith)
+none_member q nd (second_default {d = d} e sm a) (left_out m ms) z = nd (d, e, sm)
+
+none_element : {most : ℕ} {s : List Resolved} {u : ℕ} {v : AbstractValue} {vs : Row} → NotEncoded most s u v → {ws : Row} {n : ℕ} {xs : List (List ℕ)} → AlikeElements s u (present v vs) ws → Elements s Basic u ws n xs → n ≡ 0 → ⊥
+none_element q (alike_element sm a) (element b es) z = q.none sm b (omega arith)
+
+none_elements : {most : ℕ} {s : List Resolved} {u : ℕ} {v : AbstractValue} {vs : Row} → NoElements most s u vs → {ws : Row} {n : ℕ} {xs : List (List ℕ)} → AlikeElements s u (present v vs) ws → Elements s Basic u ws n xs → n ≡ 0 → ⊥
+none_elements q (alike_element sm a) (element b es) z = q.none a es (omega arith)
+
+none_of_set : {most : ℕ} {s : List Resolved} {u : ℕ} {v : AbstractValue} {vs : Row} → NotEncoded most s u v → {ws : Row} {n : ℕ} {xs : List (List ℕ)} → AlikeInAnyOrder s u (present v vs) ws → Elements s Basic u ws n xs → n ≡ 0 → ⊥
+none_of_set q (pair sm a at) es z = let o = take_out at es in let k = o.sum in q.none sm o.it (omega arith)
+
+none_in_set : {most : ℕ} {s : List Resolved} {u : ℕ} {v : AbstractValue} {vs : Row} → NoSet most s u vs → {ws : Row} {n : ℕ} {xs : List (List ℕ)} → AlikeInAnyOrder s u (present v vs) ws → Elements s Basic u ws n xs → n ≡ 0 → ⊥
+none_in_set q (pair sm a at) es z = let o = take_out at es in let k = o.sum in q.none a o.rest (omega arith)
+
+-- one or the other, turned into one or the other
+either : {A B C D : Type 0} → (A → C) → (B → D) → A ⊎ B → C ⊎ D
+either f g (inl a) = inl (f a)
+either f g (inr b) = inr (g b)
+
 module _ (s : List Resolved) (schema : IsSchema s)
+    (turn : (t : ℕ) (v w : AbstractValue) → Alike s t v w → Alike s t w v)
     (follow : (t : ℕ) (v w x : AbstractValue) → Alike s t v w → Alike s t w x → Alike s t v x)
     (groups : (cs : List Component) (vs ws : Row) → AlikeComponents s cs vs ws → GroupsAreWhole cs vs → GroupsAreWhole cs ws)
     (levels : (m n t : ℕ) (v w : AbstractValue) → Alike s t v w → ValueIn s n t v → ValueIn s m t w → ValueIn s n t w)
     (decide : (m n t : ℕ) (v w : AbstractValue) → ValueIn s n t v → ValueIn s m t w → Alike s t v w ⊎ (Alike s t v w → ⊥))
     (most : ℕ) (digits : (n : ℕ) → n < most → length (digits_of 256 n) ≤ 126) where
-  with_it : {n : ℕ} {c : Component} {cs : List Component} {v : AbstractValue} {vs : Row} (r : Encoded s n c.type v) → (IsDefault s c r.w → ⊥) → MembersIn s n cs vs → MembersIn s n (c ∷ cs) (present v vs)
-  with_it {vs = vs} r nd m = record {
-    ws = present r.w m.ws;
-    values = component_present r.value m.values;
-    same = both_present r.same m.same;
-    xs = r.octets ∷ m.xs;
-    are = member r.is (λ z. nd) m.are;
-    few = omega (arith, r.few, m.few, length-append r.octets (concat m.xs));
-  }
-
-  without_it : {n : ℕ} {c : Component} {cs : List Component} {v d : AbstractValue} {vs : Row} (r : Encoded s n c.type v) → c.presence ≡ default d → ValueIn s 64 c.type d → Alike s c.type r.w d → MembersIn s n cs vs → MembersIn s n (c ∷ cs) (present v vs)
-  without_it {n} {c} {v = v} {d = d} {vs = vs} r q x e m = record {
+  -- a component that is the same as its DEFAULT is left out
+  without_it : {n : ℕ} {c : Component} {cs : List Component} {v d : AbstractValue} {vs : Row} → c.presence ≡ default d → ValueIn s n c.type v → ValueIn s 64 c.type d → Alike s c.type v d → MembersIn s n cs vs → MembersIn s n (c ∷ cs) (present v vs)
+  without_it {n} {c} {v = v} {d = d} {vs = vs} q a x e m = record {
     ws = absent m.ws;
-    values = component_absent (subst (MayBeAbsent s n c.type) (sym q) (where_default (levels 64 n c.type r.w d e r.value x))) m.values;
-    same = second_default q (follow c.type v r.w d r.same e) m.same;
+    values = component_absent (subst (MayBeAbsent s n c.type) (sym q) (where_default (levels 64 n c.type v d e a x))) m.values;
+    same = second_default q e m.same;
     xs = m.xs;
     are = left_out (ap mandatory_is q) m.are;
     few = omega (arith, m.few);
   }
 
-  one_member : {n : ℕ} {c : Component} {cs : List Component} {v : AbstractValue} {vs : Row} → HasValue s c → Encoded s n c.type v → MembersIn s n cs vs → MembersIn s n (c ∷ cs) (present v vs)
-  one_member {n} {c} h r m = ⊎_elim
-      (λ p. (let x = (h p.0 p.1).shaped in ⊎_elim (λ e. without_it r p.1 x e m) (λ no'. with_it r (λ i. no' (subst (Alike s c.type r.w) (ap default_in (sym i.1 ∙ p.1)) i.2)) m) (decide 64 n c.type r.w p.0 r.value x)))
-      (λ none. with_it r (λ i. none i.0 i.1) m)
+  with_it : {n : ℕ} {c : Component} {cs : List Component} {v : AbstractValue} {vs : Row} → (IsDefault s c v → ⊥) → MembersIn s n cs vs → Encoded s n c.type v → MembersIn s n (c ∷ cs) (present v vs)
+  with_it {c = c} {v = v} {vs = vs} nd m r = record {
+    ws = present r.w m.ws;
+    values = component_present r.value m.values;
+    same = both_present r.same m.same;
+    xs = r.octets ∷ m.xs;
+    are = member r.is (λ z i. nd (i.0, i.1, follow c.type v r.w i.0 r.same i.2)) m.are;
+    few = omega (arith, r.few, m.few, length-append r.octets (concat m.xs));
+  }
+
+  -- a component is the same as its DEFAULT or not
+  is_default : {n : ℕ} (c : Component) (v : AbstractValue) → HasValue s c → ValueIn s n c.type v → IsDefault s c v ⊎ (IsDefault s c v → ⊥)
+  is_default {n} c v h a = ⊎_elim
+      (λ p. either (λ e. (p.0, p.1, e)) (λ no i. no (subst (Alike s c.type v) (ap default_in (sym i.1 ∙ p.1)) i.2)) (decide 64 n c.type v p.0 a (h p.0 p.1).shaped))
+      (λ none. inr (λ i. none i.0 i.1))
       (default_or_not c.presence)
 
+  joined : {n : ℕ} {c : Component} {cs : List Component} {v : AbstractValue} {vs : Row} → HasValue s c → ValueIn s n c.type v → MembersIn s n cs vs → IsDefault s c v ⊎ (IsDefault s c v → ⊥) → Encoded s n c.type v ⊎ NotEncoded most s c.type v → MembersIn s n (c ∷ cs) (present v vs) ⊎ NoMembers most s (c ∷ cs) (present v vs)
+  joined h a m (inl i) r = inl (without_it i.1 a (h i.0 i.1).shaped i.2 m)
+  joined h a m (inr nd) (inl r) = inl (with_it nd m r)
+  joined h a m (inr nd) (inr q) = inr (record { heavy = (let k = q.heavy in omega arith); none = none_member q nd })
+
+  -- contents that are alike are no shorter
+  no_shorter : {t n : ℕ} {tags : List Tag} {k : Kind} {v w x : AbstractValue} {b c : Bool} {o y : List ℕ} → Is s t tags k → Alike s t v w → Alike s t v x → Holds s Distinguished k w 0 b o → Holds s Basic k x n c y → n ≡ 0 → length o ≤ length y
+  no_shorter {t} {k = k} {v = v} {w = w} {x = x} {o = o} {y = y} i e f h g z = by (follow t w v x (turn t v w e) f)
+    where
+      by : Alike s t w x → length o ≤ length y
+      by (alike j a) = holds_least s turn (unsorted_holds h) refl (alike_by_at (same_kind i j) a) g z
+
+  no_frame : {t n : ℕ} {tags : List Tag} {k : Kind} {v w x : AbstractValue} {b : Bool} {o p : List ℕ} → Is s t tags k → AlikeBy s k v w → Holds s Distinguished k w 0 b o → NoFrame most tags o → Alike s t v x → Says s Basic t x n p → n ≡ 0 → ⊥
+  no_frame i e h q f (says j g fr) z = q.none (no_shorter i (alike i e) f h (holds_at (same_kind i j) g) z) (framed_at (same_tags i j) fr)
+
+  not_held : {t n : ℕ} {tags : List Tag} {k : Kind} {v x : AbstractValue} {p : List ℕ} → Is s t tags k → NotHeld most s k v → Alike s t v x → Says s Basic t x n p → n ≡ 0 → ⊥
+  not_held i q (alike j a) (says k g fr) z = q.none (alike_by_at (same_kind i j) a) (holds_at (same_kind i k) g) z
+
+  framed_in : {n t : ℕ} {tags : List Tag} {k : Kind} {v : AbstractValue} → Is s t tags k → Held s n k v ⊎ NotHeld most s k v → Encoded s (suc n) t v ⊎ NotEncoded most s t v
+  framed_in i (inr q) = inr (record { heavy = q.heavy; none = not_held i q })
+  framed_in {tags = tags} i (inl r) = either
+      (λ f. (let l = schema.few_tags _ _ _ i in let k = r.few in let g = f.few in
+      record { w = r.w; value = value_in i r.value; same = alike i r.same; octets = f.octets; is = says i r.is f.framed; few = omega arith }))
+      (λ q. (let l = schema.few_tags _ _ _ i in let k = r.few in let g = q.heavy in
+      record { heavy = omega arith; none = no_frame i r.same r.is q }))
+      (frame most digits tags r.form r.octets)
+
+  one_more : {n u : ℕ} {v : AbstractValue} {vs : Row} → Encoded s n u v ⊎ NotEncoded most s u v → ElementsIn s n u vs ⊎ NoElements most s u vs → ElementsIn s n u (present v vs) ⊎ NoElements most s u (present v vs)
+  one_more (inr q) m = inr (record { heavy = (let k = q.heavy in omega arith); none = none_element q })
+  one_more (inl r) (inr q) = inr (record { heavy = (let k = q.heavy in omega arith); none = none_elements q })
+  one_more (inl r) (inl m) = inl (record { ws = present r.w m.ws; values = one_element r.value m.values; same = alike_element r.same m.same; xs = r.octets ∷ m.xs; are = element r.is m.are; few = omega (arith, r.few, m.few, length-append r.octets (concat m.xs)) })
+
+  one_put : {n u : ℕ} {v : AbstractValue} {vs : Row} → Encoded s n u v ⊎ NotEncoded most s u v → SetIn s n u vs ⊎ NoSet most s u vs → SetIn s n u (present v vs) ⊎ NoSet most s u (present v vs)
+  one_put (inr q) m = inr (record { heavy = (let k = q.heavy in omega arith); none = none_of_set q })
+  one_put (inl r) (inr q) = inr (record { heavy = (let k = q.heavy in omega arith); none = none_in_set q })
+  one_put (inl r) (inl m) =
+      let p = put_first r.value r.is m.are m.ascends in
+      inl (record { ws = p.put.row; same = pair r.same m.same p.put.at; xs = p.put.list; are = p.put.are; ascends = p.ascends; few = omega (arith, r.few, m.few, p.put.long); count = p.put.count ∙ ap suc m.count })
+
   mutual
-    encoded : {n t : ℕ} {v : AbstractValue} → ValueIn s n t v → weight v < most → Encoded s n t v
-    encoded (value_in {tags = tags} i a) h =
-        let r = held (schema.sound _ _ _ i) (schema.tellable _ _ _ i) a h in
-        let l = schema.few_tags _ _ _ i in
-        let k = r.few in
-        let f = frame most digits tags r.form r.octets (omega arith) in
-        let g = f.few in
-        record { w = r.w; value = value_in i r.value; same = alike i r.same; octets = f.octets; is = says i r.is f.framed; few = omega arith }
+    encoded : {n t : ℕ} {v : AbstractValue} → ValueIn s n t v → Encoded s n t v ⊎ NotEncoded most s t v
+    encoded (value_in i a) = framed_in i (held (schema.sound _ _ _ i) (schema.tellable _ _ _ i) a)
 
-    held : {n : ℕ} {k : Kind} {v : AbstractValue} → IsSound s k → IsTellable s k → ValueOf s n k v → weight v < most → Held s n k v
-    held sound tell (of_leaf f) h = let l = leaf_in s utf8_octets sound f in record { w = l.w; value = of_leaf l.fits; same = l.same; form = false; octets = l.octets; is = leaf l.contents; few = l.few }
-    held sound tell (of_sequence {e = e} {cs = cs} {vs = vs} a g) h =
-        let m = members_in sound.defaults a (omega arith) in
-        let k = m.few in
+    held : {n : ℕ} {k : Kind} {v : AbstractValue} → IsSound s k → IsTellable s k → ValueOf s n k v → Held s n k v ⊎ NotHeld most s k v
+    held sound tell (of_leaf f) = let l = leaf_in s utf8_octets sound f in inl (record { w = l.w; value = of_leaf l.fits; same = l.same; form = false; octets = l.octets; is = leaf l.contents; few = l.few })
+    held sound tell (of_sequence {e = e} {cs = cs} {vs = vs} a g) = either
+        (λ m. (let k = m.few in
         let l = ap (λ q. length (concat q)) (append-nil m.xs) in
-        record { w = fields m.ws; value = of_sequence m.values (groups cs vs m.ws m.same g); same = alike_sequence m.same; form = true; octets = concat (m.xs ++ []); is = sequence m.are (none_lacking e); few = omega arith }
-    held sound tell (of_set {e = e} {cs = cs} {vs = vs} a g) h =
-        let m = members_in sound.0.defaults a (omega arith) in
-        let k = m.few in
+        record { w = fields m.ws; value = of_sequence m.values (groups cs vs m.ws m.same g); same = alike_sequence m.same; form = true; octets = concat (m.xs ++ []); is = sequence m.are (none_lacking e); few = omega arith }))
+        (λ q. record { heavy = (let k = q.heavy in omega arith); none = no_sequence q })
+        (members_in sound.defaults a)
+    held sound tell (of_set {e = e} {cs = cs} {vs = vs} a g) = either
+        (λ m. (let k = m.few in
         let z = sorted InTagOrder m.xs (all_ordered schema.tagged tell m.are) in
-        record { w = fields m.ws; value = of_set m.values (groups cs vs m.ws m.same g); same = alike_set m.same; form = true; octets = concat z.list; is = set m.are z.permutes z.ascends (none_lacking e) (merged_alone z.list); few = omega (arith, k, concat_permutes z.permutes) }
-    held sound tell (of_sequence_of {c = c} a z) h =
-        let m = elements_in a (omega arith) in
-        let k = m.few in
-        record { w = list m.ws; value = of_sequence_of m.values (subst (IsAllowedSize c) (alike_count m.same) z); same = alike_sequence_of m.same; form = true; octets = concat m.xs; is = sequence_of m.are; few = omega arith }
-    held sound tell (of_set_of {c = c} a z) h =
-        let m = set_in a (omega arith) in
-        let k = m.few in
-        record { w = list m.ws; value = of_set_of (rows_values m.are) (subst (IsAllowedSize c) (sym m.count) z); same = alike_set_of m.same; form = true; octets = concat m.xs; is = set_of (rows_elements m.are) m.ascends; few = omega arith }
-    held sound tell (of_choice {i = i} g a) h =
-        let r = encoded a (omega arith) in
-        let k = r.few in
-        record { w = alternative i r.w; value = of_choice g r.value; same = alike_choice g r.same; form = true; octets = r.octets; is = choice g r.is; few = omega arith }
+        record { w = fields m.ws; value = of_set m.values (groups cs vs m.ws m.same g); same = alike_set m.same; form = true; octets = concat z.list; is = set m.are z.permutes z.ascends (none_lacking e) (merged_alone z.list); few = omega (arith, k, concat_permutes z.permutes) }))
+        (λ q. record { heavy = (let k = q.heavy in omega arith); none = no_set q })
+        (members_in sound.0.defaults a)
+    held sound tell (of_sequence_of {c = c} a z) = either
+        (λ m. (let k = m.few in
+        record { w = list m.ws; value = of_sequence_of m.values (subst (IsAllowedSize c) (alike_count m.same) z); same = alike_sequence_of m.same; form = true; octets = concat m.xs; is = sequence_of m.are; few = omega arith }))
+        (λ q. record { heavy = (let k = q.heavy in omega arith); none = no_sequence_of q })
+        (elements_in a)
+    held sound tell (of_set_of {c = c} a z) = either
+        (λ m. (let k = m.few in
+        record { w = list m.ws; value = of_set_of (rows_values m.are) (subst (IsAllowedSize c) (sym m.count) z); same = alike_set_of m.same; form = true; octets = concat m.xs; is = set_of (rows_elements m.are) m.ascends; few = omega arith }))
+        (λ q. record { heavy = (let k = q.heavy in omega arith); none = no_set_of q })
+        (set_in a)
+    held sound tell (of_choice {i = i} g a) = either
+        (λ r. (let k = r.few in
+        record { w = alternative i r.w; value = of_choice g r.value; same = alike_choice g r.same; form = true; octets = r.octets; is = choice g r.is; few = omega arith }))
+        (λ q. record { heavy = (let k = q.heavy in omega arith); none = no_choice g q })
+        (encoded a)
 
-    members_in : {n : ℕ} {cs : List Component} {vs : Row} → AllByRecursion (HasValue s) cs → AreComponents s n cs vs → row_weight vs < most → MembersIn s n cs vs
-    members_in d no_component h = record { ws = end; values = no_component; same = no_components; xs = []; are = no_member; few = omega arith }
-    members_in d (component_absent {c = c} b a) h =
-        let m = members_in d.1 a h in
-        record { ws = absent m.ws; values = component_absent b m.values; same = both_absent m.same; xs = m.xs; are = left_out (not_mandatory b c refl) m.are; few = m.few }
-    members_in d (component_present v a) h = one_member d.0 (encoded v (omega arith)) (members_in d.1 a (omega arith))
+    members_in : {n : ℕ} {cs : List Component} {vs : Row} → AllByRecursion (HasValue s) cs → AreComponents s n cs vs → MembersIn s n cs vs ⊎ NoMembers most s cs vs
+    members_in d no_component = inl (record { ws = end; values = no_component; same = no_components; xs = []; are = no_member; few = omega arith })
+    members_in d (component_absent {c = c} b a) = either
+        (λ m. record { ws = absent m.ws; values = component_absent b m.values; same = both_absent m.same; xs = m.xs; are = left_out (not_mandatory b c refl) m.are; few = m.few })
+        (λ q. record { heavy = q.heavy; none = none_absent q })
+        (members_in d.1 a)
+    members_in d (component_present {c = c} {v = v} b a) = ⊎_elim
+        (λ m. joined d.0 b m (is_default c v d.0 b) (encoded b))
+        (λ q. inr (record { heavy = (let k = q.heavy in omega arith); none = none_present q }))
+        (members_in d.1 a)
 
-    elements_in : {n u : ℕ} {vs : Row} → AreElements s n u vs → row_weight vs < most → ElementsIn s n u vs
-    elements_in no_value h = record { ws = end; values = no_value; same = no_elements; xs = []; are = no_element; few = omega arith }
-    elements_in (one_element v a) h =
-        let r = encoded v (omega arith) in
-        let m = elements_in a (omega arith) in
-        record { ws = present r.w m.ws; values = one_element r.value m.values; same = alike_element r.same m.same; xs = r.octets ∷ m.xs; are = element r.is m.are; few = omega (arith, r.few, m.few, length-append r.octets (concat m.xs)) }
+    elements_in : {n u : ℕ} {vs : Row} → AreElements s n u vs → ElementsIn s n u vs ⊎ NoElements most s u vs
+    elements_in no_value = inl (record { ws = end; values = no_value; same = no_elements; xs = []; are = no_element; few = omega arith })
+    elements_in (one_element v a) = one_more (encoded v) (elements_in a)
 
-    set_in : {n u : ℕ} {vs : Row} → AreElements s n u vs → row_weight vs < most → SetIn s n u vs
-    set_in no_value h = record { ws = end; same = none_left; xs = []; are = rows_none; ascends = ascending_none; few = omega arith; count = refl }
-    set_in (one_element v a) h =
-        let r = encoded v (omega arith) in
-        let m = set_in a (omega arith) in
-        let p = put_first r.value r.is m.are m.ascends in
-        record { ws = p.put.row; same = pair r.same m.same p.put.at; xs = p.put.list; are = p.put.are; ascends = p.ascends; few = omega (arith, r.few, m.few, p.put.long); count = p.put.count ∙ ap suc m.count }
+    set_in : {n u : ℕ} {vs : Row} → AreElements s n u vs → SetIn s n u vs ⊎ NoSet most s u vs
+    set_in no_value = inl (record { ws = end; same = none_left; xs = []; are = rows_none; ascends = ascending_none; few = omega arith; count = refl })
+    set_in (one_element v a) = one_put (encoded v) (set_in a)
 
   pub encodable : (t : ℕ) (v : AbstractValue) → ValueIn s 64 t v → weight v < most → (o : List ℕ) × Der s t v 0 o × (length o ≤ weight v)
-  encodable t v a h = let r = encoded a h in (r.octets, (r.w, record { first = a; second = r.value; are_alike = r.same }, r.is), r.few)
+  encodable t v a h = by (encoded a)
+    where
+      by : Encoded s 64 t v ⊎ NotEncoded most s t v → (o : List ℕ) × Der s t v 0 o × (length o ≤ weight v)
+      by (inl r) = (r.octets, (r.w, record { first = a; second = r.value; are_alike = r.same }, r.is), r.few)
+      by (inr q) = absurd (let k = q.heavy in omega arith)
+
+  -- where it has none by the distinguished rules it has none by the basic ones
+  pub encodable_or_none : (t : ℕ) (v : AbstractValue) → ValueIn s 64 t v → ((o : List ℕ) × Der s t v 0 o) ⊎ ((p : List ℕ) → Ber s t v 0 p → ⊥)
+  encodable_or_none t v a = either (λ r. (r.octets, (r.w, record { first = a; second = r.value; are_alike = r.same }, r.is))) (λ q p b. q.none b.1.are_alike b.2 refl) (encoded a)
 
 -- lengths that 126 octets tell
 pub few_digits : (n : ℕ) → n < 256 ^ 126 → length (digits_of 256 n) ≤ 126

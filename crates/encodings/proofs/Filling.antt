@@ -1,5 +1,5 @@
 -- Bits have octets that hold them, and bits without their trailing zeros end in one.
-use Rattle.std.proofs.Common.{arith, ◌≡◌, ℕ, zero, suc, ◌+◌, ◌*◌, ◌/◌, ◌%◌, ◌<◌, ◌≤◌, Bool, true, false, List, [], ◌∷◌, ◌++◌, length, replicate, refl, sym, ap, ◌∙◌}
+use Rattle.std.proofs.Common.{arith, ◌≡◌, ℕ, suc, ◌/◌, ◌%◌, ◌<◌, ◌≤◌, Bool, true, false, List, [], ◌∷◌, ◌++◌, length, replicate, refl, ap, ◌∙◌}
 use Rattle.std.specs.Prelude.{◌==◌, flat_map}
 use Rattle.std.specs.Int.Digits.{AllBelowBase}
 use Rattle.asn_base.specs.Abstract.{bits_of_octet}

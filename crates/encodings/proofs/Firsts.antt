@@ -54,7 +54,7 @@ pub record SameContents (c d : Bool) (x y : List ℕ) : Type 0 where
   pub forms : c ≡ d
   pub inside : x ≡ y
 
-pub frames_contents : {r : Rules} {g : Tag} {ts : List Tag} {c d : Bool} {x y o p : List ℕ} → Framed r (g ∷ ts) c x o → Framed r (g ∷ ts) d y p → o ≡ p → SameContents c d x y
+pub frames_contents : {r r' : Rules} {g : Tag} {ts : List Tag} {c d : Bool} {x y o p : List ℕ} → Framed r (g ∷ ts) c x o → Framed r' (g ∷ ts) d y p → o ≡ p → SameContents c d x y
 frames_contents {c = c} {d = d} {x = x} {y = y} (innermost {t = t} {h = h} a) (innermost {h = h'} b) e =
     let r = any_front t t c d (length x) (length y) h h' x y a.header b.header e in
     record { forms = r.forms; inside = r.rest }

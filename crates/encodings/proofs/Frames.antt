@@ -2,7 +2,8 @@
 use Rattle.std.proofs.Common.{◌≡◌, ℕ, ◌≤◌, Bool, true, List, length, refl, sym, ap, ◌∙◌, arith, length-append}
 use Rattle.asn_base.specs.declared.tag.Tag.{Tag}
 use Rattle.encodings.specs.Rules.{Rules, Distinguished}
-use Rattle.encodings.specs.Header.{HeaderBy, shortest_header}
+use Rattle.encodings.specs.Header.{HeaderBy}
+use Rattle.encodings.specs.Fewest.{shortest_header}
 use Rattle.encodings.proofs.Headers.{shortest_only, shortest_least}
 use Rattle.encodings.specs.Encoding.{Framed, bare, innermost, outer}
 

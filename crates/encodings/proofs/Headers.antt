@@ -7,7 +7,8 @@ use Rattle.std.proofs.lemmas.Int.Digits.{number_lt, length-digits_of-le, all_bel
 use Rattle.asn_base.specs.declared.tag.Class.{Class}
 use Rattle.asn_base.specs.declared.tag.Tag.{Tag}
 use Rattle.encodings.specs.Rules.{Rules, Distinguished}
-use Rattle.encodings.specs.Header.{class_bits, form_bit, septets, identifier, LongForm, LengthOf, short, long, HeaderBy, shortest_size, shortest_header}
+use Rattle.encodings.specs.Header.{class_bits, form_bit, septets, identifier, LongForm, LengthOf, short, long, HeaderBy}
+use Rattle.encodings.specs.Fewest.{shortest_size, shortest_header}
 use Rattle.encodings.proofs.Digits.{same_digits}
 
 -- the fewest octets of a length, by cases
@@ -38,10 +39,10 @@ long_least n m ds le f =
     let below : m < 256 ^ length ds = subst (λ x. x < 256 ^ length ds) f.worth (number_lt 256 ds f.octets) in
     length-digits_of-le 256 (length ds) n (omega arith) (omega arith)
 
--- a length that has octets has few digits
-few_digits : {n : ℕ} {q : List ℕ} → LengthOf n q → length (digits_of 256 n) ≤ 126
-few_digits {n} (short h) = omega (arith, length-digits_of-le 256 1 n (omega arith) (omega arith))
-few_digits {n} (long {ds = ds} f) = let most : length ds ≤ 126 = f.at_most in omega (arith, long_least n n ds (omega arith) f)
+-- a length that has octets has few digits, and so has each below it
+pub few_digits : {n m : ℕ} {q : List ℕ} → n ≤ m → LengthOf m q → length (digits_of 256 n) ≤ 126
+few_digits {n} le (short h) = omega (arith, length-digits_of-le 256 1 n (omega arith) (omega arith))
+few_digits {n} {m} le (long {ds = ds} f) = let most : length ds ≤ 126 = f.at_most in omega (arith, long_least n m ds le f)
 
 below_64 : (n : ℕ) → n < 2 ^ 64 → length (digits_of 256 n) ≤ 126
 below_64 n h = omega (arith, length-digits_of-le 256 8 n (omega arith) h)
@@ -95,7 +96,7 @@ header_least r t b c n m l h le f hh =
 pub header_only : (t : Tag) (c : Bool) (n : ℕ) (l h : List ℕ) → Fewest n l → HeaderBy Distinguished t c n h → h ≡ identifier t.class t.number c ++ l
 header_only t c n l h f hh =
     let i = identifier t.class t.number c in
-    let le = hh.fewest (i ++ l) (header_of t c n l (few_digits hh.header.is_size) f).header in
+    let le = hh.fewest (i ++ l) (header_of t c n l (few_digits {n = n} {m = n} (omega arith) hh.header.is_size) f).header in
     let e : length h ≡ length (i ++ hh.header.size) = ap length hh.header.whole in
     hh.header.whole ∙ ap (λ x. i ++ x) (fewest_only f hh.header.is_size (omega (arith, le, e, length-append i l, length-append i hh.header.size)))
 

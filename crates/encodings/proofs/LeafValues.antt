@@ -42,23 +42,23 @@ twos_value {o = o} {p = p} (negative l b e h) (negative m c f i) s =
     let n = ap (number_from_digits 256) s in let w = ap (λ q. 256 ^ length q) s in ap negsuc (omega arith)
 
 -- what one header and contents tell at the front of octets
-record SamePiece (c d : Bool) (p q x y : List ℕ) : Type 0 where
-  forms : c ≡ d
-  inside : p ≡ q
-  rest : x ≡ y
+pub record SamePiece (c d : Bool) (p q x y : List ℕ) : Type 0 where
+  pub forms : c ≡ d
+  pub inside : p ≡ q
+  pub rest : x ≡ y
 
-piece_front : (t : Tag) (c d : Bool) (h g p q x y : List ℕ) → Header t c (length p) h → Header t d (length q) g → h ++ p ++ x ≡ g ++ q ++ y → SamePiece c d p q x y
+pub piece_front : (t : Tag) (c d : Bool) (h g p q x y : List ℕ) → Header t c (length p) h → Header t d (length q) g → h ++ p ++ x ≡ g ++ q ++ y → SamePiece c d p q x y
 piece_front t c d h g p q x y a b e =
     let f : h ++ (p ++ x) ≡ g ++ (q ++ y) = sym (append_assoc h p x) ∙ e ∙ append_assoc g q y in
     let r = any_front t t c d (length p) (length q) h g (p ++ x) (q ++ y) a b f in
     let u = split_front p q x y r.counts r.rest in
     record { forms = r.forms; inside = u.0; rest = u.1 }
 
-nil_right : (l : List ℕ) → l ++ [] ≡ l
+pub nil_right : (l : List ℕ) → l ++ [] ≡ l
 nil_right [] = refl
 nil_right (c ∷ l) = ap (λ q. c ∷ q) (nil_right l)
 
-not_empty : (h p x : List ℕ) → 1 ≤ length h → h ++ p ++ x ≡ [] → ⊥
+pub not_empty : (h p x : List ℕ) → 1 ≤ length h → h ++ p ++ x ≡ [] → ⊥
 not_empty [] p x l e = omega arith
 not_empty (c ∷ h) p x l e = let f = ap length e in omega arith
 
@@ -121,7 +121,7 @@ mutual
       let b : s ≡ s' = bit_segments_value gs gs' r.rest in
       ap (λ q. q ++ s) a ∙ ap (λ q. x' ++ q) b
 
-septets_some : (n : ℕ) → 1 ≤ length (septets n)
+pub septets_some : (n : ℕ) → 1 ≤ length (septets n)
 septets_some n = omega (arith, length-append (map (λ d. 128 + d) (digits_of 128 (n / 128))) ((n % 128) ∷ []))
 
 septet_lists : (ms ns : List ℕ) → flat_map septets ms ≡ flat_map septets ns → ms ≡ ns
@@ -153,7 +153,7 @@ arcs_value (arcs {x = x} {y = y} {zs = zs} a b c d f) (arcs {x = x'} {y = y'} {z
     first_arc (suc (suc x)) (suc (suc x')) y y' a a' b b' h = omega arith
 
 -- contents of a kind say one value
-pub contents_value : {r : Rules} {k : Kind} {v w : AbstractValue} {c d : Bool} {x y : List ℕ} → Contents r k v c x → Contents r k w d y → c ≡ d → x ≡ y → v ≡ w
+pub contents_value : {r r' : Rules} {k : Kind} {v w : AbstractValue} {c d : Bool} {x y : List ℕ} → Contents r k v c x → Contents r' k w d y → c ≡ d → x ≡ y → v ≡ w
 contents_value of_false of_false f e = refl
 contents_value of_false (of_true l m n) f e = absurd (let h = ap head_or_0 e in omega arith)
 contents_value (of_true l m n) of_false f e = absurd (let h = ap head_or_0 e in omega arith)

@@ -1,5 +1,5 @@
 -- An encoding by the distinguished rules, but for the order in sets, is no longer than any of a value that is alike.
-use Rattle.std.proofs.Common.{arith, ◌≡◌, ℕ, ◌+◌, ◌≤◌, Bool, true, false, List, [], ◌∷◌, ◌++◌, length, replicate, refl, sym, ap, subst, ◌∙◌, length-append}
+use Rattle.std.proofs.Common.{arith, ◌≡◌, ℕ, ◌+◌, ◌≤◌, Bool, false, List, [], ◌∷◌, ◌++◌, length, replicate, refl, sym, ap, subst, ◌∙◌, length-append}
 use Rattle.std.specs.Prelude.{Option, Some, None}
 use Rattle.std.specs.List.{concat, AllByRecursion}
 use Rattle.std.proofs.lemmas.List.{append-nil}
@@ -7,10 +7,9 @@ use Rattle.asn_base.specs.declared.tag.Tag.{Tag}
 use Rattle.asn_base.specs.Abstract.{AbstractValue, Row}
 use Rattle.asn_base.specs.Types.{Alternative, Kind, a_null, Component, Resolved, Is}
 use Rattle.asn_base.specs.Same.{IsLeaf, Inserted, here, there, Alike, alike, AlikeBy, equal, zeros, alike_sequence, alike_set, alike_sequence_of, alike_set_of, alike_choice, AlikeComponents, no_components, both_absent, both_present, first_default, second_default, AlikeElements, no_elements, alike_element, AlikeInAnyOrder, none_left, pair}
-use Rattle.asn_base.specs.Tags.{AllTagged}
 use Rattle.encodings.specs.Rules.{Rules, Basic, Unsorted, Distinguished, Strictly}
 use Rattle.encodings.specs.Contents.{Contents, EndsInOne, of_named_bits}
-use Rattle.encodings.specs.Orders.{Permutes, permutes_none, permutes_more, Inserted as ListInserted, here as list_here, there as list_there, Merges, merges_none, merges_first, merges_second, AtMost, InTagOrder, Ascending}
+use Rattle.encodings.specs.Orders.{Permutes, permutes_none, permutes_more, Inserted as ListInserted, here as list_here, there as list_there, Merges, merges_none, merges_first, merges_second}
 use Rattle.encodings.specs.Encoding.{Framed, no_unknown, unknown, UnknownIf, closed, extensible, Says, says, Holds, leaf, sequence, set, sequence_of, set_of, choice, Members, no_member, left_out, member, Elements, no_element, element}
 use Rattle.encodings.proofs.BitLaws.{trimmed_short, trimmed_same}
 use Rattle.encodings.proofs.LeafLaws.{Best, contents_best, contents_leaf, bits_best}
@@ -129,7 +128,7 @@ module _ (s : List Resolved) (turn : (t : ℕ) (v w : AbstractValue) → Alike s
     least (says i h fr) z (alike j a) (says k g fr') y =
         frames_least (strict_frame fr) (framed_at (same_tags i k) fr') (holds_least h z (alike_by_at (same_kind i j) a) (holds_at (same_kind i k) g) y)
 
-    holds_least : {r : Rules} {k : Kind} {j : ℕ} {v : AbstractValue} {b : Bool} {x : List ℕ} → Holds s Unsorted k v j b x → j ≡ 0 → {w : AbstractValue} {n : ℕ} {c : Bool} {y : List ℕ} → AlikeBy s k v w → Holds s r k w n c y → n ≡ 0 → length x ≤ length y
+    pub holds_least : {r : Rules} {k : Kind} {j : ℕ} {v : AbstractValue} {b : Bool} {x : List ℕ} → Holds s Unsorted k v j b x → j ≡ 0 → {w : AbstractValue} {n : ℕ} {c : Bool} {y : List ℕ} → AlikeBy s k v w → Holds s r k w n c y → n ≡ 0 → length x ≤ length y
     holds_least (leaf con) z a g y = (leaves_best a (strict_contents con) (leaf_in (contents_leaf con) g)).least
     holds_least (sequence ms u) z (equal l) g y = absurd l
     holds_least (sequence ms u) z (alike_sequence a) (leaf con) y = elim con [ ]

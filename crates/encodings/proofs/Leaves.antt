@@ -1,5 +1,5 @@
--- Values that hold no others have contents by the distinguished rules, and contents have headers.
-use Rattle.std.proofs.Common.{arith, ◌≡◌, ℕ, zero, suc, ◌+◌, ◌*◌, ◌/◌, ◌<◌, ◌≤◌, ◌^◌, Bool, true, false, cond, List, [], ◌∷◌, ◌++◌, length, replicate, refl, sym, ap, ◌∙◌, length-append}
+-- Values that hold no others have contents by the distinguished rules, and contents have headers or are too long for any.
+use Rattle.std.proofs.Common.{arith, ℕ, ◌+◌, ◌*◌, ◌/◌, ◌<◌, ◌≤◌, ◌^◌, ◌⊎◌, inl, inr, ⊎_elim, Bool, true, false, cond, List, [], ◌∷◌, ◌++◌, length, refl, ◌∙◌, length-append}
 use Rattle.std.proofs.lemmas.List.{append-nil}
 use Rattle.std.proofs.lemmas.Int.Digits.{length-digits_of-le}
 use Rattle.std.specs.Prelude.{nat_lt, flat_map, IsUtf8}
@@ -12,16 +12,18 @@ use Rattle.asn_base.specs.Types.{Kind, Resolved}
 use Rattle.asn_base.specs.Typed.{arcs, Fits, fits_boolean, fits_integer, fits_enumerated, fits_bits, fits_named_bits, fits_octets, fits_null, fits_oid, fits_relative_oid, fits_utf8, fits_restricted}
 use Rattle.asn_base.specs.Schemas.{IsSound}
 use Rattle.asn_base.specs.Same.{AlikeBy, equal, zeros}
-use Rattle.encodings.specs.Rules.{Distinguished}
-use Rattle.encodings.specs.Header.{septets, identifier, shortest_size, HeaderBy}
+use Rattle.encodings.specs.Rules.{Basic, Distinguished}
+use Rattle.encodings.specs.Header.{septets, identifier, HeaderBy}
+use Rattle.encodings.specs.Fewest.{shortest_size}
 use Rattle.encodings.specs.Strings.{whole, whole_bits}
 use Rattle.encodings.specs.Contents.{Contents, of_false, of_true, of_integer, of_enumerated, of_bits, of_named_bits, of_octets, of_null, of_oid, of_relative_oid, of_utf8, of_restricted}
 use Rattle.encodings.specs.Encoding.{Framed, bare, innermost, outer}
 use Rattle.encodings.specs.Weight.{weight}
-use Rattle.encodings.proofs.Headers.{fewest_size, header_of, identifier_long, size_long, septets_most, septets_length}
+use Rattle.encodings.proofs.Frames.{frames_least}
+use Rattle.encodings.proofs.Headers.{few_digits, fewest_size, header_of, identifier_long, size_long, septets_most, septets_length}
 use Rattle.encodings.proofs.BitLaws.{whole_short}
-use Rattle.encodings.proofs.Filling.{FilledBits, filled_bits, Trimmed, trimmed_bits}
-use Rattle.encodings.proofs.Shortests.{short_number}
+use Rattle.encodings.proofs.Filling.{filled_bits, trimmed_bits}
+use Rattle.encodings.proofs.Shortests.{short_number, lt_or_ge}
 
 -- ---- headers
 
@@ -41,19 +43,45 @@ pub record FramedIn (tags : List Tag) (c : Bool) (x : List ℕ) : Type 0 where
   pub framed : Framed Distinguished tags c x octets
   pub few : length octets ≤ length x + 133 * length tags
 
+-- no lengths tell these contents, nor as many or more octets
+pub record NoFrame (most : ℕ) (tags : List Tag) (x : List ℕ) : Type 0 where
+  pub heavy : most ≤ length x + 133 * length tags
+  pub none : {c : Bool} {y p : List ℕ} → length x ≤ length y → Framed Basic tags c y p → ⊥
+
+many_digits : {t : Tag} {c : Bool} {n m : ℕ} {h : List ℕ} → n ≤ m → 127 ≤ length (digits_of 256 n) → HeaderBy Basic t c m h → ⊥
+many_digits le g a = omega (arith, g, few_digits le a.header.is_size)
+
 module _ (most : ℕ) (digits : (n : ℕ) → n < most → length (digits_of 256 n) ≤ 126) where
-  pub frame : (tags : List Tag) (c : Bool) (x : List ℕ) → length x + 133 * length tags < most → FramedIn tags c x
-  frame [] c x h = record { octets = x; framed = bare; few = omega arith }
-  frame (t ∷ []) c x h =
-      let d = digits (length x) (omega arith) in
+  at_least_most : (n : ℕ) → 127 ≤ length (digits_of 256 n) → most ≤ n
+  at_least_most n g = ⊎_elim (λ l. absurd (omega (arith, g, digits n l))) (λ h. h) (lt_or_ge n most)
+
+  no_innermost : {t : Tag} (x : List ℕ) → 127 ≤ length (digits_of 256 (length x)) → {c : Bool} {y p : List ℕ} → length x ≤ length y → Framed Basic (t ∷ []) c y p → ⊥
+  no_innermost x g le (innermost a) = many_digits le g a
+
+  no_inner : {t u : Tag} {ts : List Tag} {x : List ℕ} → NoFrame most (u ∷ ts) x → {c : Bool} {y p : List ℕ} → length x ≤ length y → Framed Basic (t ∷ u ∷ ts) c y p → ⊥
+  no_inner q le (outer f a) = q.none le f
+
+  no_outer : {t u : Tag} {ts : List Tag} {b : Bool} {x o : List ℕ} → Framed Distinguished (u ∷ ts) b x o → 127 ≤ length (digits_of 256 (length o)) → {c : Bool} {y p : List ℕ} → length x ≤ length y → Framed Basic (t ∷ u ∷ ts) c y p → ⊥
+  no_outer r g le (outer f a) = many_digits (frames_least r f le) g a
+
+  pub frame : (tags : List Tag) (c : Bool) (x : List ℕ) → FramedIn tags c x ⊎ NoFrame most tags x
+  frame [] c x = inl (record { octets = x; framed = bare; few = omega arith })
+  frame (t ∷ []) c x = ⊎_elim
+      (λ l. (let d : length (digits_of 256 (length x)) ≤ 126 = omega arith in
       let hd = identifier t.class t.number c ++ shortest_size (length x) in
-      record { octets = hd ++ x; framed = innermost (header_of t c (length x) (shortest_size (length x)) d (fewest_size (length x))); few = omega (arith, header_few t c (length x) d, length-append hd x) }
-  frame (t ∷ u ∷ ts) c x h =
-      let r = frame (u ∷ ts) c x (omega arith) in
-      let f = r.few in
-      let d = digits (length r.octets) (omega arith) in
-      let hd = identifier t.class t.number true ++ shortest_size (length r.octets) in
-      record { octets = hd ++ r.octets; framed = outer r.framed (header_of t true (length r.octets) (shortest_size (length r.octets)) d (fewest_size (length r.octets))); few = omega (arith, f, header_few t true (length r.octets) d, length-append hd r.octets) }
+      inl (record { octets = hd ++ x; framed = innermost (header_of t c (length x) (shortest_size (length x)) d (fewest_size (length x))); few = omega (arith, header_few t c (length x) d, length-append hd x) })))
+      (λ g. inr (record { heavy = omega (arith, at_least_most (length x) g); none = no_innermost x g }))
+      (lt_or_ge (length (digits_of 256 (length x))) 127)
+  frame (t ∷ u ∷ ts) c x = ⊎_elim (λ r. with_outer r) (λ n. inr (record { heavy = (let h = n.heavy in omega arith); none = no_inner n })) (frame (u ∷ ts) c x)
+    where
+      with_outer : FramedIn (u ∷ ts) c x → FramedIn (t ∷ u ∷ ts) c x ⊎ NoFrame most (t ∷ u ∷ ts) x
+      with_outer r = ⊎_elim
+          (λ l. (let d : length (digits_of 256 (length r.octets)) ≤ 126 = omega arith in
+          let hd = identifier t.class t.number true ++ shortest_size (length r.octets) in
+          let f = r.few in
+          inl (record { octets = hd ++ r.octets; framed = outer r.framed (header_of t true (length r.octets) (shortest_size (length r.octets)) d (fewest_size (length r.octets))); few = omega (arith, f, header_few t true (length r.octets) d, length-append hd r.octets) })))
+          (λ g. inr (record { heavy = (let f = r.few in omega (arith, f, at_least_most (length r.octets) g)); none = no_outer r.framed g }))
+          (lt_or_ge (length (digits_of 256 (length r.octets))) 127)
 
 -- ---- contents
 

@@ -1,6 +1,6 @@
 -- A value that octets say has no more nodes than there are octets.
-use Rattle.std.proofs.Common.{arith, ◌≡◌, ℕ, zero, suc, ◌+◌, ◌≤◌, ◌<◌, Bool, true, false, cond, List, [], ◌∷◌, ◌++◌, length, refl, sym, ap, subst, ◌∙◌, length-append}
-use Rattle.std.specs.Prelude.{Option, Some, None, slice_get, IsSomeAnd, nat_lt}
+use Rattle.std.proofs.Common.{arith, ◌≡◌, ℕ, zero, suc, ◌+◌, ◌≤◌, ◌<◌, Bool, true, false, cond, List, [], ◌∷◌, ◌++◌, length, refl, ap, subst, length-append}
+use Rattle.std.specs.Prelude.{Some, slice_get, IsSomeAnd, nat_lt}
 use Rattle.std.specs.List.{concat, AllByRecursion}
 use Rattle.asn_base.specs.declared.tag.Tag.{Tag}
 use Rattle.asn_base.specs.Abstract.{AbstractValue, Row}
@@ -12,7 +12,7 @@ use Rattle.encodings.specs.Rules.{Rules}
 use Rattle.encodings.specs.Header.{identifier, septets, Header, LengthOf, short, long}
 use Rattle.encodings.specs.Contents.{Contents, of_false, of_true, of_integer, of_enumerated, of_bits, of_named_bits, of_octets, of_null, of_oid, of_relative_oid, of_utf8, of_restricted}
 use Rattle.encodings.specs.Orders.{Merges, merges_none, merges_first, merges_second}
-use Rattle.encodings.specs.Encoding.{Framed, bare, innermost, outer, Says, says, Holds, leaf, sequence, set, sequence_of, set_of, choice, Members, no_member, left_out, member, Elements, no_element, element}
+use Rattle.encodings.specs.Encoding.{Framed, innermost, outer, Says, says, Holds, leaf, sequence, set, sequence_of, set_of, choice, Members, no_member, left_out, member, Elements, no_element, element}
 use Rattle.encodings.proofs.Headers.{identifier_long}
 use Rattle.encodings.proofs.Least.{concat_permutes}
 use Rattle.encodings.proofs.Units.{no_leaf, bare_is}

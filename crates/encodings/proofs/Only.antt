@@ -1,22 +1,18 @@
 -- An encoding by the distinguished rules is the only one by them of values that are alike.
-use Rattle.std.proofs.Common.{arith, ◌≡◌, ℕ, ◌+◌, ◌≤◌, Bool, true, false, List, [], ◌∷◌, ◌++◌, length, replicate, refl, sym, ap, subst, ◌∙◌, length-append}
-use Rattle.std.specs.Prelude.{Option, Some, None}
+use Rattle.std.proofs.Common.{arith, ◌≡◌, ℕ, Bool, List, [], ◌∷◌, refl, sym, ap, subst, ◌∙◌}
 use Rattle.std.specs.List.{concat, AllByRecursion}
-use Rattle.std.proofs.lemmas.List.{append-nil}
-use Rattle.asn_base.specs.declared.tag.Tag.{Tag}
 use Rattle.asn_base.specs.Abstract.{AbstractValue, Row}
-use Rattle.asn_base.specs.Types.{Alternative, Kind, a_null, Component, Resolved, Is}
-use Rattle.asn_base.specs.Same.{IsLeaf, Inserted, here, there, Alike, alike, AlikeBy, equal, zeros, alike_sequence, alike_set, alike_sequence_of, alike_set_of, alike_choice, AlikeComponents, no_components, both_absent, both_present, first_default, second_default, AlikeElements, no_elements, alike_element, AlikeInAnyOrder, none_left, pair}
+use Rattle.asn_base.specs.Types.{Kind, Component, Resolved}
+use Rattle.asn_base.specs.Same.{Alike, alike, AlikeBy, equal, alike_sequence, alike_set, alike_sequence_of, alike_set_of, alike_choice, AlikeComponents, no_components, both_absent, both_present, first_default, second_default, AlikeElements, no_elements, alike_element, AlikeInAnyOrder, none_left, pair}
 use Rattle.asn_base.specs.Tags.{AllTagged}
-use Rattle.encodings.specs.Rules.{Rules, Basic, Distinguished, Strictly}
-use Rattle.encodings.specs.Contents.{Contents, EndsInOne, of_named_bits}
-use Rattle.encodings.specs.Orders.{Permutes, permutes_none, permutes_more, Inserted as ListInserted, here as list_here, there as list_there, Merges, merges_none, merges_first, merges_second, AtMost, InTagOrder, Ascending}
-use Rattle.encodings.specs.Encoding.{Framed, no_unknown, unknown, UnknownIf, closed, extensible, Says, says, Holds, leaf, sequence, set, sequence_of, set_of, choice, Members, no_member, left_out, member, Elements, no_element, element}
+use Rattle.encodings.specs.Rules.{Rules, Distinguished}
+use Rattle.encodings.specs.Orders.{Permutes, permutes_none, permutes_more, Inserted as ListInserted, here as list_here, AtMost, InTagOrder}
+use Rattle.encodings.specs.Encoding.{Says, says, Holds, leaf, sequence, set, sequence_of, set_of, choice, Members, no_member, left_out, member, Elements, no_element, element}
 use Rattle.encodings.proofs.LeafLaws.{contents_leaf, leaf_form}
 use Rattle.encodings.proofs.Sorting.{permutes_sym, permutes_trans, sorted_same}
 use Rattle.encodings.proofs.Units.{IsUnit, says_unit, units_apart, at_most_trans, tag_order_trans, tag_order_anti}
 use Rattle.encodings.proofs.Frames.{frames_only}
-use Rattle.encodings.proofs.Least.{same_tags, same_kind, alike_by_at, holds_at, framed_at, alternative_type, alike_at, says_at, leaves_best, leaf_in, none_unknown, no_more, merged_alone, all_permutes, take_out}
+use Rattle.encodings.proofs.Least.{same_tags, same_kind, alike_by_at, holds_at, framed_at, alternative_type, alike_at, says_at, leaves_best, leaf_in, none_unknown, no_more, merged_alone, take_out}
 
 elements_units : {s : List Resolved} {r : Rules} {u n : ℕ} {vs : Row} {xs : List (List ℕ)} → AllTagged s → Elements s r u vs n xs → AllByRecursion IsUnit xs
 elements_units all no_element = tt

@@ -1,14 +1,15 @@
 -- Worked rows of tag classes in order, of short and negative values, and of additions that the type has or lacks.
-use Rattle.std.proofs.Common.{arith, lit<, ◌≡◌, ℕ, ◌<◌, ◌≤◌, Bool, true, false, List, [], ◌∷◌, ◌++◌, length, refl, ap, subst, inl, inr}
-use Rattle.std.specs.Prelude.{ℤ, pos, negsuc, None}
-use Rattle.asn_base.specs.declared.tag.Class.TheVariants.{Universal, Application, Context, Private}
+use Rattle.std.proofs.Common.{arith, lit<, ◌≡◌, true, false, List, [], ◌∷◌, refl, ap, subst, inl, inr}
+use Rattle.std.specs.Prelude.{negsuc, None}
+use Rattle.asn_base.specs.declared.tag.Class.TheVariants.{Application, Private}
 use Rattle.asn_base.specs.declared.tag.Tag.{Tag}
 use Rattle.asn_base.specs.Abstract.{AbstractValue, boolean, enumerated, oid, relative_oid, fields, end, absent, present}
 use Rattle.asn_base.specs.Types.{Presence, mandatory, optional, default, addition, a_boolean, an_enumerated, an_object_identifier, a_relative_oid, a_sequence, a_set, Resolved}
 use Rattle.asn_base.specs.Typed.{arcs}
-use Rattle.asn_base.specs.Tags.{First, TagBefore}
-use Rattle.encodings.specs.Rules.{Basic, Distinguished}
-use Rattle.encodings.specs.Header.{identifier, Header, short, shortest_header}
+use Rattle.asn_base.specs.Tags.{First}
+use Rattle.encodings.specs.Rules.{Distinguished}
+use Rattle.encodings.specs.Header.{identifier}
+use Rattle.encodings.specs.Fewest.{shortest_header}
 use Rattle.encodings.specs.Contents.{of_false, of_true, of_oid, of_relative_oid, of_enumerated}
 use Rattle.encodings.specs.Orders.{ascending_one, ascending_more, InTagOrder, permutes_none, permutes_more, here as list_here, there as list_there, merges_none, merges_first, merges_second}
 use Rattle.encodings.specs.Encoding.{innermost, closed, extensible, no_unknown, unknown, Says, says, leaf, sequence, set, no_member, left_out, member}
@@ -22,7 +23,7 @@ a0 = record { class = Application; number = 5; in_range = lit< tt; not_reserved 
 abbrev p0 : Tag
 p0 = record { class = Private; number = 3; in_range = lit< tt; not_reserved = λ e. lit< tt }
 
-abbrev u13 : Tag
+abbrev pub u13 : Tag
 u13 = universal 13 (lit< tt) (lit< tt)
 
 abbrev c3 : Tag
@@ -31,7 +32,7 @@ c3 = context 3 (lit< tt)
 abbrev c4 : Tag
 c4 = context 4 (lit< tt)
 
-abbrev more : List Resolved
+abbrev pub more : List Resolved
 more = record { tags = u1 ∷ []; kind = a_boolean }
     ∷ record { tags = a0 ∷ []; kind = a_boolean }
     ∷ record { tags = c0 ∷ []; kind = a_boolean }

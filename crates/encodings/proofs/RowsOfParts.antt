@@ -5,14 +5,15 @@ use Rattle.asn_base.specs.Abstract.{AbstractValue, boolean, integer, null, field
 use Rattle.asn_base.specs.Types.{Presence, mandatory, optional, default, addition}
 use Rattle.asn_base.specs.Tags.{First}
 use Rattle.asn_base.specs.Same.{Alike, alike, equal, alike_set_of, pair, none_left, here, there}
-use Rattle.encodings.specs.Rules.{Basic, Distinguished}
-use Rattle.encodings.specs.Header.{identifier, shortest_header}
+use Rattle.encodings.specs.Rules.{Basic, Unsorted, Distinguished}
+use Rattle.encodings.specs.Header.{identifier}
+use Rattle.encodings.specs.Fewest.{shortest_header}
 use Rattle.encodings.specs.Contents.{of_false, of_true, of_integer}
 use Rattle.encodings.specs.Orders.{ascending_one, ascending_more, InTagOrder, permutes_none, permutes_more, here as list_here, there as list_there, merges_none, merges_first}
 use Rattle.encodings.specs.Encoding.{bare, innermost, no_unknown, unknown, closed, extensible, Says, says, leaf, sequence, set, sequence_of, set_of, choice, no_member, member, no_element, element}
 use Rattle.encodings.proofs.Headers.{shortest_is}
 use Rattle.encodings.proofs.RowTypes.{rows, u2, u16, u17, c0, c1, one_and_two, first_only}
-use Rattle.encodings.proofs.Weaker.{basic_of}
+use Rattle.encodings.proofs.Weaker.{basic_of, unsorted_of}
 use Rattle.encodings.proofs.RowsThatHold.{short_header, small, is_256, is_minus_1, true_is, null_is, must_stand}
 
 false_at : Says rows Distinguished 10 (boolean false) 0 (128 ∷ 1 ∷ 0 ∷ [])
@@ -132,6 +133,11 @@ default_present = says (record { found = refl })
 pub set_of_any_order : Says rows Basic 7 (list (present (integer (pos 2)) (present (integer (pos 1)) end))) 0 (49 ∷ 6 ∷ 2 ∷ 1 ∷ 2 ∷ 2 ∷ 1 ∷ 1 ∷ [])
 unfolding identifier
 set_of_any_order = says (record { found = refl }) (set_of (element (basic_of integer_2) (element (basic_of integer_1) no_element)) tt) (innermost (record { header = short_header u17 true 6 (lit< tt); fewest = tt }))
+
+-- and so it may by the distinguished rules but for the order
+pub set_of_unsorted : Says rows Unsorted 7 (list (present (integer (pos 2)) (present (integer (pos 1)) end))) 0 (49 ∷ 6 ∷ 2 ∷ 1 ∷ 2 ∷ 2 ∷ 1 ∷ 1 ∷ [])
+unfolding identifier shortest_header
+set_of_unsorted = says (record { found = refl }) (set_of (element (unsorted_of integer_2) (element (unsorted_of integer_1) no_element)) tt) (innermost (record { header = short_header u17 true 6 (lit< tt); fewest = (shortest_is u17 true 6 (lit< tt)).fewest }))
 
 pub set_any_order : Says rows Basic 11 (fields (present (boolean true) (present (boolean false) end))) 0 (49 ∷ 6 ∷ 129 ∷ 1 ∷ 255 ∷ 128 ∷ 1 ∷ 0 ∷ [])
 unfolding identifier

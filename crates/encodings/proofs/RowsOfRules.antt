@@ -6,7 +6,8 @@ use Rattle.asn_base.specs.Abstract.{AbstractValue, boolean, fields, end, present
 use Rattle.asn_base.specs.Types.{a_boolean, a_set, mandatory, optional, Is}
 use Rattle.asn_base.specs.Tags.{First, first_tag, TagBefore, first_run, RunsApart}
 use Rattle.encodings.specs.Rules.{Basic, Distinguished}
-use Rattle.encodings.specs.Header.{identifier, Header, LengthOf, short, long, shortest_header}
+use Rattle.encodings.specs.Header.{identifier, Header, LengthOf, short, long}
+use Rattle.encodings.specs.Fewest.{shortest_header}
 use Rattle.encodings.specs.Contents.{of_true}
 use Rattle.encodings.specs.Orders.{AtMost, BeginsWith, ascending_one, permutes_none, permutes_more, here as list_here, Merges, merges_none, merges_first, merges_second}
 use Rattle.encodings.specs.Encoding.{Framed, innermost, outer, Unknown, no_unknown, unknown, extensible, last_run, Says, says, Holds, leaf, set, no_member, left_out, member}

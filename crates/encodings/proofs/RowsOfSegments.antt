@@ -1,17 +1,17 @@
 -- Worked rows of lawful spellings: segments, unused bits, unknown additions, and their levels.
-use Rattle.std.proofs.Common.{arith, lit<, ◌≡◌, ℕ, ◌<◌, ◌≤◌, Bool, true, false, List, [], ◌∷◌, ◌++◌, length, refl, ap, subst}
-use Rattle.std.specs.Prelude.{ℤ, pos, negsuc}
-use Rattle.asn_base.specs.Abstract.{AbstractValue, boolean, integer, enumerated, bits, octets, text, null, oid, fields, list, end, absent, present}
+use Rattle.std.proofs.Common.{arith, lit<, ◌≡◌, true, false, [], ◌∷◌, refl, ap}
+use Rattle.asn_base.specs.Abstract.{bits, octets, text, oid, fields, end, absent}
 use Rattle.asn_base.specs.Typed.{arcs}
 use Rattle.asn_base.specs.Tags.{First}
 use Rattle.encodings.specs.Rules.{Basic, Distinguished}
-use Rattle.encodings.specs.Header.{identifier, Header, short, long, shortest_header}
-use Rattle.encodings.specs.Strings.{whole, cut, no_segment, segment, WholeBits, whole_bits, cut_bits, last_segment, bit_segment, octet_string_tag, bit_string_tag}
-use Rattle.encodings.specs.Contents.{of_true, of_bits, of_named_bits, of_octets, of_oid, of_restricted}
-use Rattle.encodings.specs.Encoding.{innermost, outer, closed, extensible, no_unknown, unknown, Says, says, leaf, sequence, no_member, left_out, member}
+use Rattle.encodings.specs.Header.{identifier, long}
+use Rattle.encodings.specs.Fewest.{shortest_header}
+use Rattle.encodings.specs.Strings.{whole, cut, no_segment, segment, whole_bits, cut_bits, last_segment, octet_string_tag, bit_string_tag}
+use Rattle.encodings.specs.Contents.{of_bits, of_named_bits, of_octets, of_oid, of_restricted}
+use Rattle.encodings.specs.Encoding.{innermost, extensible, no_unknown, unknown, Says, says, leaf, sequence, no_member, left_out}
 use Rattle.encodings.specs.Levels.{levels}
 use Rattle.encodings.proofs.Headers.{shortest_is}
-use Rattle.encodings.proofs.RowTypes.{rows, u1, u2, u3, u4, u6, u16, u18, c0, c1, c2, first_only}
+use Rattle.encodings.proofs.RowTypes.{rows, u3, u4, u6, u16, u18, c1, first_only}
 use Rattle.encodings.proofs.RowsThatHold.{short_header}
 
 -- 2400: no segment

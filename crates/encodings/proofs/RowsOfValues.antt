@@ -1,11 +1,22 @@
 -- Worked rows: the encoding of a value by the distinguished rules, where it says another value that is the same.
-use Rattle.std.proofs.Common.{lit<, ◌≡◌, ⊎_elim, refl}
-use Rattle.std.specs.Prelude.{Option, Some, None, ℕ, suc, Bool, true, false, List, [], ◌∷◌, pos, negsuc}
-use Rattle.asn_base.specs.Abstract.{bits, integer, fields, list, end, absent, present}
-use Rattle.asn_base.specs.Typed.{fits_integer, fits_named_bits, ValueIn, value_in, of_leaf, of_sequence, of_set_of, where_default, no_component, component_absent, component_present, no_element, one_element}
-use Rattle.encodings.specs.Encoding.{Der}
-use Rattle.encodings.proofs.RowTypes.{rows}
-use Rattle.encodings.proofs.RowsThatHold.{named_bits, named_zeros, default_absent, default_alike}
+use Rattle.std.proofs.Common.{arith, lit<, ◌≡◌, ◌∙◌, ⊎_elim, refl, ap}
+use Rattle.std.proofs.lemmas.Int.{ints}
+use Rattle.std.specs.Prelude.{ℤ, Option, Some, None, ℕ, suc, Bool, true, false, List, [], ◌∷◌, pos, negsuc}
+use Rattle.asn_base.specs.Same.{Alike, alike, AlikeBy, equal, Same}
+use Rattle.asn_base.specs.Types.{any_number, an_integer}
+use Rattle.asn_base.specs.Abstract.{AbstractValue, bits, integer, fields, list, end, absent, present}
+use Rattle.asn_base.specs.Typed.{IsValueWithoutNodes, fits_integer, fits_named_bits, ValueIn, value_in, of_leaf, of_sequence, of_set_of, where_default, no_component, component_absent, component_present, no_element, one_element}
+use Rattle.encodings.specs.Rules.{Basic, Distinguished}
+use Rattle.encodings.specs.Header.{identifier}
+use Rattle.encodings.specs.Fewest.{shortest_header}
+use Rattle.encodings.specs.Contents.{of_integer}
+use Rattle.encodings.specs.Encoding.{innermost, Says, says, leaf, Ber, Der, Shortest}
+use Rattle.encodings.proofs.Headers.{shortest_is}
+use Rattle.encodings.proofs.Least.{same_kind, alike_by_at}
+use Rattle.encodings.proofs.Unique.{says_same}
+use Rattle.encodings.proofs.Weaker.{basic_of}
+use Rattle.encodings.proofs.RowTypes.{rows, u2, rows_tagged, rows_tellable}
+use Rattle.encodings.proofs.RowsThatHold.{small, long_length, named_bits, named_zeros, default_absent, default_alike}
 use Rattle.encodings.proofs.RowsOfParts.{set_of_is, set_of_alike}
 
 some_bits : (b : List Bool) → ValueIn rows 64 4 (bits b)
@@ -53,3 +64,37 @@ default_left_out = (
   },
   default_absent,
 )
+
+-- 02840000000105 is an encoding of 5, and none of the fewest octets: 020105 is one
+five : IsValueWithoutNodes rows 1 (integer (pos 5))
+five = value_in (record { found = refl }) (of_leaf (fits_integer (lit< tt) tt))
+
+five_self : Same rows 1 (integer (pos 5)) (integer (pos 5))
+five_self = record { first = five; second = five; are_alike = alike (record { found = refl }) (equal tt) }
+
+five_is : Says rows Distinguished 1 (integer (pos 5)) 0 (2 ∷ 1 ∷ 5 ∷ [])
+unfolding identifier shortest_header
+five_is = says (record { found = refl }) (leaf (of_integer (small 5 (lit< tt)))) (innermost (shortest_is u2 false 1 (lit< tt)))
+
+pub long_five : Ber rows 1 (integer (pos 5)) 0 (2 ∷ 132 ∷ 0 ∷ 0 ∷ 0 ∷ 1 ∷ 5 ∷ [])
+long_five = (integer (pos 5), five_self, long_length)
+
+pub not_shortest : Shortest rows 1 (integer (pos 5)) (2 ∷ 132 ∷ 0 ∷ 0 ∷ 0 ∷ 1 ∷ 5 ∷ []) → ⊥
+not_shortest a = let l = a.least (2 ∷ 1 ∷ 5 ∷ []) (integer (pos 5), five_self, basic_of five_is) in omega arith
+
+-- nor is that an encoding of 6
+abbrev number_of : AbstractValue → ℤ
+number_of (integer z) = z
+number_of v = pos 0
+
+leaf_alike : {v w : AbstractValue} → AlikeBy rows (an_integer any_number) v w → v ≡ w
+leaf_alike (equal l) = refl
+
+same_number : {v w : AbstractValue} → Alike rows 1 v w → v ≡ w
+same_number (alike i a) = leaf_alike (alike_by_at (same_kind (record { found = refl }) i) a)
+
+pub not_of_six : Ber rows 1 (integer (pos 6)) 0 (2 ∷ 1 ∷ 5 ∷ []) → ⊥
+not_of_six b =
+    let e : b.0 ≡ integer (pos 5) = (says_same rows Basic Basic rows_tagged rows_tellable b.2 (basic_of five_is) refl).values in
+    let f : integer (pos 6) ≡ b.0 = same_number b.1.are_alike in
+    let g : pos 6 ≡ pos 5 = ap number_of (f ∙ e) in omega (arith, ints)

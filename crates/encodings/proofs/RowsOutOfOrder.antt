@@ -18,7 +18,7 @@ use Rattle.encodings.proofs.Firsts.{says_first, one_tag, units_list, members_uni
 use Rattle.encodings.proofs.Unique.{says_same}
 use Rattle.encodings.proofs.Least.{merged_alone, all_permutes}
 use Rattle.encodings.proofs.Weaker.{basic_of}
-use Rattle.encodings.proofs.RowTypes.{rows, free, u2, u3, u4, u16, u17, c0, c1, one_and_two, a_component, rows_tagged, rows_tellable, first_only}
+use Rattle.encodings.proofs.RowTypes.{rows, u2, u3, u4, u16, u17, c0, c1, one_and_two, a_component, rows_tagged, rows_tellable, first_only}
 use Rattle.encodings.proofs.RowsThatHold.{short_header}
 use Rattle.encodings.proofs.RowsOfParts.{tags_ascend, default_present}
 use Rattle.encodings.proofs.RowsThatFail.{inside}
@@ -107,7 +107,7 @@ default_stands (leaf con) e z = elim con [ ]
 pub not_der_default : (w : AbstractValue) (n : ℕ) → Says rows Distinguished 8 w n (48 ∷ 8 ∷ 49 ∷ 6 ∷ 2 ∷ 1 ∷ 1 ∷ 2 ∷ 1 ∷ 2 ∷ []) → ⊥
 unfolding identifier
 not_der_default w n a =
-    let s = says_same rows Basic rows_tagged rows_tellable (basic_of a) default_present refl in
+    let s = says_same rows Basic Basic rows_tagged rows_tellable (basic_of a) default_present refl in
     default_stands (inside {x = 49 ∷ 6 ∷ 2 ∷ 1 ∷ 1 ∷ 2 ∷ 1 ∷ 2 ∷ []} (record { found = refl }) (short_header u16 true 8 (lit< tt)) refl a) s.values s.counts
 
 -- 3106020102020101 is none of a SET OF by them: the greater encoding stands first

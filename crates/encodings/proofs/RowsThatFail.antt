@@ -4,9 +4,10 @@ use Rattle.std.specs.Prelude.{ℤ}
 use Rattle.std.specs.Int.Digits.{number_from_digits}
 use Rattle.asn_base.specs.declared.tag.Tag.{Tag}
 use Rattle.asn_base.specs.Abstract.{AbstractValue}
-use Rattle.asn_base.specs.Types.{any_size, Kind, a_boolean, an_integer, a_bit_string, an_octet_string, Is}
-use Rattle.encodings.specs.Rules.{Rules, Basic, Distinguished}
-use Rattle.encodings.specs.Header.{identifier, Header, long, shortest_header}
+use Rattle.asn_base.specs.Types.{any_size, Kind, a_boolean, an_integer, a_bit_string, an_octet_string, Resolved, Is}
+use Rattle.encodings.specs.Rules.{Rules, Basic, Unsorted, Distinguished}
+use Rattle.encodings.specs.Header.{identifier, Header, long}
+use Rattle.encodings.specs.Fewest.{shortest_header}
 use Rattle.encodings.specs.Strings.{BitPieces, whole_bits, cut_bits, BitSegments, last_segment, bit_segment, bit_string_tag}
 use Rattle.encodings.specs.Contents.{TwosComplement, not_negative, negative, of_false, of_true, of_integer, of_bits}
 use Rattle.encodings.specs.Encoding.{Framed, innermost, Says, says, Holds, leaf}
@@ -25,10 +26,10 @@ framed_inside {g = g} {c = c} {d = d} {x = x} {y = y} {h = h} (innermost {h = h'
     let r = any_front g g d c (length y) (length x) h' h y x a.header hd e in record { forms = r.forms; inside = r.rest }
 
 -- what stands behind the one header of octets
-pub inside : {r : Rules} {t : ℕ} {g : Tag} {k : Kind} {w : AbstractValue} {n : ℕ} {c : Bool} {h x o : List ℕ} → Is rows t (g ∷ []) k → Header g c (length x) h → o ≡ h ++ x → Says rows r t w n o → Holds rows r k w n c x
-inside {r} {k = k} {w = w} {n = n} {c = c} {x = x} i hd e (says {c = d} j h fr) =
-    let s = framed_inside (framed_at (same_tags i j) fr) hd e in
-    subst (λ q. Holds rows r k w n q x) s.forms (subst (λ q. Holds rows r k w n d q) s.inside (holds_at (same_kind i j) h))
+pub inside : {s : List Resolved} {r : Rules} {t : ℕ} {g : Tag} {k : Kind} {w : AbstractValue} {n : ℕ} {c : Bool} {h x o : List ℕ} → Is s t (g ∷ []) k → Header g c (length x) h → o ≡ h ++ x → Says s r t w n o → Holds s r k w n c x
+inside {s} {r} {k = k} {w = w} {n = n} {c = c} {x = x} i hd e (says {c = d} j h fr) =
+    let f = framed_inside (framed_at (same_tags i j) fr) hd e in
+    subst (λ q. Holds s r k w n q x) f.forms (subst (λ q. Holds s r k w n d q) f.inside (holds_at (same_kind i j) h))
 
 is_0 : Is rows 0 (u1 ∷ []) a_boolean
 is_0 = record { found = refl }
@@ -54,6 +55,15 @@ true_is_255 (leaf (of_true l m f)) e = let h = ap head_or_0 e in omega arith
 pub not_der_true : (w : AbstractValue) (n : ℕ) → Says rows Distinguished 0 w n (1 ∷ 1 ∷ 1 ∷ []) → ⊥
 unfolding identifier
 not_der_true w n a = true_is_255 (inside {x = 1 ∷ []} is_0 (short_header u1 false 1 (lit< tt)) refl a) refl
+
+-- which ask this whatever the order
+unsorted_true_is_255 : {w : AbstractValue} {n : ℕ} {c : Bool} {x : List ℕ} → Holds rows Unsorted a_boolean w n c x → x ≡ 1 ∷ [] → ⊥
+unsorted_true_is_255 (leaf of_false) e = let h = ap head_or_0 e in omega arith
+unsorted_true_is_255 (leaf (of_true l m f)) e = let h = ap head_or_0 e in omega arith
+
+pub not_unsorted_true : (w : AbstractValue) (n : ℕ) → Says rows Unsorted 0 w n (1 ∷ 1 ∷ 1 ∷ []) → ⊥
+unfolding identifier
+not_unsorted_true w n a = unsorted_true_is_255 (inside {x = 1 ∷ []} is_0 (short_header u1 false 1 (lit< tt)) refl a) refl
 
 -- 02020005 says nothing: the octets are not the fewest
 needless : {w : AbstractValue} {n : ℕ} {c : Bool} {x : List ℕ} → Holds rows Basic (an_integer free) w n c x → x ≡ 0 ∷ 5 ∷ [] → ⊥

@@ -7,7 +7,8 @@ use Rattle.asn_base.specs.Types.{Presence, mandatory, optional, default, additio
 use Rattle.asn_base.specs.Typed.{arcs}
 use Rattle.asn_base.specs.Same.{Alike, alike, equal, zeros, alike_set_of, alike_sequence, no_components, second_default, pair, none_left, here, there}
 use Rattle.encodings.specs.Rules.{Basic, Distinguished}
-use Rattle.encodings.specs.Header.{identifier, Header, short, long, shortest_header}
+use Rattle.encodings.specs.Header.{identifier, Header, short, long}
+use Rattle.encodings.specs.Fewest.{shortest_header}
 use Rattle.encodings.specs.Strings.{whole, cut, no_segment, segment, WholeBits, whole_bits, cut_bits, last_segment, bit_segment, octet_string_tag, bit_string_tag}
 use Rattle.encodings.specs.Contents.{TwosComplement, not_negative, negative, Number, EndsInOne, of_true, of_integer, of_enumerated, of_bits, of_named_bits, of_octets, of_null, of_oid, of_utf8, of_restricted}
 use Rattle.encodings.specs.Encoding.{innermost, outer, closed, Says, says, leaf, sequence, no_member, left_out, member}
@@ -28,7 +29,7 @@ small n h = record {
     one : (p : List ℕ) → TwosComplement (pos n) p → 1 ≤ length p
     one p (not_negative l b e h) = l
 
-some_octet : {z : ℤ} {p : List ℕ} → TwosComplement z p → 1 ≤ length p
+pub some_octet : {z : ℤ} {p : List ℕ} → TwosComplement z p → 1 ≤ length p
 some_octet (not_negative l b g h) = l
 some_octet (negative l b g h) = l
 

@@ -1,5 +1,5 @@
 -- Encodings of which each two are in one order or the other can be sorted.
-use Rattle.std.proofs.Common.{arith, ◌≡◌, ℕ, zero, suc, ◌<◌, ◌⊎◌, inl, inr, ⊎_elim, List, [], ◌∷◌, refl, ap, sym, subst}
+use Rattle.std.proofs.Common.{arith, ◌≡◌, ℕ, ◌⊎◌, inl, inr, ⊎_elim, List, [], ◌∷◌, sym}
 use Rattle.std.specs.List.{AllByRecursion}
 use Rattle.encodings.specs.Orders.{AtMost, Ascending, ascending_none, ascending_one, ascending_more, Inserted, here, there, Permutes, permutes_none, permutes_more}
 use Rattle.encodings.proofs.Least.{all_permutes}

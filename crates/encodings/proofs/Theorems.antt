@@ -1,9 +1,8 @@
 -- What stands of encodings as wholes.
-use Rattle.std.proofs.Common.{◌∙◌, ◌≡◌, ℕ, ◌≤◌, Bool, List, [], ◌++◌, length, refl, sym, subst}
+use Rattle.std.proofs.Common.{arith, ◌∙◌, ◌≡◌, ◌⊎◌, inl, inr, ⊎_elim, ℕ, ◌<◌, ◌≤◌, List, [], ◌++◌, length, refl, sym, subst}
 use Rattle.std.proofs.lemmas.List.{append-nil}
-use Rattle.asn_base.specs.declared.tag.Tag.{Tag}
-use Rattle.asn_base.specs.Abstract.{AbstractValue, Row}
-use Rattle.asn_base.specs.Types.{Kind, Component, Resolved}
+use Rattle.asn_base.specs.Abstract.{AbstractValue}
+use Rattle.asn_base.specs.Types.{Resolved}
 use Rattle.asn_base.specs.Typed.{IsValueWithoutNodes}
 use Rattle.asn_base.specs.Same.{Alike, Same}
 use Rattle.asn_base.specs.Tags.{AllTagged, AllTellable}
@@ -13,6 +12,8 @@ use Rattle.encodings.proofs.Least.{least}
 use Rattle.encodings.proofs.Only.{only}
 use Rattle.encodings.proofs.Weaker.{basic_of}
 use Rattle.encodings.proofs.Units.{says_unit, units_front}
+use Rattle.encodings.specs.Levels.{levels}
+use Rattle.encodings.proofs.Shortests.{lt_or_ge}
 use Rattle.encodings.proofs.Unique.{says_same}
 
 -- what octets say of a value by the distinguished rules is one of its encodings by them
@@ -39,7 +40,7 @@ module _ (turn : (s : List Resolved) (t : ℕ) (v w : AbstractValue) → Alike s
 
 -- octets say one value
 pub one_value : (s : List Resolved) (r : Rules) (t j k : ℕ) (v w : AbstractValue) (o : List ℕ) → AllTagged s → AllTellable s → Says s r t v j o → Says s r t w k o → (v ≡ w) × (j ≡ k)
-one_value s r t j k v w o all tell a b = let e = says_same s r all tell a b refl in (e.values, e.counts)
+one_value s r t j k v w o all tell a b = let e = says_same s r r all tell a b refl in (e.values, e.counts)
 
 module _ (turn : (s : List Resolved) (t : ℕ) (v w : AbstractValue) → Same s t v w → Same s t w v) (follow : (s : List Resolved) (t : ℕ) (v w x : AbstractValue) → Same s t v w → Same s t w x → Same s t v x) where
   joined : (s : List Resolved) (t : ℕ) (v w x y : AbstractValue) → Same s t v x → Same s t w y → x ≡ y → Same s t v w
@@ -61,3 +62,20 @@ none_begins_another s q r t u j k v w o p x y all a b e = units_front o p x y (s
 -- an encoding with something behind it is none
 pub nothing_behind : (o p x : List ℕ) → p ≡ o ++ x → ((y : List ℕ) → o ++ x ≡ p ++ y → (o ≡ p) × (x ≡ y)) → x ≡ []
 nothing_behind o p x e f = (f [] (sym e ∙ sym (append-nil p))).1
+
+-- by whatever rules octets are read, the levels of headers are as many
+pub one_depth : (s : List Resolved) (q r : Rules) (t j k : ℕ) (v w : AbstractValue) (o : List ℕ) (d : Says s q t v j o) (e : Says s r t w k o) → AllTagged s → AllTellable s → levels d ≡ levels e
+one_depth s q r t j k v w o d e all tell = (says_same s q r all tell d e refl).depths
+
+-- what has an encoding has one by the distinguished rules, of no more octets
+pub no_longer : (s : List Resolved) (t : ℕ) (v : AbstractValue) (p : List ℕ) → Ber s t v 0 p → ((o : List ℕ) × Der s t v 0 o) ⊎ ((p : List ℕ) → Ber s t v 0 p → ⊥) → ((o : List ℕ) → Der s t v 0 o → Shortest s t v o) → (o : List ℕ) × Der s t v 0 o × (length o ≤ length p)
+no_longer s t v p b (inl d) least = (d.0, d.1, (least d.0 d.1).least p b)
+no_longer s t v p b (inr none) least = absurd (none p b)
+
+-- one of at most m octets, or each has more
+pub within : (s : List Resolved) (t m : ℕ) (v : AbstractValue) → ((o : List ℕ) × Der s t v 0 o) ⊎ ((p : List ℕ) → Ber s t v 0 p → ⊥) → ((o : List ℕ) → Der s t v 0 o → Shortest s t v o) → ((o : List ℕ) × Der s t v 0 o × (length o ≤ m)) ⊎ ((p : List ℕ) → Ber s t v 0 p → m < length p)
+within s t m v (inr none) least = inr (λ p b. absurd (none p b))
+within s t m v (inl d) least = ⊎_elim
+    (λ l. inr (λ p b. (let k = (least d.0 d.1).least p b in omega arith)))
+    (λ g. inl (d.0, d.1, g))
+    (lt_or_ge m (length d.0))

@@ -1,6 +1,6 @@
--- Octets say one value, where first tags are distinct.
+-- Octets say one value, with one number of levels, where first tags are distinct.
 use Rattle.std.proofs.Common.{arith, ◌≡◌, ℕ, zero, suc, ◌+◌, ◌⊎◌, inl, inr, ⊎_elim, Bool, true, false, cond, List, [], ◌∷◌, ◌++◌, length, map, refl, sym, ap, subst, ◌∙◌}
-use Rattle.std.specs.Prelude.{Option, Some, None, slice_get, ◌||◌}
+use Rattle.std.specs.Prelude.{Option, Some, None, slice_get, ◌||◌, max}
 use Rattle.std.specs.List.{AllByRecursion}
 use Rattle.asn_base.specs.declared.tag.Tag.{Tag}
 use Rattle.asn_base.specs.Abstract.{AbstractValue, fields, list, alternative, Row, absent}
@@ -9,10 +9,12 @@ use Rattle.asn_base.specs.Tags.{First, AreApart, AllApart, is_mandatory, first_r
 use Rattle.encodings.specs.Rules.{Rules}
 use Rattle.encodings.specs.Orders.{BeginsWith, Inserted, here, there, Permutes, permutes_none, permutes_more, Merges, merges_none, merges_first, merges_second}
 use Rattle.encodings.specs.Encoding.{Unknown, no_unknown, unknown, UnknownIf, closed, extensible, any_mandatory, last_run, Says, says, Holds, leaf, sequence, set, sequence_of, set_of, choice, Members, no_member, left_out, member, Elements, no_element, element}
+use Rattle.encodings.specs.Levels.{unknown_levels, levels, inner_levels, member_levels, element_levels}
 use Rattle.encodings.proofs.Units.{IsUnit, no_leaf, bare_is}
 use Rattle.encodings.proofs.LeafValues.{contents_value}
+use Rattle.encodings.proofs.LeafLevels.{contents_levels}
 use Rattle.encodings.proofs.Firsts.{FirstOf, says_first, one_tag, not_both, frames_contents, units_list, members_units, elements_units, unknown_units, all_appended}
-use Rattle.encodings.proofs.Least.{same_tags, same_kind, holds_at, framed_at, says_at, alternative_type}
+use Rattle.encodings.proofs.Least.{same_tags, same_kind, framed_at, alternative_type}
 
 -- an unknown encoding at which no known component can stand
 record Foreign (s : List Resolved) (known : List Component) (x : List ℕ) : Type 0 where
@@ -237,20 +239,24 @@ same_place s (q ∷ qs) zero (suc j) a b x all e f g h = absurd (clash s q a b q
 same_place s (q ∷ qs) (suc i) zero a b x all e f g h = absurd (clash s q b a qs i x all.0 f e h g)
 same_place s (q ∷ qs) (suc i) (suc j) a b x all e f g h = ap suc (same_place s qs i j a b x all.1 e f g h)
 
--- what encodings of members tell of their values
-record SameMembers (vs ws : Row) (j n : ℕ) (us us' : List (List ℕ)) : Type 0 where
+-- what encodings of members tell of their values, and their levels
+record SameMembers (vs ws : Row) (j n : ℕ) (us us' : List (List ℕ)) (l m : ℕ) : Type 0 where
   rows : vs ≡ ws
   counts : j ≡ n
   rest : us ≡ us'
+  depths : l ≡ m
 
-record SameSet (vs ws : Row) (j n : ℕ) (xs ys : List (List ℕ)) : Type 0 where
+record SameSet (vs ws : Row) (j n : ℕ) (xs ys : List (List ℕ)) (l m : ℕ) : Type 0 where
   rows : vs ≡ ws
   counts : j ≡ n
   as_many : length xs ≡ length ys
+  depths : l ≡ m
 
-pub record SameValue (v w : AbstractValue) (j n : ℕ) : Type 0 where
+-- what octets tell: the value, how many additions are unknown, and the levels of headers
+pub record SameValue (v w : AbstractValue) (j n l m : ℕ) : Type 0 where
   pub values : v ≡ w
   pub counts : j ≡ n
+  pub depths : l ≡ m
 
 choice_form : {s : List Resolved} {r : Rules} {k : Kind} {n : ℕ} {v : AbstractValue} {c : Bool} {x : List ℕ} → IsChoice k → Holds s r k v n c x → c ≡ true
 choice_form h (leaf con) = absurd (no_leaf h con)
@@ -274,20 +280,44 @@ first_or_later : {x y : List ℕ} {xs : List (List ℕ)} → Has x (y ∷ xs) �
 first_or_later has_first = inl refl
 first_or_later (has_later h) = inr h
 
-module _ (s : List Resolved) (r : Rules) (all : AllTagged s) (tell : AllTellable s) where
+deeper : {a b c d : ℕ} → a ≡ b → c ≡ d → max a c ≡ max b d
+deeper {a} {b} {c} {d} e f = ap (λ q. max q c) e ∙ ap (λ q. max b q) f
+
+unknown_same : {s : List Resolved} {cs ds : List Component} {e f : Bool} {j k : ℕ} {us us' : List (List ℕ)} (u : UnknownIf s cs e j us) (u' : UnknownIf s ds f k us') → length us ≡ length us' → unknown_levels u ≡ unknown_levels u'
+unknown_same closed closed e = refl
+unknown_same closed (extensible no_unknown) e = refl
+unknown_same closed (extensible (unknown x h b f u)) e = absurd (omega arith)
+unknown_same (extensible no_unknown) closed e = refl
+unknown_same (extensible (unknown x h b f u)) closed e = absurd (omega arith)
+unknown_same (extensible no_unknown) (extensible no_unknown) e = refl
+unknown_same (extensible no_unknown) (extensible (unknown x h b f u)) e = absurd (omega arith)
+unknown_same (extensible (unknown x h b f u)) (extensible no_unknown) e = absurd (omega arith)
+unknown_same (extensible (unknown x h b f u)) (extensible (unknown x' h' b' f' u')) e = refl
+
+-- the same at an equal kind or type, with as many levels
+held_at : {s : List Resolved} {r : Rules} {k k' : Kind} {w : AbstractValue} {n : ℕ} {c : Bool} {x : List ℕ} → k' ≡ k → (h : Holds s r k' w n c x) → (g : Holds s r k w n c x) × (inner_levels g ≡ inner_levels h)
+held_at {s} {r} {w = w} {n = n} {c = c} {x = x} e h = subst (λ q. (g : Holds s r q w n c x) × (inner_levels g ≡ inner_levels h)) e (h, refl)
+
+said_at : {s : List Resolved} {r : Rules} {t u n : ℕ} {w : AbstractValue} {x : List ℕ} → u ≡ t → (a : Says s r u w n x) → (b : Says s r t w n x) × (levels b ≡ levels a)
+said_at {s} {r} {n = n} {w = w} {x = x} e a = subst (λ q. (b : Says s r q w n x) × (levels b ≡ levels a)) e (a, refl)
+
+module _ (s : List Resolved) (r r' : Rules) (all : AllTagged s) (tell : AllTellable s) where
   mutual
-    pub says_same : {t j n : ℕ} {v w : AbstractValue} {o p : List ℕ} → Says s r t v j o → Says s r t w n p → o ≡ p → SameValue v w j n
+    pub says_same : {t j n : ℕ} {v w : AbstractValue} {o p : List ℕ} (a : Says s r t v j o) (b : Says s r' t w n p) → o ≡ p → SameValue v w j n (levels a) (levels b)
     says_same (says {tags = []} i h fr) (says k g fr') e =
-        let g' = holds_at (same_kind i k) g in
+        let g' = held_at (same_kind i k) g in
         let is = all _ _ i in
         let fr2 = framed_at (same_tags i k) fr' in
-        holds_same (tell _ _ _ i) h g' (choice_form is h ∙ sym (choice_form is g')) (sym (bare_is fr) ∙ e ∙ bare_is fr2)
+        let a = holds_same (tell _ _ _ i) h g'.0 (choice_form is h ∙ sym (choice_form is g'.0)) (sym (bare_is fr) ∙ e ∙ bare_is fr2) in
+        record { values = a.values; counts = a.counts; depths = (let d = a.depths in let m = g'.1 in let n = ap length (same_tags i k) in omega arith) }
     says_same (says {tags = f ∷ fs} i h fr) (says k g fr') e =
         let c = frames_contents fr (framed_at (same_tags i k) fr') e in
-        holds_same (tell _ _ _ i) h (holds_at (same_kind i k) g) c.forms c.inside
+        let g' = held_at (same_kind i k) g in
+        let a = holds_same (tell _ _ _ i) h g'.0 c.forms c.inside in
+        record { values = a.values; counts = a.counts; depths = (let d = a.depths in let m = g'.1 in let n = ap length (same_tags i k) in omega arith) }
 
-    holds_same : {k : Kind} {j n : ℕ} {v w : AbstractValue} {c d : Bool} {x y : List ℕ} → IsTellable s k → Holds s r k v j c x → Holds s r k w n d y → c ≡ d → x ≡ y → SameValue v w j n
-    holds_same q (leaf con) (leaf con') f e = record { values = contents_value con con' f e; counts = refl }
+    holds_same : {k : Kind} {j n : ℕ} {v w : AbstractValue} {c d : Bool} {x y : List ℕ} → IsTellable s k → (a : Holds s r k v j c x) (b : Holds s r' k w n d y) → c ≡ d → x ≡ y → SameValue v w j n (inner_levels a) (inner_levels b)
+    holds_same q (leaf con) (leaf con') f e = record { values = contents_value con con' f e; counts = refl; depths = contents_levels con con' f e }
     holds_same q (leaf con) (sequence ms' u') f e = elim con [ ]
     holds_same q (leaf con) (set ms' p' st' u' m') f e = elim con [ ]
     holds_same q (leaf con) (sequence_of es') f e = elim con [ ]
@@ -303,7 +333,7 @@ module _ (s : List Resolved) (r : Rules) (all : AllTagged s) (tell : AllTellable
         let m = members_same q ms ms' (foreigners_if u) (foreigners_if u') l in
         let a = m.counts in
         let b = counted_if u ∙ ap length m.rest ∙ sym (counted_if u') in
-        record { values = ap fields m.rows; counts = omega arith }
+        record { values = ap fields m.rows; counts = omega arith; depths = deeper m.depths (unknown_same u u' (ap length m.rest)) }
     holds_same q (set {xs = xs} {zs = zs} {us = us} {ys = ys} ms p st u m) (set {xs = xs'} {zs = zs'} {us = us'} {ys = ys'} ms' p' st' u' m') f e =
         let l : ys ≡ ys' = units_list ys ys' (all_merged IsUnit m (all_permutes IsUnit p (members_units all ms)) (units_if u)) (all_merged IsUnit m' (all_permutes IsUnit p' (members_units all ms')) (units_if u')) e in
         let m2 : Merges zs' us' ys = subst (Merges zs' us') (sym l) m' in
@@ -314,24 +344,25 @@ module _ (s : List Resolved) (r : Rules) (all : AllTagged s) (tell : AllTellable
         let lengths = a.as_many in
         let b : length us ≡ length us' = omega (arith, lengths, merges_length m, merges_length m2, permutes_length p, permutes_length p') in
         let b' = counted_if u ∙ b ∙ sym (counted_if u') in
-        record { values = ap fields a.rows; counts = omega arith }
+        record { values = ap fields a.rows; counts = omega arith; depths = deeper a.depths (unknown_same u u' b) }
     holds_same q (sequence_of {xs = xs} es) (sequence_of {xs = ys} es') f e =
         let a = elements_same es es' (units_list xs ys (elements_units all es) (elements_units all es') e) in
-        record { values = ap list a.rows; counts = a.counts }
+        record { values = ap list a.rows; counts = a.counts; depths = a.depths }
     holds_same q (set_of {xs = xs} es st) (set_of {xs = ys} es' st') f e =
         let a = elements_same es es' (units_list xs ys (elements_units all es) (elements_units all es') e) in
-        record { values = ap list a.rows; counts = a.counts }
+        record { values = ap list a.rows; counts = a.counts; depths = a.depths }
     holds_same q (choice {i = i} {root = root} {more = more} {a = a} {w = v} {x = x} g b) (choice {i = i'} {a = a'} {w = w} {x = y} g' b') f e =
         let places : i ≡ i' = same_place s (root ++ more) i i' a a' y q g g' (first_there s a.type x y (says_first all b) e) (says_first all b') in
         let types' : a'.type ≡ a.type = alternative_type g (ap (slice_get (root ++ more)) places ∙ g') in
-        let c = says_same b (says_at types' b') e in
-        record { values = ap (λ z. alternative z v) places ∙ ap (λ z. alternative i' z) c.values; counts = c.counts }
+        let b2 = said_at types' b' in
+        let c = says_same b b2.0 e in
+        record { values = ap (λ z. alternative z v) places ∙ ap (λ z. alternative i' z) c.values; counts = c.counts; depths = c.depths ∙ b2.1 }
 
-    members_same : {cs : List Component} {vs ws : Row} {j n : ℕ} {xs ys us us' : List (List ℕ)} → RunsApart s cs → Members s r cs vs j xs → Members s r cs ws n ys → AllByRecursion (Foreign s (last_run cs)) us → AllByRecursion (Foreign s (last_run cs)) us' → xs ++ us ≡ ys ++ us' → SameMembers vs ws j n us us'
-    members_same q no_member no_member f g e = record { rows = refl; counts = refl; rest = e }
+    members_same : {cs : List Component} {vs ws : Row} {j n : ℕ} {xs ys us us' : List (List ℕ)} → RunsApart s cs → (a : Members s r cs vs j xs) (b : Members s r' cs ws n ys) → AllByRecursion (Foreign s (last_run cs)) us → AllByRecursion (Foreign s (last_run cs)) us' → xs ++ us ≡ ys ++ us' → SameMembers vs ws j n us us' (member_levels a) (member_levels b)
+    members_same q no_member no_member f g e = record { rows = refl; counts = refl; rest = e; depths = refl }
     members_same {cs = c ∷ cs} {us = us} {us' = us'} q (left_out m ms) (left_out m' ms') f g e =
         let a = members_same q.1 ms ms' (foreign_later s c cs us f) (foreign_later s c cs us' g) e in
-        record { rows = ap absent a.rows; counts = a.counts; rest = a.rest }
+        record { rows = ap absent a.rows; counts = a.counts; rest = a.rest; depths = a.depths }
     members_same {cs = c ∷ cs} {us = us} {us' = us'} q (left_out m ms) (member {x = x} {xs = xs} b nd ms') f g e =
         absurd (not_next all c.type x (xs ++ us') us (says_first all b) (q.0 m) (λ z. strangers s c cs us m z f) ms (sym e))
     members_same {cs = c ∷ cs} {us = us} {us' = us'} q (member {x = x} {xs = xs} a nd ms) (left_out m' ms') f g e =
@@ -341,13 +372,13 @@ module _ (s : List Resolved) (r : Rules) (all : AllTagged s) (tell : AllTellable
         let t = members_same q.1 ms ms' (foreign_later s c cs us f) (foreign_later s c cs us' g) (ap tail_of e) in
         let h' = h.counts in
         let t' = t.counts in
-        record { rows = (let p = h.values in let p' = t.rows in cc); counts = omega arith; rest = t.rest }
+        record { rows = (let p = h.values in let p' = t.rows in cc); counts = omega arith; rest = t.rest; depths = deeper h.depths t.depths }
 
-    sets_same : {cs : List Component} {vs ws : Row} {j n : ℕ} {xs ys : List (List ℕ)} → AllApart s (types cs) → Members s r cs vs j xs → Members s r cs ws n ys → ((x : List ℕ) → Has x xs → Has x ys) → ((y : List ℕ) → Has y ys → Has y xs) → SameSet vs ws j n xs ys
-    sets_same q no_member no_member f g = record { rows = refl; counts = refl; as_many = refl }
+    sets_same : {cs : List Component} {vs ws : Row} {j n : ℕ} {xs ys : List (List ℕ)} → AllApart s (types cs) → (a : Members s r cs vs j xs) (b : Members s r' cs ws n ys) → ((x : List ℕ) → Has x xs → Has x ys) → ((y : List ℕ) → Has y ys → Has y xs) → SameSet vs ws j n xs ys (member_levels a) (member_levels b)
+    sets_same q no_member no_member f g = record { rows = refl; counts = refl; as_many = refl; depths = refl }
     sets_same q (left_out m ms) (left_out m' ms') f g =
         let a = sets_same q.1 ms ms' f g in
-        record { rows = ap absent a.rows; counts = a.counts; as_many = a.as_many }
+        record { rows = ap absent a.rows; counts = a.counts; as_many = a.as_many; depths = a.depths }
     sets_same {cs = c ∷ cs} q (left_out m ms) (member {x = x} b nd ms') f g =
         absurd (none_of s c.type (types cs) x q.0 (says_first all b) (member_of all ms (g x has_first)))
     sets_same {cs = c ∷ cs} q (member {x = x} a nd ms) (left_out m' ms') f g =
@@ -360,10 +391,10 @@ module _ (s : List Resolved) (r : Rules) (all : AllTagged s) (tell : AllTellable
         (λ z h. must_be_later (g z (has_later h)) (λ e. none_of s c.type (types cs) x q.0 (says_first all a) (subst (λ l. OneOf s l (types cs)) e (member_of all ms' h)))) in
         let h' = h.counts in
         let t' = t.counts in
-        record { rows = (let p = h.values in let p' = t.rows in cc); counts = omega arith; as_many = ap suc t.as_many }
+        record { rows = (let p = h.values in let p' = t.rows in cc); counts = omega arith; as_many = ap suc t.as_many; depths = deeper h.depths t.depths }
 
-    elements_same : {u : ℕ} {vs ws : Row} {j n : ℕ} {xs ys : List (List ℕ)} → Elements s r u vs j xs → Elements s r u ws n ys → xs ≡ ys → SameSet vs ws j n xs ys
-    elements_same no_element no_element e = record { rows = refl; counts = refl; as_many = refl }
+    elements_same : {u : ℕ} {vs ws : Row} {j n : ℕ} {xs ys : List (List ℕ)} → (a : Elements s r u vs j xs) (b : Elements s r' u ws n ys) → xs ≡ ys → SameSet vs ws j n xs ys (element_levels a) (element_levels b)
+    elements_same no_element no_element e = record { rows = refl; counts = refl; as_many = refl; depths = refl }
     elements_same no_element (element b es') e = absurd (let l = ap length e in omega arith)
     elements_same (element a es) no_element e = absurd (let l = ap length e in omega arith)
     elements_same (element a es) (element b es') e =
@@ -371,4 +402,4 @@ module _ (s : List Resolved) (r : Rules) (all : AllTagged s) (tell : AllTellable
         let t = elements_same es es' (ap tail_of e) in
         let h' = h.counts in
         let t' = t.counts in
-        record { rows = (let p = h.values in let p' = t.rows in cc); counts = omega arith; as_many = ap suc t.as_many }
+        record { rows = (let p = h.values in let p' = t.rows in cc); counts = omega arith; as_many = ap suc t.as_many; depths = deeper h.depths t.depths }

@@ -103,7 +103,7 @@ mutual
   pub unsorted_of : {s : List Resolved} {t : ℕ} {v : AbstractValue} {n : ℕ} {o : List ℕ} → Says s Distinguished t v n o → Says s Unsorted t v n o
   unsorted_of (says i h fr) = says i (unsorted_holds h) (unsorted_frame fr)
 
-  unsorted_holds : {s : List Resolved} {k : Kind} {v : AbstractValue} {n : ℕ} {c : Bool} {x : List ℕ} → Holds s Distinguished k v n c x → Holds s Unsorted k v n c x
+  pub unsorted_holds : {s : List Resolved} {k : Kind} {v : AbstractValue} {n : ℕ} {c : Bool} {x : List ℕ} → Holds s Distinguished k v n c x → Holds s Unsorted k v n c x
   unsorted_holds (leaf con) = leaf (unsorted_contents con)
   unsorted_holds (sequence ms u) = sequence (unsorted_members ms) u
   unsorted_holds (set ms p st u m) = set (unsorted_members ms) p tt u m

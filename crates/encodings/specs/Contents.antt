@@ -1,23 +1,27 @@
--- Contents octets of the kinds that hold no other type's encodings (X.690, 8.2 to 8.8, 8.19, 8.20, 8.23, 10.2 and 11.1 to 11.2).
-use Rattle.std.specs.Prelude.{◌≡◌, ℕ, suc, ◌+◌, ◌*◌, ◌^◌, ◌<◌, ◌≤◌, ℤ, pos, negsuc, Bool, true, false, List, [], ◌∷◌, ◌++◌, length, flat_map, replicate}
+-- Contents octets of the kinds that hold no others (X.690, 8.2 to 8.8, 8.19, 8.20, 8.23, 10.2, 11.1 and 11.2).
+use Rattle.std.specs.Prelude.{◌≡◌, ℕ, suc, ◌+◌, ◌*◌, ◌^◌, ◌<◌, ◌≤◌, ℤ, pos, negsuc, Bool, true, false}
+use Rattle.std.specs.Prelude.{List, [], ◌∷◌, ◌++◌, length, flat_map, replicate}
 use Rattle.std.specs.Int.Digits.{number_from_digits, AllBelowBase}
-use Rattle.asn_base.specs.Abstract.{AbstractValue, boolean, integer, enumerated, bits, octets, text, null, oid, relative_oid, bits_of_octet}
+use Rattle.asn_base.specs.Abstract.{AbstractValue, boolean, integer, enumerated, bits, octets, text, null, oid}
+use Rattle.asn_base.specs.Abstract.{relative_oid, bits_of_octet}
 use Rattle.asn_base.specs.declared.strings.StringKind.{StringKind}
-use Rattle.asn_base.specs.Types.{Constraint, Item, NamedBit, Kind, a_boolean, an_integer, an_enumerated, a_bit_string, a_named_bit_string, an_octet_string, a_null, an_object_identifier, a_relative_oid, a_utf8_string, a_restricted_string}
+use Rattle.asn_base.specs.Types.{Constraint, Item, NamedBit, Kind, a_boolean, an_integer, an_enumerated, a_bit_string}
+use Rattle.asn_base.specs.Types.{a_named_bit_string, an_octet_string, a_null, an_object_identifier, a_relative_oid}
+use Rattle.asn_base.specs.Types.{a_utf8_string, a_restricted_string}
 use Rattle.asn_base.specs.Typed.{IsObjectIdentifier, IsRelativeOid}
 use Rattle.encodings.specs.Rules.{Rules, Strictly}
-use Rattle.encodings.specs.Header.{septets}
+use Rattle.encodings.specs.Header.{Octets, septets}
 use Rattle.encodings.specs.Strings.{Pieces, BitPieces}
 
 -- octets that are a number in two's complement (8.3.3)
-pub data TwosComplement : ℤ → List ℕ → Type 0 where
-  not_negative : {n : ℕ} {o : List ℕ}
+pub data TwosComplement : ℤ → Octets → Type 0 where
+  not_negative : {n : ℕ} {o : Octets}
       → 1 ≤ length o
       → AllBelowBase 256 o
       → number_from_digits 256 o ≡ n
       → 2 * n < 256 ^ length o
       → TwosComplement (pos n) o
-  negative : {n : ℕ} {o : List ℕ}
+  negative : {n : ℕ} {o : Octets}
       → 1 ≤ length o
       → AllBelowBase 256 o
       → number_from_digits 256 o + suc n ≡ 256 ^ length o
@@ -25,75 +29,66 @@ pub data TwosComplement : ℤ → List ℕ → Type 0 where
       → TwosComplement (negsuc n) o
 
 -- the shortest of them (8.3.2)
-pub record Number (z : ℤ) (o : List ℕ) : Type 0 where
+pub record Number (z : ℤ) (o : Octets) : Type 0 where
   pub is : TwosComplement z o
-  pub shortest : (p : List ℕ) → TwosComplement z p → length o ≤ length p
+  pub shortest : (p : Octets) → TwosComplement z p → length o ≤ length p
 
 -- no trailing zero bit (11.2.2)
 abbrev pub EndsInOne : List Bool → Type 0
 EndsInOne s = (t : List Bool) → s ≡ t ++ false ∷ [] → ⊥
 
 -- the bits end in the last octet, filled with zero bits (11.2.1)
-abbrev pub FilledWithZeros : List Bool → List ℕ → Type 0
+abbrev pub FilledWithZeros : List Bool → Octets → Type 0
 FilledWithZeros s o =
-    (n : ℕ) × (octets : List ℕ) × (o ≡ n ∷ octets) × (flat_map bits_of_octet octets ≡ s ++ replicate n false)
+    (n : ℕ) × (octets : Octets) × (o ≡ n ∷ octets) × (flat_map bits_of_octet octets ≡ s ++ replicate n false)
 
 -- the first two numbers of an object identifier are encoded as one (8.19.4)
 abbrev pub joined : List ℕ → List ℕ
 joined (x ∷ y ∷ zs) = (40 * x + y) ∷ zs
 joined zs = zs
 
--- contents, constructed or not, of a value of a kind that holds no others
-pub data Contents (r : Rules) : Kind → AbstractValue → Bool → List ℕ → Type 0 where
-  -- FALSE is 0, TRUE any other octet (8.2.2), by the distinguished rules 255 (11.1)
-  of_false : Contents r a_boolean (boolean false) false (0 ∷ [])
+-- contents, constructed or not, of a value of a kind that holds no others: FALSE is 0, TRUE any other octet; strings by
+-- the distinguished rules whole, bits filled with zeros, and with names without trailing zero bits
+pub data Contents (r : Rules) : Kind → AbstractValue → Bool → Octets → Type 0 where
+  of_false : Contents r a_boolean (boolean false) false (0 ∷ [])  -- 8.2.2
   of_true : {x : ℕ}
-      → 0 < x
+      → 0 < x  -- 8.2.2
       → x < 256
-      → Strictly r (x ≡ 255)
+      → Strictly r (x ≡ 255)  -- 11.1
       → Contents r a_boolean (boolean true) false (x ∷ [])
-  -- (8.3)
-  of_integer : {c : Constraint} {z : ℤ} {o : List ℕ}
-      → Number z o
+  of_integer : {c : Constraint} {z : ℤ} {o : Octets}
+      → Number z o  -- 8.3
       → Contents r (an_integer c) (integer z) false o
-  -- (8.4)
-  of_enumerated : {root more : List Item} {e : Bool} {z : ℤ} {o : List ℕ}
-      → Number z o
+  of_enumerated : {root more : List Item} {e : Bool} {z : ℤ} {o : Octets}
+      → Number z o  -- 8.4
       → Contents r (an_enumerated root e more) (enumerated z) false o
-  -- (8.6), by the distinguished rules whole (10.2) and filled with zero bits (11.2.1)
-  of_bits : {z : Constraint} {c : Bool} {s : List Bool} {o : List ℕ}
-      → BitPieces s c o
-      → Strictly r (c ≡ false)
-      → Strictly r (FilledWithZeros s o)
+  of_bits : {z : Constraint} {c : Bool} {s : List Bool} {o : Octets}
+      → BitPieces s c o  -- 8.6
+      → Strictly r (c ≡ false)  -- 10.2
+      → Strictly r (FilledWithZeros s o)  -- 11.2.1
       → Contents r (a_bit_string z) (bits s) c o
-  -- the same with named bits, without trailing zero bits (11.2.2)
-  of_named_bits : {ns : List NamedBit} {c : Bool} {s : List Bool} {o : List ℕ}
-      → BitPieces s c o
-      → Strictly r (c ≡ false)
-      → Strictly r (FilledWithZeros s o)
-      → Strictly r (EndsInOne s)
+  of_named_bits : {ns : List NamedBit} {c : Bool} {s : List Bool} {o : Octets}
+      → BitPieces s c o  -- 8.6
+      → Strictly r (c ≡ false)  -- 10.2
+      → Strictly r (FilledWithZeros s o)  -- 11.2.1
+      → Strictly r (EndsInOne s)  -- 11.2.2
       → Contents r (a_named_bit_string ns) (bits s) c o
-  -- (8.7), by the distinguished rules whole (10.2)
-  of_octets : {z : Constraint} {c : Bool} {s o : List ℕ}
-      → Pieces s c o
-      → Strictly r (c ≡ false)
+  of_octets : {z : Constraint} {c : Bool} {s o : Octets}
+      → Pieces s c o  -- 8.7
+      → Strictly r (c ≡ false)  -- 10.2
       → Contents r (an_octet_string z) (octets s) c o
-  -- (8.8)
-  of_null : Contents r a_null null false []
-  -- (8.19)
+  of_null : Contents r a_null null false []  -- 8.8
   of_oid : {ns : List ℕ}
-      → IsObjectIdentifier ns
+      → IsObjectIdentifier ns  -- 8.19
       → Contents r an_object_identifier (oid ns) false (flat_map septets (joined ns))
-  -- (8.20)
   of_relative_oid : {ns : List ℕ}
-      → IsRelativeOid ns
+      → IsRelativeOid ns  -- 8.20
       → Contents r a_relative_oid (relative_oid ns) false (flat_map septets ns)
-  -- (8.23), by the distinguished rules whole (10.2)
-  of_utf8 : {z : Constraint} {c : Bool} {s o : List ℕ}
-      → Pieces s c o
-      → Strictly r (c ≡ false)
+  of_utf8 : {z : Constraint} {c : Bool} {s o : Octets}
+      → Pieces s c o  -- 8.23
+      → Strictly r (c ≡ false)  -- 10.2
       → Contents r (a_utf8_string z) (text s) c o
-  of_restricted : {k : StringKind} {alphabet : List ℕ} {z : Constraint} {c : Bool} {s o : List ℕ}
-      → Pieces s c o
-      → Strictly r (c ≡ false)
+  of_restricted : {k : StringKind} {alphabet : List ℕ} {z : Constraint} {c : Bool} {s o : Octets}
+      → Pieces s c o  -- 8.23
+      → Strictly r (c ≡ false)  -- 10.2
       → Contents r (a_restricted_string k alphabet z) (text s) c o

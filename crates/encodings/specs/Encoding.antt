@@ -1,15 +1,16 @@
 -- What octets say: the encodings of a value by the basic and the distinguished rules (X.690, 8.9 to 8.14, 10 and 11).
-use Rattle.std.specs.Prelude.{◌≡◌, ℕ, suc, ◌+◌, ◌≤◌, Bool, true, false, List, [], ◌∷◌, ◌++◌, length, Some, slice_get, if◌then◌else◌, ◌||◌}
+use Rattle.std.specs.Prelude.{◌≡◌, ℕ, suc, ◌+◌, ◌≤◌, Bool, true, false, if◌then◌else◌, ◌||◌}
+use Rattle.std.specs.Prelude.{List, [], ◌∷◌, ◌++◌, length, Some, slice_get}
 use Rattle.std.specs.List.{concat, AllByRecursion}
 use Rattle.std.specs.Int.Digits.{AllBelowBase}
 use Rattle.asn_base.specs.declared.tag.Tag.{Tag}
 use Rattle.asn_base.specs.Abstract.{AbstractValue, fields, list, alternative, Row, end, absent, present}
-use Rattle.asn_base.specs.Types.{Constraint, Alternative, Kind, a_sequence, a_set, a_sequence_of, a_set_of, a_choice, default, Component, Resolved, Is}
+use Rattle.asn_base.specs.Types.{Constraint, Alternative, Kind, a_sequence, a_set, a_sequence_of, a_set_of, a_choice}
+use Rattle.asn_base.specs.Types.{TypeNumber, default, Component, Resolved, Is}
 use Rattle.asn_base.specs.Tags.{First, is_mandatory}
-use Rattle.asn_base.specs.Typed.{IsValueWithoutNodes}
 use Rattle.asn_base.specs.Same.{Alike, Same}
 use Rattle.encodings.specs.Rules.{Rules, Basic, Distinguished, Strictly, Sorted}
-use Rattle.encodings.specs.Header.{Octets, Header, HeaderBy}
+use Rattle.encodings.specs.Header.{Octets, Encodings, Header, HeaderBy}
 use Rattle.encodings.specs.Contents.{Contents}
 use Rattle.encodings.specs.Orders.{Ascending, AtMost, InTagOrder, Permutes, Merges}
 
@@ -17,19 +18,17 @@ use Rattle.encodings.specs.Orders.{Ascending, AtMost, InTagOrder, Permutes, Merg
 -- and an untagged CHOICE has none
 pub data Framed (r : Rules) : List Tag → Bool → Octets → Octets → Type 0 where
   bare : {c : Bool} {x : Octets} → Framed r [] c x x
-  innermost : {t : Tag} {c : Bool} {h x : Octets}
-      → HeaderBy r t c (length x) h
-      → Framed r (t ∷ []) c x (h ++ x)
+  innermost : {t : Tag} {c : Bool} {h x : Octets} → HeaderBy r t c (length x) h → Framed r (t ∷ []) c x (h ++ x)
   outer : {t u : Tag} {ts : List Tag} {c : Bool} {h x y : Octets}
       → Framed r (u ∷ ts) c x y
-      → HeaderBy r t true (length y) h
+      → HeaderBy r t true (length y) h  -- 8.14.2
       → Framed r (t ∷ u ∷ ts) c x (h ++ y)
 
 -- Encodings of k additions that the type lacks: each is a header, whose tag no known component can have, and as many
 -- octets as it tells.
-pub data Unknown (s : List Resolved) (known : List Component) : ℕ → List Octets → Type 0 where
+pub data Unknown (s : List Resolved) (known : List Component) : ℕ → Encodings → Type 0 where
   no_unknown : Unknown s known 0 []
-  unknown : {k : ℕ} {g : Tag} {c : Bool} {h : Octets} (x : Octets) {xs : List Octets}
+  unknown : {k : ℕ} {g : Tag} {c : Bool} {h : Octets} (x : Octets) {xs : Encodings}
       → Header g c (length x) h
       → AllBelowBase 256 x
       → AllByRecursion (λ m. First s m.type g → ⊥) known
@@ -37,11 +36,9 @@ pub data Unknown (s : List Resolved) (known : List Component) : ℕ → List Oct
       → Unknown s known (suc k) ((h ++ x) ∷ xs)
 
 -- an extensible type may have them
-pub data UnknownIf (s : List Resolved) (known : List Component) : Bool → ℕ → List Octets → Type 0 where
+pub data UnknownIf (s : List Resolved) (known : List Component) : Bool → ℕ → Encodings → Type 0 where
   closed : UnknownIf s known false 0 []
-  extensible : {k : ℕ} {xs : List Octets}
-      → Unknown s known k xs
-      → UnknownIf s known true k xs
+  extensible : {k : ℕ} {xs : Encodings} → Unknown s known k xs → UnknownIf s known true k xs
 
 abbrev pub any_mandatory : List Component → Bool
 any_mandatory [] = false
@@ -58,8 +55,8 @@ IsDefault s c w = (d : AbstractValue) × (c.presence ≡ default d) × Alike s c
 
 mutual
   -- octets say a value of type t as it stands, with n unknown additions
-  pub data Says (s : List Resolved) (r : Rules) : ℕ → AbstractValue → ℕ → Octets → Type 0 where
-    says : {t n : ℕ} {tags : List Tag} {k : Kind} {w : AbstractValue} {c : Bool} {x o : Octets}
+  pub data Says (s : List Resolved) (r : Rules) : TypeNumber → AbstractValue → ℕ → Octets → Type 0 where
+    says : {t : TypeNumber} {n : ℕ} {tags : List Tag} {k : Kind} {w : AbstractValue} {c : Bool} {x o : Octets}
         → Is s t tags k
         → Holds s r k w n c x
         → Framed r tags c x o
@@ -67,76 +64,69 @@ mutual
 
   -- contents, constructed or not, hold a value of this kind
   pub data Holds (s : List Resolved) (r : Rules) : Kind → AbstractValue → ℕ → Bool → Octets → Type 0 where
-    leaf : {k : Kind} {w : AbstractValue} {c : Bool} {x : Octets}
-        → Contents r k w c x
-        → Holds s r k w 0 c x
-    -- in order of definition, unknown additions at the end (8.9)
-    sequence : {j k : ℕ} {e : Bool} {cs : List Component} {ws : Row} {xs us : List Octets}
-        → Members s r cs ws j xs
+    leaf : {k : Kind} {w : AbstractValue} {c : Bool} {x : Octets} → Contents r k w c x → Holds s r k w 0 c x
+    -- in order of definition, unknown additions at the end
+    sequence : {j k : ℕ} {e : Bool} {cs : List Component} {ws : Row} {xs us : Encodings}
+        → Members s r cs ws j xs  -- 8.9.2, 8.9.3
         → UnknownIf s (last_run cs) e k us
         → Holds s r (a_sequence e cs) (fields ws) (j + k) true (concat (xs ++ us))
-    -- in any order (8.11), sorted by their tags (10.3); unknown additions anywhere
-    set : {j k : ℕ} {e : Bool} {cs : List Component} {ws : Row} {xs zs us ys : List Octets}
-        → Members s r cs ws j xs
+    -- in any order, sorted by their tags; unknown additions anywhere
+    set : {j k : ℕ} {e : Bool} {cs : List Component} {ws : Row} {xs zs us ys : Encodings}
+        → Members s r cs ws j xs  -- 8.11.2, 8.11.3
         → Permutes xs zs
-        → Sorted r (Ascending InTagOrder zs)
+        → Sorted r (Ascending InTagOrder zs)  -- 10.3
         → UnknownIf s cs e k us
         → Merges zs us ys
         → Holds s r (a_set e cs) (fields ws) (j + k) true (concat ys)
-    -- in order of the value (8.10)
-    sequence_of : {u n : ℕ} {c : Constraint} {ws : Row} {xs : List Octets}
-        → Elements s r u ws n xs
+    -- in order of the value
+    sequence_of : {u : TypeNumber} {n : ℕ} {c : Constraint} {ws : Row} {xs : Encodings}
+        → Elements s r u ws n xs  -- 8.10.2, 8.10.3
         → Holds s r (a_sequence_of c u) (list ws) n true (concat xs)
-    -- in order of the value as it stands (8.12), sorted by their encodings (11.6)
-    set_of : {u n : ℕ} {c : Constraint} {ws : Row} {xs : List Octets}
-        → Elements s r u ws n xs
-        → Sorted r (Ascending AtMost xs)
+    -- in order of the value as it stands, sorted by their encodings
+    set_of : {u : TypeNumber} {n : ℕ} {c : Constraint} {ws : Row} {xs : Encodings}
+        → Elements s r u ws n xs  -- 8.12.2, 8.12.3
+        → Sorted r (Ascending AtMost xs)  -- 11.6
         → Holds s r (a_set_of c u) (list ws) n true (concat xs)
-    -- the encoding of the alternative (8.13), behind explicit tags if any
+    -- the encoding of the alternative, behind explicit tags if any
     choice : {i n : ℕ} {e : Bool} {root more : List Alternative} {a : Alternative} {w : AbstractValue} {x : Octets}
         → slice_get (root ++ more) i ≡ Some a
-        → Says s r a.type w n x
+        → Says s r a.type w n x  -- 8.13
         → Holds s r (a_choice root e more) (alternative i w) n true x
 
   -- The encodings of the components that are present, those that must stand among them; by the distinguished rules none
-  -- that is the same as its DEFAULT (11.5), unless additions were skipped within it.
-  pub data Members (s : List Resolved) (r : Rules) : List Component → Row → ℕ → List Octets → Type 0 where
+  -- that is the same as its DEFAULT, unless additions were skipped within it.
+  pub data Members (s : List Resolved) (r : Rules) : List Component → Row → ℕ → Encodings → Type 0 where
     no_member : Members s r [] end 0 []
-    left_out : {c : Component} {cs : List Component} {ws : Row} {n : ℕ} {xs : List Octets}
+    left_out : {c : Component} {cs : List Component} {ws : Row} {n : ℕ} {xs : Encodings}
         → is_mandatory c ≡ false
         → Members s r cs ws n xs
         → Members s r (c ∷ cs) (absent ws) n xs
-    member : {c : Component} {cs : List Component} {w : AbstractValue} {ws : Row} {j n : ℕ} {x : Octets} {xs : List Octets}
+    member : {c : Component} {cs : List Component} {w : AbstractValue} {ws : Row} {j n : ℕ} {x : Octets}
+        {xs : Encodings}
         → Says s r c.type w j x
-        → Strictly r (j ≡ 0 → IsDefault s c w → ⊥)
+        → Strictly r (j ≡ 0 → IsDefault s c w → ⊥)  -- 11.5
         → Members s r cs ws n xs
         → Members s r (c ∷ cs) (present w ws) (j + n) (x ∷ xs)
 
   -- the encodings of the elements
-  pub data Elements (s : List Resolved) (r : Rules) : ℕ → Row → ℕ → List Octets → Type 0 where
-    no_element : {u : ℕ} → Elements s r u end 0 []
-    element : {u : ℕ} {w : AbstractValue} {ws : Row} {j n : ℕ} {x : Octets} {xs : List Octets}
+  pub data Elements (s : List Resolved) (r : Rules) : TypeNumber → Row → ℕ → Encodings → Type 0 where
+    no_element : {u : TypeNumber} → Elements s r u end 0 []
+    element : {u : TypeNumber} {w : AbstractValue} {ws : Row} {j n : ℕ} {x : Octets} {xs : Encodings}
         → Says s r u w j x
         → Elements s r u ws n xs
         → Elements s r u (present w ws) (j + n) (x ∷ xs)
 
--- octets encode w as it stands: it is a value of the type, the limit on nodes apart, and they say it, with k unknown
--- additions
-pub record Encodes (s : List Resolved) (r : Rules) (t : ℕ) (w : AbstractValue) (k : ℕ) (o : Octets) : Type 0 where
-  pub value : IsValueWithoutNodes s t w
-  pub says_it : Says s r t w k o
-
 -- by these rules octets encode v: they say a value that is the same, with k unknown additions
-abbrev pub EncodesBy : Rules → List Resolved → ℕ → AbstractValue → ℕ → Octets → Type 0
+abbrev pub EncodesBy : Rules → List Resolved → TypeNumber → AbstractValue → ℕ → Octets → Type 0
 EncodesBy r s t v k o = (w : AbstractValue) × Same s t v w × Says s r t w k o
 
-abbrev pub Ber : List Resolved → ℕ → AbstractValue → ℕ → Octets → Type 0
+abbrev pub Ber : List Resolved → TypeNumber → AbstractValue → ℕ → Octets → Type 0
 Ber = EncodesBy Basic
 
-abbrev pub Der : List Resolved → ℕ → AbstractValue → ℕ → Octets → Type 0
+abbrev pub Der : List Resolved → TypeNumber → AbstractValue → ℕ → Octets → Type 0
 Der = EncodesBy Distinguished
 
 -- an encoding by the basic rules, and none has fewer octets
-pub record Shortest (s : List Resolved) (t : ℕ) (v : AbstractValue) (o : Octets) : Type 0 where
+pub record Shortest (s : List Resolved) (t : TypeNumber) (v : AbstractValue) (o : Octets) : Type 0 where
   pub is : Ber s t v 0 o
   pub least : (p : Octets) → Ber s t v 0 p → length o ≤ length p

@@ -1,12 +1,16 @@
--- How many levels of headers an encoding has: a header at the outside is one, one inside constructed contents is one more.
--- An unknown addition counts its own header alone. (X.690, 8.1.1)
+-- How many levels of headers an encoding has: a header at the outside is one, one inside constructed contents is one
+-- more. An unknown addition counts its own header alone. (X.690, 8.1.1)
 use Rattle.std.specs.Prelude.{ℕ, suc, ◌+◌, max, Bool, List, length}
 use Rattle.asn_base.specs.Abstract.{AbstractValue, Row}
 use Rattle.asn_base.specs.Types.{Kind, Component, Resolved}
 use Rattle.encodings.specs.Rules.{Rules}
-use Rattle.encodings.specs.Strings.{Pieces, whole, cut, Segments, no_segment, segment, BitPieces, whole_bits, cut_bits, BitSegments, last_segment, bit_segment}
-use Rattle.encodings.specs.Contents.{Contents, of_false, of_true, of_integer, of_enumerated, of_bits, of_named_bits, of_octets, of_null, of_oid, of_relative_oid, of_utf8, of_restricted}
-use Rattle.encodings.specs.Encoding.{no_unknown, unknown, UnknownIf, closed, extensible, Says, says, Holds, leaf, sequence, set, sequence_of, set_of, choice, Members, no_member, left_out, member, Elements, no_element, element}
+use Rattle.encodings.specs.Strings.{Pieces, whole, cut, Segments, no_segment, segment, BitPieces, whole_bits, cut_bits}
+use Rattle.encodings.specs.Strings.{BitSegments, last_segment, bit_segment}
+use Rattle.encodings.specs.Contents.{Contents, of_false, of_true, of_integer, of_enumerated, of_bits, of_named_bits}
+use Rattle.encodings.specs.Contents.{of_octets, of_null, of_oid, of_relative_oid, of_utf8, of_restricted}
+use Rattle.encodings.specs.Encoding.{no_unknown, unknown, UnknownIf, closed, extensible, Says, says, Holds, leaf}
+use Rattle.encodings.specs.Encoding.{sequence, set, sequence_of, set_of, choice, Members, no_member, left_out, member}
+use Rattle.encodings.specs.Encoding.{Elements, no_element, element}
 
 abbrev mutual
   pub piece_levels : {s : List ℕ} {c : Bool} {o : List ℕ} → Pieces s c o → ℕ
@@ -40,7 +44,8 @@ leaf_levels (of_relative_oid a) = 0
 leaf_levels (of_utf8 p e) = piece_levels p
 leaf_levels (of_restricted p e) = piece_levels p
 
-abbrev pub unknown_levels : {s : List Resolved} {cs : List Component} {e : Bool} {k : ℕ} {us : List (List ℕ)} → UnknownIf s cs e k us → ℕ
+abbrev pub unknown_levels : {s : List Resolved} {cs : List Component} {e : Bool} {k : ℕ} {us : List (List ℕ)}
+    → UnknownIf s cs e k us → ℕ
 unknown_levels closed = 0
 unknown_levels (extensible no_unknown) = 0
 unknown_levels (extensible (unknown x h b f u)) = 1
@@ -49,7 +54,8 @@ abbrev mutual
   pub levels : {s : List Resolved} {r : Rules} {t n : ℕ} {w : AbstractValue} {o : List ℕ} → Says s r t w n o → ℕ
   levels (says {tags = tags} i h f) = length tags + inner_levels h
 
-  pub inner_levels : {s : List Resolved} {r : Rules} {k : Kind} {n : ℕ} {w : AbstractValue} {c : Bool} {x : List ℕ} → Holds s r k w n c x → ℕ
+  pub inner_levels : {s : List Resolved} {r : Rules} {k : Kind} {n : ℕ} {w : AbstractValue} {c : Bool} {x : List ℕ}
+      → Holds s r k w n c x → ℕ
   inner_levels (leaf con) = leaf_levels con
   inner_levels (sequence ms u) = max (member_levels ms) (unknown_levels u)
   inner_levels (set ms p st u m) = max (member_levels ms) (unknown_levels u)
@@ -57,11 +63,13 @@ abbrev mutual
   inner_levels (set_of es st) = element_levels es
   inner_levels (choice g a) = levels a
 
-  pub member_levels : {s : List Resolved} {r : Rules} {cs : List Component} {ws : Row} {n : ℕ} {xs : List (List ℕ)} → Members s r cs ws n xs → ℕ
+  pub member_levels : {s : List Resolved} {r : Rules} {cs : List Component} {ws : Row} {n : ℕ} {xs : List (List ℕ)}
+      → Members s r cs ws n xs → ℕ
   member_levels no_member = 0
   member_levels (left_out m ms) = member_levels ms
   member_levels (member a d ms) = max (levels a) (member_levels ms)
 
-  pub element_levels : {s : List Resolved} {r : Rules} {u n : ℕ} {ws : Row} {xs : List (List ℕ)} → Elements s r u ws n xs → ℕ
+  pub element_levels : {s : List Resolved} {r : Rules} {u n : ℕ} {ws : Row} {xs : List (List ℕ)}
+      → Elements s r u ws n xs → ℕ
   element_levels no_element = 0
   element_levels (element a es) = max (levels a) (element_levels es)

@@ -1,6 +1,7 @@
 -- More octets than an encoding by the distinguished rules takes: 2,000 for each node, and those of its strings.
 use Rattle.std.specs.Prelude.{ℕ, ◌+◌, length}
-use Rattle.asn_base.specs.Abstract.{AbstractValue, bits, octets, text, fields, list, alternative, Row, end, absent, present}
+use Rattle.asn_base.specs.Abstract.{AbstractValue, bits, octets, text, fields, list, alternative, Row, end, absent}
+use Rattle.asn_base.specs.Abstract.{present}
 
 abbrev mutual
   pub weight : AbstractValue → ℕ

@@ -1,6 +1,6 @@
 //! The laws of encodings (X.690, 8 to 11).
 
-ghost use Rattle.std.specs.Prelude.{◌≡◌, ℕ, ◌*◌, ◌^◌, ◌<◌, ◌≤◌, List, [], ◌++◌, length};
+ghost use Rattle.std.specs.Prelude.{◌≡◌, ◌⊎◌, ℕ, ◌*◌, ◌^◌, ◌<◌, ◌≤◌, List, [], ◌++◌, length};
 ghost use Rattle.asn_base.specs.Abstract.{AbstractValue};
 ghost use Rattle.asn_base.specs.Accepted.{IsAccepted};
 ghost use Rattle.asn_base.specs.Schemas.{IsSchema};
@@ -8,7 +8,8 @@ ghost use Rattle.asn_base.specs.Tags.{AllTagged, AllTellable, HasFewTags};
 ghost use Rattle.asn_base.specs.Same.{Same};
 ghost use Rattle.asn_base.specs.Typed.{IsValue, IsValueWithoutNodes, ValueIn, nodes};
 ghost use Rattle.asn_base.specs.Types.{Resolved};
-ghost use Rattle.encodings.specs.Encoding.{Ber, Der, Encodes, EncodesBy, Says, Shortest};
+ghost use Rattle.encodings.specs.Encoding.{Ber, Der, EncodesBy, Says, Shortest};
+ghost use Rattle.encodings.specs.Reading.{Encodes};
 ghost use Rattle.encodings.specs.Levels.{levels};
 ghost use Rattle.encodings.specs.Weight.{weight};
 ghost use Rattle.encodings.specs.Rules.{Rules, Basic, Unsorted, Distinguished};
@@ -19,14 +20,26 @@ use asn_base::law::{accepted_are_told_apart, alike_values, sameness};
 /// of type, over every spelling of definite length.
 pub fn der_laws()
     // What octets say of a value by the distinguished rules is an encoding of it by them, and by the basic ones.
-    ensures der { (s : List Resolved) (t : ℕ) (v : AbstractValue) (o : List ℕ) → IsValueWithoutNodes s t v → Says s Distinguished t v 0 o → Der s t v 0 o }
+    ensures der { (s : List Resolved) (t : ℕ) (v : AbstractValue) (o : List ℕ)
+        → IsValueWithoutNodes s t v
+        → Says s Distinguished t v 0 o
+        → Der s t v 0 o }
     ensures ber { (s : List Resolved) (t k : ℕ) (v : AbstractValue) (o : List ℕ) → Der s t v k o → Ber s t v k o }
     // Octets that encode a value as it stands encode it, with as many unknown additions.
-    ensures as_it_stands { (s : List Resolved) (t k : ℕ) (w : AbstractValue) (o : List ℕ) → Encodes s Basic t w k o → Ber s t w k o }
+    ensures as_it_stands { (s : List Resolved) (t k : ℕ) (w : AbstractValue) (o : List ℕ)
+        → Encodes s Basic t w k o
+        → Ber s t w k o }
     // Values that are the same have one such encoding, where only a CHOICE has no tag.
-    ensures one { (s : List Resolved) (t : ℕ) (v w : AbstractValue) (o p : List ℕ) → AllTagged s → Same s t v w → Der s t v 0 o → Der s t w 0 p → p ≡ o }
+    ensures one { (s : List Resolved) (t : ℕ) (v w : AbstractValue) (o p : List ℕ)
+        → AllTagged s
+        → Same s t v w
+        → Der s t v 0 o
+        → Der s t w 0 p
+        → p ≡ o }
     // Such an encoding is one by the distinguished rules but for the order in sets.
-    ensures unsorted { (s : List Resolved) (t k : ℕ) (v : AbstractValue) (o : List ℕ) → Der s t v k o → EncodesBy Unsorted s t v k o }
+    ensures unsorted { (s : List Resolved) (t k : ℕ) (v : AbstractValue) (o : List ℕ)
+        → Der s t v k o
+        → EncodesBy Unsorted s t v k o }
     ensures shortest { (s : List Resolved) (t : ℕ) (v : AbstractValue) (o : List ℕ) → Der s t v 0 o → Shortest s t v o }
 {
     sameness();
@@ -35,21 +48,45 @@ pub fn der_laws()
 
 /// Whatever keeps the distinguished rules but for the order in SET and SET OF has as few octets as any encoding.
 pub fn unsorted_laws()
-    ensures ber { (s : List Resolved) (t k : ℕ) (v : AbstractValue) (o : List ℕ) → EncodesBy Unsorted s t v k o → Ber s t v k o }
+    ensures ber { (s : List Resolved) (t k : ℕ) (v : AbstractValue) (o : List ℕ)
+        → EncodesBy Unsorted s t v k o
+        → Ber s t v k o }
     // None by the basic rules of a value that is the same has fewer octets.
-    ensures none_shorter { (s : List Resolved) (t : ℕ) (v w : AbstractValue) (o p : List ℕ) → Same s t v w → EncodesBy Unsorted s t v 0 o → Ber s t w 0 p → length o ≤ length p }
-    ensures shortest { (s : List Resolved) (t : ℕ) (v : AbstractValue) (o : List ℕ) → EncodesBy Unsorted s t v 0 o → Shortest s t v o }
+    ensures none_shorter { (s : List Resolved) (t : ℕ) (v w : AbstractValue) (o p : List ℕ)
+        → Same s t v w
+        → EncodesBy Unsorted s t v 0 o
+        → Ber s t w 0 p
+        → length o ≤ length p }
+    ensures shortest { (s : List Resolved) (t : ℕ) (v : AbstractValue) (o : List ℕ)
+        → EncodesBy Unsorted s t v 0 o
+        → Shortest s t v o }
 {
     sameness();
 }
 
 /// The same for a writer, which proves of its octets what they say, in a schema that is accepted.
 pub fn writer_laws()
-    ensures der { (s : List Resolved) (t : ℕ) (v : AbstractValue) (o : List ℕ) → IsValueWithoutNodes s t v → Says s Distinguished t v 0 o → Der s t v 0 o }
-    ensures only { (s : List Resolved) (t : ℕ) (v : AbstractValue) (o : List ℕ) → IsAccepted s → IsValueWithoutNodes s t v → Says s Distinguished t v 0 o → (p : List ℕ) → Der s t v 0 p → p ≡ o }
-    ensures shortest { (s : List Resolved) (t : ℕ) (v : AbstractValue) (o : List ℕ) → IsValueWithoutNodes s t v → Says s Distinguished t v 0 o → Shortest s t v o }
+    ensures der { (s : List Resolved) (t : ℕ) (v : AbstractValue) (o : List ℕ)
+        → IsValueWithoutNodes s t v
+        → Says s Distinguished t v 0 o
+        → Der s t v 0 o }
+    ensures only { (s : List Resolved) (t : ℕ) (v : AbstractValue) (o : List ℕ)
+        → IsAccepted s
+        → IsValueWithoutNodes s t v
+        → Says s Distinguished t v 0 o
+        → (p : List ℕ)
+        → Der s t v 0 p
+        → p ≡ o }
+    ensures shortest { (s : List Resolved) (t : ℕ) (v : AbstractValue) (o : List ℕ)
+        → IsValueWithoutNodes s t v
+        → Says s Distinguished t v 0 o
+        → Shortest s t v o }
     // And octets that are an encoding of two values by these rules make them the same.
-    ensures one_value { (s : List Resolved) (t : ℕ) (v w : AbstractValue) (o : List ℕ) → IsAccepted s → Der s t v 0 o → Der s t w 0 o → Same s t v w }
+    ensures one_value { (s : List Resolved) (t : ℕ) (v w : AbstractValue) (o : List ℕ)
+        → IsAccepted s
+        → Der s t v 0 o
+        → Der s t w 0 o
+        → Same s t v w }
 {
     sameness();
     accepted_are_told_apart();
@@ -60,53 +97,142 @@ pub fn writer_laws()
 /// Octets say one value, and no encoding begins another, where only a CHOICE has no tag and first tags are distinct.
 pub fn reading_laws()
     // Octets say one value as it stands, with one number of unknown additions.
-    ensures one_value { (s : List Resolved) (r : Rules) (t j k : ℕ) (v w : AbstractValue) (o : List ℕ) → AllTagged s → AllTellable s → Says s r t v j o → Says s r t w k o → (v ≡ w) × (j ≡ k) }
+    ensures one_value { (s : List Resolved) (r : Rules) (t j k : ℕ) (v w : AbstractValue) (o : List ℕ)
+        → AllTagged s
+        → AllTellable s
+        → Says s r t v j o
+        → Says s r t w k o
+        → (v ≡ w) × (j ≡ k) }
     // So they are an encoding of values that are the same.
-    ensures ber { (s : List Resolved) (t j k : ℕ) (v w : AbstractValue) (o : List ℕ) → AllTagged s → AllTellable s → Ber s t v j o → Ber s t w k o → Same s t v w × (j ≡ k) }
-    ensures der { (s : List Resolved) (t j k : ℕ) (v w : AbstractValue) (o : List ℕ) → AllTagged s → AllTellable s → Der s t v j o → Der s t w k o → Same s t v w × (j ≡ k) }
+    ensures ber { (s : List Resolved) (t j k : ℕ) (v w : AbstractValue) (o : List ℕ)
+        → AllTagged s
+        → AllTellable s
+        → Ber s t v j o
+        → Ber s t w k o
+        → Same s t v w × (j ≡ k) }
+    ensures der { (s : List Resolved) (t j k : ℕ) (v w : AbstractValue) (o : List ℕ)
+        → AllTagged s
+        → AllTellable s
+        → Der s t v j o
+        → Der s t w k o
+        → Same s t v w × (j ≡ k) }
     // No encoding begins another one, whatever follows and of whatever types they are.
-    ensures none_begins_another { (s : List Resolved) (q r : Rules) (t u j k : ℕ) (v w : AbstractValue) (o p x y : List ℕ) → AllTagged s → Says s q t v j o → Says s r u w k p → o ++ x ≡ p ++ y → (o ≡ p) × (x ≡ y) }
+    ensures none_begins_another { (s : List Resolved) (q r : Rules) (t u j k : ℕ) (v w : AbstractValue)
+        (o p x y : List ℕ)
+        → AllTagged s
+        → Says s q t v j o
+        → Says s r u w k p
+        → o ++ x ≡ p ++ y
+        → (o ≡ p) × (x ≡ y) }
 {
     sameness();
 }
 
-/// An encoding by the distinguished rules has at most six levels of headers for each level of its value, so that one of a
-/// value has at most 400.
+/// Levels of headers belong to the octets: each reading of them has as many. An encoding by the distinguished rules has
+/// at most six for each level of its value, so that one of a value has at most 400.
 pub fn level_laws()
-    ensures few { (s : List Resolved) (n t : ℕ) (v : AbstractValue) (o : List ℕ) (d : Says s Distinguished t v 0 o) → HasFewTags s → ValueIn s n t v → levels d ≤ 6 * n }
-    ensures within_limit { (s : List Resolved) (t : ℕ) (v : AbstractValue) (o : List ℕ) (d : Says s Distinguished t v 0 o) → HasFewTags s → IsValueWithoutNodes s t v → levels d ≤ 400 }
+    // By whatever rules octets say a value, and whichever, they have one number of levels.
+    ensures one { (s : List Resolved) (q r : Rules) (t j k : ℕ) (v w : AbstractValue) (o : List ℕ)
+        (d : Says s q t v j o) (e : Says s r t w k o)
+        → AllTagged s
+        → AllTellable s
+        → levels d ≡ levels e }
+    ensures few { (s : List Resolved) (n t : ℕ) (v : AbstractValue) (o : List ℕ) (d : Says s Distinguished t v 0 o)
+        → HasFewTags s
+        → ValueIn s n t v
+        → levels d ≤ 6 * n }
+    ensures within_limit { (s : List Resolved) (t : ℕ) (v : AbstractValue) (o : List ℕ)
+        (d : Says s Distinguished t v 0 o)
+        → HasFewTags s
+        → IsValueWithoutNodes s t v
+        → levels d ≤ 400 }
 {}
 
 /// Each value of a type of a schema has an encoding by the distinguished rules, unless its strings are longer than the
 /// longest length octets tell.
 pub fn existence_laws()
-    ensures { (s : List Resolved) (t : ℕ) (v : AbstractValue) → IsSchema s → IsValueWithoutNodes s t v → weight v < 256 ^ 126 → (o : List ℕ) × Der s t v 0 o × (length o ≤ weight v) }
+    ensures { (s : List Resolved) (t : ℕ) (v : AbstractValue)
+        → IsSchema s
+        → IsValueWithoutNodes s t v
+        → weight v < 256 ^ 126
+        → (o : List ℕ) × Der s t v 0 o × (length o ≤ weight v) }
 {
     sameness();
     alike_values();
 }
 
-/// A value that octets say has at most as many nodes as there are octets, so that one within a message's limit is within
-/// the limit on nodes too.
+/// Nothing but its length keeps a value from having an encoding by the distinguished rules, and within any limit it has
+/// one just where it has any.
+pub fn length_laws()
+    // What has an encoding by the basic rules has one by the distinguished rules, which is no longer.
+    ensures least { (s : List Resolved) (t : ℕ) (v : AbstractValue) (p : List ℕ)
+        → IsSchema s
+        → Ber s t v 0 p
+        → (o : List ℕ) × Der s t v 0 o × (length o ≤ length p) }
+    // A value has such an encoding of at most m octets, or each of its encodings has more.
+    ensures within { (s : List Resolved) (t m : ℕ) (v : AbstractValue)
+        → IsSchema s
+        → IsValueWithoutNodes s t v
+        → ((o : List ℕ) × Der s t v 0 o × (length o ≤ m)) ⊎ ((p : List ℕ) → Ber s t v 0 p → m < length p) }
+{
+    sameness();
+    alike_values();
+    der_laws();
+}
+
+/// A value that octets say has at most as many nodes as there are octets, so that one within a message's limit is
+/// within the limit on nodes too.
 pub fn message_laws()
-    ensures nodes { (s : List Resolved) (r : Rules) (t k : ℕ) (w : AbstractValue) (o : List ℕ) → IsSchema s → Says s r t w k o → nodes w ≤ length o }
-    ensures value { (s : List Resolved) (r : Rules) (t k : ℕ) (w : AbstractValue) (o : List ℕ) → IsSchema s → IsValueWithoutNodes s t w → Says s r t w k o → length o ≤ 16777216 → IsValue s t w }
+    ensures nodes { (s : List Resolved) (r : Rules) (t k : ℕ) (w : AbstractValue) (o : List ℕ)
+        → IsSchema s
+        → Says s r t w k o
+        → nodes w ≤ length o }
+    ensures value { (s : List Resolved) (r : Rules) (t k : ℕ) (w : AbstractValue) (o : List ℕ)
+        → IsSchema s
+        → IsValueWithoutNodes s t w
+        → Says s r t w k o
+        → length o ≤ 16777216
+        → IsValue s t w }
 {}
 
 /// The laws together, of a schema with any kinds of types.
 pub fn schema_laws()
     // Values that are the same have one encoding by the distinguished rules.
-    ensures one_der { (s : List Resolved) (t : ℕ) (v w : AbstractValue) (o p : List ℕ) → IsSchema s → Same s t v w → Der s t v 0 o → Der s t w 0 p → p ≡ o }
+    ensures one_der { (s : List Resolved) (t : ℕ) (v w : AbstractValue) (o p : List ℕ)
+        → IsSchema s
+        → Same s t v w
+        → Der s t v 0 o
+        → Der s t w 0 p
+        → p ≡ o }
     // Octets are such an encoding of values that are the same.
-    ensures one_value { (s : List Resolved) (t j k : ℕ) (v w : AbstractValue) (o : List ℕ) → IsSchema s → Der s t v j o → Der s t w k o → Same s t v w × (j ≡ k) }
+    ensures one_value { (s : List Resolved) (t j k : ℕ) (v w : AbstractValue) (o : List ℕ)
+        → IsSchema s
+        → Der s t v j o
+        → Der s t w k o
+        → Same s t v w × (j ≡ k) }
     // None by the basic rules is shorter.
-    ensures shortest { (s : List Resolved) (t : ℕ) (v : AbstractValue) (o : List ℕ) → IsSchema s → Der s t v 0 o → Shortest s t v o }
+    ensures shortest { (s : List Resolved) (t : ℕ) (v : AbstractValue) (o : List ℕ)
+        → IsSchema s
+        → Der s t v 0 o
+        → Shortest s t v o }
     // By the basic rules octets say one value as it stands.
-    ensures says_one { (s : List Resolved) (t j k : ℕ) (v w : AbstractValue) (o : List ℕ) → IsSchema s → Says s Basic t v j o → Says s Basic t w k o → (v ≡ w) × (j ≡ k) }
+    ensures says_one { (s : List Resolved) (t j k : ℕ) (v w : AbstractValue) (o : List ℕ)
+        → IsSchema s
+        → Says s Basic t v j o
+        → Says s Basic t w k o
+        → (v ≡ w) × (j ≡ k) }
     // No encoding of a type is a proper front of another.
-    ensures none_begins_another { (s : List Resolved) (t j k : ℕ) (v w : AbstractValue) (o p x : List ℕ) → IsSchema s → Says s Basic t v j o → Says s Basic t w k p → p ≡ o ++ x → x ≡ [] }
+    ensures none_begins_another { (s : List Resolved) (t j k : ℕ) (v w : AbstractValue) (o p x : List ℕ)
+        → IsSchema s
+        → Says s Basic t v j o
+        → Says s Basic t w k p
+        → p ≡ o ++ x
+        → x ≡ [] }
     // An encoding by the distinguished rules has at most 400 levels of headers.
-    ensures levels { (s : List Resolved) (t : ℕ) (v : AbstractValue) (o : List ℕ) (d : Says s Distinguished t v 0 o) → IsSchema s → IsValueWithoutNodes s t v → levels d ≤ 400 }
+    ensures levels { (s : List Resolved) (t : ℕ) (v : AbstractValue) (o : List ℕ) (d : Says s Distinguished t v 0 o)
+        → IsSchema s
+        → IsValueWithoutNodes s t v
+        → levels d ≤ 400 }
 {
     der_laws();
     reading_laws();

@@ -2,14 +2,24 @@
 
 ghost use Rattle.std.specs.Prelude.{◌≡◌, ℕ, ◌<◌, ◌≤◌, ◌^◌, Bool, List, ◌++◌, length};
 ghost use Rattle.asn_base.specs.declared.tag.Tag.{Tag};
-ghost use Rattle.encodings.specs.Header.{Header, HeaderBy, shortest_header};
+ghost use Rattle.encodings.specs.Header.{Header, HeaderBy};
+ghost use Rattle.encodings.specs.Fewest.{shortest_header};
 ghost use Rattle.encodings.specs.Rules.{Rules, Distinguished};
 
 /// The shortest header is the one by the distinguished rules, and no header of as much or more has fewer octets.
 pub fn header_laws()
     ensures is { (t : Tag) (c : Bool) (n : ℕ) → n < 2 ^ 64 → HeaderBy Distinguished t c n (shortest_header t c n) }
-    ensures only { (t : Tag) (c : Bool) (n : ℕ) (h : List ℕ) → HeaderBy Distinguished t c n h → h ≡ shortest_header t c n }
+    ensures only { (t : Tag) (c : Bool) (n : ℕ) (h : List ℕ)
+        → HeaderBy Distinguished t c n h
+        → h ≡ shortest_header t c n }
     // No header begins another one, of whatever tags, forms and lengths.
-    ensures none_begins_another { (t u : Tag) (b c : Bool) (n m : ℕ) (h g x y : List ℕ) → Header t b n h → Header u c m g → h ++ x ≡ g ++ y → (t ≡ u) × (b ≡ c) × (n ≡ m) × (h ≡ g) × (x ≡ y) }
-    ensures least { (r : Rules) (t : Tag) (b c : Bool) (n m : ℕ) (h : List ℕ) → n ≤ m → HeaderBy r t c m h → length (shortest_header t b n) ≤ length h }
+    ensures none_begins_another { (t u : Tag) (b c : Bool) (n m : ℕ) (h g x y : List ℕ)
+        → Header t b n h
+        → Header u c m g
+        → h ++ x ≡ g ++ y
+        → (t ≡ u) × (b ≡ c) × (n ≡ m) × (h ≡ g) × (x ≡ y) }
+    ensures least { (r : Rules) (t : Tag) (b c : Bool) (n m : ℕ) (h : List ℕ)
+        → n ≤ m
+        → HeaderBy r t c m h
+        → length (shortest_header t b n) ≤ length h }
 {}

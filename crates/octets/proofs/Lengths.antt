@@ -5,7 +5,8 @@ use Rattle.std.specs.Int.Digits.{digits_of}
 use Rattle.std.proofs.lemmas.Int.Digits.{length-digits_of-le, length-digits_of_step}
 use Rattle.asn_base.specs.declared.tag.Class.{Class}
 use Rattle.asn_base.specs.declared.tag.Tag.{Tag}
-use Rattle.encodings.specs.Header.{class_bits, form_bit, septets, identifier, shortest_size, shortest_header}
+use Rattle.encodings.specs.Header.{class_bits, form_bit, septets, identifier}
+use Rattle.encodings.specs.Fewest.{shortest_size, shortest_header}
 
 map_length : (f : ℕ → ℕ) (xs : List ℕ) → length (map f xs) ≡ length xs
 map_length f [] = refl

@@ -1,6 +1,7 @@
 //! The header with the fewest octets.
 
-ghost use Rattle.encodings.specs.Header.{HeaderBy, class_bits, form_bit, identifier, shortest_header, shortest_size};
+ghost use Rattle.encodings.specs.Header.{HeaderBy, class_bits, form_bit, identifier};
+ghost use Rattle.encodings.specs.Fewest.{shortest_header, shortest_size};
 ghost use Rattle.encodings.specs.Rules.{Rules};
 ghost use Rattle.octets.specs.Adds.{AddsHeader};
 ghost use Rattle.octets.specs.Forms.{is_constructed};
@@ -54,7 +55,7 @@ fn size_len(contents: u64) -> usize
 /// (X.690, 8.1.2, 8.1.3 and 10.1).
 ///
 /// An `Err` is `Memory`, and adds nothing.
-#[tactic(auto, unfolding(encodings::specs::Header::shortest_header))]
+#[tactic(auto, unfolding(encodings::specs::Fewest::shortest_header))]
 pub fn write_header(
     alloc: Global,
     tag: Tag,

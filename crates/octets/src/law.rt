@@ -1,7 +1,8 @@
 //! The law of the shortest header (X.690, 10.1).
 
 ghost use Rattle.asn_base.specs.declared.tag.Tag.{Tag};
-ghost use Rattle.encodings.specs.Header.{Header, HeaderBy, shortest_header};
+ghost use Rattle.encodings.specs.Header.{Header, HeaderBy};
+ghost use Rattle.encodings.specs.Fewest.{shortest_header};
 ghost use Rattle.encodings.specs.Rules.{Distinguished};
 ghost use Rattle.std.specs.Prelude.{◌≡◌, ◌≤◌, Bool, List, length, ℕ};
 

@@ -5,4 +5,4 @@ pub returns : goal.returns
 returns c = λ s t v i a h.
     let q = c.sameness.ensures in
     let l = c.alike_values.ensures in
-    encodable s i (q.alike_joined s) (l.groups s) (l.levels s) (l.decided s) _ few_digits t v a h
+    encodable s i (q.alike_turned s) (q.alike_joined s) (l.groups s) (l.levels s) (l.decided s) _ few_digits t v a h
