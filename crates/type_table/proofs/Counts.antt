@@ -1,5 +1,5 @@
 -- How many numbers items get.
-use Rattle.std.proofs.Common.{◌≡◌, ℕ, ℤ, ◌+◌, ◌++◌, suc, List, [], ◌∷◌, length, refl, ap, arith, length-append}
+use Rattle.std.proofs.Common.{◌≡◌, ℕ, ℤ, ◌++◌, suc, List, [], ◌∷◌, length, refl, ap, arith, length-append}
 use Rattle.std.specs.Prelude.{max}
 use Rattle.type_table.specs.Items.{Item, number_or, counted_to, past, root_from, root_numbers, additions_from, addition_numbers, numbers_of, given_numbers}
 

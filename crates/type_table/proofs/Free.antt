@@ -1,8 +1,8 @@
 -- The least number that a list leaves free.
-use Rattle.std.proofs.Common.{◌≡◌, ◌⊎◌, inl, inr, ℕ, zero, suc, ◌+◌, ◌<◌, ◌≤◌, ◌||◌, Bool, true, false, cond, List, [], ◌∷◌, length, Some, refl, sym, subst, ap, ◌∙◌, arith}
+use Rattle.std.proofs.Common.{◌≡◌, inl, inr, ℕ, zero, suc, ◌+◌, ◌<◌, ◌≤◌, ◌||◌, Bool, true, false, cond, List, [], ◌∷◌, length, Some, refl, sym, subst, ap, arith}
 use Rattle.std.proofs.lemmas.Bool.{cases_order, cases_lt}
-use Rattle.std.specs.Prelude.{slice_get, ℤ, pos, negsuc}
-use Rattle.std.specs.List.{list_any, AllByRecursion, IsDistinct}
+use Rattle.std.specs.Prelude.{slice_get, ℤ, pos}
+use Rattle.std.specs.List.{AllByRecursion, IsDistinct}
 use Rattle.std.specs.Ordering.{int_eq}
 use Rattle.std.proofs.lemmas.Cmp.{int_eq_equiv}
 use Rattle.std.proofs.lemmas.Bool.Decides.{Decides-int_eq}
@@ -78,18 +78,18 @@ in_up n (suc k) z (suc i, e) =
 pub row_fits : (n k : ℕ) (used : List ℤ) → ((m : ℕ) → n ≤ m → m < n + k → StandsIn used (pos m)) → k ≤ length used
 row_fits n k used h =
     let l = length-le_from_is_member int_eq_equiv (up n k) used (up_distinct n k) (λ q e.
-        let r = in_up n k q (among_stands q (up n k) e) in
-        stands_among q used (subst (λ z. StandsIn used z) (sym r.1) (h r.0 r.2 r.3))) in
+    let r = in_up n k q (among_stands q (up n k) e) in
+    stands_among q used (subst (λ z. StandsIn used z) (sym r.1) (h r.0 r.2 r.3))) in
     omega (arith, l, length_up n k)
 
 -- ---- the least number from n on that is none of these
 
 pub one_free : (used other : List ℤ) (n y z : ℕ) → ((w : ℤ) → StandsIn used w → StandsIn other w) → ((w : ℤ) → StandsIn other w → StandsIn used w) → IsFree used n y → IsFree other n z → y ≡ z
 one_free used other n y z f g a b = elim (cases_order y z) [
-    | inl e ↦ e
-    | inr (inl l) ↦ absurd (a.unused (g (pos y) (b.taken y a.from l)))
-    | inr (inr l) ↦ absurd (b.unused (f (pos z) (a.taken z b.from l)))
-  ]
+  | inl e ↦ e
+  | inr (inl l) ↦ absurd (a.unused (g (pos y) (b.taken y a.from l)))
+  | inr (inr l) ↦ absurd (b.unused (f (pos z) (a.taken z b.from l)))
+]
 
 -- numbers from n to m that are all taken
 abbrev pub AreTaken : List ℤ → ℕ → ℕ → Type 0
@@ -97,9 +97,9 @@ AreTaken used n m = (k : ℕ) → n ≤ k → k < m → StandsIn used (pos k)
 
 pub taken_more : (used : List ℤ) (n m : ℕ) → AreTaken used n m → StandsIn used (pos m) → AreTaken used n (suc m)
 taken_more used n m h s k l r = elim (cases_lt k m) [
-    | inl a ↦ h k l a
-    | inr b ↦ (let e : k ≡ m = omega (arith, b, r) in subst (λ z. StandsIn used (pos z)) (sym e) s)
-  ]
+  | inl a ↦ h k l a
+  | inr b ↦ (let e : k ≡ m = omega (arith, b, r) in subst (λ z. StandsIn used (pos z)) (sym e) s)
+]
 
 -- where as many are taken as the list has, the next is free
 pub taken_all : (used : List ℤ) (n m : ℕ) → n + length used ≤ m → AreTaken used n m → StandsIn used (pos m) → ⊥

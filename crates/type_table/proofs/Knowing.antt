@@ -1,12 +1,10 @@
 -- Cores that are found one after the other.
-use Rattle.std.proofs.Common.{◌≡◌, ◌⊎◌, inl, inr, ℕ, zero, suc, ◌+◌, ◌<◌, ◌≤◌, List, [], ◌∷◌, length, Some, None, refl, sym, subst, ap, ◌∙◌, arith, set, replicate, take, ◌++◌}
+use Rattle.std.proofs.Common.{◌≡◌, ◌⊎◌, inl, inr, ℕ, zero, suc, ◌+◌, ◌<◌, List, [], ◌∷◌, length, Some, None, refl, sym, subst, ap, ◌∙◌, arith, set}
 use Rattle.std.specs.Prelude.{slice_get}
-use Rattle.std.proofs.Math.Seq.{take-append_seam}
-use Rattle.std.proofs.lemmas.Option.{slice_get_within, slice_get-get_or, same_Some}
+use Rattle.std.proofs.lemmas.Option.{slice_get_within, same_Some}
 use Rattle.type_table.specs.proving.Cores.{IsKnown, AreKnown, AreUnknown, AreCores}
-use Rattle.type_table.specs.Table.{Type', next, onward, walk, IsCore, IsClosed, AllUnfold}
+use Rattle.type_table.specs.Table.{Type', next, onward, walk, IsCore, IsClosed}
 use Rattle.type_table.proofs.Marking.{set_here, set_only}
-use Rattle.type_table.specs.proving.Tables.{alike}
 use Rattle.type_table.proofs.Walks.{walk_walk, ended_few}
 
 -- ---- walks

@@ -1,13 +1,10 @@
 -- Lists and sets of numbers within the limit.
-use Rattle.std.proofs.Common.{◌≡◌, ◌⊎◌, inl, inr, ℕ, zero, suc, ◌+◌, ◌<◌, ◌≤◌, ◌++◌, List, [], ◌∷◌, length, take, drop, map, get_or, Some, refl, sym, subst, ap, ◌∙◌, arith}
-use Rattle.std.specs.Prelude.{slice_get, ℤ, pos, negsuc}
-use Rattle.std.proofs.lemmas.List.{take_more}
-use Rattle.std.proofs.lemmas.Option.{get_or_from_slice_get}
+use Rattle.std.proofs.Common.{inl, inr, ◌++◌, List, [], ◌∷◌, subst}
+use Rattle.std.specs.Prelude.{ℤ}
 use Rattle.asn_base.specs.Typed.{IsWithinLimit}
-use Rattle.names.specs.Modules.{StandsIn}
-use Rattle.names.specs.proving.Distinct.{either, stands_left, stands_right, stands_either, stands_one, drop_at}
+use Rattle.names.specs.proving.Distinct.{either, stands_one}
 use Rattle.type_table.specs.Lists.{AreWithinLimit}
-use Rattle.type_table.specs.proving.Sets.{Puts, IsSetOf}
+use Rattle.type_table.specs.proving.Sets.{Puts}
 
 pub within_none : AreWithinLimit []
 within_none i z e = absurd cc

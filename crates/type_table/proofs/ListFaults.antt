@@ -1,5 +1,5 @@
 -- What the faults of one name, one number or one count say of the list of a type.
-use Rattle.std.proofs.Common.{◌≡◌, ℕ, List, Some, sym, subst, ap, ◌∙◌, inl, inr}
+use Rattle.std.proofs.Common.{◌≡◌, ℕ, List, Some, sym, subst, ap, ◌∙◌, inr}
 use Rattle.std.specs.Prelude.{slice_get}
 use Rattle.trees.specs.Values.{Name}
 use Rattle.names.specs.declared.fault.Limit.{Limit}

@@ -1,10 +1,9 @@
 -- The numbers of items are what the definition says, and the only ones.
-use Rattle.std.proofs.Common.{◌≡◌, ◌⊎◌, inl, inr, ℕ, zero, suc, ◌+◌, ◌<◌, ◌≤◌, Bool, true, false, List, [], ◌∷◌, length, Option, Some, None, refl, sym, subst, ap, ◌∙◌, arith}
+use Rattle.std.proofs.Common.{◌≡◌, inl, inr, ℕ, zero, suc, ◌≤◌, List, [], ◌∷◌, Some, None, refl, subst, ap, ◌∙◌, arith}
 use Rattle.std.proofs.lemmas.Bool.{cases_lt}
 use Rattle.std.specs.Prelude.{slice_get, ℤ, pos, negsuc, max}
-use Rattle.trees.specs.Values.{Name}
 use Rattle.names.specs.Modules.{StandsIn}
-use Rattle.type_table.specs.Items.{Item, given_numbers, IsAbove, IsNext, AreRootNumbers, no_root_item, root_written, root_counted, AreAdditionNumbers, no_addition, addition_written, addition_counted, is_among, free, past, root_from, root_numbers, additions_from, addition_numbers}
+use Rattle.type_table.specs.Items.{Item, given_numbers, IsAbove, IsNext, AreRootNumbers, no_root_item, root_written, root_counted, AreAdditionNumbers, no_addition, addition_written, addition_counted, free, past, root_from, root_numbers, additions_from, addition_numbers}
 use Rattle.type_table.proofs.Free.{free_is}
 use Rattle.type_table.specs.proving.Sets.{IsFree}
 
@@ -88,10 +87,10 @@ pub one_root : (given earlier : List ℤ) (is : List Item) (ys zs : List ℤ) �
 one_root given earlier [] [] [] no_root_item no_root_item = refl
 one_root given earlier [] [] (w ∷ zs) a b = elim b [ ]
 one_root given earlier [] (y ∷ ys) zs a b = elim a [ ]
-one_root given earlier ((x , None) ∷ is) [] zs a b = elim a [ ]
-one_root given earlier ((x , None) ∷ is) (y ∷ ys) [] a b = elim b [ ]
-one_root given earlier ((x , Some z) ∷ is) [] zs a b = elim a [ ]
-one_root given earlier ((x , Some z) ∷ is) (y ∷ ys) [] a b = elim b [ ]
+one_root given earlier ((x, None) ∷ is) [] zs a b = elim a [ ]
+one_root given earlier ((x, None) ∷ is) (y ∷ ys) [] a b = elim b [ ]
+one_root given earlier ((x, Some z) ∷ is) [] zs a b = elim a [ ]
+one_root given earlier ((x, Some z) ∷ is) (y ∷ ys) [] a b = elim b [ ]
 one_root given earlier ((x, Some z) ∷ is) (y ∷ ys) (w ∷ zs) (root_written x1 z1 a) (root_written x2 z2 b) = ap (λ l. z ∷ l) (one_root given earlier is ys zs a b)
 one_root given earlier ((x, None) ∷ is) (y ∷ ys) (w ∷ zs) (root_counted x1 m f a) (root_counted x2 n g b) =
     let e = one_next given earlier m n f g in
@@ -101,10 +100,10 @@ pub one_additions : (used earlier : List ℤ) (is : List Item) (ys zs : List ℤ
 one_additions used earlier [] [] [] no_addition no_addition = refl
 one_additions used earlier [] [] (w ∷ zs) a b = elim b [ ]
 one_additions used earlier [] (y ∷ ys) zs a b = elim a [ ]
-one_additions used earlier ((x , None) ∷ is) [] zs a b = elim a [ ]
-one_additions used earlier ((x , None) ∷ is) (y ∷ ys) [] a b = elim b [ ]
-one_additions used earlier ((x , Some z) ∷ is) [] zs a b = elim a [ ]
-one_additions used earlier ((x , Some z) ∷ is) (y ∷ ys) [] a b = elim b [ ]
+one_additions used earlier ((x, None) ∷ is) [] zs a b = elim a [ ]
+one_additions used earlier ((x, None) ∷ is) (y ∷ ys) [] a b = elim b [ ]
+one_additions used earlier ((x, Some z) ∷ is) [] zs a b = elim a [ ]
+one_additions used earlier ((x, Some z) ∷ is) (y ∷ ys) [] a b = elim b [ ]
 one_additions used earlier ((x, Some z) ∷ is) (y ∷ ys) (w ∷ zs) (addition_written x1 z1 a) (addition_written x2 z2 b) = ap (λ l. z ∷ l) (one_additions used (z ∷ earlier) is ys zs a b)
 one_additions used earlier ((x, None) ∷ is) (y ∷ ys) (w ∷ zs) (addition_counted x1 m f a) (addition_counted x2 n g b) =
     let e = one_next used earlier m n f g in

@@ -1,5 +1,5 @@
 -- What stands at a type, and the types that stand directly in it.
-use Rattle.std.proofs.Common.{◌≡◌, ℕ, zero, suc, ◌+◌, List, [], ◌∷◌, Some, None, refl, sym, subst, ap, ◌∙◌, arith}
+use Rattle.std.proofs.Common.{◌≡◌, ℕ, zero, suc, ◌+◌, List, [], Some, refl, sym, subst, ap, ◌∙◌, arith}
 use Rattle.std.specs.Prelude.{slice_get, Bool, Option}
 use Rattle.asn_base.specs.declared.tag.Tag.{Tag}
 use Rattle.trees.specs.Values.{Name}

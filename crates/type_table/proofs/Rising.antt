@@ -1,12 +1,12 @@
 -- What ranks say of circles.
-use Rattle.std.proofs.Common.{◌≡◌, ◌⊎◌, inl, inr, ℕ, zero, suc, ◌+◌, ◌<◌, ◌≤◌, List, [], ◌∷◌, length, map, Some, None, refl, sym, subst, ap, ◌∙◌, get_or, arith}
+use Rattle.std.proofs.Common.{◌≡◌, inl, inr, ℕ, ◌+◌, ◌<◌, ◌≤◌, List, length, map, Some, refl, sym, subst, ap, ◌∙◌, get_or, arith}
 use Rattle.std.specs.Prelude.{slice_get, slice_index, Bool}
 use Rattle.std.proofs.lemmas.Option.{slice_get_within, same_Some}
 use Rattle.type_table.specs.declared.table.Component.{Component}
 use Rattle.trees.specs.declared.types.ListKind.{ListKind}
 use Rattle.names.specs.Modules.{StandsIn}
 use Rattle.type_table.specs.proving.Ranks.{parts, AreFrom, Rise, DefaultsAbove}
-use Rattle.type_table.specs.proving.Reach.{HasDefault, IsDefaulted}
+use Rattle.type_table.specs.proving.Reach.{HasDefault}
 use Rattle.type_table.specs.Seen.{part_of}
 use Rattle.type_table.specs.Circles.{IsPart, referred, behind_tag, member, element, Reaches, itself, onward, IsDefaultCircle}
 use Rattle.type_table.specs.Table.{Part, Kind, simple, reference, tagged, members, elements, Type'}

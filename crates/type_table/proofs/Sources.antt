@@ -1,16 +1,13 @@
 -- What stands at a number.
-use Rattle.std.proofs.Common.{◌≡◌, ℕ, ◌<◌, ◌+◌, List, length, Some, map, refl, sym, subst, ap, ◌∙◌, option_map, get_or, string_bytes}
+use Rattle.std.proofs.Common.{◌≡◌, ℕ, ◌<◌, ◌+◌, List, length, Some, sym, subst, ap, ◌∙◌}
 use Rattle.std.specs.Prelude.{slice_get}
-use Rattle.std.proofs.lemmas.Option.{slice_get-map, slice_get_read}
 use Rattle.trees.specs.Values.{Name}
 use Rattle.trees.specs.declared.module.TagDefault.{TagDefault}
 use Rattle.names.specs.declared.fault.NameFault.{NameFault}
 use Rattle.names.specs.declared.fault.NameFault.TheVariants as faults
 use Rattle.names.specs.declared.fault.Limit.TheVariants as limits
-use Rattle.names.specs.declared.sources.Assignment.{Assignment}
-use Rattle.names.specs.declared.sources.Header.{Header}
 use Rattle.names.specs.Names.{Module}
-use Rattle.names.specs.Sources.{Source, assignment_of, header_of}
+use Rattle.names.specs.Sources.{Source}
 use Rattle.type_table.specs.Numbering.{form_of, RefersToNothing, parts_of}
 use Rattle.type_table.specs.proving.Checks.{IsUnknown, IsTypesLimit, IsSourceFault}
 use Rattle.names.specs.Faults.{name_told}

@@ -1,6 +1,6 @@
 -- Numbers of items, one after the other.
-use Rattle.std.proofs.Common.{◌≡◌, ℕ, suc, ◌+◌, ◌<◌, ◌≤◌, ◌++◌, List, [], ◌∷◌, length, map, drop, get_or, Some, refl, sym, subst, ap, ◌∙◌, append_assoc, arith}
-use Rattle.std.specs.Prelude.{slice_get, ℤ, Option, max}
+use Rattle.std.proofs.Common.{◌≡◌, ℕ, ◌+◌, ◌<◌, ◌++◌, List, [], ◌∷◌, length, map, drop, get_or, Some, sym, ap, ◌∙◌, append_assoc, arith}
+use Rattle.std.specs.Prelude.{slice_get, ℤ, max}
 use Rattle.trees.specs.declared.types.EnumeratedItem.{EnumeratedItem}
 use Rattle.trees.specs.Types.{item_of}
 use Rattle.names.specs.proving.Distinct.{right, drop_at}
@@ -15,9 +15,9 @@ pub root_step : (given zs new : List ℤ) (n m i : ℕ) (items : List Enumerated
 root_step given zs new n m i items item z all l e h a b c =
     ap (λ q. q ++ root_from given m (map item_of (drop (i + 1) items))) c
     ∙ step_more zs (number_or n given item.number) z (root_from given (counted_to n given item.number) (map item_of (drop (i + 1) items))) (root_from given m (map item_of (drop (i + 1) items))) all
-        (ap (λ q. zs ++ root_from given n (map item_of q)) (sym (drop_at items i item l e)) ∙ h)
-        a
-        (ap (λ k. root_from given k (map item_of (drop (i + 1) items))) b)
+    (ap (λ q. zs ++ root_from given n (map item_of q)) (sym (drop_at items i item l e)) ∙ h)
+    a
+    (ap (λ k. root_from given k (map item_of (drop (i + 1) items))) b)
 
 -- what is left of additions begins with this turn's number
 pub additions_left : (root zs : List ℤ) (n i : ℕ) (items : List EnumeratedItem) (item : EnumeratedItem) (all : List ℤ) → i < length items → item ≡ get_or items i item →
@@ -31,9 +31,9 @@ pub additions_step : (root zs new : List ℤ) (n m i : ℕ) (items : List Enumer
 additions_step root zs new n m i items item z all l e h a b c =
     ap (λ q. q ++ additions_from root m (map item_of (drop (i + 1) items))) c
     ∙ step_more zs (number_or n root item.number) z (additions_from root (max n (past (number_or n root item.number))) (map item_of (drop (i + 1) items))) (additions_from root m (map item_of (drop (i + 1) items))) all
-        (additions_left root zs n i items item all l e h)
-        a
-        (ap (λ k. additions_from root k (map item_of (drop (i + 1) items))) (b ∙ ap (λ q. max n (past q)) a))
+    (additions_left root zs n i items item all l e h)
+    a
+    (ap (λ k. additions_from root k (map item_of (drop (i + 1) items))) (b ∙ ap (λ q. max n (past q)) a))
 
 -- the number of this turn's addition, in all of them
 pub addition_here : (root zs : List ℤ) (n i : ℕ) (items : List EnumeratedItem) (item : EnumeratedItem) → i < length items → item ≡ get_or items i item → length zs ≡ length root + i →

@@ -1,5 +1,5 @@
 -- What faults of types say: the module and the name that they tell. Where in the text they point isn't said.
-use Rattle.std.specs.Prelude.{◌≡◌, ◌<◌, ◌+◌, ℕ, List, Some, length, slice_get}
+use Rattle.std.specs.Prelude.{◌≡◌, ℕ, List, Some, slice_get}
 use Rattle.trees.specs.Values.{Name}
 use Rattle.trees.specs.Types.{TypeTree}
 use Rattle.trees.specs.declared.module.TagDefault.{TagDefault}

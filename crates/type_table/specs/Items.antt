@@ -1,6 +1,6 @@
 -- The numbers of the items of enumerations (X.680, clauses 20.5 and 20.6). An item is its name, and its number if one
 -- is written.
-use Rattle.std.specs.Prelude.{◌≡◌, ◌<◌, ◌≤◌, ℕ, zero, suc, max, ℤ, pos, negsuc, Bool, cond, List, [], ◌∷◌, ◌++◌, length, Option, Some, None}
+use Rattle.std.specs.Prelude.{◌<◌, ◌≤◌, ℕ, zero, suc, max, ℤ, pos, negsuc, Bool, cond, List, [], ◌∷◌, ◌++◌, length, Option, Some, None}
 use Rattle.std.specs.List.{list_any}
 use Rattle.std.specs.Ordering.{int_eq}
 use Rattle.trees.specs.Values.{Name}

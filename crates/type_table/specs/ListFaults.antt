@@ -1,11 +1,11 @@
 -- What faults say of the lists in written types.
-use Rattle.std.specs.Prelude.{◌≡◌, ◌<◌, ◌⊎◌, ◌^◌, ◌++◌, ℕ, ℤ, pos, List, Some, map, length, slice_get}
+use Rattle.std.specs.Prelude.{◌≡◌, ◌<◌, ◌⊎◌, ◌^◌, ◌++◌, ℕ, pos, List, Some, map, length, slice_get}
 use Rattle.trees.specs.Values.{Name}
 use Rattle.trees.specs.Types.{Plain, an_integer, a_bit_string, an_enumerated}
 use Rattle.names.specs.declared.fault.Limit.{Limit}
 use Rattle.names.specs.declared.fault.Limit.TheVariants as limits
 use Rattle.names.specs.Modules.{StandsIn, StandsTwice}
-use Rattle.type_table.specs.Items.{Item, additions_of, addition_numbers, numbers_of}
+use Rattle.type_table.specs.Items.{additions_of, addition_numbers, numbers_of}
 use Rattle.type_table.specs.Lists.{root_count, addition_count}
 use Rattle.type_table.specs.Table.{Part, Kind, simple, members}
 

@@ -64,8 +64,8 @@ fn first_circle(
     requires long { length marks.old ≡ length types.now }
     requires earlier { AreUpTo 0 marks.old }
     ensures { IfOk result
-            (λ o. MatchOption o (NoDefaultCircles (types_of types.now))
-            (λ i. (i < length types.now) × IsDefaultCircle (types_of types.now) i)) }
+        (λ o. MatchOption o (NoDefaultCircles (types_of types.now))
+        (λ i. (i < length types.now) × IsDefaultCircle (types_of types.now) i)) }
 {
     for list in 0..types.len() {
         if is_in_circle(alloc, types, ranks, rise, list, marks)? {
@@ -82,8 +82,8 @@ pub fn circle_of(alloc: Global, types: &[Written]) -> Result<Option<usize>, Allo
     requires parts { HasMembers (types_of types.now) }
     requires inner { HasElements (types_of types.now) }
     ensures { IfOk result
-            (λ o. MatchOption o (NoDefaultCircles (types_of types.now))
-            (λ i. (i < length types.now) × IsDefaultCircle (types_of types.now) i)) }
+        (λ o. MatchOption o (NoDefaultCircles (types_of types.now))
+        (λ i. (i < length types.now) × IsDefaultCircle (types_of types.now) i)) }
 {
     let numbers = ranks_of(alloc, types)?;
     let ranks = numbers.as_slice();

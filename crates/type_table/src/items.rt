@@ -189,10 +189,7 @@ pub(crate) fn additions(given: &EnumeratedSyntax) -> &[EnumeratedItem]
 
 /// The numbers of the items of an enumeration, those of the root in order and then those of the additions (X.680, clauses
 /// 20.5 and 20.6).
-pub fn item_numbers(
-    alloc: Global,
-    given: &EnumeratedSyntax,
-) -> Result<Vec<i128>, NumberFault>
+pub fn item_numbers(alloc: Global, given: &EnumeratedSyntax) -> Result<Vec<i128>, NumberFault>
     ensures numbers { IfOk result (λ v. v.items ≡ numbers_of (root_of given.now) (more_of given.now)) }
     ensures within { IfOk result (λ v. AreWithinLimit v.items) }
     ensures fault { IfErr result (IsGreatAt (root_numbers (root_of given.now)) (more_of given.now)) }

@@ -16,7 +16,7 @@ ghost use Rattle.type_table.specs.Table.{Type', AllUnfold, IsClosed, IsLinked};
 /// The types of given names, headers, assignments and their types have one table.
 pub fn one_table()
     ensures { (ms : List (Name × Module)) (hs : List (Name × Default)) (gs : List (ℕ × Name)) (roots : List Source)
-            (ts us : List Type') →
+        (ts us : List Type') →
         IsApart ms →
         AreNumbered ms hs gs roots ts →
         AreNumbered ms hs gs roots us →
@@ -26,7 +26,7 @@ pub fn one_table()
 /// Where a fault of the types stands, other than want of memory, there is no table that unfolds and passes no limit.
 pub fn table_faults_exclude()
     ensures { (ms : List (Name × Module)) (hs : List (Name × Default)) (gs : List (ℕ × Name)) (roots : List Source)
-            (ts : List Type') →
+        (ts : List Type') →
         AreNumbered ms hs gs roots ts →
         IsApart ms →
         length ts ≤ 65536 →
@@ -40,11 +40,11 @@ pub fn table_faults_exclude()
 /// Types that are numbered: those of the assignments are among them, and each stands in an assignment.
 pub fn numbered_there()
     ensures roots { (ms : List (Name × Module)) (hs : List (Name × Default)) (gs : List (ℕ × Name))
-            (roots : List Source) (ts : List Type') →
+        (roots : List Source) (ts : List Type') →
         AreNumbered ms hs gs roots ts →
         length roots ≤ length ts }
     ensures assigned { (ms : List (Name × Module)) (hs : List (Name × Default)) (gs : List (ℕ × Name))
-            (roots : List Source) (ts : List Type') →
+        (roots : List Source) (ts : List Type') →
         AreNumbered ms hs gs roots ts →
         (i : ℕ) (t : Type') →
         slice_get ts i ≡ Some t →
@@ -54,12 +54,12 @@ pub fn numbered_there()
 /// Types that are numbered, whose references stand for types of the table, keep what a table of linked types keeps once they unfold.
 pub fn numbered_linked()
     ensures closed { (ms : List (Name × Module)) (hs : List (Name × Default)) (gs : List (ℕ × Name))
-            (roots : List Source) (ts : List Type') →
+        (roots : List Source) (ts : List Type') →
         AreNumbered ms hs gs roots ts →
         ((M x : Name) (N : Option Name) (j : ℕ) → Refers ms M N x (assigned.Type j) → j < length ts) →
         IsClosed ts }
     ensures linked { (ms : List (Name × Module)) (hs : List (Name × Default)) (gs : List (ℕ × Name))
-            (roots : List Source) (ts : List Type') →
+        (roots : List Source) (ts : List Type') →
         AreNumbered ms hs gs roots ts →
         ((M x : Name) (N : Option Name) (j : ℕ) → Refers ms M N x (assigned.Type j) → j < length ts) →
         HaveNoPlace roots →

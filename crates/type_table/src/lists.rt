@@ -408,7 +408,9 @@ pub fn sound_shape(
     assigns: &str,
     shape: &Shape,
 ) -> Result<(), NameFault>
-    ensures { MatchResult result (λ _. IsSoundKind (kind_of shape.now)) (IsKindFault within.now assigns.now (kind_of shape.now)) }
+    ensures { MatchResult result
+        (λ _. IsSoundKind (kind_of shape.now))
+        (IsKindFault within.now assigns.now (kind_of shape.now)) }
 {
     match shape {
         Shape::Simple(given) => simple_list(alloc, within, assigns, given),

@@ -31,10 +31,10 @@ fn components_of(
 ) -> Result<Vec<Component>, AllocError>
     requires few { first + length members.items ≤ 65536 }
     ensures components { IfOk result
-            (λ v. map part_of v.items ≡ numbered first (type_members (map type_member_of members.items))) }
+        (λ v. map part_of v.items ≡ numbered first (type_members (map type_member_of members.items))) }
     ensures parts { OnOk result
-            (sources_of parts.new.items ≡ sources_of parts.old.items
-            ++ member_sources assignment list 0 (type_members (map type_member_of members.items))) }
+        (sources_of parts.new.items ≡ sources_of parts.old.items
+        ++ member_sources assignment list 0 (type_members (map type_member_of members.items))) }
 {
     let mut components = Vec::new(alloc);
     for Member {
@@ -80,11 +80,11 @@ fn meant_by(
     reference: &Reference,
 ) -> Result<usize, NameFault>
     ensures ok { IfOk result
-            (λ j. Refers names.now within.now (option_map string_bytes reference.now.module)
-            (string_bytes reference.now.name) (assigned.Type j)) }
+        (λ j. Refers names.now within.now (option_map string_bytes reference.now.module)
+        (string_bytes reference.now.name) (assigned.Type j)) }
     ensures fault { IfErr result
-            (IsNothing names.now within.now (option_map string_bytes reference.now.module)
-            (string_bytes reference.now.name)) }
+        (IsNothing names.now within.now (option_map string_bytes reference.now.module)
+        (string_bytes reference.now.name)) }
 {
     let name = reference.name.as_str();
     match names.refers(within, &reference.module, name) {
@@ -96,7 +96,7 @@ fn meant_by(
 /// Puts a type that is no member behind the others.
 fn put(inner: TypeSyntax, assignment: usize, parts: &mut VecDeque<Source>) -> Result<(), AllocError>
     ensures { OnOk result
-            (sources_of parts.new.items ≡ sources_of parts.old.items ++ inner_source assignment (type_tree_of inner)) }
+        (sources_of parts.new.items ≡ sources_of parts.old.items ++ inner_source assignment (type_tree_of inner)) }
 {
     parts.push_back(Source {
         syntax: inner,
@@ -120,8 +120,8 @@ fn take_apart(
     requires few { first + length (form_parts assignment number (form_seen form)) ≤ 65536 }
     ensures kind { IfOk result (λ s. IsKind names.now within.now first (form_seen form) (kind_of s)) }
     ensures parts { OnOk result
-            (sources_of parts.new.items ≡ sources_of parts.old.items
-            ++ form_parts assignment number (form_seen form)) }
+        (sources_of parts.new.items ≡ sources_of parts.old.items
+        ++ form_parts assignment number (form_seen form)) }
     ensures fault { IfErr result (IsUnknown names.now within.now (form_seen form)) }
 {
     match form {
@@ -149,7 +149,12 @@ fn take_apart(
 pub fn too_many(alloc: Global, header: &Header, assignment: &Assignment, at: usize) -> NameFault
     ensures { IsTypesLimit (name_at header.now.name) (name_at assignment.now.name) result }
 {
-    match spot(alloc, header.name.it.as_str(), assignment.name.it.as_str(), at) {
+    match spot(
+        alloc,
+        header.name.it.as_str(),
+        assignment.name.it.as_str(),
+        at,
+    ) {
         Ok(spot) => NameFault::Limit(Limit::Types, spot),
         Err(_) => NameFault::Memory,
     }
@@ -169,15 +174,15 @@ fn written_of(
     requires placed { (k : ℕ) (a : Assignment) → slice_get assignments.now k ≡ Some a → a.module < length headers.now }
     requires few { number + 1 + length parts.old.items ≤ 65536 }
     ensures top { IfOk result
-            (λ w. IsTop names.now (map header_of headers.now) (map assignment_of assignments.now)
-            (number + 1 + length parts.old.items) (source_of source) (type_of w)) }
+        (λ w. IsTop names.now (map header_of headers.now) (map assignment_of assignments.now)
+        (number + 1 + length parts.old.items) (source_of source) (type_of w)) }
     ensures parts { OnOk result
-            (sources_of parts.new.items ≡ sources_of parts.old.items
-            ++ parts_of source.assignment number (type_tree_of source.syntax)) }
+        (sources_of parts.new.items ≡ sources_of parts.old.items
+        ++ parts_of source.assignment number (type_tree_of source.syntax)) }
     ensures few { OnOk result (number + 1 + length parts.new.items ≤ 65536) }
     ensures fault { IfErr result
-            (IsSourceFault names.now (map header_of headers.now) (map assignment_of assignments.now) number
-            (number + 1 + length parts.old.items) (source_of source)) }
+        (IsSourceFault names.now (map header_of headers.now) (map assignment_of assignments.now) number
+        (number + 1 + length parts.old.items) (source_of source)) }
 {
     let assignment = &assignments[source.assignment];
     let header = &headers[assignment.module];
@@ -229,12 +234,12 @@ pub fn number_all(
     requires placed { (k : ℕ) (a : Assignment) → slice_get assignments.now k ≡ Some a → a.module < length headers.now }
     requires few { length roots.items ≤ 65536 }
     ensures ok { IfOk result
-            (λ v. AreNumbered names.now (map header_of headers.now) (map assignment_of assignments.now)
-            (sources_of roots.items) (types_of v.items)) }
+        (λ v. AreNumbered names.now (map header_of headers.now) (map assignment_of assignments.now)
+        (sources_of roots.items) (types_of v.items)) }
     ensures few { IfOk result (λ v. length v.items ≤ 65536) }
     ensures fault { IfErr result
-            (IsNumberingFault names.now (map header_of headers.now) (map assignment_of assignments.now)
-            (sources_of roots.items)) }
+        (IsNumberingFault names.now (map header_of headers.now) (map assignment_of assignments.now)
+        (sources_of roots.items)) }
 {
     let mut sources = roots;
     let mut types = Vec::new(alloc);

@@ -41,7 +41,7 @@ fn mark_members(
         k < length marks.old }
     ensures { (l : ListKind) (m : Bool) →
         OnOk result (Marks search (λ k. IsPart k (members l m (map part_of components.now)))
-            marks.old marks.new waiting.old.items waiting.new.items) }
+        marks.old marks.new waiting.old.items waiting.new.items) }
 {
     for component in components {
         mark(component.ty, search, marks, waiting)?;
@@ -69,7 +69,7 @@ fn mark_default(
 ) -> Result<(), AllocError>
     requires { HasDefault (part_of component.now) → component.now.ty < length marks.old }
     ensures { OnOk result (Marks search (λ j. HasDefault (part_of component.now) × (j ≡ component.now.ty))
-            marks.old marks.new waiting.old.items waiting.new.items) }
+        marks.old marks.new waiting.old.items waiting.new.items) }
 {
     if !has_default(component) {
         return Ok(());
@@ -87,7 +87,7 @@ fn mark_defaults(
 ) -> Result<(), AllocError>
     requires { (k : ℕ) → IsDefaulted (map part_of components.now) k → k < length marks.old }
     ensures { OnOk result (Marks search (IsDefaulted (map part_of components.now))
-            marks.old marks.new waiting.old.items waiting.new.items) }
+        marks.old marks.new waiting.old.items waiting.new.items) }
 {
     for component in components {
         mark_default(component, search, marks, waiting)?;
@@ -104,7 +104,7 @@ fn mark_parts(
 ) -> Result<(), AllocError>
     requires { (k : ℕ) → IsPart k (type_of written.now).kind → k < length marks.old }
     ensures { OnOk result (Marks search (λ k. IsPart k (type_of written.now).kind)
-            marks.old marks.new waiting.old.items waiting.new.items) }
+        marks.old marks.new waiting.old.items waiting.new.items) }
 {
     match &written.shape {
         Shape::Simple(_) => Ok(()),

@@ -23,7 +23,7 @@ pub fn core_of(types: &[Written], start: usize) -> Result<usize, usize>
     requires closed { IsClosed (types_of types.now) }
     requires there { start < length types.now }
     ensures { MatchResult result (λ c. IsCore (types_of types.now) start c)
-            (λ i. (i < length types.now) × IsCircular (types_of types.now) i) }
+        (λ i. (i < length types.now) × IsCircular (types_of types.now) i) }
 {
     let mut at = start;
     for step in 0..types.len() {
@@ -42,7 +42,7 @@ fn core_by(types: &[Written], cores: &[usize], start: usize) -> Result<usize, us
     requires known { AreKnown (types_of types.now) cores.now }
     requires there { start < length types.now }
     ensures { MatchResult result (λ c. (c < length types.now) × IsCore (types_of types.now) start c)
-            (λ i. (i < length types.now) × IsCircular (types_of types.now) i) }
+        (λ i. (i < length types.now) × IsCircular (types_of types.now) i) }
 {
     let mut at = start;
     for step in 0..types.len() {
@@ -91,7 +91,7 @@ pub fn unfold_all(types: &[Written], cores: &mut [usize]) -> Result<(), usize>
     requires long { length cores.old ≡ length types.now }
     requires unknown { AreUnknown (length types.now) cores.old }
     ensures { MatchResult result (λ _. AreCores (types_of types.now) cores.new)
-            (λ i. (i < length types.now) × IsCircular (types_of types.now) i) }
+        (λ i. (i < length types.now) × IsCircular (types_of types.now) i) }
 {
     for i in 0..types.len() {
         match core_by(types, cores, i) {

@@ -1,5 +1,5 @@
 -- Numbers of items, worked out: enumerations and what their items get.
-use Rattle.std.proofs.Common.{◌≡◌, ℕ, List, [], ◌∷◌, Some, None, refl}
+use Rattle.std.proofs.Common.{◌≡◌, ℕ, [], ◌∷◌, Some, None, refl}
 use Rattle.std.specs.Prelude.{ℤ, pos, negsuc}
 use Rattle.type_table.specs.Items.{Item, root_numbers, addition_numbers, numbers_of}
 
@@ -30,7 +30,8 @@ row_below_zero = refl
 
 -- `{a(2), ..., b(-7), c, d, e(9), f}`: c 0, d 1, f 10
 row_additions :
-    addition_numbers (given 97 (pos 2) ∷ []) (given 98 (negsuc 6) ∷ bare 99 ∷ bare 100 ∷ given 101 (pos 9) ∷ bare 102 ∷ [])
+    addition_numbers (given 97 (pos 2) ∷ [])
+    (given 98 (negsuc 6) ∷ bare 99 ∷ bare 100 ∷ given 101 (pos 9) ∷ bare 102 ∷ [])
     ≡ negsuc 6 ∷ pos 0 ∷ pos 1 ∷ pos 9 ∷ pos 10 ∷ []
 row_additions = refl
 

@@ -1,4 +1,4 @@
-use Rattle.std.proofs.Common.{◌≡◌, ◌<◌, ◌+◌, ◌^◌, suc, true, false, refl, sym, subst, ap, ◌∙◌, arith}
+use Rattle.std.proofs.Common.{◌≡◌, ◌<◌, ◌+◌, ◌^◌, suc, true, false, sym, subst, ap, ◌∙◌, arith}
 use mir.Syntax.{w128}
 use mir.Val.{to_z}
 use Rattle.std.specs.Prelude.{pos}

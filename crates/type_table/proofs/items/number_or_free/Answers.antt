@@ -1,7 +1,6 @@
-use Rattle.std.proofs.Common.{◌≡◌, ◌<◌, ◌^◌, ℕ, List, refl, sym, ap, ◌∙◌, arith}
-use Rattle.std.specs.Prelude.{ℤ, pos}
+use Rattle.std.proofs.Common.{◌≡◌, ◌<◌, ◌^◌, sym, ap, ◌∙◌, arith}
+use Rattle.std.specs.Prelude.{pos}
 use mir.Syntax.{w128}
-use mir.Val.{to_z}
 use Rattle.std.proofs.lemmas.Int.{to_z_pos}
 use Rattle.type_table.specs.Items.{free, number_or}
 use Rattle.type_table.proofs.Free.{free_is, one_free}

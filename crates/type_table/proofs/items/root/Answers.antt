@@ -1,4 +1,4 @@
-use Rattle.std.proofs.Common.{◌≡◌, ◌<◌, ◌+◌, ◌++◌, ◌^◌, ◌∷◌, [], suc, length, map, refl, sym, subst, ap, ◌∙◌, arith, rules}
+use Rattle.std.proofs.Common.{◌≡◌, ◌<◌, ◌++◌, ◌^◌, ◌∷◌, [], suc, length, map, sym, subst, ap, ◌∙◌, arith, rules}
 use Rattle.std.specs.Prelude.{pos}
 use mir.Syntax.{w128}
 use mir.Val.{SFits, to_z, of_z}

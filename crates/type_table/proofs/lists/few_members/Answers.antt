@@ -1,4 +1,4 @@
-use Rattle.std.proofs.Common.{◌≡◌, ◌+◌, ◌<◌, ◌≤◌, ℕ, length, drop, map, ap, inl, inr, arith}
+use Rattle.std.proofs.Common.{◌≡◌, ◌+◌, ◌<◌, ◌≤◌, length, drop, map, ap, inl, inr, arith}
 use Rattle.names.specs.declared.fault.Limit.TheVariants as limits
 use Rattle.names.specs.proving.Distinct.{drop_at, none_left}
 use Rattle.type_table.specs.Lists.{in_root, in_additions, root_count, addition_count}

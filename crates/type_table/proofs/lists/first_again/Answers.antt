@@ -1,5 +1,5 @@
-use Rattle.std.proofs.Common.{◌≡◌, ◌<◌, ◌≤◌, ℤ, length, get_or, Some, sym, subst, to_z, of_z, rules, arith}
-use Rattle.std.specs.Prelude.{slice_get, pos}
+use Rattle.std.proofs.Common.{get_or, sym, subst, to_z, of_z, rules}
+use Rattle.std.specs.Prelude.{pos}
 use mir.Syntax.{w128}
 use mir.Val.{SFits}
 use Rattle.std.specs.Ordering.{int_cmp}

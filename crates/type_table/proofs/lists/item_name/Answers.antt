@@ -1,8 +1,7 @@
-use Rattle.std.proofs.Common.{◌≡◌, ◌+◌, ◌-◌, ◌++◌, ◌≤◌, ◌<◌, ℕ, Some, length, map, sym, ap, ◌∙◌, arith}
+use Rattle.std.proofs.Common.{◌≡◌, ◌+◌, ◌-◌, ◌++◌, length, map, sym, ap, ◌∙◌, arith}
 use Rattle.std.specs.Prelude.{slice_get}
 use Rattle.std.proofs.lemmas.List.{length-map, map-append}
 use Rattle.trees.specs.Types.{item_of}
-use Rattle.trees.specs.Values.{name_at}
 use Rattle.names.specs.proving.Distinct.{left, right}
 use Rattle.type_table.specs.Items.{Item}
 use Rattle.type_table.specs.Seen.{root_of, more_of}

@@ -1,16 +1,15 @@
-use Rattle.std.proofs.Common.{◌≡◌, ◌<◌, ◌++◌, ℕ, ℤ, Some, None, length, map, sym, subst, ap, ◌∙◌, arith}
-use Rattle.std.specs.Prelude.{slice_get, MatchOption}
+use Rattle.std.proofs.Common.{◌≡◌, ◌<◌, ◌++◌, Some, length, map, sym, subst, ap, ◌∙◌, arith}
+use Rattle.std.specs.Prelude.{slice_get}
 use Rattle.std.proofs.lemmas.List.{length-map}
 use Rattle.std.proofs.lemmas.Option.{slice_get_within}
 use Rattle.trees.specs.Types.{an_enumerated, item_of}
 use Rattle.trees.specs.Values.{name_at}
-use Rattle.names.specs.declared.fault.Limit.TheVariants as limits
 use Rattle.names.specs.Modules.{AreDistinct, StandsTwice}
 use Rattle.type_table.specs.Items.{Item, additions_from, numbers_of, root_numbers}
 use Rattle.type_table.specs.Seen.{root_of, more_of, behind_marker}
 use Rattle.type_table.specs.Table.{simple}
 use Rattle.type_table.proofs.Counts.{more_long, numbers_long}
-use Rattle.type_table.proofs.ListFaults.{kind_again, kind_limit}
+use Rattle.type_table.proofs.ListFaults.{kind_again}
 use Rattle.type_table.proofs.lists.item_numbers_once.Goals as goal
 
 pub returns-in-Ok-None-clause-distinct : goal.returns-in-Ok-None-clause-distinct

@@ -1,5 +1,4 @@
-use Rattle.std.proofs.Common.{◌≡◌, ◌<◌, ◌≤◌, length, map, sym, subst, ap, ◌∙◌, arith}
-use Rattle.names.specs.Modules.{StandsIn, StandsTwice}
+use Rattle.std.proofs.Common.{◌<◌, ◌≤◌, length, map, ap, arith}
 use Rattle.type_table.specs.Seen.{part_of}
 use Rattle.type_table.specs.Table.{Part}
 use Rattle.type_table.specs.proving.Checks.{texts}

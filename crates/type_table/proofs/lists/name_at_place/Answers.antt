@@ -1,4 +1,3 @@
-use Rattle.std.proofs.Common.{◌<◌, length, arith}
 use Rattle.trees.specs.Types.{item_of}
 use Rattle.type_table.specs.Items.{Item}
 use Rattle.type_table.proofs.Fronts.{seen_at}

@@ -1,4 +1,4 @@
-use Rattle.std.proofs.Common.{◌≡◌, ℕ, ◌<◌, ◌≤◌, length, map, ap, inl, arith}
+use Rattle.std.proofs.Common.{ℕ, ◌<◌, ◌≤◌, length, map, ap, inl, arith}
 use Rattle.std.proofs.lemmas.List.{length-map}
 use Rattle.std.proofs.lemmas.Option.{slice_get_within}
 use Rattle.trees.specs.Values.{Name}

@@ -1,4 +1,4 @@
-use Rattle.std.proofs.Common.{◌≡◌, ℤ, ◌<◌, ◌≤◌, length, map, subst, ap, inl, arith, rules}
+use Rattle.std.proofs.Common.{ℤ, ◌<◌, ◌≤◌, length, map, subst, ap, inl, arith, rules}
 use mir.Syntax.{w128}
 use mir.Val.{SFits}
 use Rattle.std.proofs.lemmas.Int.{to_z-of_z}

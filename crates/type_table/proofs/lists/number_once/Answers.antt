@@ -1,4 +1,4 @@
-use Rattle.std.proofs.Common.{◌≡◌, sym, subst, ◌∙◌, to_z, of_z, rules}
+use Rattle.std.proofs.Common.{sym, subst, ◌∙◌, to_z, of_z, rules}
 use mir.Syntax.{w128}
 use mir.Val.{SFits}
 use Rattle.std.specs.Ordering.{int_cmp}

@@ -1,4 +1,4 @@
-use Rattle.std.proofs.Common.{◌≡◌, ℕ, ◌<◌, length}
+use Rattle.std.proofs.Common.{ℕ, ◌<◌, length}
 use Rattle.type_table.specs.proving.Cores.{IsKnown, AreKnown}
 use Rattle.type_table.specs.Seen.{types_of}
 use Rattle.type_table.specs.Table.{IsCore}

@@ -1,4 +1,4 @@
-use Rattle.std.proofs.Common.{◌≡◌, ◌<◌, ℕ, length, sym, subst, arith, below_more}
+use Rattle.std.proofs.Common.{◌≡◌, length, sym, subst, arith, below_more}
 use Rattle.type_table.specs.proving.Cores.{IsKnown, AreUnknown}
 use Rattle.type_table.specs.Seen.{types_of}
 use Rattle.type_table.proofs.Knowing.{known_first, all_known}
