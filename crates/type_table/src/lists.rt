@@ -1,7 +1,7 @@
 //! The lists in written types: their names and numbers are distinct, and no limit is passed.
 
 ghost use Rattle.std.specs.Prelude.{ℕ, ℤ, Bool, ◌≡◌, ◌<◌, ◌≤◌, ◌+◌, ◌++◌, ◌∷◌, [], Some, IfOk, IfErr, OnOk, MatchOption, MatchResult, length, map, slice_get};
-ghost use Rattle.trees.specs.Values.{name_at};
+ghost use Rattle.trees.specs.Values.{Name, name_at};
 ghost use Rattle.trees.specs.Types.{number_of, bit_of, item_of, plain_of, an_integer, a_bit_string, an_enumerated};
 ghost use Rattle.trees.specs.declared.types.ListKind.{ListKind as Kinds};
 ghost use Rattle.names.specs.Modules.{StandsIn, StandsTwice, AreDistinct};
@@ -102,17 +102,11 @@ fn place_once(
 }
 
 /// Named numbers have distinct names and distinct numbers (X.680, clauses 19.5 and 19.6).
-fn named_numbers(
-    alloc: Global,
-    within: &str,
-    assigns: &str,
-    given: &[NamedNumber],
-) -> Result<(), NameFault>
+fn named_numbers(alloc: Global, within: &str, given: &[NamedNumber]) -> Result<(), NameFault>
     ensures good { OnOk result (IsSoundPlain (an_integer (map number_of given.now))) }
-    ensures fault { IfErr result
-        (IsKindFault within.now assigns.now (simple (an_integer (map number_of given.now)))) }
+    ensures fault { (assigns : Name) →
+        IfErr result (IsKindFault within.now assigns (simple (an_integer (map number_of given.now)))) }
 {
-    let _assigns = assigns;
     let mut names = IndexSet::new(alloc);
     let mut numbers = BTreeSet::new(alloc);
     for item in given {
@@ -388,7 +382,7 @@ fn simple_list(alloc: Global, within: &str, assigns: &str, given: &Simple) -> Re
     ensures fault { IfErr result (IsKindFault within.now assigns.now (simple (plain_of given.now))) }
 {
     match given {
-        Simple::Integer(numbers) => named_numbers(alloc, within, assigns, numbers),
+        Simple::Integer(numbers) => named_numbers(alloc, within, numbers),
         Simple::BitString(bits) => named_bits(alloc, within, assigns, bits),
         Simple::Enumerated(items) => enumerated(alloc, within, assigns, items),
         Simple::Boolean => Ok(()),

@@ -32,21 +32,21 @@ loop-item-preserved c =
     }
 
 pub returns-in-Err-clause-fault : goal.returns-in-Err-clause-fault
-returns-in-Err-clause-fault c =
+returns-in-Err-clause-fault c = λ assigns.
     let gs = c.args.given.now in
     let i = c.loop-item.item-index in
     let l : i < length gs = omega arith in
-    kind_taken c.args.within.now c.args.assigns.now (simple (an_integer (map number_of gs))) (map (λ (n : Name × ℤ). n.0) (map number_of gs)) (texts c.loop-item.names.keys) i _ c.in-Err.fault (λ y t. inl t)
+    kind_taken c.args.within.now assigns (simple (an_integer (map number_of gs))) (map (λ (n : Name × ℤ). n.0) (map number_of gs)) (texts c.loop-item.names.keys) i _ c.in-Err.fault (λ y t. inl t)
     (seen_at (λ (n : Name × ℤ). n.0) number_of gs i c.item-item.result l c.item-item.is) c.loop-item.invariant.names c.in-Err.ensures.fault
 
 pub returns-in-Err-number_once-clause-fault : goal.returns-in-Err-number_once-clause-fault
-returns-in-Err-number_once-clause-fault c =
+returns-in-Err-number_once-clause-fault c = λ assigns.
     let gs = c.args.given.now in
     let i = c.loop-item.item-index in
     let l : i < length gs = omega arith in
     let f : SFits w128 c.item-item.result.number = search rules in
     let e = subst (λ z. IsNumberFault c.args.within.now (name_at c.item-item.result.name) z c.loop-item.numbers.keys c.in-Err-number_once.fault) (to_z-of_z w128 c.item-item.result.number f) c.in-Err-number_once.ensures.fault in
-    kind_numbered c.args.within.now c.args.assigns.now (simple (an_integer (map number_of gs))) (map (λ (n : Name × ℤ). n.0) (map number_of gs)) (map (λ (n : Name × ℤ). n.1) (map number_of gs)) c.loop-item.numbers.keys i _ _ c.in-Err-number_once.fault (λ y t. t)
+    kind_numbered c.args.within.now assigns (simple (an_integer (map number_of gs))) (map (λ (n : Name × ℤ). n.0) (map number_of gs)) (map (λ (n : Name × ℤ). n.1) (map number_of gs)) c.loop-item.numbers.keys i _ _ c.in-Err-number_once.fault (λ y t. t)
     (seen_at (λ (n : Name × ℤ). n.0) number_of gs i c.item-item.result l c.item-item.is) (seen_at (λ (n : Name × ℤ). n.1) number_of gs i c.item-item.result l c.item-item.is) c.loop-item.invariant.numbers e
 
 pub returns-clause-good : goal.returns-clause-good
