@@ -1,5 +1,4 @@
 -- A constraint takes something of what is read.
-use Rattle.std.proofs.Common.{◌≡◌, ℕ}
 use Rattle.grammar.specs.Laws.{nowhere}
 use Rattle.grammar.specs.Manies.{Consumes, consumes}
 use Rattle.grammar.specs.Places.{small, bounded}

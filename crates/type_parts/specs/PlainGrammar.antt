@@ -1,5 +1,5 @@
 -- The grammar of what types are made of that holds no type (X.680, clauses 17 to 31).
-use Rattle.std.specs.Prelude.{◌≡◌, ◌⊎◌, ◌<◌, ℕ, ℤ, pos, neg_ℤ, Bool, true, false, IsTrue, List, [], ◌∷◌, Option, Some, None}
+use Rattle.std.specs.Prelude.{◌≡◌, ◌⊎◌, ◌<◌, ℕ, ℤ, pos, neg_ℤ, Bool, IsTrue, List, [], ◌∷◌, Option, Some, None}
 use Rattle.text.specs.declared.token.Mark.TheVariants.{Dot, Minus, CloseBracket}
 use Rattle.text.specs.declared.reserved.Word.{Word as Word'}
 use Rattle.text.specs.declared.reserved.Word.TheVariants as words
@@ -95,7 +95,8 @@ abbrev pub ref : Grammar FormTree
 ref = (token TypeRef ∙ optional (behind (Mark Dot) (token TypeRef))) ⇒ referred
 
 abbrev pub keyword : Grammar Keyword
-keyword = optional (word words.Implicit ⇒ (λ _. keywords.Implicit) ∣ word words.Explicit ⇒ (λ _. keywords.Explicit)) ⇒ keyword_of
+keyword =
+    optional (word words.Implicit ⇒ (λ _. keywords.Implicit) ∣ word words.Explicit ⇒ (λ _. keywords.Explicit)) ⇒ keyword_of
 
 abbrev pub presence : Grammar Tree → Grammar PresenceTree
 presence v = optional (word words.Optional ⇒ (λ _. may_be_absent) ∣ behind (Word words.Default) v ⇒ default) ⇒ present
@@ -139,7 +140,8 @@ module _ (fits : ℕ → Bool) where
   integer n = (word words.Integer ∙ optional (opens n (braces (listed named_number)))) ⇒ (λ p. integer_with p.1)
 
   abbrev pub bit_string : ℕ → Grammar Plain
-  bit_string n = (word words.Bit ∙ (word words.String ∙ optional (opens n (braces (listed named_bit))))) ⇒ (λ p. bits_with p.1.1)
+  bit_string n =
+      (word words.Bit ∙ (word words.String ∙ optional (opens n (braces (listed named_bit))))) ⇒ (λ p. bits_with p.1.1)
 
   abbrev pub enumerated : ℕ → Grammar Plain
   enumerated n = (word words.Enumerated ∙ opens n (braces (extensible item item))) ⇒ (λ p. enumerated_of p.1)

@@ -1,5 +1,5 @@
 -- Reading what types are made of that holds no type, from left to right.
-use Rattle.std.specs.Prelude.{◌≡◌, ◌<◌, ◌^◌, ℕ, ℤ, Bool, true, false, nat_lt, List, [], ◌∷◌, length, Option, Some, None, Ok, Err}
+use Rattle.std.specs.Prelude.{◌≡◌, ◌<◌, ◌^◌, ℕ, ℤ, Bool, true, false, nat_lt, List, ◌∷◌, length, Option, Some, None, Ok, Err}
 use Rattle.std.proofs.Common.{refl, arith}
 use Rattle.std.proofs.lemmas.Bool.Decides.{nat_tests}
 use Rattle.text.specs.declared.token.Mark.TheVariants.{Dot, Minus, OpenParenthesis, CloseBracket}
@@ -89,7 +89,8 @@ low_number_at ts = stop ts
 unfoldable pub low_end_at : Reader ℕ
 low_end_at ts = low_number_at ts >>= λ n. bracket_at n.1 >>= λ e. Ok (n.0, e.1)
 
--- the numbers of tags that are no fault of a limit: those below 2 to the 31, and all where numbers are not limited to 2 to the 127
+-- the numbers of tags that are no fault of a limit: those below 2 to the 31, and all
+-- where numbers are not limited to 2 to the 127
 abbrev pub tag_fits : (ℕ → Bool) → ℕ → Bool
 tag_fits fits n = bor (nat_lt n 2147483648) (fits (2 ^ 127))
 
@@ -146,7 +147,8 @@ module _ (fits : ℕ → Bool) where
 
   -- behind INTEGER, where n more things may be open
   unfoldable pub integer_at : ℕ → Reader Plain
-  integer_at n ts = perhaps is_lbrace (braces_at n (listed_at named_number_at)) ts >>= λ ns. Ok (integer_with ns.0, ns.1)
+  integer_at n ts =
+      perhaps is_lbrace (braces_at n (listed_at named_number_at)) ts >>= λ ns. Ok (integer_with ns.0, ns.1)
 
   -- behind BIT STRING
   unfoldable pub bits_at : ℕ → Reader Plain

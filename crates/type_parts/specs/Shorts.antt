@@ -1,11 +1,20 @@
--- The readers of numbers leave no more than they are given.
+-- The readers of names with numbers leave no more than they are given, and what a name in memory stands for.
 use Rattle.std.proofs.Common.{ℕ, ◌≤◌, Bool, List, [], ◌∷◌, length, Ok, arith}
 use Rattle.text.specs.declared.token.Mark.TheVariants.{Minus}
 use Rattle.grammar.specs.Lexeme.{Lexeme, Number, Mark}
 use Rattle.grammar.specs.Rules.{number_at}
-use Rattle.grammar.specs.Short.{Short, Leaves, less, fitting_leaves}
+use Rattle.grammar.specs.Short.{Short, less, fitting_leaves}
 use Rattle.type_parts.specs.PlainGrammar.{positive}
-use Rattle.type_parts.specs.PlainReading.{negative_at, signed_at}
+use Rattle.std.specs.Prelude.{option_map, string_bytes}
+use Rattle.grammar.specs.Reading.{is_open, parens_at}
+use Rattle.grammar.specs.Short.{named_short, optional_short, parens_short}
+use Rattle.trees.specs.declared.place.Reference.{Reference}
+use Rattle.trees.specs.Types.{FormTree, a_reference}
+use Rattle.type_parts.specs.PlainReading.{negative_at, signed_at, named_number_at, named_bit_at, item_at}
+
+-- the type that is named so
+abbrev pub reference_of : Reference → FormTree
+reference_of r = a_reference (option_map string_bytes r.module) (string_bytes r.name)
 
 one_less : (t : Lexeme) (ts : List Lexeme) → length ts ≤ length (t ∷ ts)
 one_less t ts = omega arith
@@ -28,3 +37,13 @@ signed_short fits [] = tt
 signed_short fits (Number n ∷ ts) = fitting_leaves (length (Number n ∷ ts)) (fits n) (Number n ∷ ts) (Ok (positive n, ts)) (one_less (Number n) ts)
 signed_short fits (Mark Minus ∷ ts) = less (length ts) (length (Mark Minus ∷ ts)) (negative_at fits ts) (one_less (Mark Minus) ts) (negative_short fits ts)
 signed_short fits (t ∷ ts) = tt
+
+pub named_number_short : (fits : ℕ → Bool) → Short (named_number_at fits)
+named_number_short fits = named_short (parens_at (signed_at fits)) (parens_short (signed_at fits) (signed_short fits))
+
+pub named_bit_short : (fits : ℕ → Bool) → Short (named_bit_at fits)
+named_bit_short fits = named_short (parens_at (number_at fits)) (parens_short (number_at fits) (number_short fits))
+
+pub item_short : (fits : ℕ → Bool) → Short (item_at fits)
+item_short fits =
+    named_short _ (optional_short (parens_at (signed_at fits)) (parens_short (signed_at fits) (signed_short fits)) is_open)

@@ -1,11 +1,11 @@
 -- What is owed for the parts of types that hold no type.
-use Rattle.std.proofs.Common.{◌≡◌, ℕ, ℤ, ◌+◌, ◌≤◌, Bool, true, false, List, [], ◌∷◌, Option, Some, None, Ok, Err, refl, sym, ap, subst, ◌∙◌ as ◌⋆◌}
-use Rattle.text.specs.declared.token.Mark.TheVariants.{Comma, OpenBrace, OpenParenthesis, Dot, Minus}
+use Rattle.std.proofs.Common.{◌≡◌, ℕ, ℤ, ◌+◌, ◌≤◌, Bool, true, false, List, [], ◌∷◌, Option, Ok, Err, refl, ap}
+use Rattle.text.specs.declared.token.Mark.TheVariants.{OpenBrace, Dot, Minus}
 use Rattle.text.specs.declared.reserved.Word.TheVariants as words
 use Rattle.asn_base.specs.declared.tag.Tag.{Tag}
-use Rattle.grammar.specs.Lexeme.{Lexeme, TypeRef, Ident, Number, Word, Mark}
-use Rattle.grammar.specs.Grammar.{Grammar, number_of, word, ◌∙◌, ◌⇒◌, optional, listed, parens, extensible}
-use Rattle.grammar.specs.Reading.{Limit, Nesting, Integer, TagNumber as TagLimit, Read, Reader, ◌>>=◌, is_open, parens_at, inside_at, braces_at, listed_at, named_at, extensible_at}
+use Rattle.grammar.specs.Lexeme.{Lexeme, TypeRef, Number, Word, Mark}
+use Rattle.grammar.specs.Grammar.{number_of, word, ◌∙◌, ◌⇒◌, listed, parens, extensible}
+use Rattle.grammar.specs.Reading.{Limit, Nesting, Integer, Read, Reader, ◌>>=◌, is_open, parens_at, inside_at, braces_at, listed_at, extensible_at}
 use Rattle.grammar.specs.Laws.{then_read, after_read}
 use Rattle.grammar.specs.Lists.{no_lexeme, is_ident}
 use Rattle.grammar.specs.Numbers.{Past}
@@ -15,14 +15,13 @@ use Rattle.grammar.specs.Rules.{Owes, OwesLoosely, Rules, asked, either, rule_to
 use Rattle.grammar.specs.Openings.{loosely, loose_read, rule_named, rule_both, is_lbrace, inside, rule_inside, rule_in_braces}
 use Rattle.grammar.specs.Extensions.{rule_extensible}
 use Rattle.grammar.specs.Single.{module_name_at, is_typeref, typeref_is}
-use Rattle.trees.specs.Values.{Name, Tree}
+use Rattle.trees.specs.Values.{Name}
 use Rattle.trees.specs.declared.types.Keyword.{Keyword}
 use Rattle.trees.specs.declared.types.Keyword.TheVariants as keywords
-use Rattle.trees.specs.Types.{PresenceTree, optional as may_be_absent, default, Plain, an_octet_string, an_object_identifier, FormTree}
-use Rattle.trees.specs.Constraints.{ConstraintTree}
-use Rattle.type_parts.specs.PlainGrammar.{referred, integer_with, bits_with, enumerated_of, present, keyword_of, positive, negative, TagNumber, application_tag, private_tag, context_tag, ref, keyword, presence, signed, named_number, named_bit, item, integer, bit_string, enumerated, simple, tag_end, tag}
-use Rattle.type_parts.specs.PlainReading.{tag_fits, string_at, identifier_at, one_word_at, type_in_at, ref_at, keyword_at, default_at, presence_at, tag_end_at, application_at, private_at, context_at, tag_at, object_at, octets_at, negative_at, signed_at, named_number_at, named_bit_at, item_at, integer_at, bits_at, bit_string_at, enumerated_at, simple_at}
-use Rattle.type_parts.specs.TypeLexemes.{is_object_word, is_octet_word, is_bit_word, is_integer_word, is_enumerated_word, is_implicit_word, is_explicit_word, is_application_word, is_private_word, is_optional_word, is_default_word, is_dot, is_minus, rule_object_word, rule_octet_word, rule_bit_word, rule_integer_word, rule_string, rule_identifier, rule_enumerated_word, rule_implicit_word, rule_explicit_word, rule_application_word, rule_private_word, rule_optional_word, rule_default_word, rule_dot, rule_minus, digits_at, rule_digits, rule_bracket}
+use Rattle.trees.specs.Types.{Plain, an_octet_string, an_object_identifier, FormTree}
+use Rattle.type_parts.specs.PlainGrammar.{referred, integer_with, bits_with, enumerated_of, keyword_of, positive, negative, TagNumber, application_tag, private_tag, context_tag, ref, keyword, signed, named_number, named_bit, item, integer, bit_string, enumerated, simple, tag_end, tag}
+use Rattle.type_parts.specs.PlainReading.{string_at, identifier_at, one_word_at, type_in_at, ref_at, keyword_at, tag_end_at, application_at, private_at, context_at, tag_at, object_at, octets_at, negative_at, signed_at, named_number_at, named_bit_at, item_at, integer_at, bits_at, bit_string_at, enumerated_at, simple_at}
+use Rattle.type_parts.specs.TypeLexemes.{is_object_word, is_octet_word, is_bit_word, is_integer_word, is_enumerated_word, is_implicit_word, is_explicit_word, is_application_word, is_private_word, is_dot, is_minus, rule_object_word, rule_octet_word, rule_bit_word, rule_integer_word, rule_string, rule_identifier, rule_enumerated_word, rule_implicit_word, rule_explicit_word, rule_application_word, rule_private_word, rule_dot, rule_minus, digits_at, rule_digits, rule_bracket}
 use Rattle.type_parts.specs.TypeWords.{is_type_word, rule_one_word, TagRule, rule_tag_number}
 
 -- ---- parts that hold no number

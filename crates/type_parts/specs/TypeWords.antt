@@ -5,7 +5,7 @@ use Rattle.std.proofs.lemmas.Bool.Decides.{nat_tests}
 use Rattle.std.specs.Prelude.{nat_lt}
 use Rattle.text.specs.declared.reserved.Word.{Word as Word'}
 use Rattle.grammar.specs.Lexeme.{Lexeme, Number, Word}
-use Rattle.grammar.specs.Reading.{Integer, Limit, TagNumber as TagLimit, Beyond}
+use Rattle.grammar.specs.Reading.{Limit, TagNumber as TagLimit, Beyond}
 use Rattle.grammar.specs.Laws.{more, Sound, Passes, Stands}
 use Rattle.grammar.specs.Lists.{no_lexeme, head_is}
 use Rattle.grammar.specs.Numbers.{Past}

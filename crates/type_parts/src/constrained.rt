@@ -42,7 +42,8 @@ fn constraints<'a>(
     tokens: &'a [Token],
 ) -> Result<(Vec<ConstraintSyntax>, &'a [Token]), ReadError>
     requires tokens { AreTokens text.now tokens.now }
-    ensures read { Gives (λ x. (map constraint_of x.0.items, lexemes text.now x.1.now)) result (many_at is_open (constraint_at small) (length (lexemes text.now tokens.now)) (lexemes text.now tokens.now)) }
+    ensures read { Gives (λ x. (map constraint_of x.0.items, lexemes text.now x.1.now)) result
+        (many_at is_open (constraint_at small) (length (lexemes text.now tokens.now)) (lexemes text.now tokens.now)) }
     ensures rest { IfOk result (λ x. AreTokens text.now x.1.now) }
 {
     crate::law::parts_are_read();
@@ -64,7 +65,8 @@ pub fn behind_type<'a>(
     tokens: &'a [Token],
 ) -> Result<(Vec<ConstraintSyntax>, &'a [Token]), ReadError>
     requires tokens { AreTokens text.now tokens.now }
-    ensures read { Gives (λ x. (map constraint_of x.0.items, lexemes text.now x.1.now)) result (constraints_at small (lexemes text.now tokens.now)) }
+    ensures read { Gives (λ x. (map constraint_of x.0.items, lexemes text.now x.1.now)) result
+        (constraints_at small (lexemes text.now tokens.now)) }
     ensures rest { IfOk result (λ x. AreTokens text.now x.1.now) }
 {
     constraints(alloc, text, tokens)
@@ -78,7 +80,8 @@ fn some_size<'a>(
     tokens: &'a [Token],
 ) -> Result<(Option<ConstraintSyntax>, &'a [Token]), ReadError>
     requires tokens { AreTokens text.now tokens.now }
-    ensures read { Gives (λ x. (option_map constraint_of x.0, lexemes text.now x.1.now)) result (some_size_at small (lexemes text.now tokens.now)) }
+    ensures read { Gives (λ x. (option_map constraint_of x.0, lexemes text.now x.1.now)) result
+        (some_size_at small (lexemes text.now tokens.now)) }
     ensures rest { IfOk result (λ x. AreTokens text.now x.1.now) }
 {
     let (size, rest) = size(alloc, text, tokens)?;
@@ -93,7 +96,8 @@ fn size_in_parens<'a>(
     tokens: &'a [Token],
 ) -> Result<(Option<ConstraintSyntax>, &'a [Token]), ReadError>
     requires tokens { AreTokens text.now tokens.now }
-    ensures read { Gives (λ x. (option_map constraint_of x.0, lexemes text.now x.1.now)) result (size_in_parens_at small (lexemes text.now tokens.now)) }
+    ensures read { Gives (λ x. (option_map constraint_of x.0, lexemes text.now x.1.now)) result
+        (size_in_parens_at small (lexemes text.now tokens.now)) }
     ensures rest { IfOk result (λ x. AreTokens text.now x.1.now) }
 {
     let rest = open(text, tokens)?;
@@ -109,7 +113,8 @@ pub fn list_size<'a>(
     tokens: &'a [Token],
 ) -> Result<(Option<ConstraintSyntax>, &'a [Token]), ReadError>
     requires tokens { AreTokens text.now tokens.now }
-    ensures read { Gives (λ x. (option_map constraint_of x.0, lexemes text.now x.1.now)) result (list_size_at small (lexemes text.now tokens.now)) }
+    ensures read { Gives (λ x. (option_map constraint_of x.0, lexemes text.now x.1.now)) result
+        (list_size_at small (lexemes text.now tokens.now)) }
     ensures rest { IfOk result (λ x. AreTokens text.now x.1.now) }
 {
     match tokens {

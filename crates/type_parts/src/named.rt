@@ -20,13 +20,10 @@ pub struct NumberPart;
 impl<'t> Part<'t> for NumberPart {
     ghost use Rattle.std.specs.Prelude.{ℤ};
     ghost use Rattle.grammar.specs.Places.{small};
-    ghost use Rattle.grammar.specs.Short.{named_short, parens_short};
     ghost use Rattle.trees.specs.Values.{Name};
     ghost use Rattle.trees.specs.Types.{number_of};
     ghost use Rattle.type_parts.specs.PlainReading.{named_number_at};
-    ghost use Rattle.type_parts.specs.Shorts.{signed_short};
-    ghost use Rattle.type_parts.specs.PlainReading.{signed_at};
-    ghost use Rattle.grammar.specs.Reading.{parens_at};
+    ghost use Rattle.type_parts.specs.Shorts.{named_number_short};
 
     type Tree = NamedNumber;
 
@@ -38,7 +35,7 @@ impl<'t> Part<'t> for NumberPart {
 
     ghost is_ready = { λ _ _. Unit {0} };
 
-    ghost is_short = { λ _ _ _. named_short (parens_at (signed_at small)) (parens_short (signed_at small) (signed_short small)) };
+    ghost is_short = { λ _ _ _. named_number_short small };
 
     fn read(
         &self,
@@ -67,13 +64,10 @@ pub struct BitPart;
 impl<'t> Part<'t> for BitPart {
     ghost use Rattle.std.specs.Prelude.{ℕ};
     ghost use Rattle.grammar.specs.Places.{small};
-    ghost use Rattle.grammar.specs.Short.{named_short, parens_short};
     ghost use Rattle.trees.specs.Values.{Name};
     ghost use Rattle.trees.specs.Types.{bit_of};
     ghost use Rattle.type_parts.specs.PlainReading.{named_bit_at};
-    ghost use Rattle.type_parts.specs.Shorts.{number_short};
-    ghost use Rattle.grammar.specs.Reading.{parens_at};
-    ghost use Rattle.grammar.specs.Rules.{number_at};
+    ghost use Rattle.type_parts.specs.Shorts.{named_bit_short};
 
     type Tree = NamedBit;
 
@@ -85,7 +79,7 @@ impl<'t> Part<'t> for BitPart {
 
     ghost is_ready = { λ _ _. Unit {0} };
 
-    ghost is_short = { λ _ _ _. named_short (parens_at (number_at small)) (parens_short (number_at small) (number_short small)) };
+    ghost is_short = { λ _ _ _. named_bit_short small };
 
     fn read(
         &self,
@@ -114,14 +108,10 @@ pub struct ItemPart;
 impl<'t> Part<'t> for ItemPart {
     ghost use Rattle.std.specs.Prelude.{ℤ, Option};
     ghost use Rattle.grammar.specs.Places.{small};
-    ghost use Rattle.grammar.specs.Short.{named_short, optional_short, parens_short};
     ghost use Rattle.trees.specs.Values.{Name};
     ghost use Rattle.trees.specs.Types.{item_of};
     ghost use Rattle.type_parts.specs.PlainReading.{item_at};
-    ghost use Rattle.type_parts.specs.Shorts.{signed_short};
-    ghost use Rattle.type_parts.specs.PlainReading.{signed_at};
-    ghost use Rattle.grammar.specs.Parts.{perhaps};
-    ghost use Rattle.grammar.specs.Reading.{is_open, parens_at};
+    ghost use Rattle.type_parts.specs.Shorts.{item_short};
 
     type Tree = EnumeratedItem;
 
@@ -133,7 +123,7 @@ impl<'t> Part<'t> for ItemPart {
 
     ghost is_ready = { λ _ _. Unit {0} };
 
-    ghost is_short = { λ _ _ _. named_short (perhaps is_open (parens_at (signed_at small))) (optional_short (parens_at (signed_at small)) (parens_short (signed_at small) (signed_short small)) is_open) };
+    ghost is_short = { λ _ _ _. item_short small };
 
     fn read(
         &self,
@@ -166,7 +156,8 @@ pub fn integer<'t>(
     depth: usize,
 ) -> Result<(Simple, &'t [Token]), ReadError>
     requires tokens { AreTokens text.now tokens.now }
-    ensures read { Gives (λ x. (plain_of x.0, lexemes text.now x.1.now)) result (integer_at small depth (lexemes text.now tokens.now)) }
+    ensures read { Gives (λ x. (plain_of x.0, lexemes text.now x.1.now)) result
+        (integer_at small depth (lexemes text.now tokens.now)) }
     ensures rest { IfOk result (λ x. AreTokens text.now x.1.now) }
 {
     let part = Listed { part: NumberPart };
@@ -189,7 +180,8 @@ pub fn bits<'t>(
     depth: usize,
 ) -> Result<(Simple, &'t [Token]), ReadError>
     requires tokens { AreTokens text.now tokens.now }
-    ensures read { Gives (λ x. (plain_of x.0, lexemes text.now x.1.now)) result (bits_at small depth (lexemes text.now tokens.now)) }
+    ensures read { Gives (λ x. (plain_of x.0, lexemes text.now x.1.now)) result
+        (bits_at small depth (lexemes text.now tokens.now)) }
     ensures rest { IfOk result (λ x. AreTokens text.now x.1.now) }
 {
     let part = Listed { part: BitPart };
@@ -212,7 +204,8 @@ pub fn enumerated<'t>(
     depth: usize,
 ) -> Result<(Simple, &'t [Token]), ReadError>
     requires tokens { AreTokens text.now tokens.now }
-    ensures read { Gives (λ x. (plain_of x.0, lexemes text.now x.1.now)) result (enumerated_at small depth (lexemes text.now tokens.now)) }
+    ensures read { Gives (λ x. (plain_of x.0, lexemes text.now x.1.now)) result
+        (enumerated_at small depth (lexemes text.now tokens.now)) }
     ensures rest { IfOk result (λ x. AreTokens text.now x.1.now) }
 {
     let part = ExtensibleList {

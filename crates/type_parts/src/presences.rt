@@ -24,7 +24,8 @@ fn default_value<'a>(
     depth: usize,
 ) -> Result<(PresenceSyntax, &'a [Token]), ReadError>
     requires tokens { AreTokens text.now tokens.now }
-    ensures read { Gives (λ x. (presence_of x.0, lexemes text.now x.1.now)) result (default_at (value_at small depth) (lexemes text.now tokens.now)) }
+    ensures read { Gives (λ x. (presence_of x.0, lexemes text.now x.1.now)) result
+        (default_at (value_at small depth) (lexemes text.now tokens.now)) }
     ensures rest { IfOk result (λ x. AreTokens text.now x.1.now) }
 {
     let (value, rest) = value(alloc, text, tokens, depth)?;
@@ -40,7 +41,8 @@ pub fn presence<'a>(
     depth: usize,
 ) -> Result<(PresenceSyntax, &'a [Token]), ReadError>
     requires tokens { AreTokens text.now tokens.now }
-    ensures read { Gives (λ x. (presence_of x.0, lexemes text.now x.1.now)) result (presence_at (value_at small depth) (lexemes text.now tokens.now)) }
+    ensures read { Gives (λ x. (presence_of x.0, lexemes text.now x.1.now)) result
+        (presence_at (value_at small depth) (lexemes text.now tokens.now)) }
     ensures rest { IfOk result (λ x. AreTokens text.now x.1.now) }
 {
     match tokens {

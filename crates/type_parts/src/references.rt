@@ -1,11 +1,11 @@
 //! Reading the names of types.
 
-ghost use Rattle.std.specs.Prelude.{◌≡◌, option_map, string_bytes, IfOk, slice_range};
+ghost use Rattle.std.specs.Prelude.{◌≡◌, IfOk, slice_range};
 ghost use Rattle.text.specs.declared.token.TokenKind.TheVariants as kinds;
 ghost use Rattle.grammar.specs.Lexeme.{lexemes};
 ghost use Rattle.kernel.specs.Given.{Gives, IsTokenOf, AreTokens};
-ghost use Rattle.trees.specs.Types.{a_reference};
 ghost use Rattle.type_parts.specs.PlainReading.{type_in_at, ref_at};
+ghost use Rattle.type_parts.specs.Shorts.{reference_of};
 
 use kernel::ReadError;
 use kernel::decode::name_of;
@@ -24,7 +24,7 @@ fn type_in<'a>(
     requires tokens { AreTokens text.now tokens.now }
     requires before { IsTokenOf text.now module_name }
     requires name { module_name.kind ≡ kinds.TypeReference }
-    ensures read { Gives (λ x. (a_reference (option_map string_bytes x.0.«module») (string_bytes x.0.name), lexemes text.now x.1.now)) result
+    ensures read { Gives (λ x. (reference_of x.0, lexemes text.now x.1.now)) result
         (type_in_at (slice_range text.now module_name.span.start module_name.span.end) (lexemes text.now tokens.now)) }
     ensures rest { IfOk result (λ x. AreTokens text.now x.1.now) }
 {
@@ -56,7 +56,7 @@ pub fn reference<'a>(
     requires tokens { AreTokens text.now tokens.now }
     requires before { IsTokenOf text.now first }
     requires name { first.kind ≡ kinds.TypeReference }
-    ensures read { Gives (λ x. (a_reference (option_map string_bytes x.0.«module») (string_bytes x.0.name), lexemes text.now x.1.now)) result
+    ensures read { Gives (λ x. (reference_of x.0, lexemes text.now x.1.now)) result
         (ref_at (slice_range text.now first.span.start first.span.end) (lexemes text.now tokens.now)) }
     ensures rest { IfOk result (λ x. AreTokens text.now x.1.now) }
 {

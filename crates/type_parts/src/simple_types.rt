@@ -75,7 +75,8 @@ fn type_of(word: Word) -> Option<Simple>
 #[tactic(auto, unfolding(crate::specs::PlainReading::one_word_at))]
 fn one_word<'a>(text: &[u8], tokens: &'a [Token]) -> Result<(Simple, &'a [Token]), ReadError>
     requires tokens { AreTokens text.now tokens.now }
-    ensures read { Gives (λ x. (plain_of x.0, lexemes text.now x.1.now)) result (one_word_at (lexemes text.now tokens.now)) }
+    ensures read { Gives (λ x. (plain_of x.0, lexemes text.now x.1.now)) result
+        (one_word_at (lexemes text.now tokens.now)) }
     ensures rest { IfOk result (λ x. AreTokens text.now x.1.now) }
 {
     match tokens {
@@ -97,7 +98,8 @@ fn one_word<'a>(text: &[u8], tokens: &'a [Token]) -> Result<(Simple, &'a [Token]
 #[tactic(auto, unfolding(crate::specs::PlainReading::object_at))]
 fn object<'a>(text: &[u8], tokens: &'a [Token]) -> Result<(Simple, &'a [Token]), ReadError>
     requires tokens { AreTokens text.now tokens.now }
-    ensures read { Gives (λ x. (plain_of x.0, lexemes text.now x.1.now)) result (object_at (lexemes text.now tokens.now)) }
+    ensures read { Gives (λ x. (plain_of x.0, lexemes text.now x.1.now)) result
+        (object_at (lexemes text.now tokens.now)) }
     ensures rest { IfOk result (λ x. AreTokens text.now x.1.now) }
 {
     let rest = identifier(text, tokens)?;
@@ -108,7 +110,8 @@ fn object<'a>(text: &[u8], tokens: &'a [Token]) -> Result<(Simple, &'a [Token]),
 #[tactic(auto, unfolding(crate::specs::PlainReading::octets_at))]
 fn octets<'a>(text: &[u8], tokens: &'a [Token]) -> Result<(Simple, &'a [Token]), ReadError>
     requires tokens { AreTokens text.now tokens.now }
-    ensures read { Gives (λ x. (plain_of x.0, lexemes text.now x.1.now)) result (octets_at (lexemes text.now tokens.now)) }
+    ensures read { Gives (λ x. (plain_of x.0, lexemes text.now x.1.now)) result
+        (octets_at (lexemes text.now tokens.now)) }
     ensures rest { IfOk result (λ x. AreTokens text.now x.1.now) }
 {
     let rest = string(text, tokens)?;
@@ -124,7 +127,8 @@ fn bit_string<'a>(
     depth: usize,
 ) -> Result<(Simple, &'a [Token]), ReadError>
     requires tokens { AreTokens text.now tokens.now }
-    ensures read { Gives (λ x. (plain_of x.0, lexemes text.now x.1.now)) result (bit_string_at small depth (lexemes text.now tokens.now)) }
+    ensures read { Gives (λ x. (plain_of x.0, lexemes text.now x.1.now)) result
+        (bit_string_at small depth (lexemes text.now tokens.now)) }
     ensures rest { IfOk result (λ x. AreTokens text.now x.1.now) }
 {
     let rest = string(text, tokens)?;
@@ -140,7 +144,8 @@ pub fn simple<'a>(
     depth: usize,
 ) -> Result<(Simple, &'a [Token]), ReadError>
     requires tokens { AreTokens text.now tokens.now }
-    ensures read { Gives (λ x. (plain_of x.0, lexemes text.now x.1.now)) result (simple_at small depth (lexemes text.now tokens.now)) }
+    ensures read { Gives (λ x. (plain_of x.0, lexemes text.now x.1.now)) result
+        (simple_at small depth (lexemes text.now tokens.now)) }
     ensures rest { IfOk result (λ x. AreTokens text.now x.1.now) }
 {
     let [first, rest @ ..] = tokens else {

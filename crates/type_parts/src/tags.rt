@@ -77,7 +77,8 @@ fn end<'a>(text: &[u8], tokens: &'a [Token]) -> Result<(u32, &'a [Token]), ReadE
 /// Reads a tag of the application class, behind its word.
 fn application<'a>(text: &[u8], tokens: &'a [Token]) -> Result<(Tag, &'a [Token]), ReadError>
     requires tokens { AreTokens text.now tokens.now }
-    ensures read { Gives (λ x. (x.0, lexemes text.now x.1.now)) result (application_at small (lexemes text.now tokens.now)) }
+    ensures read { Gives (λ x. (x.0, lexemes text.now x.1.now)) result
+        (application_at small (lexemes text.now tokens.now)) }
     ensures rest { IfOk result (λ x. AreTokens text.now x.1.now) }
 {
     let (number, rest) = end(text, tokens)?;
@@ -93,7 +94,8 @@ fn application<'a>(text: &[u8], tokens: &'a [Token]) -> Result<(Tag, &'a [Token]
 /// Reads a tag of the private class, behind its word.
 fn private<'a>(text: &[u8], tokens: &'a [Token]) -> Result<(Tag, &'a [Token]), ReadError>
     requires tokens { AreTokens text.now tokens.now }
-    ensures read { Gives (λ x. (x.0, lexemes text.now x.1.now)) result (private_at small (lexemes text.now tokens.now)) }
+    ensures read { Gives (λ x. (x.0, lexemes text.now x.1.now)) result
+        (private_at small (lexemes text.now tokens.now)) }
     ensures rest { IfOk result (λ x. AreTokens text.now x.1.now) }
 {
     let (number, rest) = end(text, tokens)?;
@@ -109,7 +111,8 @@ fn private<'a>(text: &[u8], tokens: &'a [Token]) -> Result<(Tag, &'a [Token]), R
 /// Reads a tag of the context class.
 fn context<'a>(text: &[u8], tokens: &'a [Token]) -> Result<(Tag, &'a [Token]), ReadError>
     requires tokens { AreTokens text.now tokens.now }
-    ensures read { Gives (λ x. (x.0, lexemes text.now x.1.now)) result (context_at small (lexemes text.now tokens.now)) }
+    ensures read { Gives (λ x. (x.0, lexemes text.now x.1.now)) result
+        (context_at small (lexemes text.now tokens.now)) }
     ensures rest { IfOk result (λ x. AreTokens text.now x.1.now) }
 {
     let (number, rest) = end(text, tokens)?;

@@ -89,7 +89,8 @@ alternative t = token Ident ∙ (t ⇒ (λ t. (t, mandatory)))
 -- A limit on the numbers of tags is a test that they meet.
 module _ (tags : ℕ → Bool) where
   abbrev pub tagged : ℕ → Grammar TypeTree → Grammar TypeTree
-  tagged n t = opens n (behind (Mark OpenBracket) ((tag tags ∙ (keyword ∙ t)) ⇒ (λ p. a_type (a_tagged p.0 p.1.0 p.1.1) [])))
+  tagged n t =
+      opens n (behind (Mark OpenBracket) ((tag tags ∙ (keyword ∙ t)) ⇒ (λ p. a_type (a_tagged p.0 p.1.0 p.1.1) [])))
 
 -- A limit on numbers is a test that numbers with no minus meet.
 module _ (fits : ℕ → Bool) where
@@ -97,7 +98,9 @@ module _ (fits : ℕ → Bool) where
   members n t v = opens n (braces (optional (rootless (member t v) (addition fits (member t v))))) ⇒ listing_of
 
   abbrev pub choice : ℕ → Grammar TypeTree → Grammar FormTree
-  choice n t = (word words.Choice ∙ opens n (braces (extensible (alternative t) (addition fits (alternative t))))) ⇒ (λ p. of_listing lists.Choice p.1)
+  choice n t =
+      (word words.Choice ∙ opens n (braces (extensible (alternative t) (addition fits (alternative t)))))
+      ⇒ (λ p. of_listing lists.Choice p.1)
 
   -- what is no SEQUENCE and no SET
   abbrev pub one_type : ℕ → Grammar TypeTree → Grammar FormTree

@@ -19,7 +19,8 @@ type_ends (Mark Dot) = true
 type_ends (Mark OpenParenthesis) = true
 type_ends t = false
 
--- The limits b allow the numbers that the reader within a takes. Its limit on the numbers of tags goes with that on numbers.
+-- The limits b allow the numbers that the reader within a takes.
+-- Its limit on the numbers of tags goes with that on numbers.
 pub record Allows (a b : Limits) : Type 0 where
   pub number : (n : ℕ) → a.number n ≡ true → b.number n ≡ true
   pub tag : (n : ℕ) → tag_fits a.number n ≡ true → b.tag n ≡ true
@@ -35,7 +36,10 @@ pub record TypeLaws : Type 0 where
   pub sound_higher : (n : ℕ) → SoundReader higher (type small any n) (type_at small n)
   pub sound_deeper : (n : ℕ) → SoundReader deeper (type small tag_small (suc n)) (type_at small n)
   -- a are the reader's limits, b the grammar's
-  pub owed : (a b : Limits) → Allows a b → Owes ⊥ (Unit {0}) nowhere (λ l. Within l b a) (type b.number b.tag b.nesting) starts type_ends (type_at a.number a.nesting)
+  pub owed : (a b : Limits)
+      → Allows a b
+      → Owes ⊥ (Unit {0}) nowhere (λ l. Within l b a) (type b.number b.tag b.nesting) starts type_ends
+      (type_at a.number a.nesting)
   pub grows : (a b : Limits)
       → ((n : ℕ) → a.number n ≡ true → b.number n ≡ true)
       → ((n : ℕ) → a.tag n ≡ true → b.tag n ≡ true)

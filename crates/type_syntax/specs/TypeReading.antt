@@ -35,7 +35,8 @@ module _ (fits : ℕ → Bool) where
 
   -- n: how many more things may be open
   unfoldable pub body_at : ℕ → Reader TypeTree → Reader Tree → Reader Listing
-  body_at n read value ts = braces_at n (listing_at (named_at (component_at read value))) ts >>= λ l. Ok (listing_of l.0, l.1)
+  body_at n read value ts =
+      braces_at n (listing_at (named_at (component_at read value))) ts >>= λ l. Ok (listing_of l.0, l.1)
 
   -- what stands in the braces of a CHOICE
   unfoldable pub alternatives_at : Reader TypeTree → Reader Listing
@@ -46,7 +47,8 @@ module _ (fits : ℕ → Bool) where
   choice_at n read ts = braces_at n (alternatives_at read) ts >>= λ l. Ok (of_listing lists.Choice l.0, l.1)
 
   unfoldable pub inside_tag_at : Reader TypeTree → Reader TypeTree
-  inside_tag_at read ts = tag_at fits ts >>= λ g. keyword_at g.1 >>= λ k. read k.1 >>= λ t. Ok (a_type (a_tagged g.0 k.0 t.0) [], t.1)
+  inside_tag_at read ts =
+      tag_at fits ts >>= λ g. keyword_at g.1 >>= λ k. read k.1 >>= λ t. Ok (a_type (a_tagged g.0 k.0 t.0) [], t.1)
 
   unfoldable pub tagged_at : ℕ → Reader TypeTree → Reader TypeTree
   tagged_at n read (Mark OpenBracket ∷ rest) = opened n (Mark OpenBracket ∷ rest) (inside_tag_at read rest)
@@ -80,7 +82,8 @@ module _ (fits : ℕ → Bool) where
 
   -- members and what is behind them
   unfoldable pub structure_at : ℕ → Reader TypeTree → Reader Tree → Bool → Reader TypeTree
-  structure_at n read value set ts = body_at n read value ts >>= λ l. with_constraints_at (of_listing (list_kind set) l.0) l.1
+  structure_at n read value set ts =
+      body_at n read value ts >>= λ l. with_constraints_at (of_listing (list_kind set) l.0) l.1
 
   -- behind SEQUENCE, or behind SET where set holds
   unfoldable pub behind_at : ℕ → Reader TypeTree → Reader Tree → Bool → Reader TypeTree

@@ -23,7 +23,8 @@ fn rooted<'t, P: Part<'t>>(
 ) -> Result<(Extensible<P::Tree, Addition<P::Tree>>, &'t [Token]), ReadError>
     requires ready { P.is_ready part.now text.now }
     requires tokens { AreTokens text.now tokens.now }
-    ensures read { Gives (λ x. (extensible_of P.view (addition_of P.view) x.0, lexemes text.now x.1.now)) result (extensible_at (P.reader part.now) (addition_at small (P.reader part.now)) (lexemes text.now tokens.now)) }
+    ensures read { Gives (λ x. (extensible_of P.view (addition_of P.view) x.0, lexemes text.now x.1.now)) result
+        (extensible_at (P.reader part.now) (addition_at small (P.reader part.now)) (lexemes text.now tokens.now)) }
     ensures rest { IfOk result (λ x. AreTokens text.now x.1.now) }
 {
     let addition = Added { part };
@@ -39,7 +40,8 @@ fn rootless<'t, P: Part<'t>>(
 ) -> Result<(Extensible<P::Tree, Addition<P::Tree>>, &'t [Token]), ReadError>
     requires ready { P.is_ready part.now text.now }
     requires tokens { AreTokens text.now tokens.now }
-    ensures read { Gives (λ x. (extensible_of P.view (addition_of P.view) x.0, lexemes text.now x.1.now)) result (rootless_at (P.reader part.now) (addition_at small (P.reader part.now)) (lexemes text.now tokens.now)) }
+    ensures read { Gives (λ x. (extensible_of P.view (addition_of P.view) x.0, lexemes text.now x.1.now)) result
+        (rootless_at (P.reader part.now) (addition_at small (P.reader part.now)) (lexemes text.now tokens.now)) }
     ensures rest { IfOk result (λ x. AreTokens text.now x.1.now) }
 {
     let addition = Added { part };
@@ -72,7 +74,9 @@ pub fn alternatives<'t, P: Part<'t>>(
 ) -> Result<(Extensible<P::Tree, Addition<P::Tree>>, &'t [Token]), ReadError>
     requires ready { P.is_ready part.now text.now }
     requires tokens { AreTokens text.now tokens.now }
-    ensures read { Gives (λ x. (extensible_of P.view (addition_of P.view) x.0, lexemes text.now x.1.now)) result (inside_at (extensible_at (P.reader part.now) (addition_at small (P.reader part.now))) (lexemes text.now tokens.now)) }
+    ensures read { Gives (λ x. (extensible_of P.view (addition_of P.view) x.0, lexemes text.now x.1.now)) result
+        (inside_at (extensible_at (P.reader part.now) (addition_at small (P.reader part.now)))
+        (lexemes text.now tokens.now)) }
     ensures rest { IfOk result (λ x. AreTokens text.now x.1.now) }
 {
     let (list, rest) = rooted(alloc, text, part, tokens)?;
@@ -89,7 +93,10 @@ fn listing<'t, P: Part<'t>>(
 ) -> Result<(Option<Extensible<P::Tree, Addition<P::Tree>>>, &'t [Token]), ReadError>
     requires ready { P.is_ready part.now text.now }
     requires tokens { AreTokens text.now tokens.now }
-    ensures read { Gives (λ x. (option_map (λ l. extensible_of P.view (addition_of P.view) l) x.0, lexemes text.now x.1.now)) result (listing_at small (P.reader part.now) (lexemes text.now tokens.now)) }
+    ensures read { Gives
+        (λ x. (option_map (λ l. extensible_of P.view (addition_of P.view) l) x.0, lexemes text.now x.1.now))
+        result
+        (listing_at small (P.reader part.now) (lexemes text.now tokens.now)) }
     ensures rest { IfOk result (λ x. AreTokens text.now x.1.now) }
 {
     if begins(text, tokens) {
@@ -110,7 +117,10 @@ pub fn members<'t, P: Part<'t>>(
 ) -> Result<(Option<Extensible<P::Tree, Addition<P::Tree>>>, &'t [Token]), ReadError>
     requires ready { P.is_ready part.now text.now }
     requires tokens { AreTokens text.now tokens.now }
-    ensures read { Gives (λ x. (option_map (λ l. extensible_of P.view (addition_of P.view) l) x.0, lexemes text.now x.1.now)) result (inside_at (listing_at small (P.reader part.now)) (lexemes text.now tokens.now)) }
+    ensures read { Gives
+        (λ x. (option_map (λ l. extensible_of P.view (addition_of P.view) l) x.0, lexemes text.now x.1.now))
+        result
+        (inside_at (listing_at small (P.reader part.now)) (lexemes text.now tokens.now)) }
     ensures rest { IfOk result (λ x. AreTokens text.now x.1.now) }
 {
     let (list, rest) = listing(alloc, text, part, tokens)?;

@@ -35,7 +35,9 @@ fn put_parts(
     parts: Vec<Named<Component>>,
     standing: Standing,
 ) -> Result<Vec<Member<TypeSyntax>>, AllocError>
-    ensures { IfOk result (λ v. map type_member_of v.items ≡ map type_member_of members.items ++ map (a_member standing) (map named_component parts.items)) }
+    ensures { IfOk result
+        (λ v. map type_member_of v.items
+        ≡ map type_member_of members.items ++ map (a_member standing) (map named_component parts.items)) }
 {
     let mut members = members;
     for part in parts {
@@ -49,7 +51,10 @@ fn put_additions(
     members: Vec<Member<TypeSyntax>>,
     additions: Vec<Addition<Named<Component>>>,
 ) -> Result<Vec<Member<TypeSyntax>>, AllocError>
-    ensures { IfOk result (λ v. map type_member_of v.items ≡ map type_member_of members.items ++ additions_from 0 (map (addition_of named_component) additions.items)) }
+    ensures { IfOk result
+        (λ v. map type_member_of v.items
+        ≡ map type_member_of members.items
+        ++ additions_from 0 (map (addition_of named_component) additions.items)) }
 {
     let mut members = members;
     let mut number = 0;

@@ -144,7 +144,8 @@ pub fn type_syntax<'a>(
     depth: usize,
 ) -> Result<(TypeSyntax, &'a [Token]), ReadError>
     requires tokens { AreTokens text.now tokens.now }
-    ensures read { Gives (λ x. (type_tree_of x.0, lexemes text.now x.1.now)) result (type_at small depth (lexemes text.now tokens.now)) }
+    ensures read { Gives (λ x. (type_tree_of x.0, lexemes text.now x.1.now)) result
+        (type_at small depth (lexemes text.now tokens.now)) }
     ensures rest { IfOk result (λ x. AreTokens text.now x.1.now) }
 {
     step(alloc, text, tokens, depth)
@@ -160,7 +161,8 @@ fn step<'a>(
     depth: usize,
 ) -> Result<(TypeSyntax, &'a [Token]), ReadError>
     requires tokens { AreTokens text.now tokens.now }
-    ensures read { Gives (λ x. (type_tree_of x.0, lexemes text.now x.1.now)) result (type_step small depth (type_at small (depth - 1)) (value_at small (depth - 1)) (lexemes text.now tokens.now)) }
+    ensures read { Gives (λ x. (type_tree_of x.0, lexemes text.now x.1.now)) result
+        (type_step small depth (type_at small (depth - 1)) (value_at small (depth - 1)) (lexemes text.now tokens.now)) }
     ensures rest { IfOk result (λ x. AreTokens text.now x.1.now) }
 {
     match tokens {
@@ -199,7 +201,8 @@ fn tagged<'a>(
     depth: usize,
 ) -> Result<(TypeSyntax, &'a [Token]), ReadError>
     requires tokens { AreTokens text.now tokens.now }
-    ensures read { Gives (λ x. (type_tree_of x.0, lexemes text.now x.1.now)) result (tagged_at small depth (type_at small (depth - 1)) (lexemes text.now tokens.now)) }
+    ensures read { Gives (λ x. (type_tree_of x.0, lexemes text.now x.1.now)) result
+        (tagged_at small depth (type_at small (depth - 1)) (lexemes text.now tokens.now)) }
     ensures rest { IfOk result (λ x. AreTokens text.now x.1.now) }
 {
     match tokens {
@@ -230,7 +233,8 @@ fn inside_tag<'a>(
     depth: usize,
 ) -> Result<(TypeSyntax, &'a [Token]), ReadError>
     requires tokens { AreTokens text.now tokens.now }
-    ensures read { Gives (λ x. (type_tree_of x.0, lexemes text.now x.1.now)) result (inside_tag_at small (type_at small depth) (lexemes text.now tokens.now)) }
+    ensures read { Gives (λ x. (type_tree_of x.0, lexemes text.now x.1.now)) result
+        (inside_tag_at small (type_at small depth) (lexemes text.now tokens.now)) }
     ensures rest { IfOk result (λ x. AreTokens text.now x.1.now) }
 {
     let (tag, rest) = tag(text, tokens)?;
@@ -250,7 +254,8 @@ fn plain<'a>(
     depth: usize,
 ) -> Result<(TypeSyntax, &'a [Token]), ReadError>
     requires tokens { AreTokens text.now tokens.now }
-    ensures read { Gives (λ x. (type_tree_of x.0, lexemes text.now x.1.now)) result (plain_at small depth (type_at small (depth - 1)) (lexemes text.now tokens.now)) }
+    ensures read { Gives (λ x. (type_tree_of x.0, lexemes text.now x.1.now)) result
+        (plain_at small depth (type_at small (depth - 1)) (lexemes text.now tokens.now)) }
     ensures rest { IfOk result (λ x. AreTokens text.now x.1.now) }
 {
     let (form, rest) = one_type(alloc, text, tokens, depth)?;
@@ -268,7 +273,8 @@ fn one_type<'a>(
     depth: usize,
 ) -> Result<(TypeForm<TypeSyntax>, &'a [Token]), ReadError>
     requires tokens { AreTokens text.now tokens.now }
-    ensures read { Gives (λ x. (form_tree x.0, lexemes text.now x.1.now)) result (one_type_at small depth (type_at small (depth - 1)) (lexemes text.now tokens.now)) }
+    ensures read { Gives (λ x. (form_tree x.0, lexemes text.now x.1.now)) result
+        (one_type_at small depth (type_at small (depth - 1)) (lexemes text.now tokens.now)) }
     ensures rest { IfOk result (λ x. AreTokens text.now x.1.now) }
 {
     match tokens {
@@ -306,7 +312,8 @@ fn choice<'a>(
     depth: usize,
 ) -> Result<(TypeForm<TypeSyntax>, &'a [Token]), ReadError>
     requires tokens { AreTokens text.now tokens.now }
-    ensures read { Gives (λ x. (form_tree x.0, lexemes text.now x.1.now)) result (choice_at small depth (type_at small (depth - 1)) (lexemes text.now tokens.now)) }
+    ensures read { Gives (λ x. (form_tree x.0, lexemes text.now x.1.now)) result
+        (choice_at small depth (type_at small (depth - 1)) (lexemes text.now tokens.now)) }
     ensures rest { IfOk result (λ x. AreTokens text.now x.1.now) }
 {
     let (list, rest) = choice_braces(alloc, text, tokens, depth)?;
@@ -329,7 +336,8 @@ fn choice_braces<'a>(
     ReadError,
 >
     requires tokens { AreTokens text.now tokens.now }
-    ensures read { Gives (λ x. (listing_tree x.0, lexemes text.now x.1.now)) result (braces_at depth (alternatives_at small (type_at small (depth - 1))) (lexemes text.now tokens.now)) }
+    ensures read { Gives (λ x. (listing_tree x.0, lexemes text.now x.1.now)) result
+        (braces_at depth (alternatives_at small (type_at small (depth - 1))) (lexemes text.now tokens.now)) }
     ensures rest { IfOk result (λ x. AreTokens text.now x.1.now) }
 {
     match tokens {
@@ -365,7 +373,8 @@ fn inside_choice<'a>(
     ReadError,
 >
     requires tokens { AreTokens text.now tokens.now }
-    ensures read { Gives (λ x. (listing_tree x.0, lexemes text.now x.1.now)) result (inside_at (alternatives_at small (type_at small depth)) (lexemes text.now tokens.now)) }
+    ensures read { Gives (λ x. (listing_tree x.0, lexemes text.now x.1.now)) result
+        (inside_at (alternatives_at small (type_at small depth)) (lexemes text.now tokens.now)) }
     ensures rest { IfOk result (λ x. AreTokens text.now x.1.now) }
 {
     type_parts::law::parts_are_read();
@@ -373,7 +382,8 @@ fn inside_choice<'a>(
         PhantomData::<Alternatives>,
         |ts|
             requires { AreTokens text.now ts.now }
-            ensures read { Gives (λ x. (component_of x.0, lexemes text.entry.now x.1.now)) result (bare_at (type_at small depth) (lexemes text.entry.now ts.now)) }
+            ensures read { Gives (λ x. (component_of x.0, lexemes text.entry.now x.1.now)) result
+                (bare_at (type_at small depth) (lexemes text.entry.now ts.now)) }
             ensures rest { IfOk result (λ x. AreTokens text.entry.now x.1.now) }
         { bare(alloc, text, ts, depth) },
         depth,
@@ -391,7 +401,8 @@ fn bare<'a>(
     depth: usize,
 ) -> Result<(Component, &'a [Token]), ReadError>
     requires tokens { AreTokens text.now tokens.now }
-    ensures read { Gives (λ x. (component_of x.0, lexemes text.now x.1.now)) result (bare_at (type_at small depth) (lexemes text.now tokens.now)) }
+    ensures read { Gives (λ x. (component_of x.0, lexemes text.now x.1.now)) result
+        (bare_at (type_at small depth) (lexemes text.now tokens.now)) }
     ensures rest { IfOk result (λ x. AreTokens text.now x.1.now) }
 {
     let (syntax, rest) = type_syntax(alloc, text, tokens, depth)?;
@@ -411,7 +422,9 @@ fn behind<'a>(
     set: bool,
 ) -> Result<(TypeSyntax, &'a [Token]), ReadError>
     requires tokens { AreTokens text.now tokens.now }
-    ensures read { Gives (λ x. (type_tree_of x.0, lexemes text.now x.1.now)) result (behind_at small depth (type_at small (depth - 1)) (value_at small (depth - 1)) set (lexemes text.now tokens.now)) }
+    ensures read { Gives (λ x. (type_tree_of x.0, lexemes text.now x.1.now)) result
+        (behind_at small depth (type_at small (depth - 1)) (value_at small (depth - 1)) set
+        (lexemes text.now tokens.now)) }
     ensures rest { IfOk result (λ x. AreTokens text.now x.1.now) }
 {
     match tokens {
@@ -438,7 +451,9 @@ fn structure<'a>(
     set: bool,
 ) -> Result<(TypeSyntax, &'a [Token]), ReadError>
     requires tokens { AreTokens text.now tokens.now }
-    ensures read { Gives (λ x. (type_tree_of x.0, lexemes text.now x.1.now)) result (structure_at small depth (type_at small (depth - 1)) (value_at small (depth - 1)) set (lexemes text.now tokens.now)) }
+    ensures read { Gives (λ x. (type_tree_of x.0, lexemes text.now x.1.now)) result
+        (structure_at small depth (type_at small (depth - 1)) (value_at small (depth - 1)) set
+        (lexemes text.now tokens.now)) }
     ensures rest { IfOk result (λ x. AreTokens text.now x.1.now) }
 {
     let (list, rest) = body(alloc, text, tokens, depth)?;
@@ -447,7 +462,8 @@ fn structure<'a>(
     Ok((typed(at, form, constraints), rest))
 }
 
-/// Reads what may stand in braces: members, with an extension marker among them or not, or nothing (X.680, clause 25.1).
+/// Reads what may stand in braces: members, with an extension marker among them or not, or nothing
+/// (X.680, clause 25.1).
 #[tactic(auto, unfolding(crate::specs::TypeReading::body_at))]
 #[cycle(type_syntax)]
 fn body<'a>(
@@ -463,7 +479,8 @@ fn body<'a>(
     ReadError,
 >
     requires tokens { AreTokens text.now tokens.now }
-    ensures read { Gives (λ x. (listing_tree x.0, lexemes text.now x.1.now)) result (body_at small depth (type_at small (depth - 1)) (value_at small (depth - 1)) (lexemes text.now tokens.now)) }
+    ensures read { Gives (λ x. (listing_tree x.0, lexemes text.now x.1.now)) result
+        (body_at small depth (type_at small (depth - 1)) (value_at small (depth - 1)) (lexemes text.now tokens.now)) }
     ensures rest { IfOk result (λ x. AreTokens text.now x.1.now) }
 {
     let (list, rest) = list_braces(alloc, text, tokens, depth)?;
@@ -495,7 +512,10 @@ fn list_braces<'a>(
     ReadError,
 >
     requires tokens { AreTokens text.now tokens.now }
-    ensures read { Gives (λ x. (option_map listing_tree x.0, lexemes text.now x.1.now)) result (braces_at depth (listing_at small (named_at (component_at (type_at small (depth - 1)) (value_at small (depth - 1))))) (lexemes text.now tokens.now)) }
+    ensures read { Gives (λ x. (option_map listing_tree x.0, lexemes text.now x.1.now)) result
+        (braces_at depth
+        (listing_at small (named_at (component_at (type_at small (depth - 1)) (value_at small (depth - 1)))))
+        (lexemes text.now tokens.now)) }
     ensures rest { IfOk result (λ x. AreTokens text.now x.1.now) }
 {
     match tokens {
@@ -531,7 +551,9 @@ fn inside_list<'a>(
     ReadError,
 >
     requires tokens { AreTokens text.now tokens.now }
-    ensures read { Gives (λ x. (option_map listing_tree x.0, lexemes text.now x.1.now)) result (inside_at (listing_at small (named_at (component_at (type_at small depth) (value_at small depth)))) (lexemes text.now tokens.now)) }
+    ensures read { Gives (λ x. (option_map listing_tree x.0, lexemes text.now x.1.now)) result
+        (inside_at (listing_at small (named_at (component_at (type_at small depth) (value_at small depth))))
+        (lexemes text.now tokens.now)) }
     ensures rest { IfOk result (λ x. AreTokens text.now x.1.now) }
 {
     type_parts::law::parts_are_read();
@@ -539,7 +561,8 @@ fn inside_list<'a>(
         PhantomData::<Components>,
         |ts|
             requires { AreTokens text.now ts.now }
-            ensures read { Gives (λ x. (component_of x.0, lexemes text.entry.now x.1.now)) result (component_at (type_at small depth) (value_at small depth) (lexemes text.entry.now ts.now)) }
+            ensures read { Gives (λ x. (component_of x.0, lexemes text.entry.now x.1.now)) result
+                (component_at (type_at small depth) (value_at small depth) (lexemes text.entry.now ts.now)) }
             ensures rest { IfOk result (λ x. AreTokens text.entry.now x.1.now) }
         { component(alloc, text, ts, depth) },
         depth,
@@ -557,7 +580,8 @@ fn component<'a>(
     depth: usize,
 ) -> Result<(Component, &'a [Token]), ReadError>
     requires tokens { AreTokens text.now tokens.now }
-    ensures read { Gives (λ x. (component_of x.0, lexemes text.now x.1.now)) result (component_at (type_at small depth) (value_at small depth) (lexemes text.now tokens.now)) }
+    ensures read { Gives (λ x. (component_of x.0, lexemes text.now x.1.now)) result
+        (component_at (type_at small depth) (value_at small depth) (lexemes text.now tokens.now)) }
     ensures rest { IfOk result (λ x. AreTokens text.now x.1.now) }
 {
     let (syntax, rest) = type_syntax(alloc, text, tokens, depth)?;
@@ -577,7 +601,8 @@ fn list<'a>(
     set: bool,
 ) -> Result<(TypeSyntax, &'a [Token]), ReadError>
     requires tokens { AreTokens text.now tokens.now }
-    ensures read { Gives (λ x. (type_tree_of x.0, lexemes text.now x.1.now)) result (list_at small depth (type_at small (depth - 1)) set (lexemes text.now tokens.now)) }
+    ensures read { Gives (λ x. (type_tree_of x.0, lexemes text.now x.1.now)) result
+        (list_at small depth (type_at small (depth - 1)) set (lexemes text.now tokens.now)) }
     ensures rest { IfOk result (λ x. AreTokens text.now x.1.now) }
 {
     let (size, rest) = list_size(alloc, text, tokens)?;
@@ -597,7 +622,8 @@ fn of<'a>(
     depth: usize,
 ) -> Result<(TypeSyntax, &'a [Token]), ReadError>
     requires tokens { AreTokens text.now tokens.now }
-    ensures read { Gives (λ x. (type_tree_of x.0, lexemes text.now x.1.now)) result (of_at small depth (type_at small (depth - 1)) (lexemes text.now tokens.now)) }
+    ensures read { Gives (λ x. (type_tree_of x.0, lexemes text.now x.1.now)) result
+        (of_at small depth (type_at small (depth - 1)) (lexemes text.now tokens.now)) }
     ensures rest { IfOk result (λ x. AreTokens text.now x.1.now) }
 {
     match tokens {
