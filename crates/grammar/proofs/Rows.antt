@@ -1,12 +1,13 @@
 -- Worked rows: what tokens say, what stands at a place, and what parts are.
-use Rattle.std.proofs.Common.{arith, ◌≡◌, ◌<◌, ◌≤◌, ℕ, ◌^◌, inl, inr, true, false, List, [], ◌∷◌, ◌++◌, length, length-append, Some, None, refl, ap}
+use Rattle.std.proofs.Common.{arith, ◌≡◌, ◌<◌, ◌≤◌, ℕ, ◌^◌, inl, inr, true, false, List, [], ◌∷◌, ◌++◌, length, length-append, Some, None, Ok, Err, refl, ap}
 use Rattle.text.specs.declared.token.TokenKind.TheVariants as kinds
-use Rattle.text.specs.declared.token.Mark.TheVariants.{Comma, OpenBrace, CloseBrace}
+use Rattle.text.specs.declared.token.Mark.TheVariants.{Colon, Comma, Ellipsis, OpenBrace, CloseBrace, OpenVersion, CloseVersion}
 use Rattle.text.specs.Octets.{is_hex}
 use Rattle.grammar.specs.Lexeme.{Lexeme, TypeRef, Ident, Number, BString, HString, CString, Mark, digit_of, single_quotes, lexeme_at}
-use Rattle.grammar.specs.Grammar.{token, mark, number_of, ◌∙◌, many, listed, braces, optional, cut_off}
+use Rattle.grammar.specs.Grammar.{token, mark, number_of, ◌∙◌, many, listed, braces, optional, cut_off, extensible, rootless, addition}
 use Rattle.grammar.specs.Places.{Limits, Limited, any, small, bounded, between, IsRead, Stops, Ends, PassesLimit}
-use Rattle.grammar.specs.Reading.{Nesting, Integer}
+use Rattle.grammar.specs.Reading.{Nesting, Integer, Unexpected, Beyond, behind_commas_at, listed_at, next_marker, additions_at, more_at, extensible_at, close_version_at, version_at, version_parts_at, addition_at}
+use Rattle.grammar.specs.Single.{ident_at}
 
 -- ---- what tokens say
 
@@ -147,3 +148,59 @@ some_name = refl
 -- what is cut off is never whole
 never_whole : (x : ℕ) (ts : List Lexeme) → (cut_off {A = ℕ}).Is x ts → ⊥
 never_whole x ts h = h
+
+-- ---- extension markers and version brackets
+
+one_listed : (listed (token Ident)).Is ((97 ∷ []) ∷ []) (a_name ∷ [])
+one_listed = ((97 ∷ [], []), refl, (a_name ∷ [], [], refl, refl, refl))
+
+-- a, ..., b is a name, the marker and one behind it
+marked_names : (extensible (token Ident) (token Ident)).Is ((97 ∷ []) ∷ [], Some ((98 ∷ []) ∷ [])) (a_name ∷ Mark Comma ∷ Mark Ellipsis ∷ Mark Comma ∷ b_name ∷ [])
+marked_names = (
+  a_name ∷ [],
+  Mark Comma ∷ Mark Ellipsis ∷ Mark Comma ∷ b_name ∷ [],
+  refl,
+  one_listed,
+  ((tt, (98 ∷ []) ∷ []), refl, (Mark Comma ∷ [], Mark Ellipsis ∷ Mark Comma ∷ b_name ∷ [], refl, refl, ((tt, (98 ∷ []) ∷ []), refl, (Mark Ellipsis ∷ [], Mark Comma ∷ b_name ∷ [], refl, refl, (Mark Comma ∷ b_name ∷ [], [], refl, ((tt, 98 ∷ []), refl, (Mark Comma ∷ [], b_name ∷ [], refl, refl, refl)), refl))))),
+)
+
+-- a alone is such a list too, with no marker
+unmarked_name : (extensible (token Ident) (token Ident)).Is ((97 ∷ []) ∷ [], None) (a_name ∷ [])
+unmarked_name = (a_name ∷ [], [], refl, one_listed, refl)
+
+-- the marker alone is one where the root may be missing
+marker_alone : (rootless (token Ident) (token Ident)).Is ([], Some []) (Mark Ellipsis ∷ [])
+marker_alone = inl ([], refl, ((tt, []), refl, (Mark Ellipsis ∷ [], [], refl, refl, refl)))
+
+-- and nowhere else: there it is the first fault
+marker_first : extensible_at ident_at ident_at (Mark Ellipsis ∷ []) ≡ Err (Unexpected 1)
+unfolding extensible_at ident_at
+marker_first = refl
+
+-- a, ..., b, ... is refused at the second marker
+second_marker : extensible_at ident_at ident_at (a_name ∷ Mark Comma ∷ Mark Ellipsis ∷ Mark Comma ∷ b_name ∷ Mark Comma ∷ Mark Ellipsis ∷ []) ≡ Err (Unexpected 1)
+unfolding extensible_at more_at next_marker additions_at behind_commas_at ident_at
+second_marker = refl
+
+-- [[ 2: a ]] is a, and its number is not kept
+numbered_brackets : (addition small (token Ident)).Is (inr ((97 ∷ []) ∷ [])) (Mark OpenVersion ∷ Number 2 ∷ Mark Colon ∷ a_name ∷ Mark CloseVersion ∷ [])
+numbered_brackets = inr (
+  (Some (2, tt), ((97 ∷ []) ∷ [], tt)),
+  refl,
+  ((tt, (Some (2, tt), ((97 ∷ []) ∷ [], tt))), refl, (Mark OpenVersion ∷ [], Number 2 ∷ Mark Colon ∷ a_name ∷ Mark CloseVersion ∷ [], refl, refl, (Number 2 ∷ Mark Colon ∷ [], a_name ∷ Mark CloseVersion ∷ [], refl, (Number 2 ∷ [], Mark Colon ∷ [], refl, (refl, refl), refl), (a_name ∷ [], Mark CloseVersion ∷ [], refl, one_listed, refl)))),
+)
+
+-- [[ a, b ]] is both
+brackets_read : addition_at small ident_at (Mark OpenVersion ∷ a_name ∷ Mark Comma ∷ b_name ∷ Mark CloseVersion ∷ []) ≡ Ok (inr ((97 ∷ []) ∷ (98 ∷ []) ∷ []), [])
+unfolding addition_at version_parts_at version_at listed_at behind_commas_at close_version_at ident_at
+brackets_read = refl
+
+-- [[ ]] is refused at its end
+empty_brackets : addition_at small ident_at (Mark OpenVersion ∷ Mark CloseVersion ∷ []) ≡ Err (Unexpected 1)
+unfolding addition_at version_parts_at version_at listed_at ident_at
+empty_brackets = refl
+
+-- a number of brackets that passes the limit is told
+great_brackets : addition_at small ident_at (Mark OpenVersion ∷ Number (2 ^ 127) ∷ Mark Colon ∷ a_name ∷ Mark CloseVersion ∷ []) ≡ Err (Beyond Integer 4)
+unfolding addition_at version_parts_at version_at
+great_brackets = refl

@@ -1,8 +1,8 @@
 -- No reader leaves more than it was given: each part's law.
-use Rattle.std.proofs.Common.{◌≡◌, ℕ, zero, suc, ◌≤◌, Bool, true, false, List, [], ◌∷◌, ◌++◌, length, Option, Some, None, Ok, Err, refl, sym, ap, subst, ◌∙◌ as ◌⋆◌, arith}
+use Rattle.std.proofs.Common.{◌≡◌, ℕ, zero, suc, ◌≤◌, Bool, true, false, List, [], ◌∷◌, length, Option, Some, None, Ok, Err, refl, ap, subst, arith}
 use Rattle.text.specs.declared.token.Mark.TheVariants.{Colon, Comma, Ellipsis, OpenBrace, CloseBrace, OpenParenthesis, CloseParenthesis, OpenVersion, CloseVersion}
 use Rattle.grammar.specs.Lexeme.{Lexeme, Ident, Number, Mark}
-use Rattle.grammar.specs.Reading.{Read, Reader, ◌>>=◌, stop, fitting, opened, open_at, close_at, closed_at, parens_at, inside_at, braces_at, named_at, behind_commas_at, listed_at, Extensible, next_marker, additions_at, put, or_marker, more_at, extensible_at, rootless_at, colon_at, close_version_at, version_at, version_parts_at, addition_at}
+use Rattle.grammar.specs.Reading.{Read, Reader, ◌>>=◌, fitting, opened, open_at, close_at, closed_at, parens_at, inside_at, braces_at, named_at, behind_commas_at, listed_at, Extensible, next_marker, additions_at, or_marker, more_at, extensible_at, rootless_at, colon_at, close_version_at, version_at, version_parts_at, addition_at}
 use Rattle.grammar.specs.Loops.{Shrinks}
 use Rattle.grammar.specs.Parts.{chosen_read, perhaps}
 
