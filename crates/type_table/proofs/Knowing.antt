@@ -4,7 +4,7 @@ use Rattle.std.specs.Prelude.{slice_get}
 use Rattle.std.proofs.lemmas.Option.{slice_get_within, same_Some}
 use Rattle.type_table.specs.proving.Cores.{IsKnown, AreKnown, AreUnknown, AreCores}
 use Rattle.type_table.specs.Table.{Type', next, onward, walk, IsCore, IsClosed}
-use Rattle.type_table.proofs.Marking.{set_here, set_only}
+use Rattle.type_table.specs.proving.Tables.{set_here, set_only}
 use Rattle.type_table.proofs.Walks.{walk_walk, ended_few}
 
 -- ---- walks

@@ -1,8 +1,6 @@
--- What only contracts inside the crates and proofs speak of: cores, marks and ranks on the way, sets of numbers, what
--- the checks of one type answer, a table as it lies in memory, and worked rows.
+-- What only contracts inside the crates and proofs speak of: cores on the way, sets of numbers, what the checks of
+-- one type answer, a table as it lies in memory, and worked rows.
 pub mod Cores
-pub mod Reach
-pub mod Ranks
 pub mod Sets
 pub mod Checks
 pub mod Tables

@@ -1,14 +1,10 @@
 //! The written types of modules, each by its number: what they refer to, what they unfold to, and what their lists keep.
 #![tactic(auto)]
 
-pub mod circles;
 pub mod items;
 pub mod law;
 pub mod lists;
 pub mod number;
-mod ranking;
-mod ranks;
-mod reach;
 pub mod table;
 pub mod unfolding;
 

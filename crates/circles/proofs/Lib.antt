@@ -1,0 +1,3 @@
+pub mod Circling
+pub mod Marking
+pub mod Rising

@@ -1,0 +1,118 @@
+//! Tests of ranks: they don't fall from a type to its parts, and rise at components with a DEFAULT.
+
+ghost use Rattle.std.specs.Prelude.{ℕ, ◌≡◌, ◌<◌, ◌≤◌, ◌∷◌, [], Some, length, map, slice_get, slice_index, IsTrue};
+ghost use Rattle.circles.specs.proving.Ranks.{parts, AreFrom, Rise, DefaultsAbove};
+ghost use Rattle.circles.specs.proving.Reach.{HasDefault};
+ghost use Rattle.type_table.specs.Seen.{part_of, type_of, types_of};
+
+use crate::reach::has_default;
+use type_table::{Component, Shape, Written};
+
+/// The rank of a type.
+pub(crate) fn rank_at(ranks: &[usize], ty: usize) -> usize
+    ensures { result ≡ slice_index ranks.now ty }
+{
+    match ranks.get(ty) {
+        None => 0,
+        Some(rank) => *rank,
+    }
+}
+
+fn only(ty: usize, number: usize) -> Option<usize>
+    ensures { result ≡ slice_get (ty ∷ []) number }
+{
+    if number == 0 { Some(ty) } else { None }
+}
+
+fn member_type(components: &[Component], number: usize) -> Option<usize>
+    ensures { result ≡ slice_get (map (λ c. c.ty) (map part_of components.now)) number }
+{
+    match components.get(number) {
+        None => None,
+        Some(component) => Some(component.ty),
+    }
+}
+
+/// A type that stands directly in a type, or is referred to there, by its place among those.
+pub(crate) fn part(written: &Written, number: usize) -> Option<usize>
+    ensures { result ≡ slice_get (parts (type_of written.now).kind) number }
+{
+    match &written.shape {
+        Shape::Simple(_) => None,
+        Shape::Reference(meant) => only(*meant, number),
+        Shape::Tagged(_, _, inner) => only(*inner, number),
+        Shape::Members(_, _, components) => member_type(components, number),
+        Shape::Elements(_, element) => only(*element, number),
+    }
+}
+
+fn part_count(written: &Written) -> usize
+    ensures { result ≡ length (parts (type_of written.now).kind) }
+{
+    match &written.shape {
+        Shape::Simple(_) => 0,
+        Shape::Reference(_) => 1,
+        Shape::Tagged(_, _, _) => 1,
+        Shape::Members(_, _, components) => components.len(),
+        Shape::Elements(_, _) => 1,
+    }
+}
+
+/// Whether the part at a place, if there is one, has no lower rank than this one.
+fn rises(written: &Written, number: usize, rank: usize, ranks: &[usize]) -> bool
+    ensures { IsTrue result →
+        (j : ℕ) →
+        slice_get (parts (type_of written.now).kind) number ≡ Some j →
+        rank ≤ slice_index ranks.now j }
+{
+    match part(written, number) {
+        None => true,
+        Some(ty) => rank <= rank_at(ranks, ty),
+    }
+}
+
+/// Whether no part of a type has a lower rank than this one.
+fn parts_rise(written: &Written, rank: usize, ranks: &[usize]) -> bool
+    ensures { IsTrue result → AreFrom rank ranks.now (type_of written.now).kind }
+{
+    for number in 0..part_count(written) {
+        if !rises(written, number, rank, ranks) {
+            return false;
+        }
+    }
+    true
+}
+
+/// Whether no part of any type has a lower rank than the type.
+pub(crate) fn all_rise(types: &[Written], ranks: &[usize]) -> bool
+    ensures { IsTrue result → Rise (types_of types.now) ranks.now }
+{
+    for ty in 0..types.len() {
+        if !parts_rise(&types[ty], rank_at(ranks, ty), ranks) {
+            return false;
+        }
+    }
+    true
+}
+
+/// Whether a component has no DEFAULT, or its type has a higher rank than this one.
+fn default_rises(component: &Component, rank: usize, ranks: &[usize]) -> bool
+    ensures { IsTrue result → HasDefault (part_of component.now) → rank < slice_index ranks.now component.now.ty }
+{
+    if has_default(component) {
+        return rank < rank_at(ranks, component.ty);
+    }
+    true
+}
+
+/// Whether the type of each component with a DEFAULT has a higher rank than this one.
+pub(crate) fn defaults_rise(components: &[Component], rank: usize, ranks: &[usize]) -> bool
+    ensures { IsTrue result → DefaultsAbove rank ranks.now (map part_of components.now) }
+{
+    for component in components {
+        if !default_rises(component, rank, ranks) {
+            return false;
+        }
+    }
+    true
+}

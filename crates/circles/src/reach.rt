@@ -1,0 +1,170 @@
+//! Searches for what types lead to, through references, tags, members and elements.
+
+ghost use Rattle.std.specs.Prelude.{ℕ, Bool, ◌≡◌, ◌<◌, ◌≤◌, ◌↔◌, length, slice_get, map, IfOk, OnOk, IsTrue};
+ghost use Rattle.names.specs.Modules.{StandsIn};
+ghost use Rattle.type_table.specs.Table.{Part, members};
+ghost use Rattle.type_table.specs.Seen.{part_of, type_of, types_of};
+ghost use Rattle.circles.specs.Circles.{IsPart};
+ghost use Rattle.circles.specs.proving.Reach.{HasParts, HasDefault, IsDefaulted, LeadsTo, IsMarked, AreUpTo, Marks, MarksReached};
+
+use type_table::{Component, Shape, Written};
+use std::alloc::{AllocError, Global};
+use trees::{ListKind, PresenceSyntax};
+
+/// Marks a type, which then waits, unless this search has marked it before.
+fn mark(
+    ty: usize,
+    search: usize,
+    marks: &mut [usize],
+    waiting: &mut Vec<usize>,
+) -> Result<(), AllocError>
+    requires { ty < length marks.old }
+    ensures { OnOk result (Marks search (λ j. j ≡ ty) marks.old marks.new waiting.old.items waiting.new.items) }
+{
+    if marks[ty] == search {
+        return Ok(());
+    }
+    waiting.push(ty)?;
+    marks[ty] = search;
+    Ok(())
+}
+
+/// Marks the types of all members.
+fn mark_members(
+    components: &[Component],
+    search: usize,
+    marks: &mut [usize],
+    waiting: &mut Vec<usize>,
+) -> Result<(), AllocError>
+    requires { (l : ListKind) (m : Bool) (k : ℕ) →
+        IsPart k (members l m (map part_of components.now)) →
+        k < length marks.old }
+    ensures { (l : ListKind) (m : Bool) →
+        OnOk result (Marks search (λ k. IsPart k (members l m (map part_of components.now)))
+        marks.old marks.new waiting.old.items waiting.new.items) }
+{
+    for component in components {
+        mark(component.ty, search, marks, waiting)?;
+    }
+    Ok(())
+}
+
+/// Whether a component has a DEFAULT.
+pub(crate) fn has_default(component: &Component) -> bool
+    ensures { IsTrue result ↔ HasDefault (part_of component.now) }
+{
+    match &component.presence {
+        PresenceSyntax::Mandatory => false,
+        PresenceSyntax::Optional => false,
+        PresenceSyntax::Default(_) => true,
+    }
+}
+
+/// Marks the type of a component, if it has a DEFAULT.
+fn mark_default(
+    component: &Component,
+    search: usize,
+    marks: &mut [usize],
+    waiting: &mut Vec<usize>,
+) -> Result<(), AllocError>
+    requires { HasDefault (part_of component.now) → component.now.ty < length marks.old }
+    ensures { OnOk result (Marks search (λ j. HasDefault (part_of component.now) × (j ≡ component.now.ty))
+        marks.old marks.new waiting.old.items waiting.new.items) }
+{
+    if !has_default(component) {
+        return Ok(());
+    }
+    mark(component.ty, search, marks, waiting)?;
+    Ok(())
+}
+
+/// Marks the types of the components with a DEFAULT.
+fn mark_defaults(
+    components: &[Component],
+    search: usize,
+    marks: &mut [usize],
+    waiting: &mut Vec<usize>,
+) -> Result<(), AllocError>
+    requires { (k : ℕ) → IsDefaulted (map part_of components.now) k → k < length marks.old }
+    ensures { OnOk result (Marks search (IsDefaulted (map part_of components.now))
+        marks.old marks.new waiting.old.items waiting.new.items) }
+{
+    for component in components {
+        mark_default(component, search, marks, waiting)?;
+    }
+    Ok(())
+}
+
+/// Marks what stands directly in a type, or is referred to there.
+fn mark_parts(
+    written: &Written,
+    search: usize,
+    marks: &mut [usize],
+    waiting: &mut Vec<usize>,
+) -> Result<(), AllocError>
+    requires { (k : ℕ) → IsPart k (type_of written.now).kind → k < length marks.old }
+    ensures { OnOk result (Marks search (λ k. IsPart k (type_of written.now).kind)
+        marks.old marks.new waiting.old.items waiting.new.items) }
+{
+    match &written.shape {
+        Shape::Simple(_) => Ok(()),
+        Shape::Reference(meant) => {
+            mark(*meant, search, marks, waiting)?;
+            Ok(())
+        }
+        Shape::Tagged(_, _, inner) => {
+            mark(*inner, search, marks, waiting)?;
+            Ok(())
+        }
+        Shape::Members(_, _, components) => {
+            mark_members(components, search, marks, waiting)?;
+            Ok(())
+        }
+        Shape::Elements(_, element) => {
+            mark(*element, search, marks, waiting)?;
+            Ok(())
+        }
+    }
+}
+
+/// Marks all that the marked types lead to. Each type waits at most once, so it costs no more than what is reached.
+fn mark_reached(
+    types: &[Written],
+    search: usize,
+    marks: &mut [usize],
+    waiting: &mut Vec<usize>,
+) -> Result<(), AllocError>
+    requires parts { HasParts (types_of types.now) }
+    requires long { length marks.old ≡ length types.now }
+    requires wait { (j : ℕ) → IsMarked search marks.old j → StandsIn waiting.old.items j }
+    requires marked { (j : ℕ) → StandsIn waiting.old.items j → IsMarked search marks.old j }
+    ensures { OnOk result (MarksReached (types_of types.now) search marks.old marks.new) }
+{
+    while let Some(at) = waiting.pop() {
+        mark_parts(&types[at], search, marks, waiting)?;
+    }
+    Ok(())
+}
+
+/// Whether a component with a DEFAULT leads to this type.
+pub fn lead_to(
+    alloc: Global,
+    types: &[Written],
+    components: &[Component],
+    ty: usize,
+    search: usize,
+    marks: &mut [usize],
+) -> Result<bool, AllocError>
+    requires parts { HasParts (types_of types.now) }
+    requires long { length marks.old ≡ length types.now }
+    requires there { ty < length types.now }
+    requires inside { (k : ℕ) → IsDefaulted (map part_of components.now) k → k < length types.now }
+    requires earlier { (j n : ℕ) → slice_get marks.old j ≡ Some n → n < search }
+    ensures found { IfOk result (λ b. IsTrue b ↔ LeadsTo (types_of types.now) (map part_of components.now) ty) }
+    ensures marks { OnOk result (AreUpTo search marks.new) }
+{
+    let mut waiting = Vec::new(alloc);
+    mark_defaults(components, search, marks, &mut waiting)?;
+    mark_reached(types, search, marks, &mut waiting)?;
+    Ok(marks[ty] == search)
+}

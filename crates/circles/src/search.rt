@@ -1,0 +1,94 @@
+//! Components with a DEFAULT whose types lead back to the lists that hold them.
+
+ghost use Rattle.std.specs.Prelude.{ℕ, ◌≡◌, ◌<◌, ◌+◌, ◌↔◌, length, slice_get, slice_index, map, IfOk, OnOk, IsTrue, MatchOption};
+ghost use Rattle.type_table.specs.Seen.{types_of, part_of};
+ghost use Rattle.type_table.specs.Table.{IsClosed, HasMembers, HasElements};
+ghost use Rattle.circles.specs.Circles.{IsDefaultCircle, NoDefaultCircles};
+ghost use Rattle.circles.specs.proving.Ranks.{Rise, DefaultsAbove};
+ghost use Rattle.circles.specs.proving.Reach.{HasParts, AreUpTo};
+
+use crate::ranking::ranks_of;
+use crate::ranks::{all_rise, defaults_rise, rank_at};
+use crate::reach::lead_to;
+use type_table::{Component, Shape, Written};
+use std::alloc::{AllocError, Global};
+
+/// Whether ranks rise, and the components of a list with a DEFAULT have types of higher ranks than the list.
+fn is_above(ranks: &[usize], rise: bool, list: usize, components: &[Component]) -> bool
+    ensures { IsTrue result →
+        IsTrue rise × DefaultsAbove (slice_index ranks.now list) ranks.now (map part_of components.now) }
+{
+    rise && defaults_rise(components, rank_at(ranks, list), ranks)
+}
+
+/// Whether a type is a list that its own components with a DEFAULT lead back to. Where ranks rise and those components have
+/// higher ones, they don't; what they lead to is searched for the list otherwise.
+fn is_in_circle(
+    alloc: Global,
+    types: &[Written],
+    ranks: &[usize],
+    rise: bool,
+    list: usize,
+    marks: &mut [usize],
+) -> Result<bool, AllocError>
+    requires parts { HasParts (types_of types.now) }
+    requires ranked { IsTrue rise → Rise (types_of types.now) ranks.now }
+    requires long { length marks.old ≡ length types.now }
+    requires there { list < length types.now }
+    requires earlier { AreUpTo list marks.old }
+    ensures circle { IfOk result (λ b. IsTrue b ↔ IsDefaultCircle (types_of types.now) list) }
+    ensures marks { OnOk result (AreUpTo (list + 1) marks.new) }
+{
+    match &types[list].shape {
+        Shape::Members(_, _, components) => {
+            if is_above(ranks, rise, list, components) {
+                return Ok(false);
+            }
+            let back = lead_to(alloc, types, components, list, list + 1, marks)?;
+            Ok(back)
+        }
+        _ => Ok(false),
+    }
+}
+
+/// The first list in a circle, if there is one.
+fn first_circle(
+    alloc: Global,
+    types: &[Written],
+    ranks: &[usize],
+    rise: bool,
+    marks: &mut [usize],
+) -> Result<Option<usize>, AllocError>
+    requires parts { HasParts (types_of types.now) }
+    requires ranked { IsTrue rise → Rise (types_of types.now) ranks.now }
+    requires long { length marks.old ≡ length types.now }
+    requires earlier { AreUpTo 0 marks.old }
+    ensures { IfOk result
+        (λ o. MatchOption o (NoDefaultCircles (types_of types.now))
+        (λ i. (i < length types.now) × IsDefaultCircle (types_of types.now) i)) }
+{
+    for list in 0..types.len() {
+        if is_in_circle(alloc, types, ranks, rise, list, marks)? {
+            return Ok(Some(list));
+        }
+    }
+    Ok(None)
+}
+
+/// The first list in a circle, if there is one: it has a component with a DEFAULT whose type leads back to it (X.680,
+/// clause 25.7). Types in a circle have one rank, so just one list is searched from.
+pub fn circle_of(alloc: Global, types: &[Written]) -> Result<Option<usize>, AllocError>
+    requires closed { IsClosed (types_of types.now) }
+    requires parts { HasMembers (types_of types.now) }
+    requires inner { HasElements (types_of types.now) }
+    ensures { IfOk result
+        (λ o. MatchOption o (NoDefaultCircles (types_of types.now))
+        (λ i. (i < length types.now) × IsDefaultCircle (types_of types.now) i)) }
+{
+    let numbers = ranks_of(alloc, types)?;
+    let ranks = numbers.as_slice();
+    let rise = all_rise(types, ranks);
+    let mut marks = vec![in alloc; 0; types.len()]?;
+    let circle = first_circle(alloc, types, ranks, rise, &mut marks)?;
+    Ok(circle)
+}

@@ -1,8 +1,0 @@
-use Rattle.std.proofs.Common.{map}
-use Rattle.type_table.specs.Seen.{part_of}
-use Rattle.type_table.specs.proving.Reach.{Marks}
-use Rattle.type_table.proofs.Marking.{IsDefaultedBelow}
-use Rattle.type_table.proofs.reach.mark_defaults.Given as goal
-
-abbrev pub invariant-loop-component : goal.invariant-loop-component
-invariant-loop-component l = Marks l.search (λ j. IsDefaultedBelow (map part_of l.components) l.component-index j) l.fn.marks l.marks l.fn.waiting.items l.waiting.items
