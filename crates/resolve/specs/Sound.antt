@@ -8,7 +8,7 @@ use Rattle.names.specs.Faults.{module_told, name_told}
 use Rattle.names.specs.Modules.{StandsIn}
 use Rattle.names.specs.Names.{Refers}
 use Rattle.names.specs.Sources.{Value}
-use Rattle.type_table.specs.Circles.{IsDefaultCircle, NoDefaultCircles}
+use Rattle.circles.specs.Circles.{IsDefaultCircle, NoDefaultCircles}
 use Rattle.type_table.specs.Lists.{AreSound}
 use Rattle.type_table.specs.ListFaults.{IsTwiceIn, HasPassed}
 use Rattle.type_table.specs.Table.{Kind, Type'}

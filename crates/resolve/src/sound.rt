@@ -3,7 +3,7 @@
 ghost use Rattle.std.specs.Prelude.{◌≡◌, IfErr, OnOk};
 ghost use Rattle.names.specs.declared.fault.NameFault.{NameFault as NameFault'};
 ghost use Rattle.names.specs.declared.fault.NameFault.TheVariants as faults;
-ghost use Rattle.type_table.specs.Circles.{NoDefaultCircles};
+ghost use Rattle.circles.specs.Circles.{NoDefaultCircles};
 ghost use Rattle.type_table.specs.Lists.{AreSound};
 ghost use Rattle.resolve.specs.Program.{Program};
 ghost use Rattle.resolve.specs.Sound.{IsSound, IsSoundFault, TypesMean, ValuesMean};
@@ -11,10 +11,10 @@ ghost use Rattle.resolve.specs.Sound.{IsSound, IsSoundFault, TypesMean, ValuesMe
 use crate::linked::Linked;
 use crate::qualified::{names_in_type, names_in_value};
 use asn_base::schema::TypeId;
+use circles::circle_of;
 use names::NameFault;
 use names::fault::spot;
 use std::alloc::Global;
-use type_table::circles::circle_of;
 use type_table::lists::sound_shape;
 
 /// The lists in all types: names and numbers are distinct, and no limit is passed.

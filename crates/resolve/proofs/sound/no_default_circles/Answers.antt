@@ -1,6 +1,6 @@
 use Rattle.std.proofs.Common.{◌≡◌, ◌<◌, ℕ, List, Some, None, length, sym, subst}
 use Rattle.std.specs.Prelude.{MatchOption, Option}
-use Rattle.type_table.specs.Circles.{IsDefaultCircle, NoDefaultCircles}
+use Rattle.circles.specs.Circles.{IsDefaultCircle, NoDefaultCircles}
 use Rattle.type_table.specs.Seen.{types_of}
 use Rattle.type_table.specs.Table.{Type', HasMembers, HasElements}
 use Rattle.resolve.proofs.sound.no_default_circles.Goals as goal
