@@ -1,4 +1,4 @@
-use Rattle.std.proofs.Common.{refl, inr, subst}
+use Rattle.std.proofs.Common.{Err, refl, ap, inr, subst}
 use Rattle.asn_base.specs.Abstract.{abstract}
 use Rattle.trees.specs.Values.{tree_of}
 use Rattle.first_path.specs.Notations.{IsValueAt}
@@ -19,6 +19,6 @@ returns-clause-refused c =
       at = subst (λ p. IsValueAt p c.args.number M n) c.program.ensures c.notation_at.ensures;
       none = inr (
         record { spot = h.told; is = refl; tells = (h.ensures.within, h.ensures.name) },
-        (abstract c.in-Ok.typed, c.in-Ok.ensures.value, c.in-Err-NotOfType.ensures.not_of_type c.in-Err-NotOfType.field-0-is),
+        (abstract c.in-Ok.typed, c.in-Ok.ensures.value, c.in-Err-NotOfType.ensures.not_of_type (ap Err c.in-Err-NotOfType.field-0-is)),
       );
     })
