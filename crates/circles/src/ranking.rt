@@ -3,8 +3,8 @@
 //! whoever uses the ranks tests that they rise.
 
 use crate::ranks::{part, rank_at};
-use type_table::Written;
 use std::alloc::{AllocError, Global};
+use type_table::Written;
 
 /// A type on the way, with the next of its parts and its number in the order of coming.
 #[derive(Clone, Copy, Drop)]

@@ -7,9 +7,9 @@ ghost use Rattle.type_table.specs.Seen.{part_of, type_of, types_of};
 ghost use Rattle.circles.specs.Circles.{IsPart};
 ghost use Rattle.circles.specs.proving.Reach.{HasParts, HasDefault, IsDefaulted, LeadsTo, IsMarked, AreUpTo, Marks, MarksReached};
 
-use type_table::{Component, Shape, Written};
 use std::alloc::{AllocError, Global};
 use trees::{ListKind, PresenceSyntax};
+use type_table::{Component, Shape, Written};
 
 /// Marks a type, which then waits, unless this search has marked it before.
 fn mark(

@@ -10,8 +10,8 @@ ghost use Rattle.circles.specs.proving.Reach.{HasParts, AreUpTo};
 use crate::ranking::ranks_of;
 use crate::ranks::{all_rise, defaults_rise, rank_at};
 use crate::reach::lead_to;
-use type_table::{Component, Shape, Written};
 use std::alloc::{AllocError, Global};
+use type_table::{Component, Shape, Written};
 
 /// Whether ranks rise, and the components of a list with a DEFAULT have types of higher ranks than the list.
 fn is_above(ranks: &[usize], rise: bool, list: usize, components: &[Component]) -> bool
