@@ -7,8 +7,8 @@ use asn_base::strings::StringKind;
 use asn_base::tag::{Class, Tag};
 use std::alloc::AllocError;
 use trees::{
-    ConstraintSyntax, ElementsKind, EnumeratedItem, EnumeratedSyntax, Keyword, ListKind, Member,
-    NamedBit, NamedNumber, PresenceSyntax, Simple, Standing, TypeForm, TypeSyntax,
+    ElementsKind, EnumeratedItem, EnumeratedSyntax, Keyword, ListKind, Member, NamedBit,
+    NamedNumber, PresenceSyntax, Simple, Standing, TypeForm, TypeSyntax,
 };
 
 fn put_named_numbers(out: &mut String, numbers: &[NamedNumber]) -> Result<(), AllocError> {
@@ -155,44 +155,49 @@ fn word_of_elements(kind: ElementsKind) -> &'static str {
     }
 }
 
-/// Writes a type and the constraints behind it; the size of a list type stands before its OF.
-#[cycle(put_type)]
-fn put_form(
-    out: &mut String,
-    form: &TypeForm<TypeSyntax>,
-    size: &[ConstraintSyntax],
-) -> Result<(), AllocError> {
-    match form {
-        TypeForm::Simple(simple) => put_simple(out, simple),
-        TypeForm::Reference(reference) => put_reference(out, reference),
-        TypeForm::List(kind, marker, members) => {
-            out.push_str(word_of_list(*kind))?;
-            if *marker {
-                out.push_str("...")?;
-            }
-            put_members(out, members)
-        }
-        TypeForm::Elements(kind, element) => {
-            out.push_str(word_of_elements(*kind))?;
-            put_constraints(out, size)?;
-            out.push_str(" OF ")?;
-            put_type(out, element)
-        }
-        TypeForm::Tagged(tag, keyword, inner) => {
-            put_tag(out, *tag, *keyword)?;
-            put_type(out, inner)
-        }
+/// Whether constraints stand behind a type. The size of a list type stands before its OF.
+fn is_constrained(syntax: &TypeSyntax) -> bool {
+    match &syntax.form {
+        TypeForm::Elements(_, _) => false,
+        _ => !syntax.constraints.is_empty(),
     }
+}
+
+fn put_list_word(out: &mut String, kind: ListKind, marker: bool) -> Result<(), AllocError> {
+    out.push_str(word_of_list(kind))?;
+    if marker {
+        out.push_str("...")?;
+    }
+    Ok(())
 }
 
 #[cycle(put_type)]
 pub fn put_type(out: &mut String, syntax: &TypeSyntax) -> Result<(), AllocError> {
-    let is_behind = !matches!(syntax.form, TypeForm::Elements(_, _));
-    if is_behind && !syntax.constraints.is_empty() {
+    let is_constrained = is_constrained(syntax);
+    if is_constrained {
         out.push('<')?;
-        put_form(out, &syntax.form, &[])?;
-        put_constraints(out, &syntax.constraints)?;
-        return out.push('>');
     }
-    put_form(out, &syntax.form, &syntax.constraints)
+    match &syntax.form {
+        TypeForm::Simple(simple) => put_simple(out, simple)?,
+        TypeForm::Reference(reference) => put_reference(out, reference)?,
+        TypeForm::List(kind, marker, members) => {
+            put_list_word(out, *kind, *marker)?;
+            put_members(out, members)?;
+        }
+        TypeForm::Elements(kind, element) => {
+            out.push_str(word_of_elements(*kind))?;
+            put_constraints(out, &syntax.constraints)?;
+            out.push_str(" OF ")?;
+            put_type(out, element)?;
+        }
+        TypeForm::Tagged(tag, keyword, inner) => {
+            put_tag(out, *tag, *keyword)?;
+            put_type(out, inner)?;
+        }
+    }
+    if is_constrained {
+        put_constraints(out, &syntax.constraints)?;
+        out.push('>')?;
+    }
+    Ok(())
 }
