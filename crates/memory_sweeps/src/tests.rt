@@ -13,7 +13,7 @@ use std::alloc::Global;
 use std::test::Fail;
 
 /// How many turns a sweep has. Each turn leaves a few octets more than the last one.
-const TURNS: usize = 1000;
+const TURNS: usize = 3000;
 
 /// The octets that a turn leaves more than the last one.
 const STEP: usize = 16;
