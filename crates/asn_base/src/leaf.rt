@@ -1,0 +1,225 @@
+//! Whether a value is one of a kind that holds no other values (X.680, 18 to 24, 32, 33, 41 and 51).
+
+ghost use Rattle.asn_base.specs.Abstract.{abstract, bits_of};
+ghost use Rattle.asn_base.specs.Names.{IsMember};
+ghost use Rattle.asn_base.specs.Seen.{constraint_of, item_of, kind_of, range_of};
+ghost use Rattle.asn_base.specs.Typed.{Fits, HasNumber, IsAllowed, IsAllowedSize, IsInRange, IsInSome, IsObjectIdentifier, IsRelativeOid};
+ghost use Rattle.std.specs.Int.Digits.{AllBelowBase};
+ghost use Rattle.std.specs.List.{AllByRecursion};
+ghost use Rattle.std.specs.Prelude.{◌≡◌, ◌≤◌, ◌<◌, ◌↔◌, ◌++◌, IsTrue, IsUtf8, chars, ◌^◌, length, map};
+
+use crate::constraint::{Constraint, Range};
+use crate::law::{abstract_values, integer_within_limit};
+use crate::schema::{Core, Item, Items};
+use crate::value::{BitString, Value};
+
+/// Whether the range has the number.
+fn is_in_range(range: &Range, number: i128) -> bool
+    ensures { IsTrue result ↔ IsInRange number (range_of range.now) }
+{
+    let above = match range.least {
+        Some(least) => least <= number,
+        None => true,
+    };
+    let below = match range.greatest {
+        Some(greatest) => number <= greatest,
+        None => true,
+    };
+    above && below
+}
+
+/// Whether one of the ranges has the number.
+fn is_in_some(ranges: &[Range], number: i128) -> bool
+    ensures { IsTrue result ↔ IsInSome number (map range_of ranges.now) }
+{
+    for i in 0..ranges.len() {
+        if is_in_range(&ranges[i], number) {
+            return true;
+        }
+    }
+    false
+}
+
+/// Whether the constraint allows the number.
+fn is_allowed(constraint: &Constraint, number: i128) -> bool
+    ensures { IsTrue result ↔ IsAllowed (constraint_of constraint.now) number }
+{
+    match &constraint.allowed {
+        Some(ranges) => is_in_some(ranges.as_slice(), number),
+        None => true,
+    }
+}
+
+/// Whether the constraint allows the size.
+pub(crate) fn is_allowed_size(constraint: &Constraint, size: u128) -> bool
+    requires { size < 2 ^ 127 }
+    ensures { IsTrue result ↔ IsAllowedSize (constraint_of constraint.now) size }
+{
+    is_allowed(constraint, size as i128)
+}
+
+/// Whether one of the items has the number.
+fn has_item(items: &[Item], number: i128) -> bool
+    ensures { IsTrue result ↔ HasNumber (map item_of items.now) number }
+{
+    for i in 0..items.len() {
+        if items[i].number == number {
+            return true;
+        }
+    }
+    false
+}
+
+/// Whether an item of the root or behind the marker has the number.
+fn has_number(items: &Items, number: i128) -> bool
+    ensures { IsTrue result ↔ HasNumber (map item_of items.now.root.items ++ map item_of items.now.additions.items) number }
+{
+    has_item(items.root.as_slice(), number) || has_item(items.additions.as_slice(), number)
+}
+
+/// How many bits it has.
+fn bit_count(bits: &BitString) -> u128
+    ensures count { result ≡ length (bits_of bits.now) }
+    ensures small { result < 2 ^ 127 }
+{
+    let octets = bits.octets.len() as u128;
+    8 * octets - u128::from(bits.unused)
+}
+
+/// Whether the code stands in the alphabet.
+fn has_code(alphabet: &[u8], code: u8) -> bool
+    ensures { IsTrue result ↔ IsMember code alphabet.now }
+{
+    for i in 0..alphabet.len() {
+        if alphabet[i] == code {
+            return true;
+        }
+    }
+    false
+}
+
+/// Whether each octet stands in the alphabet.
+fn are_codes(alphabet: &[u8], octets: &[u8]) -> bool
+    ensures { IsTrue result ↔ AllByRecursion (λ x. IsMember x alphabet.now) octets.now }
+{
+    for i in 0..octets.len() {
+        if !has_code(alphabet, octets[i]) {
+            return false;
+        }
+    }
+    true
+}
+
+/// Whether the octets are codes of the alphabet, and as many as are allowed.
+fn is_string_of(alphabet: &[u8], size: &Constraint, octets: &[u8]) -> bool
+    ensures { IsTrue result
+        ↔ AllByRecursion (λ x. IsMember x alphabet.now) octets.now
+            × IsAllowedSize (constraint_of size.now) (length octets.now) }
+{
+    is_allowed_size(size, octets.len() as u128) && are_codes(alphabet, octets)
+}
+
+/// Whether there are as many octets as are allowed.
+fn has_allowed_octets(size: &Constraint, octets: &[u8]) -> bool
+    ensures octets { AllBelowBase 256 octets.now }
+    ensures size { IsTrue result ↔ IsAllowedSize (constraint_of size.now) (length octets.now) }
+{
+    is_allowed_size(size, octets.len() as u128)
+}
+
+/// How many characters it has.
+fn character_count(text: &str) -> usize
+    ensures { result ≡ length (chars text.now) }
+{
+    text.chars().count()
+}
+
+/// Whether there are as many characters as are allowed.
+fn has_allowed_characters(size: &Constraint, text: &str) -> bool
+    ensures utf8 { IsUtf8 text.now }
+    ensures size { IsTrue result ↔ IsAllowedSize (constraint_of size.now) (length (chars text.now)) }
+{
+    is_allowed_size(size, character_count(text) as u128)
+}
+
+/// Whether these are the numbers of an OBJECT IDENTIFIER (X.680, 32).
+fn is_object_identifier(numbers: &[u64]) -> bool
+    ensures { IsTrue result ↔ IsObjectIdentifier numbers.now }
+{
+    if numbers.len() < 2 || numbers.len() > 64 {
+        return false;
+    }
+    let first = numbers[0];
+    if first < 2 {
+        return numbers[1] < 40;
+    }
+    first == 2
+}
+
+/// Whether these are the numbers of a RELATIVE-OID (X.680, 33).
+fn is_relative_oid(numbers: &[u64]) -> bool
+    ensures { IsTrue result ↔ IsRelativeOid numbers.now }
+{
+    !numbers.is_empty() && numbers.len() <= 64
+}
+
+/// Whether the value is one of a kind that holds no other values.
+pub(crate) fn fits(core: &Core, value: &Value) -> bool
+    ensures { IsTrue result ↔ Fits (kind_of core.now) (abstract value.now) }
+{
+    abstract_values();
+    match core {
+        Core::Boolean => match value {
+            Value::Bool(_) => true,
+            _ => false,
+        },
+        Core::Integer(constraint) => match value {
+            Value::Int(number) => {
+                integer_within_limit(*number);
+                is_allowed(constraint, *number)
+            }
+            _ => false,
+        },
+        Core::Enumerated(items) => match value {
+            Value::Enum(number) => {
+                integer_within_limit(*number);
+                has_number(items, *number)
+            }
+            _ => false,
+        },
+        Core::NamedBits(_) => match value {
+            Value::Bits(_) => true,
+            _ => false,
+        },
+        Core::OctetString(size) => match value {
+            Value::Octets(octets) => has_allowed_octets(size, octets.as_slice()),
+            _ => false,
+        },
+        Core::Null => match value {
+            Value::Null => true,
+            _ => false,
+        },
+        Core::ObjectIdentifier => match value {
+            Value::Oid(numbers) => is_object_identifier(numbers.as_slice()),
+            _ => false,
+        },
+        Core::RelativeOid => match value {
+            Value::RelativeOid(numbers) => is_relative_oid(numbers.as_slice()),
+            _ => false,
+        },
+        Core::BitString(size) => match value {
+            Value::Bits(bits) => is_allowed_size(size, bit_count(bits)),
+            _ => false,
+        },
+        Core::Utf8String(size) => match value {
+            Value::Text(text) => has_allowed_characters(size, text.as_str()),
+            _ => false,
+        },
+        Core::RestrictedString(_, alphabet, size) => match value {
+            Value::Text(text) => is_string_of(alphabet.as_slice(), size, text.as_bytes()),
+            _ => false,
+        },
+        Core::Sequence(_, _) | Core::Set(_, _) => false,
+        Core::SequenceOf(_, _) | Core::SetOf(_, _) | Core::Choice(_) => false,
+    }
+}
