@@ -13,7 +13,7 @@ use Rattle.asn_base.specs.Types.{Bounds, Constraint, Presence, mandatory, option
 use Rattle.asn_base.specs.Typed.{IsWithinLimit, IsAllowed, HasNumber, IsObjectIdentifier, arcs, Fits, fits_boolean, fits_integer, fits_octets, fits_oid, fits_utf8, ValueIn, value_in, of_leaf, of_sequence, of_sequence_of, of_choice, ValueOf, members, one_element, MayBeAbsent, where_optional, where_default, where_addition, no_component, component_absent, component_present, no_element, nodes}
 use Rattle.asn_base.specs.Same.{Alike, alike, AlikeBy, alike_sequence, alike_sequence_of, alike_choice, equal, no_components, both_absent, first_default, no_elements, alike_element}
 use Rattle.asn_base.proofs.Sameness.{by_at, same_kind}
-use Rattle.asn_base.proofs.Groups.{no_groups}
+use Rattle.asn_base.proofs.NoGroups.{no_groups}
 
 abbrev tag : Tag
 tag = record { class = Universal; number = 2; in_range = lit< tt; not_reserved = λ e. lit< tt }

@@ -114,7 +114,7 @@ fn are_codes(alphabet: &[u8], octets: &[u8]) -> bool
 fn is_string_of(alphabet: &[u8], size: &Constraint, octets: &[u8]) -> bool
     ensures { IsTrue result
         ↔ AllByRecursion (λ x. IsMember x alphabet.now) octets.now
-            × IsAllowedSize (constraint_of size.now) (length octets.now) }
+        × IsAllowedSize (constraint_of size.now) (length octets.now) }
 {
     is_allowed_size(size, octets.len() as u128) && are_codes(alphabet, octets)
 }

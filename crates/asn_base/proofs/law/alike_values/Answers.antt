@@ -1,4 +1,4 @@
-use Rattle.asn_base.proofs.Decide.{decided}
+use Rattle.asn_base.proofs.AlikeOrNot.{decided}
 use Rattle.asn_base.proofs.Levels.{same_groups, same_levels}
 use Rattle.asn_base.proofs.law.alike_values.Goals as goal
 

@@ -1,4 +1,4 @@
-use Rattle.asn_base.proofs.Groups.{no_groups}
+use Rattle.asn_base.proofs.NoGroups.{no_groups}
 use Rattle.asn_base.proofs.law.without_groups.Goals as goal
 
 pub returns : goal.returns

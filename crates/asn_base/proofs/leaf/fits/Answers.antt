@@ -6,7 +6,7 @@ use Rattle.std.specs.List.{AllByRecursion}
 use Rattle.asn_base.specs.Names.{IsMember}
 use Rattle.asn_base.specs.Typed.{IsAllowedSize}
 use Rattle.std.proofs.lemmas.Int.{to_z-of_z}
-use Rattle.asn_base.specs.Abstract.{abstract, integer, enumerated, octets, text, oid, relative_oid, bits}
+use Rattle.asn_base.specs.Abstract.{abstract, integer, enumerated, octets, text, oid, relative_oid}
 use Rattle.asn_base.specs.Seen.{constraint_of, kind_of}
 use Rattle.asn_base.proofs.Leaves.{boolean_fits, null_fits, named_fits, integer_fits, enumerated_fits, bits_fits, octets_fits, oid_fits, relative_fits, utf8_fits, restricted_fits}
 use Rattle.asn_base.proofs.leaf.fits.Goals as goal
@@ -15,12 +15,12 @@ pub returns-in-Bool : goal.returns-in-Bool
 returns-in-Bool c = boolean_fits (ap kind_of c.in-Boolean.is) (ap abstract c.in-Bool.is ∙ c.abstract_values.ensures.bool _)
 
 pub returns-in-Int : goal.returns-in-Int
-returns-in-Int c = 
+returns-in-Int c =
     let f : SFits w128 c.in-Int.number = search rules in
     integer_fits (ap kind_of c.in-Integer.is) (ap abstract c.in-Int.is ∙ c.abstract_values.ensures.int _ ∙ ap integer (sym (to_z-of_z w128 c.in-Int.number f))) c.integer_within_limit.ensures c.is_allowed.ensures
 
 pub returns-in-Enum : goal.returns-in-Enum
-returns-in-Enum c = 
+returns-in-Enum c =
     let f : SFits w128 c.in-Enum.number = search rules in
     enumerated_fits (ap kind_of c.in-Enumerated.is) (ap abstract c.in-Enum.is ∙ c.abstract_values.ensures.enum_ _ ∙ ap enumerated (sym (to_z-of_z w128 c.in-Enum.number f))) c.integer_within_limit-in-Enum.ensures c.has_number.ensures
 

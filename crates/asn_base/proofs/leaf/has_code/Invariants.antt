@@ -1,4 +1,4 @@
-use Rattle.std.proofs.Common.{◌≡◌, drop}
+use Rattle.std.proofs.Common.{drop}
 use Rattle.std.specs.Prelude.{◌↔◌}
 use Rattle.asn_base.specs.Names.{IsMember}
 use Rattle.asn_base.proofs.leaf.has_code.Given as goal

@@ -1,4 +1,4 @@
-use Rattle.std.proofs.Common.{◌≡◌, drop, map}
+use Rattle.std.proofs.Common.{drop, map}
 use Rattle.std.specs.Prelude.{◌↔◌}
 use Rattle.asn_base.specs.Seen.{item_of}
 use Rattle.asn_base.specs.Typed.{HasNumber}

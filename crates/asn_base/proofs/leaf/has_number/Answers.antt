@@ -1,6 +1,6 @@
 use mir.Syntax.{w128}
 use mir.Val.{to_z, of_z}
-use Rattle.std.proofs.Common.{Bool, false, map, subst, sym, ap, ◌∙◌, ◌↔◌}
+use Rattle.std.proofs.Common.{map, subst, sym, ◌↔◌}
 use Rattle.std.specs.Prelude.{IsTrue}
 use Rattle.std.proofs.lemmas.Int.{to_z-of_z}
 use Rattle.asn_base.specs.Seen.{item_of}

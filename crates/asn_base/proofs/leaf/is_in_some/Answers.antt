@@ -1,9 +1,9 @@
 use mir.Syntax.{w128}
-use Rattle.std.proofs.Common.{arith, inl, map, sym, subst}
+use Rattle.std.proofs.Common.{inl, map, subst}
 use Rattle.std.proofs.lemmas.Int.{to_z-of_z}
 use Rattle.asn_base.specs.Seen.{range_of}
 use Rattle.asn_base.specs.Typed.{IsInSome}
-use Rattle.asn_base.proofs.Leaves.{drop_at, left_at, yes, no, not_here}
+use Rattle.asn_base.proofs.Leaves.{drop_at, left_at, yes, not_here}
 use Rattle.asn_base.proofs.leaf.is_in_some.Goals as goal
 
 pub returns-then-is_in_range : goal.returns-then-is_in_range

@@ -1,0 +1,66 @@
+use Rattle.std.proofs.Common.{arith, ◌<◌, ◌≤◌, length, map, sym, subst, ap, ◌∙◌}
+use Rattle.std.specs.Prelude.{option_map}
+use Rattle.asn_base.specs.Abstract.{abstract}
+use Rattle.asn_base.specs.Seen.{component_of}
+use Rattle.asn_base.proofs.Leaves.{drop_is, drop_end, yes, no}
+use Rattle.asn_base.specs.Seen.{presence_of, constraint_of}
+use Rattle.asn_base.specs.Typed.{IsAllowedSize}
+use Rattle.asn_base.proofs.Parts.{opened, next_component, no_first, all_components, opened_elements, all_elements, as_many, length_mapped, member_count, absent_at, may_optional, may_addition, by_default, in_leaf, in_holder}
+use Rattle.asn_base.proofs.decide.+within.Goals as goal
+
+pub are_components-returns-then-not-is_component : goal.are_components-returns-then-not-is_component
+are_components-returns-then-not-is_component t c =
+    let lt : c.loop-i.i < length c.args.values.now = let e = c.requires in omega arith in
+    let a = opened c.args.schema.now c.args.levels _ _ c.loop-i.i (drop_is component_of c.args.components.now c.loop-i.i c.index-components-i.result c.loop-i-test.true c.index-components-i.is) (drop_is (option_map abstract) c.args.values.now c.loop-i.i c.index-values-i.result lt c.index-values-i.is) c.loop-i.invariant in
+    no (no_first a (λ h. let e = c.is_component.ensures.1 h in cc))
+
+pub are_components-loop-i-preserved : goal.are_components-loop-i-preserved
+are_components-loop-i-preserved t c =
+    let lt : c.loop-i.i < length c.args.values.now = let e = c.requires in omega arith in
+    let a = opened c.args.schema.now c.args.levels _ _ c.loop-i.i (drop_is component_of c.args.components.now c.loop-i.i c.index-components-i.result c.loop-i-test.true c.index-components-i.is) (drop_is (option_map abstract) c.args.values.now c.loop-i.i c.index-values-i.result lt c.index-values-i.is) c.loop-i.invariant in
+    next_component a (c.is_component.ensures.0 c.if-not-is_component.false)
+
+pub are_components-returns : goal.are_components-returns
+are_components-returns t c =
+    let le : length c.args.values.now ≤ c.loop-i.i = let e = c.requires in omega arith in
+    yes (all_components c.args.schema.now c.args.levels _ _ c.loop-i.i (drop_end component_of c.args.components.now c.loop-i.i c.loop-i-test.false) (drop_end (option_map abstract) c.args.values.now c.loop-i.i le) c.loop-i.invariant)
+
+pub are_elements-returns-then-not-is_allowed_size : goal.are_elements-returns-then-not-is_allowed_size
+are_elements-returns-then-not-is_allowed_size t c =
+    no (λ p. let e = c.is_allowed_size.ensures.1 (subst (IsAllowedSize (constraint_of c.args.size.now)) (member_count _ ∙ length_mapped abstract c.args.values.now) p.1) in cc)
+
+pub are_elements-returns-then-not-is_within : goal.are_elements-returns-then-not-is_within
+are_elements-returns-then-not-is_within t c =
+    let a = opened_elements c.args.schema.now c.args.levels c.args.element.index _ c.loop-i.i (drop_is abstract c.args.values.now c.loop-i.i c.index-values-i.result c.loop-i-test.true c.index-values-i.is) c.loop-i.invariant in
+    no (λ p. no_first a (λ h. let e = c.is_within.ensures.1 h in cc) p.0)
+
+pub are_elements-loop-i-preserved : goal.are_elements-loop-i-preserved
+are_elements-loop-i-preserved t c =
+    let a = opened_elements c.args.schema.now c.args.levels c.args.element.index _ c.loop-i.i (drop_is abstract c.args.values.now c.loop-i.i c.index-values-i.result c.loop-i-test.true c.index-values-i.is) c.loop-i.invariant in
+    next_component a (c.is_within.ensures.0 c.if-not-is_within.false)
+
+pub are_elements-returns : goal.are_elements-returns
+are_elements-returns t c =
+    yes (
+      all_elements c.args.schema.now c.args.levels c.args.element.index _ c.loop-i.i (drop_end abstract c.args.values.now c.loop-i.i c.loop-i-test.false) c.loop-i.invariant,
+      subst (IsAllowedSize (constraint_of c.args.size.now)) (sym (member_count _ ∙ length_mapped abstract c.args.values.now)) (c.is_allowed_size.ensures.0 c.if-not-is_allowed_size.false),
+    )
+
+pub are_fields-returns-then-components-values : goal.are_fields-returns-then-components-values
+are_fields-returns-then-components-values t c =
+    no (λ p. c.if-components-values.true (sym (length_mapped component_of c.args.components.now) ∙ as_many (map component_of c.args.components.now) (map (option_map abstract) c.args.values.now) p.0 ∙ length_mapped (option_map abstract) c.args.values.now))
+
+pub is_component-returns-in-Optional : goal.is_component-returns-in-Optional
+is_component-returns-in-Optional t c = absent_at c.args.schema.now c.args.levels (component_of c.args.component.now) (ap (option_map abstract) c.in-None.is) (yes (may_optional (ap presence_of c.in-Optional.is)))
+
+pub is_component-returns-in-Default : goal.is_component-returns-in-Default
+is_component-returns-in-Default t c = absent_at c.args.schema.now c.args.levels (component_of c.args.component.now) (ap (option_map abstract) c.in-None.is) (by_default (ap presence_of c.in-Default.is) c.is_within-in-Default.ensures)
+
+pub is_component-returns-in-Addition : goal.is_component-returns-in-Addition
+is_component-returns-in-Addition t c = absent_at c.args.schema.now c.args.levels (component_of c.args.component.now) (ap (option_map abstract) c.in-None.is) (yes (may_addition (ap presence_of c.in-Addition.is)))
+
+pub is_within-returns-then-fits : goal.is_within-returns-then-fits
+is_within-returns-then-fits t c = in_leaf c.args.levels (omega arith) c.get.ensures.is c.fits.ensures c.if-fits.true
+
+pub is_within-returns-else-fits : goal.is_within-returns-else-fits
+is_within-returns-else-fits t c = in_holder c.args.levels (omega arith) c.get.ensures.is (λ f. let e = c.fits.ensures.1 f in cc) c.holds.ensures

@@ -1,0 +1,205 @@
+//! Whether a value is one of a type.
+
+ghost use Rattle.asn_base.specs.Abstract.{abstract, row_of_list, row_of_options};
+ghost use Rattle.asn_base.specs.Decided.{Holds, IsChosen, IsComponent};
+ghost use Rattle.asn_base.specs.Seen.{alternative_of, component_of, constraint_of, kind_of};
+ghost use Rattle.asn_base.specs.Typed.{AreComponents, AreElements, GroupsAreWhole, IsAllowedSize, IsValue, IsValueWithoutNodes, ValueIn, members};
+ghost use Rattle.asn_base.specs.Types.{Alternative};
+ghost use Rattle.std.specs.Prelude.{◌≡◌, ◌↔◌, ◌++◌, IsTrue, MatchOption, None, Some, length, map, option_map, slice_get};
+
+use crate::constraint::Constraint;
+use crate::groups::are_whole;
+use crate::law::abstract_values;
+use crate::leaf::{fits, is_allowed_size};
+use crate::nodes::nodes_left;
+use crate::schema::{Alternatives, Component, Core, Presence, Schema, TypeId};
+use crate::value::Value;
+
+/// The nodes of a value are at most this many, 2^24.
+const MOST_NODES: u32 = 16_777_216;
+
+/// Whether it is a value of the type: shape, constraints, items, named bits, alphabets, groups of additions, at most 64
+/// levels and at most 2^24 nodes. It is none where the schema lacks the type. It takes no memory.
+pub fn is_value(value: &Value, schema: &Schema, id: TypeId) -> bool
+    ensures { IsTrue result ↔ IsValue schema.now id.index (abstract value.now) }
+{
+    is_value_without_nodes(value, schema, id) && nodes_left(value, MOST_NODES).is_some()
+}
+
+/// Whether it is a value of the type, the limit on nodes apart. A value of any depth may be asked of: what lies below 64
+/// levels isn't looked at.
+pub fn is_value_without_nodes(value: &Value, schema: &Schema, id: TypeId) -> bool
+    ensures { IsTrue result ↔ IsValueWithoutNodes schema.now id.index (abstract value.now) }
+{
+    is_within(value, schema, 64, id)
+}
+
+/// Whether it is a value of the type with at most this many levels, the limit on nodes apart.
+#[cycle(within)]
+fn is_within(value: &Value, schema: &Schema, levels: u8, id: TypeId) -> bool
+    ensures { IsTrue result ↔ ValueIn schema.now levels id.index (abstract value.now) }
+{
+    if levels == 0 || !schema.has(id) {
+        return false;
+    }
+    let core = &schema.get(id).core;
+    fits(core, value) || holds(core, value, schema, levels - 1)
+}
+
+/// Whether it is a value of the kind that holds others, each with at most this many levels.
+#[cycle(within)]
+fn holds(core: &Core, value: &Value, schema: &Schema, levels: u8) -> bool
+    ensures { IsTrue result ↔ Holds schema.now levels (kind_of core.now) (abstract value.now) }
+{
+    abstract_values();
+    match core {
+        Core::Sequence(_, components) => match value {
+            Value::Fields(values) => are_fields(
+                components.as_slice(),
+                values.as_slice(),
+                schema,
+                levels,
+            ),
+            _ => false,
+        },
+        Core::Set(_, components) => match value {
+            Value::Fields(values) => are_fields(
+                components.as_slice(),
+                values.as_slice(),
+                schema,
+                levels,
+            ),
+            _ => false,
+        },
+        Core::SequenceOf(size, element) => match value {
+            Value::List(values) => are_elements(size, *element, values.as_slice(), schema, levels),
+            _ => false,
+        },
+        Core::SetOf(size, element) => match value {
+            Value::List(values) => are_elements(size, *element, values.as_slice(), schema, levels),
+            _ => false,
+        },
+        Core::Choice(alternatives) => match value {
+            Value::Alt(index, inner) => is_chosen(alternatives, *index, inner, schema, levels),
+            _ => false,
+        },
+        _ => false,
+    }
+}
+
+/// Whether these are the components of a value, with whole groups.
+#[cycle(within)]
+fn are_fields(
+    components: &[Component],
+    values: &[Option<Value>],
+    schema: &Schema,
+    levels: u8,
+) -> bool
+    ensures { IsTrue result
+        ↔ AreComponents schema.now levels (map component_of components.now) (row_of_options (map (option_map abstract) values.now))
+        × GroupsAreWhole (map component_of components.now) (row_of_options (map (option_map abstract) values.now)) }
+{
+    if components.len() != values.len() {
+        return false;
+    }
+    are_components(components, values, schema, levels) && are_whole(components, values)
+}
+
+/// Whether these are the components of a value, of whole groups or not.
+#[cycle(within)]
+fn are_components(
+    components: &[Component],
+    values: &[Option<Value>],
+    schema: &Schema,
+    levels: u8,
+) -> bool
+    requires { length components.now ≡ length values.now }
+    ensures { IsTrue result
+        ↔ AreComponents schema.now levels (map component_of components.now) (row_of_options (map (option_map abstract) values.now)) }
+{
+    for i in 0..components.len() {
+        if !is_component(&components[i], &values[i], schema, levels) {
+            return false;
+        }
+    }
+    true
+}
+
+/// Whether it is a value of the component, or none where that may be.
+#[cycle(within)]
+fn is_component(component: &Component, value: &Option<Value>, schema: &Schema, levels: u8) -> bool
+    ensures { IsTrue result ↔ IsComponent schema.now levels (component_of component.now) (option_map abstract value.now) }
+{
+    match value {
+        Some(value) => is_within(value, schema, levels, component.ty),
+        None => match &component.presence {
+            Presence::Mandatory => false,
+            Presence::Optional => true,
+            Presence::Default(default) => is_within(default, schema, levels, component.ty),
+            Presence::Addition(_) => true,
+        },
+    }
+}
+
+/// Whether these are the elements of a value, as many as are allowed.
+#[cycle(within)]
+fn are_elements(
+    size: &Constraint,
+    element: TypeId,
+    values: &[Value],
+    schema: &Schema,
+    levels: u8,
+) -> bool
+    ensures { IsTrue result
+        ↔ AreElements schema.now levels element.index (row_of_list (map abstract values.now))
+        × IsAllowedSize (constraint_of size.now) (members (row_of_list (map abstract values.now))) }
+{
+    if !is_allowed_size(size, values.len() as u128) {
+        return false;
+    }
+    for i in 0..values.len() {
+        if !is_within(&values[i], schema, levels, element) {
+            return false;
+        }
+    }
+    true
+}
+
+/// Whether it is the value of the alternative with this number.
+#[cycle(within)]
+fn is_chosen(
+    alternatives: &Alternatives,
+    index: usize,
+    value: &Value,
+    schema: &Schema,
+    levels: u8,
+) -> bool
+    ensures { IsTrue result
+        ↔ IsChosen schema.now levels
+        (map alternative_of alternatives.now.root.items ++ map alternative_of alternatives.now.additions.items)
+        index (abstract value.now) }
+{
+    match chosen_type(alternatives, index) {
+        Some(id) => is_within(value, schema, levels, id),
+        None => false,
+    }
+}
+
+/// The type of the alternative with this number.
+fn chosen_type(alternatives: &Alternatives, index: usize) -> Option<TypeId>
+    ensures { MatchOption result
+        (slice_get (map alternative_of alternatives.now.root.items ++ map alternative_of alternatives.now.additions.items) index ≡ None)
+        (λ t. (a : Alternative)
+        × (slice_get (map alternative_of alternatives.now.root.items ++ map alternative_of alternatives.now.additions.items) index ≡ Some a)
+        × (a.type ≡ t.index)) }
+{
+    let root = alternatives.root.as_slice();
+    if index < root.len() {
+        return Some(root[index].ty);
+    }
+    let additions = alternatives.additions.as_slice();
+    if index - root.len() < additions.len() {
+        return Some(additions[index - root.len()].ty);
+    }
+    None
+}
