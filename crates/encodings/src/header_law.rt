@@ -1,8 +1,9 @@
 //! The laws of headers (X.690, 8.1.2, 8.1.3 and 10.1).
 
 ghost use Rattle.std.specs.Prelude.{◌≡◌, ℕ, ◌<◌, ◌≤◌, ◌^◌, Bool, List, ◌++◌, length};
+ghost use Rattle.asn_base.specs.declared.tag.Class.{Class};
 ghost use Rattle.asn_base.specs.declared.tag.Tag.{Tag};
-ghost use Rattle.encodings.specs.Header.{Header, HeaderBy};
+ghost use Rattle.encodings.specs.Header.{Header, HeaderBy, LengthOf, identifier};
 ghost use Rattle.encodings.specs.Fewest.{shortest_header};
 ghost use Rattle.encodings.specs.Rules.{Rules, Distinguished};
 
@@ -22,4 +23,16 @@ pub fn header_laws()
         → n ≤ m
         → HeaderBy r t c m h
         → length (shortest_header t b n) ≤ length h }
+{}
+
+/// No identifier octets begin others, and no length octets do, whatever follows them.
+pub fn part_laws()
+    ensures identifiers { (b c : Class) (m n : ℕ) (f g : Bool) (x y : List ℕ)
+        → identifier b m f ++ x ≡ identifier c n g ++ y
+        → (b ≡ c) × (m ≡ n) × (f ≡ g) × (x ≡ y) }
+    ensures lengths { (m n : ℕ) (p q x y : List ℕ)
+        → LengthOf m p
+        → LengthOf n q
+        → p ++ x ≡ q ++ y
+        → (m ≡ n) × (p ≡ q) × (x ≡ y) }
 {}

@@ -1,2 +1,4 @@
 pub mod Forms
 pub mod Adds
+pub mod Fronts
+pub mod Scans

@@ -28,3 +28,21 @@ impl<T: Drop> From<AllocFailed<T>> for Fault {
         Fault::Memory
     }
 }
+
+/// Why no header stands at the front of octets.
+#[derive(Clone, Copy, Debug, PartialEq, Eq, Error)]
+pub enum HeaderFault {
+    /// The octets end within a header, or before the contents that it tells.
+    #[error("80 Truncated")]
+    Truncated,
+    /// The length is in the indefinite form.
+    #[error("81 Indefinite")]
+    Indefinite,
+    /// The first length octet is `FF`, or the length is greater than a message's.
+    #[error("82 BadLength")]
+    BadLength,
+    /// The identifier is that of no tag: universal number 0, a number from 2^31, or septets for a number to 30 or with
+    /// zeros first.
+    #[error("83 BadTag")]
+    BadTag,
+}

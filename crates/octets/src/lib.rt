@@ -6,8 +6,10 @@ mod fault;
 mod form;
 mod header;
 pub mod law;
+mod read;
 
 pub use digits::octets_of;
-pub use fault::Fault;
+pub use fault::{Fault, HeaderFault};
 pub use form::Form;
 pub use header::{header_len, write_header};
+pub use read::{Header, read_header};
