@@ -26,16 +26,6 @@ pub dot_only : (text : List ℕ) (r : Option (Bor (List ℕ) × Bor (List ℕ)))
 dot_only text None s = tt
 dot_only text (Some p) s = λ M x q. (let h = split_after 46 text M x (Some p) s (omega arith) q.spelled q.plain in (sym h.0, sym h.1))
 
--- what the parts mean is what the text names
-pub named_is : (p : Program) (text : List ℕ) (W y : Name) (r : Option Assigned) → IsQualified text W y → ((M x : Name) → IsQualified text M x → (M ≡ W) × (x ≡ y)) → ((a : Assigned) → (r ≡ Some a ↔ Meaning p.modules W y a)) → (a : Assigned) → (r ≡ Some a ↔ IsNamed p text a)
-named_is p text W y r q only h a = (
-  λ e. record { within = W; name = y; is = q; means = (h a).0 e },
-  λ n. (let o = only n.within n.name n.is in (h a).1 (subst (λ M. Meaning p.modules M y a) o.0 (subst (λ x. Meaning p.modules n.within x a) o.1 n.means))),
-)
-
-pub named_none : (p : Program) (text : List ℕ) → ((M x : Name) → IsQualified text M x → ⊥) → (a : Assigned) → (None ≡ Some a ↔ IsNamed p text a)
-named_none p text h a = (λ e. absurd cc, λ n. absurd (h n.within n.name n.is))
-
 pub named_there : (p : Program) (W y : Name) (r : Option Assigned) → ((M x : Name) (a : Assigned) → Meaning p.modules M x a → IsThere p a) → ((a : Assigned) → (r ≡ Some a ↔ Meaning p.modules W y a)) → IfSome r (IsThere p)
 named_there p W y None w h = tt
 named_there p W y (Some a) w h = w W y a ((h a).0 refl)

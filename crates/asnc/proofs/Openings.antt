@@ -43,37 +43,3 @@ first_refused xs k x t ms (faults.NoType n) l e q z h = absurd h
 first_refused xs k x t ms (faults.NoValue n) l e q z h = absurd h
 first_refused xs k x t ms faults.TooLong l e q z h = absurd h
 first_refused xs k x t ms faults.Device l e q z h = absurd h
-
-pub text_stands : (xs : List (List ℕ)) (fault : Fault) → IsTextFault xs fault → StandsIn xs fault
-text_stands xs faults.Memory h = tt
-text_stands xs (faults.Text i f) h = h
-text_stands xs (faults.Tree i f) h = h
-text_stands xs (faults.File n) h = absurd h
-text_stands xs (faults.NoFile n) h = absurd h
-text_stands xs (faults.Folder n) h = absurd h
-text_stands xs (faults.BadWords n) h = absurd h
-text_stands xs (faults.Help n) h = absurd h
-text_stands xs (faults.Name n) h = absurd h
-text_stands xs (faults.OutOfProfile c s) h = absurd h
-text_stands xs (faults.Value n) h = absurd h
-text_stands xs (faults.NoType n) h = absurd h
-text_stands xs (faults.NoValue n) h = absurd h
-text_stands xs faults.TooLong h = absurd h
-text_stands xs faults.Device h = absurd h
-
-pub kit_stands : (xs : List (List ℕ)) (ms : List ModuleTree) (fault : Fault) → AllZip IsModule xs ms → IsNoKit ms fault → StandsIn xs fault
-kit_stands xs ms faults.Memory z h = tt
-kit_stands xs ms (faults.Name n) z h = record { modules = ms; are = z; stands = h }
-kit_stands xs ms (faults.OutOfProfile c s) z h = record { modules = ms; are = z; stands = h }
-kit_stands xs ms (faults.Text i f) z h = absurd h
-kit_stands xs ms (faults.Tree i f) z h = absurd h
-kit_stands xs ms (faults.File n) z h = absurd h
-kit_stands xs ms (faults.NoFile n) z h = absurd h
-kit_stands xs ms (faults.Folder n) z h = absurd h
-kit_stands xs ms (faults.BadWords n) z h = absurd h
-kit_stands xs ms (faults.Help n) z h = absurd h
-kit_stands xs ms (faults.Value n) z h = absurd h
-kit_stands xs ms (faults.NoType n) z h = absurd h
-kit_stands xs ms (faults.NoValue n) z h = absurd h
-kit_stands xs ms faults.TooLong z h = absurd h
-kit_stands xs ms faults.Device z h = absurd h

@@ -57,19 +57,6 @@ either (y ∷ xs) x (suc k) j e = elim (either xs x k j e) [ inl h ↦ inl (suc 
 
 -- ---- marking
 
--- the type is marked already
-pub marked_before : (s i : ℕ) (marks waiting : List ℕ) → IsMarked s marks i → Marks s (λ j. j ≡ i) marks marks waiting waiting
-marked_before s i marks waiting e = record {
-  long = refl;
-  all = λ j q. subst (λ z. IsMarked s marks z) (sym q) e;
-  kept = λ j h. h;
-  only = λ j h. inl h;
-  others = λ j n h. inl h;
-  wait = λ j h. h;
-  marked = λ f. f;
-  count = refl;
-}
-
 -- it is marked now
 pub marked_now : (s i v : ℕ) (marks waiting : List ℕ) → slice_get marks i ≡ Some v → (v ≡ s → ⊥) → Marks s (λ j. j ≡ i) marks (set marks i s) waiting (waiting ++ i ∷ [])
 marked_now s i v marks waiting e f =

@@ -50,12 +50,6 @@ all_taken P (y ∷ xs) (suc k) x e h p = (h.0, all_taken P xs k x e h.1 p)
 pub all_step : {X : Type 0} (P : X → Type 0) (xs : List X) (k : ℕ) (x : X) → slice_get xs k ≡ Some x → AllByRecursion P (take k xs) → P x → AllByRecursion P (take (k + 1) xs)
 all_step P xs k x e h p = let n : k + 1 ≡ suc k = omega arith in subst (λ j. AllByRecursion P (take j xs)) (sym n) (all_taken P xs k x e h p)
 
-pub step_all : {X : Type 0} (P : X → Type 0) (xs : List X) (k : ℕ) → length xs ≤ k → AllByRecursion P (take k xs) → AllByRecursion P xs
-step_all P xs k l h = subst (AllByRecursion P) (take_all k xs l) h
-
-pub done_all : {X Y : Type 0} (P : List Y → Type 0) (f : X → Y) (xs : List X) (k : ℕ) → length xs ≤ k → P (map f (take k xs)) → P (map f xs)
-done_all P f xs k l h = subst (λ ys. P (map f ys)) (take_all k xs l) h
-
 pub all_at : {X : Type 0} (P : X → Type 0) (xs : List X) (i : ℕ) (x : X) → AllByRecursion P xs → slice_get xs i ≡ Some x → P x
 all_at P [] i x a e = absurd cc
 all_at P (y ∷ xs) zero x a e = let q : y ≡ x = cc in rw (sym q) a.0

@@ -70,14 +70,6 @@ head_seen f x (y ∷ xs) l e = (map f xs, ap (λ z. f z ∷ map f xs) (sym e))
 pub constraint_out : (ts : List Type') (t : Type') (vs : List ConstraintSyntax) (v : ConstraintSyntax) (c : Construct) → t.constraints ≡ map constraint_of vs → 0 < length vs → v ≡ get_or vs 0 v → c ≡ constraint_construct (constraint_of v) → IsTypeOut ts t c
 constraint_out ts t vs v c e l g h = let r = head_seen constraint_of v vs l g in constraint (e ∙ r.1) (sym h)
 
-pub none_seen : {A B : Type 0} (f : A → B) (xs : List A) → length xs ≡ 0 → map f xs ≡ []
-none_seen f [] e = refl
-none_seen f (x ∷ xs) e = absurd cc
-
-pub some_seen : {A B : Type 0} (f : A → B) (xs : List A) → (length xs ≡ 0 → ⊥) → map f xs ≡ [] → ⊥
-some_seen f [] n e = n refl
-some_seen f (x ∷ xs) n e = cc
-
 -- a construct that is left out stands in no program that is taken
 pub excludes : (p : Program) (c : Construct) (M x : Name) → IsOutside p c M x → IsFirstPath p → ⊥
 excludes p c M x (inl t) f = t.other (all_at (λ h. h.1 ≡ Explicit) p.headers t.number (M, t.default) f.headers t.there)

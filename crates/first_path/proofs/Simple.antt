@@ -11,10 +11,3 @@ use Rattle.asn_base.specs.declared.schema.Component.{Component as Component'}
 
 pub simple_at : (s : List Resolved) (cs : List Component') (i : ℕ) (c : Component') → AllByRecursion (IsSimpleMember s) (map component_of cs) → i < length cs → c ≡ get_or cs i c → IsSimpleMember s (component_of c)
 simple_at s cs i c a l e = all_at (IsSimpleMember s) (map component_of cs) i (component_of c) a (slice_get-map component_of cs i ∙ ap (option_map component_of) (slice_get_read cs (length cs) i c refl l e))
-
-within_some : (o : Option Resolved) (s : List Resolved) (t : ℕ) → slice_get s t ≡ o → IsSomeAnd o (λ r. IsSimple r.kind) → t < length s
-within_some None s t e h = absurd h
-within_some (Some r) s t e h = slice_get_within s t r e
-
-pub simple_within : (s : List Resolved) (t : ℕ) → IsSomeAnd (slice_get s t) (λ r. IsSimple r.kind) → t < length s
-simple_within s t h = within_some (slice_get s t) s t refl h

@@ -65,9 +65,6 @@ no_other ts (elements x j) f e nb ns = f
 first_unfolded : (ts : List Type') (i : ℕ) (t : Type') → AllByRecursion (IsFirstType ts) ts → Unfolds ts i t → IsFirstKind ts t.kind
 first_unfolded ts i t a u = (all_at (IsFirstType ts) ts u.number t a u.there).kind
 
-pub one_or_other : (ts : List Type') (i : ℕ) (t : Type') → AllByRecursion (IsFirstType ts) ts → Unfolds ts i t → (IsBasic t.kind → ⊥) → ((ps : List Part) → t.kind ≡ members lists.Sequence false ps → ⊥) → ⊥
-one_or_other ts i t a u nb ns = no_other ts t.kind (first_unfolded ts i t a u) (sym (ap behind_of u.there) ∙ u.core.ends) nb ns
-
 -- the types of a front of the table
 pub record AreFront (ts : List Type') (s : List Resolved) (n : ℕ) : Type 0 where
   pub long : length s ≡ n

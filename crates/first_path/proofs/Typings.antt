@@ -42,16 +42,6 @@ leaf_of : (p : Program) (s : List Resolved) (M K : Name) (t : ℕ) (g : List Tag
 leaf_of q s M K t g k n l v i j p (leaf {K = H} {tags = f} {k = o} {l = h} w u x) = subst (λ y. IsLeaf y l v) (is_same s t f g o k u j) (subst (λ y. IsLeaf o y v) (i.only H h w).1 x)
 leaf_of q s M K t g k n l v i j p (sequence {tags = f} {e = b} {cs = cs} w u x y) = absurd (subst IsNoSequence (is_same s t g f k (a_sequence b cs) j u) p)
 
--- a notation of another kind is no value of the type
-pub other_lacks : (k : Kind) (n : Tree) (fault : ValueFault) → IsOther k n → Lacks (IsLeaf k n) fault
-other_lacks k n fault o = inr (λ v l. none k n v o l)
-  where
-    none : (k : Kind) (n : Tree) (v : AbstractValue) → IsOther k n → IsLeaf k n v → ⊥
-    none k n v o (truth e) = let f = sym o ∙ e in cc
-    none k n v o (whole_number e) = let f = sym o ∙ e in cc
-    none k n v o (bit_text e a) = o.0 _ e a.digits_of
-    none k n v o (hex_text e a) = o.1 _ e a.digits_of
-
 pub lacks_leaf : (p : Program) (s : List Resolved) (M K : Name) (t : ℕ) (g : List Tag) (k : Kind) (n l : Tree) (fault : ValueFault) → IsOnlyLast p M n K l → Is s t g k → IsNoSequence k → Lacks (IsLeaf k l) fault → Lacks (Notation p s M t n) fault
 lacks_leaf q s M K t g k n l fault i j p (inl e) = inl e
 lacks_leaf q s M K t g k n l fault i j p (inr z) = inr (λ v d. z v (leaf_of q s M K t g k n l v i j p d))

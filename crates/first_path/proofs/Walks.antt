@@ -178,17 +178,5 @@ ends_unique next i c d u v =
       | inr h ↦ ends_before next i d c v.steps u.steps h v.leads v.ends u.leads
     ]
 
--- what comes before the end has that end
-pub ends_after : (next : ℕ → Option ℕ) (i p c k : ℕ) → walk next k i ≡ Some p → EndsAt next i c → EndsAt next p c
-ends_after next i p c k e u =
-    elim (le_or k u.steps) [
-      | inl h ↦ (let r : ℕ = u.steps - k in let s : k + r ≡ u.steps = omega (arith, h) in
-          record { steps = r; leads = sym (walk_walk next k r i p e) ∙ ap (λ j. walk next j i) s ∙ u.leads; ends = u.ends })
-      | inr h ↦ (let q : p ≡ c = ends_before next i c p u.steps k h u.leads u.ends e in record { steps = 0; leads = ap Some q; ends = u.ends })
-    ]
-
 pub ends_next : (next : ℕ → Option ℕ) (i j c : ℕ) → next i ≡ Some j → EndsAt next j c → EndsAt next i c
 ends_next next i j c e u = record { steps = suc u.steps; leads = ap (λ o. onward o (λ k. walk next u.steps k)) e ∙ u.leads; ends = u.ends }
-
-pub no_next : (next : ℕ → Option ℕ) (i : ℕ) → next i ≡ None → ComesBack next i → ⊥
-no_next next i e b = let g = ap (λ o. onward o (λ j. walk next b.steps j)) e in let h = b.back in absurd cc

@@ -15,13 +15,6 @@ use Rattle.names.specs.Faults.{IsPastHere, IsPast, module_told, name_told}
 use Rattle.names.specs.proving.Distinct.{drop_at}
 use Rattle.names.proofs.Behind.{types_count, values_count, all_behind}
 
--- one assignment more
-pub types_drop : (gs : List Assignment) (i : ℕ) (g : Assignment) → i < length gs → g ≡ get_or gs i g → type_count (map given_of (drop i gs)) ≡ type_count (given_of g ∷ []) + type_count (map given_of (drop (i + 1) gs))
-types_drop gs i g l e = ap (λ z. type_count (map given_of z)) (drop_at gs i g l e) ∙ types_count (given_of g ∷ []) (map given_of (drop (i + 1) gs))
-
-pub values_drop : (gs : List Assignment) (i : ℕ) (g : Assignment) → i < length gs → g ≡ get_or gs i g → value_count (map given_of (drop i gs)) ≡ value_count (given_of g ∷ []) + value_count (map given_of (drop (i + 1) gs))
-values_drop gs i g l e = ap (λ z. value_count (map given_of z)) (drop_at gs i g l e) ∙ values_count (given_of g ∷ []) (map given_of (drop (i + 1) gs))
-
 -- one module more
 pub types_drop_module : (ms : List Module) (i : ℕ) (m : Module) → i < length ms → m ≡ get_or ms i m → type_count (all_assignments (map module_tree_of (drop i ms))) ≡ type_count (map given_of m.assignments.items) + type_count (all_assignments (map module_tree_of (drop (i + 1) ms)))
 types_drop_module ms i m l e = ap (λ z. type_count (all_assignments (map module_tree_of z))) (drop_at ms i m l e) ∙ types_count (map given_of m.assignments.items) (all_assignments (map module_tree_of (drop (i + 1) ms)))

@@ -148,9 +148,6 @@ pub record HasKeyTo (us : List Label) (n : ℕ) (x : ℕ × ℕ) : Type 0 where
 abbrev pub PutsTo : List Label → ℕ → (old new : List (ℕ × ℕ)) → Type 0
 PutsTo us n old new = (x : ℕ × ℕ) → (IsIn new x → IsIn old x ⊎ HasKeyTo us n x) × (IsIn old x ⊎ HasKeyTo us n x → IsIn new x)
 
-pub put_none : (us : List Label) (keys : List (ℕ × ℕ)) → PutsTo us 0 keys keys
-put_none us keys x = (λ h. inl h, λ h. elim h [ inl a ↦ a | inr b ↦ absurd (omega (arith, b.few)) ])
-
 same_tag : (us : List Label) (i : ℕ) (t u : Label) → slice_get us i ≡ Some t → slice_get us i ≡ Some u → t ≡ u
 same_tag us i t u e f = same_Some t u (sym e ∙ f)
 
@@ -182,9 +179,6 @@ put_end us n old new l f x = (
 abbrev pub NoneTo : List Label → ℕ → List (ℕ × ℕ) → Type 0
 NoneTo us n keys = (x : ℕ × ℕ) → HasKeyTo us n x → IsIn keys x → ⊥
 
-pub none_first : (us : List Label) (keys : List (ℕ × ℕ)) → NoneTo us 0 keys
-none_first us keys x b h = absurd (omega (arith, b.few))
-
 pub none_next : (us : List Label) (n : ℕ) (t : Label) (keys : List (ℕ × ℕ)) → slice_get us n ≡ Some t → NoneTo us n keys → (IsIn keys (key_of t) → ⊥) → NoneTo us (n + 1) keys
 none_next us n t keys e f g x b h =
     elim (cases_lt b.has.place n) [
@@ -196,9 +190,6 @@ pub none_end : (us : List Label) (n : ℕ) (keys : List (ℕ × ℕ)) → length
 none_end us n keys l f x b h = let w = slice_get_within us b.place b.tag b.there in f x (record { has = b; few = omega (arith, l, w) }) h
 
 -- ---- tags that the member at a place can meet
-
-pub meets_first : (k : ListKind) (cs : List Part) (vs : List (List Label)) (keys : List (ℕ × ℕ)) → keys ≡ [] → Meets k cs vs 0 keys
-meets_first k cs vs keys e x = (λ h. absurd (none_in keys x e h), λ m. absurd (omega (arith, m.before)))
 
 pub meets_next : (k : ListKind) (cs : List Part) (vs : List (List Label)) (q : ℕ) (c : Part) (us : List Label) (mid new : List (ℕ × ℕ)) → slice_get cs q ≡ Some c → slice_get vs q ≡ Some us → Passes k c → Meets k cs vs q mid →
     ((x : ℕ × ℕ) → (IsIn new x → IsIn mid x ⊎ HasKey us x) × (IsIn mid x ⊎ HasKey us x → IsIn new x)) → Meets k cs vs (q + 1) new

@@ -200,11 +200,6 @@ pub single_answer : (ts : List Type') (i : ℕ) (t : Label) (r : Result (Vec Lab
 single_answer ts i t (Ok v) h e = subst (AreFirst ts i) (sym e) (one_first ts i t h)
 single_answer ts i t (Err f) h e = subst (IsFirstFault ts) (sym e) tt
 
-pub either_default : {X : Type 0} (xs : List X) (i : ℕ) (d e : X) → i < length xs → slice_index_or xs i d ≡ slice_index_or xs i e
-either_default [] i d e l = absurd (omega arith)
-either_default (x ∷ xs) zero d e l = refl
-either_default (x ∷ xs) (suc i) d e l = either_default xs i d e (omega arith)
-
 pub written_answer : (ts : List Type') (i : ℕ) (b q : Path) → automatic ts i ≡ None → b ≡ [] → Adds ts i b q → Tags ts i q
 written_answer ts i b q e f a = as_written e (subst (Written ts i) (sym (a.is ∙ ap (λ x. x ++ a.path) f)) a.written)
 

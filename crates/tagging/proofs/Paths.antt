@@ -129,9 +129,6 @@ form_same k d p o e = ap (λ u. form_before k d (is_none u)) e ∙ same_form k d
 pub added_long : (ts : List Type') (i : ℕ) (b w p : Path) → Adds ts i b w → Written ts i p → length w ≡ length b + length p
 added_long ts i b w p a v = ap length a.is ∙ length-append b a.path ∙ ap (λ q. length b + length q) (written_unique ts i a.path p a.written v)
 
-pub count_to : (ts : List Type') (i m n : ℕ) → m ≡ n → TagCount ts i m → TagCount ts i n
-count_to ts i m n e c = subst (TagCount ts i) e c
-
 pub pushed : (v w : List FormedTag) (p : Path) (x : FormedTag) → w ≡ v ++ x ∷ [] → path_of w ++ p ≡ path_of v ++ ((label x.tag, x.form) ∷ p)
 pushed v w p x e = rw (e, map-append, append_assoc) refl
 

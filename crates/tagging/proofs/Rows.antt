@@ -1,5 +1,5 @@
 -- Worked rows: what the definitions say of small tables.
-use Rattle.std.proofs.Common.{◌≡◌, ℕ, zero, suc, ◌<◌, List, [], ◌∷◌, Option, Some, None, refl, sym, arith, true, false, subst, inr}
+use Rattle.std.proofs.Common.{◌≡◌, ℕ, zero, suc, ◌<◌, Bool, List, [], ◌∷◌, map, Option, Some, None, refl, sym, arith, true, false, subst, inr}
 use Rattle.std.specs.Prelude.{slice_get}
 use Rattle.asn_base.specs.declared.tag.Class.TheVariants.{Universal, Context}
 use Rattle.asn_base.specs.declared.tag.Tag.{Tag}
@@ -10,12 +10,13 @@ use Rattle.trees.specs.declared.module.TagDefault.TheVariants as tags
 use Rattle.trees.specs.Types.{PresenceTree, mandatory, optional, a_boolean, an_integer, a_bit_string, an_octet_string, a_null, an_object_identifier, a_relative_oid, an_enumerated, a_utf8_string, a_restricted_string}
 use Rattle.trees.specs.declared.types.Standing.TheVariants.{Root, Addition}
 use Rattle.asn_base.specs.declared.strings.StringKind.TheVariants.{Numeric, Printable, Ia5, Visible}
+use Rattle.trees.specs.declared.types.ListKind.{ListKind}
 use Rattle.trees.specs.declared.types.ListKind.TheVariants.{Sequence, Set, Choice}
 use Rattle.trees.specs.declared.types.ElementsKind.TheVariants.{SequenceOf, SetOf}
 use Rattle.type_table.specs.Table.{Part, Type', Kind, simple, reference, tagged, members, elements, Is}
 use Rattle.tagging.specs.declared.path.Form.TheVariants.{Implicit, Explicit}
-use Rattle.tagging.specs.Tags.{own, core, behind, inside, Tags, as_written, numbered, none_written, one_more, bears_tag, automatic}
-use Rattle.tagging.specs.First.{is_addition, may_be_absent, outermost, alternative, Together}
+use Rattle.tagging.specs.Tags.{Label, Path, own, core, behind, inside, Tags, as_written, numbered, none_written, one_more, bears_tag, automatic}
+use Rattle.tagging.specs.First.{First, is_addition, may_be_absent, outermost, alternative, Together}
 use Rattle.tagging.specs.Tagged.{Bears, IsOverfull, IsImplicit, IsUntagged, IsMixed, HasClash}
 
 -- a type of a table, which stands in a module with this tag default
@@ -46,57 +47,18 @@ below_1 = omega arith
 below_2 : 2 < 2147483648
 below_2 = omega arith
 
+abbrev universal : ℕ → Option Path
+universal n = Some (((Universal, n), Explicit) ∷ [])
+
 -- a type's own tag
-own_boolean : own (simple a_boolean) ≡ Some (((Universal, 1), Explicit) ∷ [])
-own_boolean = refl
-
-own_integer : own (simple (an_integer [])) ≡ Some (((Universal, 2), Explicit) ∷ [])
-own_integer = refl
-
-own_bits : own (simple (a_bit_string [])) ≡ Some (((Universal, 3), Explicit) ∷ [])
-own_bits = refl
-
-own_octets : own (simple an_octet_string) ≡ Some (((Universal, 4), Explicit) ∷ [])
-own_octets = refl
-
-own_null : own (simple a_null) ≡ Some (((Universal, 5), Explicit) ∷ [])
-own_null = refl
-
-own_oid : own (simple an_object_identifier) ≡ Some (((Universal, 6), Explicit) ∷ [])
-own_oid = refl
-
-own_enumerated : own (simple (an_enumerated [] None)) ≡ Some (((Universal, 10), Explicit) ∷ [])
-own_enumerated = refl
-
-own_utf8 : own (simple a_utf8_string) ≡ Some (((Universal, 12), Explicit) ∷ [])
-own_utf8 = refl
-
-own_relative : own (simple a_relative_oid) ≡ Some (((Universal, 13), Explicit) ∷ [])
-own_relative = refl
-
-own_numeric : own (simple (a_restricted_string Numeric)) ≡ Some (((Universal, 18), Explicit) ∷ [])
-own_numeric = refl
-
-own_printable : own (simple (a_restricted_string Printable)) ≡ Some (((Universal, 19), Explicit) ∷ [])
-own_printable = refl
-
-own_ia5 : own (simple (a_restricted_string Ia5)) ≡ Some (((Universal, 22), Explicit) ∷ [])
-own_ia5 = refl
-
-own_visible : own (simple (a_restricted_string Visible)) ≡ Some (((Universal, 26), Explicit) ∷ [])
-own_visible = refl
-
-own_sequence : own (members Sequence false []) ≡ Some (((Universal, 16), Explicit) ∷ [])
-own_sequence = refl
-
-own_set : own (members Set false []) ≡ Some (((Universal, 17), Explicit) ∷ [])
-own_set = refl
-
-own_sequence_of : own (elements SequenceOf 0) ≡ Some (((Universal, 16), Explicit) ∷ [])
-own_sequence_of = refl
-
-own_set_of : own (elements SetOf 0) ≡ Some (((Universal, 17), Explicit) ∷ [])
-own_set_of = refl
+own_tags : map own (
+    simple a_boolean ∷ int ∷ simple (a_bit_string []) ∷ simple an_octet_string ∷ simple a_null ∷ simple an_object_identifier
+    ∷ simple (an_enumerated [] None) ∷ simple a_utf8_string ∷ simple a_relative_oid
+    ∷ members Sequence false [] ∷ elements SequenceOf 0 ∷ members Set false [] ∷ elements SetOf 0
+    ∷ simple (a_restricted_string Numeric) ∷ simple (a_restricted_string Printable)
+    ∷ simple (a_restricted_string Ia5) ∷ simple (a_restricted_string Visible) ∷ [])
+    ≡ map universal (1 ∷ 2 ∷ 3 ∷ 4 ∷ 5 ∷ 6 ∷ 10 ∷ 12 ∷ 13 ∷ 16 ∷ 16 ∷ 17 ∷ 17 ∷ 18 ∷ 19 ∷ 22 ∷ 26 ∷ [])
+own_tags = refl
 
 own_choice : own (members Choice false []) ≡ Some []
 own_choice = refl
@@ -107,6 +69,37 @@ one_two = written (tagged (context 1 below_1) word.Implicit 1) tags.Explicit Non
 
 one_two_tags : Tags one_two 0 (((Context, 1), Implicit) ∷ ((Context, 2), Implicit) ∷ ((Universal, 5), Explicit) ∷ [])
 one_two_tags = as_written refl (inside (here refl) (inside (here refl) (core (here refl) refl) refl) refl)
+
+-- type 0 is this list, of which the members at p and q clash
+clash_of : {ts : List Type'} {k : ListKind} {m : Bool} {cs : List Part} {d : TagDefault} {a b : Part} {t : Label}
+    (p q : ℕ) → Is ts 0 (members k m cs) d None → p < q → slice_get cs p ≡ Some a → slice_get cs q ≡ Some b →
+    Together k cs p q → First ts a.ty t → First ts b.ty t → HasClash ts 0
+clash_of p q is before at_first at_second together in_first in_second = record {
+  kind = _;
+  marker = _;
+  cs = _;
+  default = _;
+  place = _;
+  is = is;
+  one = p;
+  other = q;
+  clash = record {
+    first = _;
+    second = _;
+    tag = _;
+    before = before;
+    at_first = at_first;
+    at_second = at_second;
+    together = together;
+    in_first = in_first;
+    in_second = in_second;
+  };
+}
+
+-- a type that is INTEGER has its tag first
+integer_first : {ts : List Type'} {i : ℕ} {d : TagDefault} {p : Option (ℕ × ℕ)} → slice_get ts i ≡ Some (written int d p) →
+    automatic ts i ≡ None → First ts i (Universal, 2)
+integer_first e n = outermost (as_written n (core (here e) refl))
 
 absent_as : (a c : Part) → Some a ≡ Some c → may_be_absent a ≡ true → may_be_absent c ≡ true
 absent_as a c e t = let s : a ≡ c = cc in subst (λ x. may_be_absent x ≡ true) s t
@@ -119,27 +112,7 @@ abbrev run_types : TagDefault → List Type'
 run_types d = written (members Sequence false run) d None ∷ written int d (Some (0, 0)) ∷ written (simple a_boolean) d (Some (0, 1)) ∷ written int d (Some (0, 2)) ∷ []
 
 run_clash : HasClash (run_types tags.Explicit) 0
-run_clash = record {
-  kind = Sequence;
-  marker = false;
-  cs = run;
-  default = tags.Explicit;
-  place = None;
-  is = here refl;
-  one = 0;
-  other = 2;
-  clash = record {
-    first = part 1 optional;
-    second = part 3 mandatory;
-    before = omega arith;
-    at_first = refl;
-    at_second = refl;
-    together = both;
-    tag = (Universal, 2);
-    in_first = outermost (as_written refl (core (here refl) refl));
-    in_second = outermost (as_written refl (core (here refl) refl));
-  };
-}
+run_clash = clash_of 0 2 (here refl) (omega arith) refl refl both (integer_first refl refl) (integer_first refl refl)
   where
     both : Together Sequence run 0 2
     both zero c l m e = absent_as (part 1 optional) c e refl
@@ -165,28 +138,9 @@ choice_types d = written (members Sequence false with_choice) d None ∷ written
     written int d (Some (2, 0)) ∷ written (simple a_null) d (Some (2, 1)) ∷ []
 
 choice_clash : HasClash (choice_types tags.Explicit) 0
-choice_clash = record {
-  kind = Sequence;
-  marker = false;
-  cs = with_choice;
-  default = tags.Explicit;
-  place = None;
-  is = here refl;
-  one = 0;
-  other = 1;
-  clash = record {
-    first = part 1 optional;
-    second = part 2 mandatory;
-    before = omega arith;
-    at_first = refl;
-    at_second = refl;
-    together = both;
-    tag = (Universal, 2);
-    in_first = outermost (as_written refl (core (here refl) refl));
-    in_second = alternative 2 false choice_parts 0 (part 3 mandatory) (as_written refl (core (here refl) refl))
-        (record { steps = 0; few = omega arith; leads = refl; ends = refl }) (here refl) refl (outermost (as_written refl (core (here refl) refl)));
-  };
-}
+choice_clash = clash_of 0 1 (here refl) (omega arith) refl refl both (integer_first refl refl)
+    (alternative 2 false choice_parts 0 (part 3 mandatory) (as_written refl (core (here refl) refl))
+        (record { steps = 0; few = omega arith; leads = refl; ends = refl }) (here refl) refl (integer_first refl refl))
   where
     both : Together Sequence with_choice 0 1
     both zero c l m e = absent_as (part 1 optional) c e refl
@@ -238,27 +192,9 @@ same_types d = written (members Set false same_parts) d None ∷ written (tagged
     written (simple a_null) d None ∷ written (simple a_boolean) d None ∷ []
 
 same_clash : HasClash (same_types tags.Implicit) 0
-same_clash = record {
-  kind = Set;
-  marker = false;
-  cs = same_parts;
-  default = tags.Implicit;
-  place = None;
-  is = here refl;
-  one = 0;
-  other = 1;
-  clash = record {
-    first = part 1 mandatory;
-    second = part 2 mandatory;
-    before = omega arith;
-    at_first = refl;
-    at_second = refl;
-    together = tt;
-    tag = (Context, 0);
-    in_first = outermost (as_written refl (inside (here refl) (core (here refl) refl) refl));
-    in_second = outermost (as_written refl (inside (here refl) (core (here refl) refl) refl));
-  };
-}
+same_clash = clash_of 0 1 (here refl) (omega arith) refl refl tt
+    (outermost (as_written refl (inside (here refl) (core (here refl) refl) refl)))
+    (outermost (as_written refl (inside (here refl) (core (here refl) refl) refl)))
 
 -- with AUTOMATIC TAGS too, since the members bear written tags
 same_not_automatic : automatic (same_types tags.Automatic) 1 ≡ None
@@ -315,27 +251,7 @@ abbrev extended_types : TagDefault → List Type'
 extended_types d = written (members Sequence true extended) d None ∷ written int d (Some (0, 0)) ∷ written int d (Some (0, 1)) ∷ []
 
 extended_clash : HasClash (extended_types tags.Explicit) 0
-extended_clash = record {
-  kind = Sequence;
-  marker = true;
-  cs = extended;
-  default = tags.Explicit;
-  place = None;
-  is = here refl;
-  one = 0;
-  other = 1;
-  clash = record {
-    first = part 1 optional;
-    second = addition 2 mandatory None;
-    before = omega arith;
-    at_first = refl;
-    at_second = refl;
-    together = both;
-    tag = (Universal, 2);
-    in_first = outermost (as_written refl (core (here refl) refl));
-    in_second = outermost (as_written refl (core (here refl) refl));
-  };
-}
+extended_clash = clash_of 0 1 (here refl) (omega arith) refl refl both (integer_first refl refl) (integer_first refl refl)
   where
     both : Together Sequence extended 0 1
     both zero c l m e = absent_as (part 1 optional) c e refl

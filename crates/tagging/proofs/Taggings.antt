@@ -145,27 +145,6 @@ no_other_fault p (faults.ImplicitChoice x) n s t = none_breaks p.types ImplicitC
 no_other_fault p (faults.UntaggedChoice x) n s t = none_breaks p.types UntaggedChoice s.ty s.has t
 no_other_fault p (faults.MixedAutomatic x) n s t = none_breaks p.types MixedAutomatic s.ty s.has t
 
-untagged_there : (ts : List Type') (i : ℕ) (p : Path) → Written ts i p → i < length ts
-untagged_there ts i p (core h e) = below ts i _ h.found
-untagged_there ts i p (behind h w) = below ts i _ h.found
-untagged_there ts i p (inside h w e) = below ts i _ h.found
-
-tags_there : (ts : List Type') (i : ℕ) (p : Path) → Tags ts i p → i < length ts
-tags_there ts i p (as_written e w) = untagged_there ts i _ w
-tags_there ts i p (numbered e w f) = untagged_there ts i _ w
-
--- what breaks a rule is a type of the table
-pub breaks_there : (ts : List Type') (r : Rule) (i : ℕ) → Breaks ts r i → i < length ts
-breaks_there ts TagsRule i s = count_there ts i s.count s.counts
-breaks_there ts TagNumber i s = numbered_there ts i s.number s.is
-breaks_there ts TagClash i s = below ts i _ s.is.found
-breaks_there ts ImplicitChoice i s = below ts i _ s.is.found
-breaks_there ts UntaggedChoice i s = tags_there ts i [] s.untagged
-breaks_there ts MixedAutomatic i s = below ts i _ s.is.found
-
-pub stands_as : (p : Program) (i : ℕ) (M N x y : List ℕ) → M ≡ N → x ≡ y → StandsIn p i M x → StandsIn p i N y
-stands_as p i M N x y e f s = subst (λ z. StandsIn p i N z) f (subst (λ z. StandsIn p i z x) e s)
-
 -- no member before place n bears a tag, of the additions or of the root
 abbrev pub NoneBears : List Type' → List Part → Bool → ℕ → Type 0
 NoneBears ts cs b n = (r : Bears ts cs b) → n ≤ r.number

@@ -6,9 +6,6 @@ use Rattle.names.specs.proving.Distinct.{either, stands_one}
 use Rattle.type_table.specs.Lists.{AreWithinLimit}
 use Rattle.type_table.specs.proving.Sets.{Puts}
 
-pub within_none : AreWithinLimit []
-within_none i z e = absurd cc
-
 -- one number more
 pub within_more : (zs : List ℤ) (y : ℤ) → AreWithinLimit zs → IsWithinLimit y → AreWithinLimit (zs ++ y ∷ [])
 within_more zs y w l i z e = elim (either zs (y ∷ []) i z e) [

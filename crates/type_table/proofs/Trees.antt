@@ -45,12 +45,3 @@ count a i n (m ∷ ms) = ap suc (count a i (suc n) ms)
 
 pub count_is : (a i n : ℕ) (ms : List (Member TypeSyntax)) → length (member_sources a i n (type_members (map type_member_of ms))) ≡ length ms
 count_is a i n ms = count a i n (map type_member_of ms) ∙ length-map ms type_member_of
-
-pub nothing_unknown : (ms : List (Name × Module)) (M : Name) (N : Option Name) (x : Name) (e : NameFault) → IsNothing ms M N x e → IsUnknown ms M (a_reference N x) e
-nothing_unknown ms M N x faults.Memory h = h
-nothing_unknown ms M N x (faults.UnknownName s) h = (h.0, (sym h.1, h.2))
-nothing_unknown ms M N x (faults.Limit l s) h = h
-nothing_unknown ms M N x (faults.Twice s) h = h
-nothing_unknown ms M N x (faults.NotExported s) h = h
-nothing_unknown ms M N x (faults.Circular s) h = h
-nothing_unknown ms M N x (faults.UnknownModule s) h = h

@@ -17,10 +17,6 @@ pub under_seen : {X Y : Type 0} (f : X → Y) (es : List (String Global × X)) (
 under_seen f [] q = refl
 under_seen f (e ∷ es) q = step f (bytes_eq q (string_bytes e.0)) e.1 _ _ (under_seen f es q)
 
-found-own : (ms : List (Name × Module)) (M x : Name) (i : Assigned) (m : Module) → under M ms ≡ Some m → under x m.assigned ≡ Some i → found ms M x ≡ Some i
-unfolding found
-found-own ms M x i m e f = rw (e, f) refl
-
 from_other : (ms : List (Name × Module)) (M x N : Name) (i : Assigned) (m : Module) (o : Option Module) → under M ms ≡ Some m → under x m.imports ≡ Some N → under N ms ≡ o → assigned_in x o ≡ Some i → Meaning ms M x i
 from_other ms M x N i m None e f g h = absurd cc
 from_other ms M x N i m (Some n) e f g h = imported m n N e f g h
