@@ -38,7 +38,6 @@ pub struct Gathered {
 }
 
 /// What a name is assigned, and where.
-#[tactic(auto, using(crate::specs::proving::Meanings::under_seen))]
 fn given_in<'a>(
     assigned: &'a IndexMap<String, At<Assigned>>,
     name: &str,
@@ -219,7 +218,6 @@ fn add_all(
 }
 
 /// The module that a name is imported from.
-#[tactic(auto, using(crate::specs::proving::Meanings::under_seen))]
 fn origin_in<'a>(imports: &'a IndexMap<String, Origin>, name: &str) -> Option<&'a Origin>
     ensures { option_map (λ o. origin_of o.now) result ≡ under name.now (origins imports.now.entries) }
 {

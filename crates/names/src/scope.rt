@@ -104,7 +104,6 @@ impl Names {
     }
 }
 
-#[tactic(auto, using(crate::specs::proving::Meanings::under_seen))]
 pub(crate) fn scope_of<'a>(modules: &'a IndexMap<String, Scope>, name: &str) -> Option<&'a Scope>
     ensures { option_map (λ s. module_of s.now) result ≡ under name.now (scopes modules.now.entries) }
 {
@@ -121,7 +120,6 @@ pub(crate) fn assigned_to(scope: &Scope, name: &str) -> Option<Assigned>
     }
 }
 
-#[tactic(auto, using(crate::specs::proving::Meanings::under_seen))]
 fn imported<'a>(scope: &'a Scope, name: &str) -> Option<&'a Origin>
     ensures { option_map (λ o. origin_of o.now) result ≡ under name.now (module_of scope.now).imports }
 {

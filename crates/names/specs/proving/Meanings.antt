@@ -1,6 +1,7 @@
 -- What the look-up finds is what the name means.
-use Rattle.std.proofs.Common.{◌≡◌, ◌↔◌, Bool, true, false, List, [], ◌∷◌, Option, Some, None, refl, ◌∙◌, option_map, cond, string_bytes}
-use Rattle.std.specs.Prelude.{String, bytes_eq}
+use Rattle.std.proofs.Common.{◌≡◌, ◌↔◌, Bool, true, false, List, [], ◌∷◌, Option, Some, None, refl, sym, ap, ◌∙◌, option_map, cond, string_bytes}
+use Rattle.std.specs.Prelude.{String, bytes_eq, option_copied}
+use Rattle.std.specs.Borrow.{Bor}
 use Rattle.std.specs.Global.{Global}
 use Rattle.std.specs.Map.{lookup}
 use Rattle.trees.specs.Values.{Name}
@@ -16,6 +17,11 @@ step f false x o p e = e
 pub under_seen : {X Y : Type 0} (f : X → Y) (es : List (String Global × X)) (q : Name) → under q (seen f es) ≡ option_map f (lookup (λ k. bytes_eq q (string_bytes k)) es)
 under_seen f [] q = refl
 under_seen f (e ∷ es) q = step f (bytes_eq q (string_bytes e.0)) e.1 _ _ (under_seen f es q)
+
+-- what a table of names has under a name
+pub under_found : {X Y : Type 0} (f : X → Y) (es : List (String Global × X)) (q : Name) (r : Option (Bor X)) → option_copied r ≡ lookup (λ k. bytes_eq q (string_bytes k)) es → option_map (λ b. f b.now) r ≡ under q (seen f es)
+under_found f es q None e = ap (option_map f) e ∙ sym (under_seen f es q)
+under_found f es q (Some b) e = ap (option_map f) e ∙ sym (under_seen f es q)
 
 from_other : (ms : List (Name × Module)) (M x N : Name) (i : Assigned) (m : Module) (o : Option Module) → under M ms ≡ Some m → under x m.imports ≡ Some N → under N ms ≡ o → assigned_in x o ≡ Some i → Meaning ms M x i
 from_other ms M x N i m None e f g h = absurd cc
