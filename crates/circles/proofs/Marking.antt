@@ -14,7 +14,8 @@ use Rattle.trees.specs.Types.{Plain}
 use Rattle.type_table.specs.Seen.{part_of}
 use Rattle.type_table.specs.Table.{Part, simple, reference, tagged, members, elements, Type'}
 use Rattle.circles.specs.Circles.{IsPart, referred, behind_tag, member, element, Reaches, itself, onward}
-use Rattle.type_table.specs.proving.Tables.{alike, set_kept, set_here, set_only}
+use Rattle.type_table.specs.proving.Notes.{set_kept, set_here, set_only}
+use Rattle.type_table.specs.proving.Tables.{alike}
 use Rattle.circles.specs.proving.Reach.{HasDefault, IsDefaulted, LeadsTo, IsMarked, AreUpTo, unmarked, Marks, MarksReached}
 
 self : (s : ℕ) → (s == s) ≡ true

@@ -1,36 +1,29 @@
 -- Where the references of values lead.
 use Rattle.std.proofs.Common.{◌≡◌, ◌⊎◌, ◌↔◌, inl, inr, ℕ, zero, suc, ◌+◌, ◌<◌, ◌≤◌, List, [], ◌∷◌, ◌++◌, length, Option, Some, None, refl, sym, ap, ◌∙◌, arith, subst, get_or}
 use Rattle.std.specs.Prelude.{slice_get, Result, Ok, Err, IfOk, IfErr, MatchResult}
-use Rattle.std.proofs.lemmas.Option.{slice_get_within}
+use Rattle.std.proofs.lemmas.Option.{slice_get_within, same_Some}
 use Rattle.trees.specs.Values.{Name, Tree, reference}
 use Rattle.names.specs.declared.scope.Assigned.{Assigned}
 use Rattle.names.specs.declared.scope.Assigned.TheVariants as assigned
 use Rattle.names.specs.Names.{Module, Meaning, Refers, bare, within, across}
+use Rattle.names.specs.proving.Meanings.{refers_meaning}
 use Rattle.resolve.specs.Program.{Program, IsThere, IsWhole}
-use Rattle.first_path.specs.Walks.{onward, walk, EndsAt, ComesBack, Reaches, IsWithin}
+use Rattle.type_table.specs.Walks.{onward, follow, EndsAt, ComesBack, Reaches, IsWithin}
 use Rattle.first_path.specs.Notations.{IsOwn, IsValueAt, IsLast, own, referred, IsValueLast, MeansValue, RefersTo, listed, AreReferred}
-use Rattle.first_path.proofs.Walks.{ends_next, core_not_circular}
-
-some_same : {X : Type 0} (x y : X) → Some x ≡ Some y → x ≡ y
-some_same x y e = cc
-
--- what a name refers to is what it means
-pub any_meaning : (ms : List (Name × Module)) (M : Name) (q : Option Name) (x : Name) (a : Assigned) → Refers ms M q x a → Meaning ms M x a
-any_meaning ms M q x a (bare m) = m
-any_meaning ms M q x a (within m) = m
-any_meaning ms M q x a (across m N e f h) = h
+use Rattle.first_path.proofs.Walks.{ends_next}
+use Rattle.type_table.specs.proving.Walks.{ends_not_back}
 
 pub means_value : (p : Program) (M : Name) (n : Tree) (q : Option Name) (x y : Name) (r : Option Assigned) (i : ℕ) → n ≡ reference q x → y ≡ x → ((a : Assigned) → (r ≡ Some a ↔ Refers p.modules M q y a)) → r ≡ Some (assigned.Value i)
     → (j : ℕ) → (Some i ≡ Some j ↔ MeansValue p M n j)
 means_value p M n q x y r i e s h f j = subst (λ t. Some i ≡ Some j ↔ MeansValue p M t j) (sym e) (λ g. on g, λ m. off m)
   where
     on : Some i ≡ Some j → Refers p.modules M q x (assigned.Value j)
-    on g = subst (λ z. Refers p.modules M q z (assigned.Value j)) s ((h (assigned.Value j)).0 (f ∙ ap (λ k. Some (assigned.Value k)) (some_same i j g)))
+    on g = subst (λ z. Refers p.modules M q z (assigned.Value j)) s ((h (assigned.Value j)).0 (f ∙ ap (λ k. Some (assigned.Value k)) (same_Some i j g)))
 
     off : Refers p.modules M q x (assigned.Value j) → Some i ≡ Some j
     off m =
         let g = (h (assigned.Value j)).1 (subst (λ z. Refers p.modules M q z (assigned.Value j)) (sym s) m) in
-        let k : assigned.Value i ≡ assigned.Value j = some_same (assigned.Value i) (assigned.Value j) (sym f ∙ g) in
+        let k : assigned.Value i ≡ assigned.Value j = same_Some (assigned.Value i) (assigned.Value j) (sym f ∙ g) in
         cc
 
 pub means_none : (p : Program) (M : Name) (n : Tree) (q : Option Name) (x y : Name) (r : Option Assigned) → n ≡ reference q x → y ≡ x → ((a : Assigned) → (r ≡ Some a ↔ Refers p.modules M q y a)) → ((j : ℕ) → r ≡ Some (assigned.Value j) → ⊥)
@@ -38,14 +31,14 @@ pub means_none : (p : Program) (M : Name) (n : Tree) (q : Option Name) (x y : Na
 means_none p M n q x y r e s h f j = subst (λ t. None ≡ Some j ↔ MeansValue p M t j) (sym e) (λ g. absurd cc, λ m. absurd (f j ((h (assigned.Value j)).1 (subst (λ z. Refers p.modules M q z (assigned.Value j)) (sym s) m))))
 
 pub value_there : (p : Program) (M : Name) (q : Option Name) (x : Name) (r : Option Assigned) (i : ℕ) → ((N z : Name) (a : Assigned) → Meaning p.modules N z a → IsThere p a) → ((a : Assigned) → (r ≡ Some a ↔ Refers p.modules M q x a)) → r ≡ Some (assigned.Value i) → i < length p.values
-value_there p M q x r i w h f = w M x (assigned.Value i) (any_meaning p.modules M q x (assigned.Value i) ((h (assigned.Value i)).0 f))
+value_there p M q x r i w h f = w M x (assigned.Value i) (refers_meaning p.modules M x q (assigned.Value i) ((h (assigned.Value i)).0 f))
 
 -- a value stands at one number alone in one module
 pub value_once : (p : Program) (i : ℕ) (M N : Name) (n m : Tree) → IsValueAt p i M n → IsValueAt p i N m → (M ≡ N) × (n ≡ m)
 value_once p i M N n m a b =
-    let v : a.value ≡ b.value = some_same a.value b.value (sym a.there ∙ b.there) in
-    let f = some_same (a.stands.owner, a.assigns) (b.stands.owner, b.assigns) (sym a.stands.assigned ∙ ap (λ w. slice_get p.assignments w.assignment) v ∙ b.stands.assigned) in
-    let g = some_same (M, a.stands.tags) (N, b.stands.tags) (sym a.stands.header ∙ ap (λ w. slice_get p.headers w.0) f ∙ b.stands.header) in
+    let v : a.value ≡ b.value = same_Some a.value b.value (sym a.there ∙ b.there) in
+    let f = same_Some (a.stands.owner, a.assigns) (b.stands.owner, b.assigns) (sym a.stands.assigned ∙ ap (λ w. slice_get p.assignments w.assignment) v ∙ b.stands.assigned) in
+    let g = same_Some (M, a.stands.tags) (N, b.stands.tags) (sym a.stands.header ∙ ap (λ w. slice_get p.headers w.0) f ∙ b.stands.header) in
     (ap (λ w. w.0) g, sym a.notation ∙ ap (λ w. w.notation) v ∙ b.notation)
 
 pub own_means : (p : Program) (M : Name) (n : Tree) (j : ℕ) → IsOwn n → MeansValue p M n j → ⊥
@@ -61,7 +54,7 @@ forth_at : (p : Program) (os : List (Option ℕ)) → AreReferred p os → (i j 
 forth_at p os a i j e M n K l at (own w) = absurd (own_means p M n j w (its_meaning p i M n j at ((a.each i j).0 e)))
 forth_at p os a i j e M n K l at (referred {q = q} {x = x} k N m r w last) =
     let f = (a.each i k).1 (record { within = M; notation = reference q x; at = at; means = r }) in
-    subst (λ z. IsValueLast p z K l) (some_same k j (sym f ∙ e)) (record { within = N; notation = m; at = w; last = last })
+    subst (λ z. IsValueLast p z K l) (same_Some k j (sym f ∙ e)) (record { within = N; notation = m; at = w; last = last })
 
 forth : (p : Program) (os : List (Option ℕ)) → AreReferred p os → (i j : ℕ) → listed os i ≡ Some j → (K : Name) (l : Tree) → IsValueLast p i K l → IsValueLast p j K l
 forth p os a i j e K l v = forth_at p os a i j e v.within v.notation K l v.at v.last
@@ -74,21 +67,21 @@ back : (p : Program) (os : List (Option ℕ)) → AreReferred p os → (i j : �
 back p os a i j e K l v = let r = (a.each i j).0 e in record { within = r.within; notation = r.notation; at = r.at; last = back_by p j r.within r.notation K l r.means v }
 
 module _ (p : Program) (os : List (Option ℕ)) (a : AreReferred p os) (K : Name) (l : Tree) where
-  forth_on : (k i c : ℕ) (o : Option ℕ) → listed os i ≡ o → ((j : ℕ) → walk (listed os) k j ≡ Some c → IsValueLast p j K l → IsValueLast p c K l) → onward o (λ j. walk (listed os) k j) ≡ Some c → IsValueLast p i K l → IsValueLast p c K l
+  forth_on : (k i c : ℕ) (o : Option ℕ) → listed os i ≡ o → ((j : ℕ) → follow (listed os) k j ≡ Some c → IsValueLast p j K l → IsValueLast p c K l) → onward o (λ j. follow (listed os) k j) ≡ Some c → IsValueLast p i K l → IsValueLast p c K l
   forth_on k i c None f go e v = absurd cc
   forth_on k i c (Some j) f go e v = go j e (forth p os a i j f K l v)
 
   -- behind a value's references stands what stands behind those that it leads to
-  pub all_forth : (k i c : ℕ) → walk (listed os) k i ≡ Some c → IsValueLast p i K l → IsValueLast p c K l
-  all_forth zero i c e v = subst (λ z. IsValueLast p z K l) (some_same i c e) v
+  pub all_forth : (k i c : ℕ) → follow (listed os) k i ≡ Some c → IsValueLast p i K l → IsValueLast p c K l
+  all_forth zero i c e v = subst (λ z. IsValueLast p z K l) (same_Some i c e) v
   all_forth (suc k) i c e v = forth_on k i c (listed os i) refl (λ j f w. all_forth k j c f w) e v
 
-  back_on : (k i c : ℕ) (o : Option ℕ) → listed os i ≡ o → ((j : ℕ) → walk (listed os) k j ≡ Some c → IsValueLast p c K l → IsValueLast p j K l) → onward o (λ j. walk (listed os) k j) ≡ Some c → IsValueLast p c K l → IsValueLast p i K l
+  back_on : (k i c : ℕ) (o : Option ℕ) → listed os i ≡ o → ((j : ℕ) → follow (listed os) k j ≡ Some c → IsValueLast p c K l → IsValueLast p j K l) → onward o (λ j. follow (listed os) k j) ≡ Some c → IsValueLast p c K l → IsValueLast p i K l
   back_on k i c None f go e v = absurd cc
   back_on k i c (Some j) f go e v = back p os a i j f K l (go j e v)
 
-  pub all_back : (k i c : ℕ) → walk (listed os) k i ≡ Some c → IsValueLast p c K l → IsValueLast p i K l
-  all_back zero i c e v = subst (λ z. IsValueLast p z K l) (sym (some_same i c e)) v
+  pub all_back : (k i c : ℕ) → follow (listed os) k i ≡ Some c → IsValueLast p c K l → IsValueLast p i K l
+  all_back zero i c e v = subst (λ z. IsValueLast p z K l) (sym (same_Some i c e)) v
   all_back (suc k) i c e v = back_on k i c (listed os i) refl (λ j f w. all_back k j c f w) e v
 
 none_of : (o : Option ℕ) → ((j : ℕ) → o ≡ Some j → ⊥) → o ≡ None
@@ -113,7 +106,7 @@ pub circle_last : (p : Program) (os : List (Option ℕ)) → AreReferred p os �
 circle_last p os a i c r b K l v =
     let w = all_forth p os a K l r.steps i c r.leads v in
     let u = ends_at p os a c w.within w.notation K l w.at w.last in
-    core_not_circular (listed os) c u.0 u.1 b
+    ends_not_back (listed os) c u.0 u.1 b
 
 -- what a walk over all values answers
 
@@ -131,7 +124,7 @@ last_none p os i (Ok c) a g h = tt
 last_none p os i (Err c) a g h = λ K l v. circle_last p os a i c g h K l v
 
 means_there : (p : Program) (M : Name) (n : Tree) (j : ℕ) → IsWhole p → MeansValue p M n j → j < length p.values
-means_there p M (reference q x) j w m = w.names M x (assigned.Value j) (any_meaning p.modules M q x (assigned.Value j) m)
+means_there p M (reference q x) j w m = w.names M x (assigned.Value j) (refers_meaning p.modules M x q (assigned.Value j) m)
 means_there p M n j w m = absurd m
 
 pub refers_within : (p : Program) (os : List (Option ℕ)) → IsWhole p → AreReferred p os → IsWithin (listed os) (length os)

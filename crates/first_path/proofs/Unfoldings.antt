@@ -2,34 +2,22 @@
 use Rattle.std.proofs.Common.{◌≡◌, ℕ, zero, suc, ◌<◌, List, [], ◌∷◌, length, Option, Some, None, refl, sym, ap, ◌∙◌, subst, Bool, true, false}
 use Rattle.std.specs.Prelude.{slice_get, slice_index_or, MatchOption}
 use Rattle.trees.specs.Values.{Name}
-use Rattle.std.proofs.lemmas.Option.{slice_get_within}
+use Rattle.std.proofs.lemmas.Option.{slice_get_within, same_Some}
 use Rattle.trees.specs.Types.{mandatory}
 use Rattle.trees.specs.declared.types.Standing.TheVariants.{Root}
-use Rattle.type_table.specs.Table as table
 use Rattle.type_table.specs.Table.{Part, Kind, simple, reference, tagged, members, elements, Type', next, IsCore, IsLinked}
 use Rattle.asn_base.specs.Names.{is_identifier, IsIdentifier}
-use Rattle.first_path.specs.Walks.{onward, walk, EndsAt}
+use Rattle.type_table.specs.Walks.{EndsAt}
 use Rattle.first_path.specs.FirstPath.{IsBasic, Unfolds, IsFirstMember, PartsInside}
 use Rattle.first_path.proofs.Walks.{ends_unique}
 
-some_same : {X : Type 0} (x y : X) → Some x ≡ Some y → x ≡ y
-some_same x y e = cc
-
-onward_same : (ts : List Type') (k : ℕ) (o : Option ℕ) → ((j : ℕ) → table.walk ts k j ≡ walk (next ts) k j) → table.onward o (λ j. table.walk ts k j) ≡ onward o (λ j. walk (next ts) k j)
-onward_same ts k None h = refl
-onward_same ts k (Some j) h = h j
-
-same_walk : (ts : List Type') (k i : ℕ) → table.walk ts k i ≡ walk (next ts) k i
-same_walk ts zero i = refl
-same_walk ts (suc k) i = onward_same ts k (next ts i) (λ j. same_walk ts k j)
-
 core_ends : (ts : List Type') (i c : ℕ) → IsCore ts i c → EndsAt (next ts) i c
-core_ends ts i c h = record { steps = h.steps; leads = sym (same_walk ts h.steps i) ∙ h.leads; ends = h.ends }
+core_ends ts i c h = record { steps = h.steps; leads = h.leads; ends = h.ends }
 
 pub unfolds_once : (ts : List Type') (i : ℕ) (t u : Type') → Unfolds ts i t → Unfolds ts i u → t ≡ u
 unfolds_once ts i t u a b =
     let e = ends_unique (next ts) i a.number b.number (core_ends ts i a.number a.core) (core_ends ts i b.number b.core) in
-    some_same t u (sym a.there ∙ ap (slice_get ts) e ∙ b.there)
+    same_Some t u (sym a.there ∙ ap (slice_get ts) e ∙ b.there)
 
 pub is_name : {r : Bool} {a b : Name} → r ≡ is_identifier a → a ≡ b → r ≡ true → IsIdentifier b
 is_name e f h = subst IsIdentifier f (sym e ∙ h)
@@ -43,7 +31,7 @@ member_match ts c t (Some x) n o e u h = λ m. h (subst (λ v. IsBasic v.kind) (
 
 read_back : (cs : List Part) (k : ℕ) (c : Part) → slice_get cs k ≡ Some c → slice_index_or cs k c ≡ c
 read_back [] k c e = absurd cc
-read_back (x ∷ cs) zero c e = some_same x c e
+read_back (x ∷ cs) zero c e = same_Some x c e
 read_back (x ∷ cs) (suc k) c e = read_back cs k c e
 
 -- the members of a list are types of a linked table

@@ -13,8 +13,8 @@ use Rattle.trees.specs.declared.value.ValueSyntax.{ValueSyntax}
 use Rattle.resolve.specs.Program.{Program}
 use Rattle.first_path.specs.declared.fault.ValueFault.{ValueFault}
 use Rattle.first_path.specs.declared.fault.ValueFault.TheVariants as faults
-use Rattle.first_path.specs.Walks.{walk, EndsAt, ComesBack, Reaches}
-use Rattle.first_path.specs.Walks as walks
+use Rattle.type_table.specs.Walks.{follow, EndsAt, ComesBack, Reaches}
+use Rattle.type_table.specs.Walks as walks
 use Rattle.first_path.specs.Notations.{IsOnlyLast, MeansValue, NamesValue, RefersTo, Notation, Fields, no_field, field, Lacks, listed, AreReferred}
 use Rattle.first_path.specs.Wrong.{LeadsTo, there, onward, IsBehind, itself, IsDeadEnd, IsLost, IsKindFault, IsWrong, of_kind, component_names, field_names, HaveValues}
 use Rattle.first_path.proofs.Names.{at_taken}
@@ -26,16 +26,16 @@ some_same x y e = cc
 -- ---- references
 
 module _ (p : Program) (os : List (Option ℕ)) (a : AreReferred p os) where
-  leads_on : (k i c : ℕ) (o : Option ℕ) → listed os i ≡ o → ((j : ℕ) → walk (listed os) k j ≡ Some c → LeadsTo p j c) → walks.onward o (λ j. walk (listed os) k j) ≡ Some c → LeadsTo p i c
+  leads_on : (k i c : ℕ) (o : Option ℕ) → listed os i ≡ o → ((j : ℕ) → follow (listed os) k j ≡ Some c → LeadsTo p j c) → walks.onward o (λ j. follow (listed os) k j) ≡ Some c → LeadsTo p i c
   leads_on k i c None f go e = absurd cc
   leads_on k i c (Some j) f go e = onward ((a.each i j).0 f) (go j e)
 
   -- a walk leads where it ends
-  all_leads : (k i c : ℕ) → walk (listed os) k i ≡ Some c → LeadsTo p i c
+  all_leads : (k i c : ℕ) → follow (listed os) k i ≡ Some c → LeadsTo p i c
   all_leads zero i c e = subst (λ z. LeadsTo p i z) (some_same i c e) there
   all_leads (suc k) i c e = leads_on k i c (listed os i) refl (λ j f. all_leads k j c f) e
 
-  back_on : (k c : ℕ) (o : Option ℕ) → listed os c ≡ o → walks.onward o (λ j. walk (listed os) k j) ≡ Some c → (j : ℕ) × RefersTo p c j × LeadsTo p j c
+  back_on : (k c : ℕ) (o : Option ℕ) → listed os c ≡ o → walks.onward o (λ j. follow (listed os) k j) ≡ Some c → (j : ℕ) × RefersTo p c j × LeadsTo p j c
   back_on k c None f e = absurd cc
   back_on k c (Some j) f e = (j, (a.each c j).0 f, all_leads k j c e)
 

@@ -2,5 +2,4 @@ pub mod FirstPath
 pub mod LeftOut
 pub mod Notations
 pub mod Resolving
-pub mod Walks
 pub mod Wrong

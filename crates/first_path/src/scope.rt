@@ -3,7 +3,7 @@
 ghost use Rattle.std.specs.Prelude.{◌≡◌, ◌<◌, ◌↔◌, ℕ, IfOk, IfErr, MatchResult, length};
 ghost use Rattle.trees.specs.Values.{Name, Tree};
 ghost use Rattle.first_path.specs.Notations.{AreReferred, IsValueLast, RefersTo, listed};
-ghost use Rattle.first_path.specs.Walks.{EndsAt, ComesBack, Reaches, IsWithin};
+ghost use Rattle.type_table.specs.Walks.{EndsAt, ComesBack, Reaches, IsWithin};
 ghost use Rattle.first_path.specs.Wrong.{LeadsTo};
 
 use crate::program::referred;

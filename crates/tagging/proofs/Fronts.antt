@@ -7,8 +7,9 @@ use Rattle.trees.specs.declared.module.TagDefault.{TagDefault}
 use Rattle.type_table.specs.Table.{Part}
 use Rattle.trees.specs.declared.types.ListKind.{ListKind}
 use Rattle.trees.specs.declared.types.ListKind.TheVariants.{Sequence, Set, Choice}
-use Rattle.type_table.specs.Table.{Type', Kind, simple, reference, tagged, members, elements, behind as behind_kind, behind_of, next, onward, walk, Is, IsCore, IsLinked}
-use Rattle.tagging.proofs.Walks.{stops}
+use Rattle.type_table.specs.Table.{Type', Kind, simple, reference, tagged, members, elements, behind as behind_kind, behind_of, next, walk, Is, IsCore, IsLinked}
+use Rattle.type_table.specs.Walks.{onward}
+use Rattle.type_table.specs.proving.Walks.{stops}
 use Rattle.tagging.specs.declared.path.Form.{Form}
 use Rattle.tagging.specs.declared.path.FormedTag.{FormedTag}
 use Rattle.tagging.specs.Tags.{Label, label, Path, path_of, context_tag, outermost, automatic, form_of, Written, core, behind, own, Tags, as_written, numbered}
@@ -44,7 +45,7 @@ core_below : (ts : List Type') (i a b : ℕ) (u : IsCore ts i a) (v : IsCore ts 
 core_below ts i a b u v l =
     let r : ℕ = v.steps - suc u.steps in
     let s : u.steps + suc r ≡ v.steps = omega arith in
-    let x = sym (stops ts u.steps r i a u.leads u.ends) ∙ ap (λ k. walk ts k i) s ∙ v.leads in
+    let x = sym (stops (next ts) u.steps r i a u.leads u.ends) ∙ ap (λ k. walk ts k i) s ∙ v.leads in
     absurd cc
 
 pub core_unique : (ts : List Type') (i a b : ℕ) → IsCore ts i a → IsCore ts i b → a ≡ b
@@ -140,7 +141,7 @@ own_behind (members m b cs) p e = refl
 own_behind (elements y j) p e = refl
 
 own_stops : (ts : List Type') (i c n : ℕ) (k : Kind) (d : TagDefault) (l : Option (ℕ × ℕ)) (p : Path) → Is ts i k d l → own k ≡ Some p → walk ts (suc n) i ≡ Some c → ⊥
-own_stops ts i c n k d l p h e w =
+own_stops (next ts) i c n k d l p h e w =
     let x = ap behind_of h.found ∙ own_behind k p e in
     let y = sym (ap (λ o. onward o (λ q. walk ts n q)) x) ∙ w in
     absurd cc
@@ -148,7 +149,7 @@ own_stops ts i c n k d l p h e w =
 -- what is behind an untagged CHOICE's references is the CHOICE
 untagged_core : (ts : List Type') (i c n : ℕ) (k : Kind) (d : TagDefault) (l : Option (ℕ × ℕ)) → Written ts i [] → walk ts n i ≡ Some c → next ts c ≡ None → Is ts c k d l → own k ≡ Some []
 untagged_core ts i c zero k d l (core h e) w f g = let s : i ≡ c = cc in let q = same_at ts i c s h g in ap own (sym q) ∙ e
-untagged_core ts i c (suc n) k d l (core {k = k'} h e) w f g = absurd (own_stops ts i c n k' _ _ [] h e w)
+untagged_core ts i c (suc n) k d l (core {k = k'} h e) w f g = absurd (own_stops (next ts) i c n k' _ _ [] h e w)
 untagged_core ts i c zero k d l (behind h v) w f g = let s : i ≡ c = cc in let x = sym (ap (next ts) s) ∙ ap behind_of h.found in let y = sym f ∙ x in absurd cc
 untagged_core ts i c (suc n) k d l (behind {j = j} h v) w f g = untagged_core ts j c n k d l v (sym (ap (λ o. onward o (λ q. walk ts n q)) (ap behind_of h.found)) ∙ w) f g
 

@@ -1,8 +1,6 @@
-pub mod Walks
 pub mod Tables
 pub mod Paths
 pub mod Steps
-pub mod Knowing
 pub mod Fronts
 pub mod Clashes
 pub mod Taggings

@@ -5,10 +5,11 @@ use Rattle.std.specs.Prelude.{slice_get}
 use Rattle.trees.specs.declared.types.Keyword.{Keyword}
 use Rattle.trees.specs.declared.module.TagDefault.{TagDefault}
 use Rattle.trees.specs.declared.types.ListKind.TheVariants.{Sequence, Set, Choice}
-use Rattle.type_table.specs.Table.{Type', Kind, simple, reference, tagged, members, elements, behind as behind_kind, behind_of, next, onward, walk, Is, IsClosed, IsLinked}
+use Rattle.type_table.specs.Table.{Type', Kind, simple, reference, tagged, members, elements, behind as behind_kind, behind_of, next, walk, Is, IsClosed, IsLinked}
 use Rattle.tagging.specs.declared.path.FormedTag.{FormedTag}
 use Rattle.tagging.specs.Tags.{Label, label, Path, path_of, outermost, own, form_of, Written, core, behind, inside, TagCount}
-use Rattle.tagging.proofs.Walks.{stops}
+use Rattle.type_table.specs.Walks.{onward}
+use Rattle.type_table.specs.proving.Walks.{stops}
 use Rattle.tagging.specs.proving.Step.{form_before, Adds}
 use Rattle.std.specs.Prelude.{is_none, is_some, not}
 use Rattle.trees.specs.declared.types.Keyword.TheVariants.{Absent, Implicit as ImplicitWord, Explicit as ExplicitWord}
@@ -109,7 +110,7 @@ never_long ts i at k l e =
     let u = k.unfolds i l in
     let r : ℕ = length ts - suc u.1.steps in
     let s : u.1.steps + suc r ≡ length ts = omega (arith, u.1.few) in
-    let f = stops ts u.1.steps r i u.0 u.1.leads u.1.ends in
+    let f = stops (next ts) u.1.steps r i u.0 u.1.leads u.1.ends in
     let g = sym f ∙ ap (λ q. walk ts q i) s ∙ e in
     absurd cc
 

@@ -2,7 +2,7 @@
 
 ghost use Rattle.std.specs.Prelude.{ℕ, ◌≡◌, ◌<◌, false, not, length, map, IfOk, MatchOption, Some, slice_get};
 ghost use Rattle.std.specs.List.{list_any};
-ghost use Rattle.type_table.specs.proving.Cores.{IsKnown};
+ghost use Rattle.type_table.specs.proving.Notes.{IsKnown, AreUnknown};
 ghost use Rattle.type_table.specs.Seen.{kind_of, type_of, types_of};
 ghost use Rattle.type_table.specs.Table.{IsCore, IsLinked, reference};
 ghost use Rattle.resolve.specs.Program.{IsWhole};
@@ -84,7 +84,7 @@ fn note(types: &[Written], fronts: &mut [usize], start: usize, front: usize)
 fn note_all(types: &[Written], fronts: &mut [usize])
     requires linked { IsLinked (types_of types.now) }
     requires long { length fronts.old ≡ length types.now }
-    requires unknown { (i : ℕ) → IsKnown (length types.now) fronts.old i → ⊥ }
+    requires unknown { AreUnknown (length types.now) fronts.old }
     ensures { AreFronts (types_of types.now) fronts.new }
 {
     for i in 0..types.len() {

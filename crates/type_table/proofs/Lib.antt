@@ -14,4 +14,3 @@ pub mod Sets
 pub mod Sources
 pub mod Stepping
 pub mod Trees
-pub mod Walks

@@ -18,7 +18,7 @@ use Rattle.names.specs.proving.Distinct.{left, at_all}
 use Rattle.type_table.proofs.Numbered.{at, part_there, as_long}
 use Rattle.type_table.proofs.Once.{one_table}
 use Rattle.type_table.proofs.Queue.{parts_of_one}
-use Rattle.type_table.proofs.Walks.{core_not_circular}
+use Rattle.type_table.proofs.Knowing.{core_not_circular}
 
 -- item k of a list is a source with this type and assignment
 record Like (xs : List Source) (k : ℕ) (s : Source) : Type 0 where

@@ -9,6 +9,7 @@ use Rattle.trees.specs.declared.module.TagDefault.{TagDefault}
 use Rattle.trees.specs.Values.{Name}
 use Rattle.trees.specs.Constraints.{ConstraintTree}
 use Rattle.trees.specs.Types.{PresenceTree, Plain}
+use Rattle.type_table.specs.Walks.{follow, ComesBack, IsWithin}
 
 -- a member: its identifier, its type's number, whether it may be absent, and where it stands in its list
 pub record Part : Type 0 where
@@ -47,14 +48,9 @@ behind_of (Some t) = behind t.kind
 abbrev pub next : List Type' → ℕ → Option ℕ
 next ts i = behind_of (slice_get ts i)
 
-abbrev pub onward : Option ℕ → (ℕ → Option ℕ) → Option ℕ
-onward None f = None
-onward (Some j) f = f j
-
 -- the type that stands k references and tags behind type i
 abbrev pub walk : List Type' → ℕ → ℕ → Option ℕ
-walk ts zero i = Some i
-walk ts (suc k) i = onward (next ts i) (λ j. walk ts k j)
+walk ts k i = follow (next ts) k i
 
 -- type c is the core of type i
 pub record IsCore (ts : List Type') (i c : ℕ) : Type 0 where
@@ -64,13 +60,12 @@ pub record IsCore (ts : List Type') (i c : ℕ) : Type 0 where
   pub ends : next ts c ≡ None
 
 -- type i comes back to itself
-pub record IsCircular (ts : List Type') (i : ℕ) : Type 0 where
-  pub steps : ℕ
-  pub back : walk ts (suc steps) i ≡ Some i
+abbrev pub IsCircular : List Type' → ℕ → Type 0
+IsCircular ts i = ComesBack (next ts) i
 
 -- what stands behind a reference or a tag is a type of the table
 abbrev pub IsClosed : List Type' → Type 0
-IsClosed ts = (i j : ℕ) → next ts i ≡ Some j → j < length ts
+IsClosed ts = IsWithin (next ts) (length ts)
 
 -- each type unfolds to a core
 abbrev pub AllUnfold : List Type' → Type 0

@@ -3,7 +3,8 @@
 ghost use Rattle.std.specs.Prelude.{◌≡◌, ℕ, ◌<◌, length, Ok, Err, List, MatchResult};
 ghost use Rattle.type_table.specs.Seen.{type_of, types_of};
 ghost use Rattle.type_table.specs.Table.{behind, IsClosed, IsCircular, IsCore, Type'};
-ghost use Rattle.type_table.specs.proving.Cores.{IsKnown, AreKnown, AreUnknown, AreCores};
+ghost use Rattle.type_table.specs.proving.Cores.{AreKnown, AreCores};
+ghost use Rattle.type_table.specs.proving.Notes.{IsKnown, AreUnknown};
 
 use crate::table::{Shape, Written};
 

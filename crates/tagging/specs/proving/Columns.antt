@@ -2,6 +2,7 @@
 use Rattle.std.specs.Prelude.{◌≡◌, ◌<◌, ℕ, Bool, true, false, List, Option, Some, map, length, slice_get}
 use Rattle.trees.specs.declared.module.TagDefault.{TagDefault}
 use Rattle.type_table.specs.Table.{Type', Kind, reference, Is}
+use Rattle.type_table.specs.proving.Notes.{AreRight, AreNoted}
 use Rattle.tagging.specs.Tags.{automatic_kind}
 
 abbrev pub is_reference : Kind → Bool
@@ -19,14 +20,13 @@ pub data Front (ts : List Type') : ℕ → ℕ → Type 0 where
       Front ts j f →
       Front ts i f
 
--- what is noted is right; the number of the types, or a greater one, notes nothing
+-- the fronts that are noted are right
 abbrev pub AreKnown : List Type' → List ℕ → Type 0
-AreKnown ts fronts = (i f : ℕ) → slice_get fronts i ≡ Some f → f < length ts → Front ts i f
+AreKnown ts fronts = AreRight (length ts) (Front ts) fronts
 
 -- these are the fronts of all types, in order
-pub record AreFronts (ts : List Type') (fronts : List ℕ) : Type 0 where
-  pub long : length fronts ≡ length ts
-  pub each : (i f : ℕ) → slice_get fronts i ≡ Some f → (f < length ts) × Front ts i f
+abbrev pub AreFronts : List Type' → List ℕ → Type 0
+AreFronts ts fronts = AreNoted (length ts) (Front ts) fronts
 
 -- whether the members of each type are tagged automatically; they are not where it is no list
 abbrev pub all_automatic : List Type' → List Bool

@@ -1,11 +1,12 @@
 -- A table as it lies in memory, and as definitions see it.
-use Rattle.std.proofs.Common.{◌≡◌, ℕ, ◌<◌, ◌++◌, List, length, Some, sym, ap, ◌∙◌, get_or, arith, replicate, take, zero, suc, [], ◌∷◌, refl, set, ◌⊎◌, inl, inr}
+use Rattle.std.proofs.Common.{◌≡◌, ℕ, ◌<◌, ◌++◌, List, length, Some, sym, ap, ◌∙◌, get_or, arith, replicate, take}
 use Rattle.std.specs.Prelude.{slice_get}
 use Rattle.std.proofs.Math.Seq.{take-append_seam}
 use Rattle.std.proofs.lemmas.Option.{slice_get_within, slice_get-get_or, get_or_from_slice_get}
 use Rattle.std.proofs.lemmas.List.{length-map, length-replicate, get_or-replicate}
 use Rattle.names.specs.proving.Distinct.{item_at}
-use Rattle.type_table.specs.proving.Cores.{AreCores, AreUnknown}
+use Rattle.type_table.specs.proving.Cores.{AreCores}
+use Rattle.type_table.specs.proving.Notes.{AreUnknown}
 use Rattle.type_table.specs.declared.table.Written.{Written}
 use Rattle.type_table.specs.Seen.{type_of, types_of}
 use Rattle.type_table.specs.Table.{Type', AllUnfold, behind, behind_of, next}
@@ -46,24 +47,3 @@ none_known n m i k = let q = alike n m i k.0 k.1 in absurd (omega (arith, q, k.2
 -- what a list of as many numbers reads as where it is written back
 pub written_back : (n : ℕ) (new rest : List ℕ) → n ≡ length new → take n (new ++ rest) ≡ new
 written_back n new rest e = ap (λ k. take k (new ++ rest)) e ∙ take-append_seam new rest
-
--- ---- a number that is noted in a list
-
-pub set_kept : (xs : List ℕ) (i j s : ℕ) → slice_get xs j ≡ Some s → slice_get (set xs i s) j ≡ Some s
-set_kept [] i j s e = absurd cc
-set_kept (x ∷ xs) zero zero s e = refl
-set_kept (x ∷ xs) zero (suc j) s e = e
-set_kept (x ∷ xs) (suc i) zero s e = e
-set_kept (x ∷ xs) (suc i) (suc j) s e = set_kept xs i j s e
-
-pub set_here : (xs : List ℕ) (i s : ℕ) → i < length xs → slice_get (set xs i s) i ≡ Some s
-set_here [] i s l = absurd (omega arith)
-set_here (x ∷ xs) zero s l = refl
-set_here (x ∷ xs) (suc i) s l = set_here xs i s (omega arith)
-
-pub set_only : (xs : List ℕ) (i j s n : ℕ) → slice_get (set xs i s) j ≡ Some n → slice_get xs j ≡ Some n ⊎ ((j ≡ i) × (n ≡ s))
-set_only [] i j s n e = inl e
-set_only (x ∷ xs) zero zero s n e = let q : s ≡ n = cc in inr (refl, sym q)
-set_only (x ∷ xs) zero (suc j) s n e = inl e
-set_only (x ∷ xs) (suc i) zero s n e = inl e
-set_only (x ∷ xs) (suc i) (suc j) s n e = elim (set_only xs i j s n e) [ inl h ↦ inl h | inr h ↦ inr (ap suc h.0, h.1) ]

@@ -1,8 +1,8 @@
 use Rattle.std.proofs.Common.{◌≡◌, length, ap, sym, ◌∙◌, arith}
 use Rattle.first_path.specs.Notations.{listed}
-use Rattle.first_path.specs.Walks.{walk}
+use Rattle.type_table.specs.Walks.{follow}
 use Rattle.first_path.proofs.Leading.{listed_read}
-use Rattle.first_path.proofs.Walks.{one_more, comes_back}
+use Rattle.type_table.specs.proving.Walks.{one_more, comes_back}
 use Rattle.first_path.proofs.scope.walked.Goals as goal
 
 pub returns-in-None-clause-end : goal.returns-in-None-clause-end
@@ -16,4 +16,4 @@ loop-step-preserved c =
 pub returns-clause-end : goal.returns-clause-end
 returns-clause-end c =
     let all : c.loop-step.step ≡ length c.args.behind.now = omega (arith, c.loop-step-test.false, c.loop-step.auto.step-end) in
-    comes_back (listed c.args.behind.now) (length c.args.behind.now) c.args.start c.loop-step.at c.requires.closed c.requires.inside (ap (λ k. walk (listed c.args.behind.now) k c.args.start) (sym all) ∙ c.loop-step.invariant.leads)
+    comes_back (listed c.args.behind.now) (length c.args.behind.now) c.args.start c.loop-step.at c.requires.closed c.requires.inside (ap (λ k. follow (listed c.args.behind.now) k c.args.start) (sym all) ∙ c.loop-step.invariant.leads)

@@ -6,7 +6,7 @@ use Rattle.type_table.specs.Table.{walk, next, reference, behind_of, Is}
 use Rattle.tagging.specs.proving.Columns.{here, through}
 use Rattle.type_table.specs.proving.Tables.{as_long}
 use Rattle.tagging.proofs.Tables.{is_here}
-use Rattle.tagging.proofs.Walks.{one_more}
+use Rattle.type_table.specs.proving.Walks.{one_more}
 use Rattle.tagging.proofs.Paths.{never_long}
 use Rattle.tagging.proofs.columns.front_by.Goals as goal
 
@@ -34,7 +34,7 @@ loop-step-preserved c =
     let i = c.requires.linked.closed c.loop-step.at c.in-Some.j n in
     record {
       inside = omega (arith, i, as_long c.args.types.now);
-      leads = one_more ts c.loop-step.step c.args.start c.loop-step.at c.in-Some.j c.loop-step.invariant.leads n;
+      leads = one_more (next ts) c.loop-step.step c.args.start c.loop-step.at c.in-Some.j c.loop-step.invariant.leads n;
       onto = λ f u. c.loop-step.invariant.onto f (through h u);
     }
 

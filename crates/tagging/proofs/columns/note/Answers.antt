@@ -2,7 +2,8 @@ use Rattle.std.proofs.Common.{◌≡◌, ◌<◌, length, Some, ap, ◌∙◌, a
 use Rattle.std.proofs.lemmas.List.{length-set}
 use Rattle.type_table.specs.Seen.{types_of}
 use Rattle.type_table.specs.Table.{next, behind as behind_kind, behind_of}
-use Rattle.tagging.proofs.Knowing.{still_known, now_known, known_more}
+use Rattle.tagging.specs.proving.Columns.{Front}
+use Rattle.type_table.specs.proving.Notes.{still_known, now_known, right_more}
 use Rattle.tagging.proofs.Steps.{front_through}
 use Rattle.type_table.specs.proving.Tables.{as_long}
 use Rattle.tagging.proofs.Tables.{is_here}
@@ -15,7 +16,7 @@ loop-step-init c =
     record {
       inside = c.requires.there;
       front = c.requires.front;
-      known = known_more ts c.args.fronts.now c.args.start c.args.front c.requires.known c.requires.front;
+      known = right_more (length ts) (Front ts) c.args.fronts.now c.args.start c.args.front c.requires.known c.requires.front;
       kept = λ i k. still_known n c.args.fronts.now c.args.start i c.args.front c.requires.within k;
       noted = now_known n c.args.fronts.now c.args.start c.args.front (omega (arith, c.requires.there, c.requires.long)) c.requires.within;
     }
@@ -48,7 +49,7 @@ loop-step-preserved c =
     record {
       inside = omega (arith, i, as_long c.args.types.now);
       front = u;
-      known = known_more ts c.loop-step.fronts c.in-Some.j c.args.front c.loop-step.invariant.known u;
+      known = right_more (length ts) (Front ts) c.loop-step.fronts c.in-Some.j c.args.front c.loop-step.invariant.known u;
       kept = λ k q. still_known m c.loop-step.fronts c.in-Some.j k c.args.front c.requires.within (c.loop-step.invariant.kept k q);
       noted = still_known m c.loop-step.fronts c.in-Some.j c.args.start c.args.front c.requires.within c.loop-step.invariant.noted;
     }

@@ -1,5 +1,5 @@
 use Rattle.std.proofs.Common.{ℕ, ◌<◌, length}
-use Rattle.type_table.specs.proving.Cores.{IsKnown}
+use Rattle.type_table.specs.proving.Notes.{IsKnown}
 use Rattle.type_table.specs.Seen.{types_of}
 use Rattle.tagging.specs.proving.Columns.{Front, AreKnown}
 use Rattle.tagging.proofs.columns.note.Given as goal

@@ -1,13 +1,13 @@
 use Rattle.std.proofs.Common.{◌≡◌, length, sym, subst, arith, below_more}
-use Rattle.type_table.specs.proving.Cores.{IsKnown}
+use Rattle.type_table.specs.proving.Notes.{IsKnown, AreUnknown, right_first, all_noted}
 use Rattle.type_table.specs.Seen.{types_of}
-use Rattle.tagging.proofs.Knowing.{known_first, all_known}
+use Rattle.tagging.specs.proving.Columns.{Front}
 use Rattle.type_table.specs.proving.Tables.{as_long}
 use Rattle.tagging.proofs.columns.note_all.Goals as goal
 
 pub loop-i-init : goal.loop-i-init
 loop-i-init c = record {
-  known = known_first (types_of c.args.types.now) c.args.fronts.now (λ i k. c.requires.unknown i (subst (λ n. IsKnown n c.args.fronts.now i) (as_long c.args.types.now) k));
+  known = right_first (length (types_of c.args.types.now)) (Front (types_of c.args.types.now)) c.args.fronts.now (subst (λ n. AreUnknown n c.args.fronts.now) (sym (as_long c.args.types.now)) c.requires.unknown);
   noted = λ k l. absurd (omega (arith, l));
 }
 
@@ -21,4 +21,4 @@ pub returns : goal.returns
 returns c =
     let ts = types_of c.args.types.now in
     let long : length c.loop-i.fronts ≡ length ts = omega (arith, c.loop-i.auto.fronts, c.requires.long, as_long c.args.types.now) in
-    all_known ts c.loop-i.fronts long c.loop-i.invariant.known (λ i l. subst (λ n. IsKnown n c.loop-i.fronts i) (sym (as_long c.args.types.now)) (c.loop-i.invariant.noted i (omega (arith, l, as_long c.args.types.now))))
+    all_noted (length ts) (Front ts) c.loop-i.fronts long c.loop-i.invariant.known (λ i l. subst (λ n. IsKnown n c.loop-i.fronts i) (sym (as_long c.args.types.now)) (c.loop-i.invariant.noted i (omega (arith, l, as_long c.args.types.now))))

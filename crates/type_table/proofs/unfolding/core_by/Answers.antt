@@ -4,7 +4,7 @@ use Rattle.type_table.specs.Seen.{types_of}
 use Rattle.type_table.specs.Table.{walk, next}
 use Rattle.type_table.proofs.Knowing.{core_before, core_ended}
 use Rattle.type_table.specs.proving.Tables.{next_at, as_long}
-use Rattle.type_table.proofs.Walks.{one_more, comes_back}
+use Rattle.type_table.specs.proving.Walks.{one_more, comes_back}
 use Rattle.type_table.proofs.unfolding.core_by.Goals as goal
 
 pub returns-then-known-types : goal.returns-then-known-types
@@ -29,11 +29,11 @@ loop-step-preserved c =
     let i = c.requires.closed c.loop-step.at c.in-Some.j n in
     record {
       inside = omega (arith, i, as_long c.args.types.now);
-      leads = one_more ts c.loop-step.step c.args.start c.loop-step.at c.in-Some.j c.loop-step.invariant.leads n;
+      leads = one_more (next ts) c.loop-step.step c.args.start c.loop-step.at c.in-Some.j c.loop-step.invariant.leads n;
     }
 
 pub returns : goal.returns
 returns c =
     let ts = types_of c.args.types.now in
     let all : c.loop-step.step ≡ length ts = omega (arith, as_long c.args.types.now) in
-    (c.loop-step.invariant.inside, comes_back ts c.args.start c.loop-step.at c.requires.closed (omega (arith, as_long c.args.types.now)) (ap (λ k. walk ts k c.args.start) (sym all) ∙ c.loop-step.invariant.leads))
+    (c.loop-step.invariant.inside, comes_back (next ts) (length ts) c.args.start c.loop-step.at c.requires.closed (omega (arith, as_long c.args.types.now)) (ap (λ k. walk ts k c.args.start) (sym all) ∙ c.loop-step.invariant.leads))

@@ -1,4 +1,4 @@
-use Rattle.type_table.proofs.Walks.{core_not_circular}
+use Rattle.type_table.proofs.Knowing.{core_not_circular}
 use Rattle.type_table.proofs.unfolding.not_both.Goals as goal
 
 pub returns : goal.returns

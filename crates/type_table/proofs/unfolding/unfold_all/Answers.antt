@@ -1,13 +1,13 @@
 use Rattle.std.proofs.Common.{◌≡◌, length, sym, subst, arith, below_more}
-use Rattle.type_table.specs.proving.Cores.{IsKnown, AreUnknown}
+use Rattle.type_table.specs.proving.Notes.{IsKnown, AreUnknown, right_first, all_noted}
 use Rattle.type_table.specs.Seen.{types_of}
-use Rattle.type_table.proofs.Knowing.{known_first, all_known}
+use Rattle.type_table.specs.Table.{IsCore}
 use Rattle.type_table.specs.proving.Tables.{as_long}
 use Rattle.type_table.proofs.unfolding.unfold_all.Goals as goal
 
 pub loop-i-init : goal.loop-i-init
 loop-i-init c = record {
-  known = known_first (types_of c.args.types.now) c.args.cores.now (subst (λ n. AreUnknown n c.args.cores.now) (sym (as_long c.args.types.now)) c.requires.unknown);
+  known = right_first (length (types_of c.args.types.now)) (IsCore (types_of c.args.types.now)) c.args.cores.now (subst (λ n. AreUnknown n c.args.cores.now) (sym (as_long c.args.types.now)) c.requires.unknown);
   noted = λ k l. absurd (omega (arith, l));
 }
 
@@ -21,4 +21,4 @@ pub returns : goal.returns
 returns c =
     let ts = types_of c.args.types.now in
     let long : length c.loop-i.cores ≡ length ts = omega (arith, c.loop-i.auto.cores, c.requires.long, as_long c.args.types.now) in
-    all_known ts c.loop-i.cores long c.loop-i.invariant.known (λ i l. subst (λ n. IsKnown n c.loop-i.cores i) (sym (as_long c.args.types.now)) (c.loop-i.invariant.noted i (omega (arith, l, as_long c.args.types.now))))
+    all_noted (length ts) (IsCore ts) c.loop-i.cores long c.loop-i.invariant.known (λ i l. subst (λ n. IsKnown n c.loop-i.cores i) (sym (as_long c.args.types.now)) (c.loop-i.invariant.noted i (omega (arith, l, as_long c.args.types.now))))

@@ -1,5 +1,6 @@
 use Rattle.std.proofs.Common.{ℕ, ◌<◌, length}
-use Rattle.type_table.specs.proving.Cores.{IsKnown, AreKnown}
+use Rattle.type_table.specs.proving.Cores.{AreKnown}
+use Rattle.type_table.specs.proving.Notes.{IsKnown}
 use Rattle.type_table.specs.Seen.{types_of}
 use Rattle.type_table.proofs.unfolding.unfold_all.Given as goal
 

@@ -3,7 +3,8 @@ use Rattle.std.specs.Prelude.{slice_get}
 use Rattle.names.specs.Sources.{header_of, assignment_of, value_of}
 use Rattle.type_table.specs.Seen.{types_of, type_of}
 use Rattle.type_table.specs.Table.{IsCircular, IsClosed}
-use Rattle.type_table.specs.proving.Cores.{AreCores, AreUnknown}
+use Rattle.type_table.specs.proving.Cores.{AreCores}
+use Rattle.type_table.specs.proving.Notes.{AreUnknown}
 use Rattle.type_table.specs.proving.Tables.{type_at, all_unfold, none_known, written_back}
 use Rattle.resolve.specs.Program.{IsWhole}
 use Rattle.resolve.proofs.Assembling.{circular_fault, closed, table_of, typed, whole}
