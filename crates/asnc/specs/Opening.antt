@@ -104,7 +104,8 @@ pub record AreNoKit (xs : List (List ℕ)) (fault : Fault) : Type 0 where
   pub are : AllZip IsModule xs modules
   pub stands : IsNoKit modules fault
 
--- The fault stands: of the octets of the first text that is refused, else of its tokens, else of the names of all modules, else of what stands in them. Memory speaks of no text.
+-- The fault stands: of the octets of the first text that is refused, else of its tokens, else of the names of all
+-- modules, else of what stands in them. Memory speaks of no text.
 abbrev pub StandsIn : List (List ℕ) → Fault → Type 0
 StandsIn xs faults.Memory = ⊤
 StandsIn xs (faults.Text k f) = IsFirstRefused xs k (faults.Text k f)

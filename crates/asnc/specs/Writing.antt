@@ -16,7 +16,8 @@ use Rattle.first_path.specs.declared.fault.ValueFault.{ValueFault}
 use Rattle.first_path.specs.declared.fault.ValueFault.TheVariants as values
 use Rattle.first_path.specs.Wrong.{IsWrong}
 
--- The first text names a type, the second a value: its notation stands for a value under that type, the octets are its one encoding by the distinguished rules, and none is shorter.
+-- The first text names a type, the second a value: its notation stands for a value under that type, the octets are its
+-- one encoding by the distinguished rules, and none is shorter.
 pub record IsEncoded (p : Program) (s : List Resolved) (ty named o : List ℕ) : Type 0 where
   pub type : ℕ
   pub typed : TypeNamed p ty type
@@ -41,7 +42,8 @@ pub record IsOfNoType (M : Name) (fault : ValueFault) : Type 0 where
 abbrev pub StandsForOther : Program → List Resolved → Name → ℕ → Tree → Type 0
 StandsForOther p s M t n = (v : AbstractValue) × Notation p s M t n v × (IsValue s t v → ⊥)
 
--- what is wrong with a notation that is a value of none of the type's: it stands for no value, as the fault tells, or for one that is none of the type's
+-- what is wrong with a notation that is a value of none of the type's: it stands for no value, as the fault tells, or
+-- for one that is none of the type's
 abbrev pub IsNone : Program → List Resolved → Name → ℕ → Tree → ValueFault → Type 0
 IsNone p s M t n fault =
     (((v : AbstractValue) → Notation p s M t n v → ⊥) × IsWrong p s M [] t n fault)
@@ -72,8 +74,8 @@ pub record StandsForLong (p : Program) (s : List Resolved) (ty named : List ℕ)
   pub long : IsTooLong s type value
 
 -- The refusal stands: the first text names no type; it names one, and the second no value; the value's notation stands
--- for no value of the type, as the fault of values tells; the encoding is too long. The text that names nothing is told.
--- Memory speaks of none of them.
+-- for no value of the type, as the fault of values tells; the encoding is too long. The text that names nothing is
+-- told. Memory speaks of none of them.
 abbrev pub IsNotEncoded : Program → List Resolved → List ℕ → List ℕ → Fault → Type 0
 IsNotEncoded p s ty named (faults.NoType x) = (string_bytes x ≡ ty) × ((t : ℕ) → TypeNamed p ty t → ⊥)
 IsNotEncoded p s ty named (faults.NoValue x) =

@@ -45,7 +45,9 @@ pub struct Kit {
 
 /// The parts of a text before and behind its first dot.
 fn qualified(text: &str) -> Option<(&str, &str)>
-    ensures parts { MatchOption result ((M x : Name) → IsQualified text.now M x → ⊥) (λ p. IsQualified text.now p.0.now p.1.now) }
+    ensures parts { MatchOption result
+        ((M x : Name) → IsQualified text.now M x → ⊥)
+        (λ p. IsQualified text.now p.0.now p.1.now) }
     ensures only { IfSome result (λ p. (M x : Name) → IsQualified text.now M x → (M ≡ p.0.now) × (x ≡ p.1.now)) }
 {
     text.split_once('.')
@@ -88,7 +90,9 @@ fn kit_of_program(alloc: Global, linked: Linked) -> Result<Kit, Fault>
 /// The kit of modules. The first fault of their names is answered, else the first construct that is left out.
 fn kit_of(alloc: Global, modules: Vec<Module>) -> Result<Kit, Fault>
     ensures kit { IfOk result (λ k. IsKitOf (map module_tree_of modules.items) k.scope k.schema) }
-    ensures only { (p : Program) (s : List Resolved) → IsKitOf (map module_tree_of modules.items) p s → MatchResult result (λ k. k.scope ≡ p) SaysMemory }
+    ensures only { (p : Program) (s : List Resolved) →
+        IsKitOf (map module_tree_of modules.items) p s →
+        MatchResult result (λ k. k.scope ≡ p) SaysMemory }
     ensures fault { IfErr result (IsNoKit (map module_tree_of modules.items)) }
 {
     resolve::law::link_faults_exclude();
@@ -153,7 +157,9 @@ impl Kit {
         // Each text has tokens and is its module, the modules link to the kit's program, which holds nothing that is left out, and the schema has its types.
         ensures opened { IfOk result (λ k. IsOpened (map octets_of texts.now) k.scope k.schema) }
         // Texts that are a kit's are opened, as that kit's program, unless memory runs out.
-        ensures only { (p : Program) (s : List Resolved) → IsOpened (map octets_of texts.now) p s → MatchResult result (λ k. k.scope ≡ p) SaysMemory }
+        ensures only { (p : Program) (s : List Resolved) →
+            IsOpened (map octets_of texts.now) p s →
+            MatchResult result (λ k. k.scope ≡ p) SaysMemory }
         // A fault stands.
         ensures fault { IfErr result (StandsIn (map octets_of texts.now)) }
     {
@@ -166,7 +172,9 @@ impl Kit {
     /// The number of the type that a text names as `Module.Type`.
     fn type_number(&self, name: &str) -> Option<TypeId>
         ensures within { IfSome result (λ id. id.index < length self.now.schema) }
-        ensures named { MatchOption result ((t : ℕ) → TypeNamed self.now.scope name.now t → ⊥) (λ id. TypeNamed self.now.scope name.now id.index) }
+        ensures named { MatchOption result
+            ((t : ℕ) → TypeNamed self.now.scope name.now t → ⊥)
+            (λ id. TypeNamed self.now.scope name.now id.index) }
     {
         match named(self.scope.program(), name) {
             Some(Assigned::Type(index)) => Some(TypeId { index }),
@@ -178,7 +186,9 @@ impl Kit {
     /// The number of the value that a text names as `Module.value`.
     fn value_number(&self, name: &str) -> Option<usize>
         ensures within { IfSome result (λ i. i < length self.now.scope.values) }
-        ensures named { MatchOption result ((i : ℕ) → ValueNamed self.now.scope name.now i → ⊥) (λ i. ValueNamed self.now.scope name.now i) }
+        ensures named { MatchOption result
+            ((i : ℕ) → ValueNamed self.now.scope name.now i → ⊥)
+            (λ i. ValueNamed self.now.scope name.now i) }
     {
         match named(self.scope.program(), name) {
             Some(Assigned::Value(number)) => Some(number),

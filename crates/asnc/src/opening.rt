@@ -26,9 +26,11 @@ fn module_of(alloc: Global, text: &[u8], number: usize) -> Result<Module, Fault>
 }
 
 /// The modules that texts are, or the fault of the first text that is none.
-pub fn modules_of(alloc: Global, texts: &[Vec<u8>]) -> Result<Vec<Module>, Fault>
+pub(crate) fn modules_of(alloc: Global, texts: &[Vec<u8>]) -> Result<Vec<Module>, Fault>
     ensures modules { IfOk result (λ ms. AllZip IsModule (map octets_of texts.now) (map module_tree_of ms.items)) }
-    ensures only { (ms : List ModuleTree) → AllZip IsModule (map octets_of texts.now) ms → MatchResult result (λ r. map module_tree_of r.items ≡ ms) SaysMemory }
+    ensures only { (ms : List ModuleTree) →
+        AllZip IsModule (map octets_of texts.now) ms →
+        MatchResult result (λ r. map module_tree_of r.items ≡ ms) SaysMemory }
     ensures fault { IfErr result (IsTextFault (map octets_of texts.now)) }
 {
     let mut modules = Vec::new(alloc);

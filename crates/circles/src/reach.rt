@@ -147,7 +147,7 @@ fn mark_reached(
 }
 
 /// Whether a component with a DEFAULT leads to this type.
-pub fn lead_to(
+pub(crate) fn lead_to(
     alloc: Global,
     types: &[Written],
     components: &[Component],

@@ -55,7 +55,8 @@ abbrev pub elements_construct : ElementsKind → Construct
 elements_construct several.SequenceOf = constructs.SequenceOf
 elements_construct several.SetOf = constructs.SetOf
 
--- what a member's type is behind its references, where it is left out there; behind them stands neither a reference nor a tag
+-- what a member's type is behind its references, where it is left out there; behind them stands neither a reference nor
+-- a tag
 abbrev pub core_construct : Kind → Option Construct
 core_construct (simple s) = plain_construct s
 core_construct (reference j) = Some constructs.Tag
@@ -69,9 +70,14 @@ pub data IsPartOut (ts : List Type') : Part → Construct → Type 0 where
   addition : {q : Part} → (q.standing ≡ Root → ⊥) → IsPartOut ts q constructs.Marker
   may_be_absent : {q : Part} → q.presence ≡ optional → IsPartOut ts q constructs.Optional
   has_default : {q : Part} (v : Tree) → q.presence ≡ default v → IsPartOut ts q constructs.Default
-  of_type : {q : Part} {t : Type'} {c : Construct} → q.presence ≡ mandatory → Unfolds ts q.ty t → core_construct t.kind ≡ Some c → IsPartOut ts q c
+  of_type : {q : Part} {t : Type'} {c : Construct} →
+      q.presence ≡ mandatory →
+      Unfolds ts q.ty t →
+      core_construct t.kind ≡ Some c →
+      IsPartOut ts q c
 
--- a construct that is left out at a type: the type itself, or the marker of a SEQUENCE, or something in a member of one without a marker
+-- a construct that is left out at a type: the type itself, or the marker of a SEQUENCE, or something in a member of one
+-- without a marker
 pub data IsKindOut (ts : List Type') : Kind → Construct → Type 0 where
   plain : {s : Plain} {c : Construct} → plain_construct s ≡ Some c → IsKindOut ts (simple s) c
   tag : {t : _} {k : _} {j : ℕ} → IsKindOut ts (tagged t k j) constructs.Tag
@@ -79,7 +85,10 @@ pub data IsKindOut (ts : List Type') : Kind → Construct → Type 0 where
   choice : {b : Bool} {cs : List Part} → IsKindOut ts (members lists.Choice b cs) constructs.Choice
   elements_of : {e : ElementsKind} {j : ℕ} → IsKindOut ts (elements e j) (elements_construct e)
   extensible : {cs : List Part} → IsKindOut ts (members lists.Sequence true cs) constructs.Marker
-  member : {cs : List Part} {c : Construct} (q : Part) → StandsIn cs q → IsPartOut ts q c → IsKindOut ts (members lists.Sequence false cs) c
+  member : {cs : List Part} {c : Construct} (q : Part) →
+      StandsIn cs q →
+      IsPartOut ts q c →
+      IsKindOut ts (members lists.Sequence false cs) c
 
 -- a constraint, or the marker in it
 abbrev pub ranges_construct : Bool → Construct
@@ -93,7 +102,10 @@ constraint_construct (chars_in cs) = constructs.Constraint
 
 -- the same at a written type, with the constraints behind it, the first of which is told
 pub data IsTypeOut (ts : List Type') (t : Type') : Construct → Type 0 where
-  constraint : {q : ConstraintTree} {qs : List ConstraintTree} {c : Construct} → t.constraints ≡ q ∷ qs → constraint_construct q ≡ c → IsTypeOut ts t c
+  constraint : {q : ConstraintTree} {qs : List ConstraintTree} {c : Construct} →
+      t.constraints ≡ q ∷ qs →
+      constraint_construct q ≡ c →
+      IsTypeOut ts t c
   kind : {c : Construct} → IsKindOut ts t.kind c → IsTypeOut ts t c
 
 -- a construct that is left out in the notation of a value
@@ -103,7 +115,10 @@ pub data IsNotationOut : Tree → Construct → Type 0 where
   alternative : {x : Name} {n : Tree} → IsNotationOut (trees.chosen x n) constructs.Alternative
   numbers : {ns : _} → IsNotationOut (trees.numbers ns) constructs.Numbers
   values : {ns : _} → IsNotationOut (trees.items ns) constructs.Items
-  inside : {fs : Members} {c : Construct} (f : Name × Tree) → StandsIn (named fs) f → IsNotationOut f.1 c → IsNotationOut (trees.fields fs) c
+  inside : {fs : Members} {c : Construct} (f : Name × Tree) →
+      StandsIn (named fs) f →
+      IsNotationOut f.1 c →
+      IsNotationOut (trees.fields fs) c
 
 -- a tag default
 abbrev pub tags_construct : TagDefault → Option Construct
@@ -120,7 +135,8 @@ pub record TagsOtherwise (p : Program) (M x : Name) (c : Construct) : Type 0 whe
   pub other : default ≡ defaults.Explicit → ⊥
   pub construct : tags_construct default ≡ Some c
 
--- in module M this construct stands, which is left out: a tag default, or something in a type or a value in the assignment of name x
+-- in module M this construct stands, which is left out: a tag default, or something in a type or a value in the
+-- assignment of name x
 abbrev pub IsOutside : Program → Construct → Name → Name → Type 0
 IsOutside p c M x =
     TagsOtherwise p M x c

@@ -28,11 +28,15 @@ pub record IsValueAt (p : Program) (i : ℕ) (M : Name) (n : Tree) : Type 0 wher
   pub assigns : Name
   pub stands : IsAssignment p value.assignment M assigns
 
--- Notation n, read in module M, is notation l, read in module K, behind its references: where it is a name, what the value that it means there is.
+-- Notation n, read in module M, is notation l, read in module K, behind its references: where it is a name, what the
+-- value that it means there is.
 pub data IsLast (p : Program) : Name → Tree → Name → Tree → Type 0 where
   own : {M : Name} {n : Tree} → IsOwn n → IsLast p M n M n
-  referred : {M K : Name} {q : Option Name} {x : Name} {l : Tree} (i : ℕ) (N : Name) (n : Tree) → Refers p.modules M q x (assigned.Value i) → IsValueAt p i N n
-      → IsLast p N n K l → IsLast p M (reference q x) K l
+  referred : {M K : Name} {q : Option Name} {x : Name} {l : Tree} (i : ℕ) (N : Name) (n : Tree) →
+      Refers p.modules M q x (assigned.Value i) →
+      IsValueAt p i N n →
+      IsLast p N n K l →
+      IsLast p M (reference q x) K l
 
 -- and it is no other one
 pub record IsOnlyLast (p : Program) (M : Name) (n : Tree) (K : Name) (l : Tree) : Type 0 where
@@ -103,27 +107,50 @@ pub record AreOctets (base most : ℕ) (digits os : List ℕ) : Type 0 where
   pub zeros : ℕ
   pub few : zeros < most
   pub long : length digits + zeros ≡ most * length os
-  pub each : (i : ℕ) → i < length os → slice_index os i ≡ number_from_digits base (take most (drop (most * i) (digits ++ replicate zeros 0)))
+  pub each : (i : ℕ) →
+      i < length os →
+      slice_index os i ≡ number_from_digits base (take most (drop (most * i) (digits ++ replicate zeros 0)))
 
 -- a notation that is no reference, as a value of a kind that holds no others
 pub data IsLeaf : Kind → Tree → AbstractValue → Type 0 where
   truth : {n : Tree} {b : Bool} → truth_in n ≡ Some b → IsLeaf a_boolean n (boolean b)
   whole_number : {c : Constraint} {n : Tree} {z : ℤ} → number_in n ≡ Some z → IsLeaf (an_integer c) n (integer z)
-  bit_text : {c : Constraint} {n : Tree} {ds os : List ℕ} → binary_in n ≡ Some ds → AreOctets 2 8 ds os → IsLeaf (an_octet_string c) n (octets os)
-  hex_text : {c : Constraint} {n : Tree} {ds os : List ℕ} → hex_in n ≡ Some ds → AreOctets 16 2 ds os → IsLeaf (an_octet_string c) n (octets os)
+  bit_text : {c : Constraint} {n : Tree} {ds os : List ℕ} →
+      binary_in n ≡ Some ds →
+      AreOctets 2 8 ds os →
+      IsLeaf (an_octet_string c) n (octets os)
+  hex_text : {c : Constraint} {n : Tree} {ds os : List ℕ} →
+      hex_in n ≡ Some ds →
+      AreOctets 16 2 ds os →
+      IsLeaf (an_octet_string c) n (octets os)
 
 mutual
   -- the notation stands for the value under type t of the schema, read in module M
   pub data Notation (p : Program) (s : List Resolved) : Name → ℕ → Tree → AbstractValue → Type 0 where
-    leaf : {M K : Name} {t : ℕ} {tags : List Tag} {k : Kind} {n l : Tree} {v : AbstractValue} → IsLast p M n K l → Is s t tags k → IsLeaf k l v → Notation p s M t n v
-    sequence : {M K : Name} {t : ℕ} {tags : List Tag} {e : Bool} {cs : List Component} {n l : Tree} {fs : List (Name × Tree)} {r : Row} → IsLast p M n K l
-        → Is s t tags (a_sequence e cs) → fields_in l ≡ Some fs → Fields p s K cs fs r → Notation p s M t n (fields r)
+    leaf : {M K : Name} {t : ℕ} {tags : List Tag} {k : Kind} {n l : Tree} {v : AbstractValue} →
+        IsLast p M n K l →
+        Is s t tags k →
+        IsLeaf k l v →
+        Notation p s M t n v
+    sequence :
+        {M K : Name} {t : ℕ} {tags : List Tag} {e : Bool} {cs : List Component} {n l : Tree} {fs : List (Name × Tree)}
+        {r : Row} →
+        IsLast p M n K l →
+        Is s t tags (a_sequence e cs) →
+        fields_in l ≡ Some fs →
+        Fields p s K cs fs r →
+        Notation p s M t n (fields r)
 
   -- the components by their names, all of them, in the order of the type, read in module M
   pub data Fields (p : Program) (s : List Resolved) : Name → List Component → List (Name × Tree) → Row → Type 0 where
     no_field : {M : Name} → Fields p s M [] [] end
-    field : {M : Name} {c : Component} {cs : List Component} {f : Name × Tree} {fs : List (Name × Tree)} {v : AbstractValue} {r : Row} → c.name ≡ f.0
-        → Notation p s M c.type f.1 v → Fields p s M cs fs r → Fields p s M (c ∷ cs) (f ∷ fs) (present v r)
+    field :
+        {M : Name} {c : Component} {cs : List Component} {f : Name × Tree} {fs : List (Name × Tree)} {v : AbstractValue}
+        {r : Row} →
+        c.name ≡ f.0 →
+        Notation p s M c.type f.1 v →
+        Fields p s M cs fs r →
+        Fields p s M (c ∷ cs) (f ∷ fs) (present v r)
 
 -- it tells this name in this module
 abbrev pub Tells : (M x : Name) → Spot → Type 0

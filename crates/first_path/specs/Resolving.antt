@@ -20,8 +20,12 @@ pub record IsComponent (p : Part) (c : Component) : Type 0 where
 pub data IsKind : Kind → ℕ → kinds.Kind → Type 0 where
   boolean : IsKind (simple a_boolean) 1 kinds.a_boolean
   integer : {c : kinds.Constraint} → c ≡ kinds.any_number → IsKind (simple (an_integer [])) 2 (kinds.an_integer c)
-  octet_string : {c : kinds.Constraint} → c ≡ kinds.any_size → IsKind (simple an_octet_string) 4 (kinds.an_octet_string c)
-  sequence : {ps : List Part} {cs : List Component} → AllZip IsComponent ps cs → IsKind (members Sequence false ps) 16 (kinds.a_sequence false cs)
+  octet_string : {c : kinds.Constraint} →
+      c ≡ kinds.any_size →
+      IsKind (simple an_octet_string) 4 (kinds.an_octet_string c)
+  sequence : {ps : List Part} {cs : List Component} →
+      AllZip IsComponent ps cs →
+      IsKind (members Sequence false ps) 16 (kinds.a_sequence false cs)
 
 -- one tag, universal, with this number
 pub record IsUniversal (n : ℕ) (tags : List Tag) : Type 0 where

@@ -21,7 +21,7 @@ fn octet(digits: &[u8], base: u8) -> u8
 }
 
 /// The octets of binary digits, eight an octet, the last ones filled with zeros.
-pub fn bit_octets(alloc: Global, digits: &[u8]) -> Result<Vec<u8>, AllocError>
+pub(crate) fn bit_octets(alloc: Global, digits: &[u8]) -> Result<Vec<u8>, AllocError>
     requires { AllBelowBase 2 digits.now }
     ensures { IfOk result (λ os. AreOctets 2 8 digits.now os.items) }
 {
@@ -38,7 +38,7 @@ pub fn bit_octets(alloc: Global, digits: &[u8]) -> Result<Vec<u8>, AllocError>
 }
 
 /// The octets of hexadecimal digits, two an octet, an odd last one filled with a zero.
-pub fn hex_octets(alloc: Global, digits: &[u8]) -> Result<Vec<u8>, AllocError>
+pub(crate) fn hex_octets(alloc: Global, digits: &[u8]) -> Result<Vec<u8>, AllocError>
     requires { AllBelowBase 16 digits.now }
     ensures { IfOk result (λ os. AreOctets 16 2 digits.now os.items) }
 {
@@ -55,7 +55,7 @@ pub fn hex_octets(alloc: Global, digits: &[u8]) -> Result<Vec<u8>, AllocError>
 }
 
 /// Whether each digit is below the base.
-pub fn are_below(digits: &[u8], base: u8) -> bool
+pub(crate) fn are_below(digits: &[u8], base: u8) -> bool
     ensures below { result ≡ true → AllBelowBase base digits.now }
     ensures above { result ≡ false → AllBelowBase base digits.now → ⊥ }
 {

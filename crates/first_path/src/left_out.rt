@@ -174,7 +174,8 @@ fn outside_list(
     ensures first { MatchOption result
         (IsFirstKind linked.now.types (list_of kind marker (map part_of parts.now)))
         (λ _. IsFirstKind linked.now.types (list_of kind marker (map part_of parts.now)) → ⊥) }
-    ensures construct { IfSome result (λ c. IsKindOut linked.now.types (list_of kind marker (map part_of parts.now)) c.it) }
+    ensures construct { IfSome result
+        (λ c. IsKindOut linked.now.types (list_of kind marker (map part_of parts.now)) c.it) }
 {
     let construct = match kind {
         ListKind::Sequence => {

@@ -13,7 +13,7 @@ use std::alloc::{AllocError, Global};
 use trees::{Named, ValueForm, ValueSyntax};
 
 /// The truth value that a notation is.
-pub fn truth_in(notation: &ValueSyntax) -> Option<bool>
+pub(crate) fn truth_in(notation: &ValueSyntax) -> Option<bool>
     ensures { result ≡ truth_in (tree_of notation.now) }
 {
     match &notation.form {
@@ -24,7 +24,7 @@ pub fn truth_in(notation: &ValueSyntax) -> Option<bool>
 }
 
 /// The number that a notation is.
-pub fn number_in(notation: &ValueSyntax) -> Option<i128>
+pub(crate) fn number_in(notation: &ValueSyntax) -> Option<i128>
     ensures { result ≡ number_in (tree_of notation.now) }
 {
     match &notation.form {
@@ -34,7 +34,7 @@ pub fn number_in(notation: &ValueSyntax) -> Option<i128>
 }
 
 /// The digits of a binary text.
-pub fn binary_in(notation: &ValueSyntax) -> Option<&[u8]>
+pub(crate) fn binary_in(notation: &ValueSyntax) -> Option<&[u8]>
     ensures { option_map (λ d. d.now) result ≡ binary_in (tree_of notation.now) }
 {
     match &notation.form {
@@ -44,7 +44,7 @@ pub fn binary_in(notation: &ValueSyntax) -> Option<&[u8]>
 }
 
 /// The digits of a hexadecimal text.
-pub fn hex_in(notation: &ValueSyntax) -> Option<&[u8]>
+pub(crate) fn hex_in(notation: &ValueSyntax) -> Option<&[u8]>
     ensures { option_map (λ d. d.now) result ≡ hex_in (tree_of notation.now) }
 {
     match &notation.form {
@@ -54,7 +54,7 @@ pub fn hex_in(notation: &ValueSyntax) -> Option<&[u8]>
 }
 
 /// The components that a notation names in braces.
-pub fn fields_in(notation: &ValueSyntax) -> Option<&[Named<ValueSyntax>]>
+pub(crate) fn fields_in(notation: &ValueSyntax) -> Option<&[Named<ValueSyntax>]>
     ensures { option_map (λ fs. map member_of fs.now) result ≡ fields_in (tree_of notation.now) }
 {
     match &notation.form {
@@ -105,7 +105,7 @@ fn settled<'a>(
 }
 
 /// What a notation, read in a module, is behind its references, and the module in which that is read.
-pub fn behind_all<'a>(
+pub(crate) fn behind_all<'a>(
     alloc: Global,
     scope: &'a Scope,
     within: &'a str,

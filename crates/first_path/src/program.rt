@@ -13,7 +13,7 @@ use trees::{ValueForm, ValueSyntax};
 use type_table::Written;
 
 /// A module by its number.
-pub fn header_at(linked: &Linked, number: usize) -> &Header
+pub(crate) fn header_at(linked: &Linked, number: usize) -> &Header
     requires inside { number < length linked.now.headers }
     ensures { slice_get linked.now.headers number ≡ Some (header_of result.now) }
 {
@@ -21,7 +21,7 @@ pub fn header_at(linked: &Linked, number: usize) -> &Header
 }
 
 /// An assignment by its number.
-pub fn assignment_at(linked: &Linked, number: usize) -> &Assignment
+pub(crate) fn assignment_at(linked: &Linked, number: usize) -> &Assignment
     requires inside { number < length linked.now.assignments }
     ensures { slice_get linked.now.assignments number ≡ Some (assignment_of result.now) }
 {
@@ -29,7 +29,7 @@ pub fn assignment_at(linked: &Linked, number: usize) -> &Assignment
 }
 
 /// A type by its number.
-pub fn type_at(linked: &Linked, number: usize) -> &Written
+pub(crate) fn type_at(linked: &Linked, number: usize) -> &Written
     requires inside { number < length linked.now.types }
     ensures { slice_get linked.now.types number ≡ Some (type_of result.now) }
 {
@@ -37,7 +37,7 @@ pub fn type_at(linked: &Linked, number: usize) -> &Written
 }
 
 /// A value by its number.
-pub fn value_at(linked: &Linked, number: usize) -> &ValueAt
+pub(crate) fn value_at(linked: &Linked, number: usize) -> &ValueAt
     requires inside { number < length linked.now.values }
     ensures { slice_get linked.now.values number ≡ Some (value_of result.now) }
 {
@@ -45,7 +45,7 @@ pub fn value_at(linked: &Linked, number: usize) -> &ValueAt
 }
 
 /// The names of an assignment's module and of the assignment.
-pub fn assigned(linked: &Linked, number: usize) -> (&str, &str)
+pub(crate) fn assigned(linked: &Linked, number: usize) -> (&str, &str)
     requires inside { number < length linked.now.assignments }
     ensures { IsAssignment linked.now number result.0.now result.1.now }
 {
@@ -67,7 +67,7 @@ pub fn notation_at(linked: &Linked, number: usize) -> (&str, &ValueSyntax)
 }
 
 /// The value that a notation, read in a module, refers to.
-pub fn meant(linked: &Linked, within: &str, notation: &ValueSyntax) -> Option<usize>
+pub(crate) fn meant(linked: &Linked, within: &str, notation: &ValueSyntax) -> Option<usize>
     ensures means { (j : ℕ) → (result ≡ Some j ↔ MeansValue linked.now within.now (tree_of notation.now) j) }
     ensures inside { IfSome result (λ j. j < length linked.now.values) }
 {
@@ -85,7 +85,7 @@ pub fn meant(linked: &Linked, within: &str, notation: &ValueSyntax) -> Option<us
 }
 
 /// The value that the notation of a value refers to.
-pub fn referred(linked: &Linked, number: usize) -> Option<usize>
+pub(crate) fn referred(linked: &Linked, number: usize) -> Option<usize>
     requires inside { number < length linked.now.values }
     ensures refers { (j : ℕ) → (result ≡ Some j ↔ RefersTo linked.now number j) }
 {

@@ -21,7 +21,7 @@ use trees::{ListKind, Simple};
 use type_table::{Component as Part, Shape, Written};
 
 /// What a type is behind its references and tags.
-pub fn unfolded(linked: &Linked, number: usize) -> &Written
+pub(crate) fn unfolded(linked: &Linked, number: usize) -> &Written
     requires { number < length linked.now.types }
     ensures { Unfolds linked.now.types number (type_of result.now) }
 {
@@ -31,7 +31,9 @@ pub fn unfolded(linked: &Linked, number: usize) -> &Written
 
 /// What BOOLEAN, INTEGER and OCTET STRING are in a schema, with the numbers of their tags.
 fn basic_core(shape: &Shape) -> Option<(Core, u32)>
-    ensures { MatchOption result (IsBasic (kind_of shape.now) → ⊥) (λ c. IsKind (kind_of shape.now) c.1 (core_kind_of c.0) × (0 < c.1) × (c.1 < 31)) }
+    ensures { MatchOption result
+        (IsBasic (kind_of shape.now) → ⊥)
+        (λ c. IsKind (kind_of shape.now) c.1 (core_kind_of c.0) × (0 < c.1) × (c.1 < 31)) }
 {
     match shape {
         Shape::Simple(simple) => match simple {

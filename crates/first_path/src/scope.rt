@@ -80,9 +80,10 @@ impl Scope {
     }
 
     /// The value at which the references from a value on end, or one that they come back to.
-    pub fn last(&self, start: usize) -> Result<usize, usize>
+    pub(crate) fn last(&self, start: usize) -> Result<usize, usize>
         requires inside { start < length self.now.values }
-        ensures same { IfOk result (λ c. (K : Name) (l : Tree) → (IsValueLast self.now start K l ↔ IsValueLast self.now c K l)) }
+        ensures same { IfOk result
+            (λ c. (K : Name) (l : Tree) → (IsValueLast self.now start K l ↔ IsValueLast self.now c K l)) }
         ensures ends { IfOk result (λ c. (j : ℕ) → RefersTo self.now c j → ⊥) }
         ensures leads { MatchResult result (LeadsTo self.now start) (LeadsTo self.now start) }
         ensures back { IfErr result (λ c. (j : ℕ) × RefersTo self.now c j × LeadsTo self.now j c) }

@@ -108,7 +108,13 @@ fn is_field(fields: &[Named<ValueSyntax>], name: &str) -> bool
 /// The first field whose name no component has.
 fn unknown_field(components: &[Component], fields: &[Named<ValueSyntax>]) -> Option<usize>
     ensures within { IfSome result (λ k. k < length fields.now) }
-    ensures found { MatchOption result (AreIn (field_names (map member_of fields.now)) (component_names (map component_of components.now))) (λ k. (x : Name) → slice_get (field_names (map member_of fields.now)) k ≡ Some x → StandsIn (component_names (map component_of components.now)) x → ⊥) }
+    ensures found { MatchOption result
+        (AreIn (field_names (map member_of fields.now)) (component_names (map component_of components.now)))
+        (λ k.
+            (x : Name) →
+            slice_get (field_names (map member_of fields.now)) k ≡ Some x →
+            StandsIn (component_names (map component_of components.now)) x →
+            ⊥) }
 {
     for k in 0..fields.len() {
         if !is_component(components, fields[k].name.it.as_str()) {
@@ -121,7 +127,12 @@ fn unknown_field(components: &[Component], fields: &[Named<ValueSyntax>]) -> Opt
 /// The first field whose name stands before it too.
 fn repeated_field(fields: &[Named<ValueSyntax>]) -> Option<usize>
     ensures within { IfSome result (λ k. k < length fields.now) }
-    ensures found { MatchOption result (AreDistinct (field_names (map member_of fields.now))) (λ k. (x : Name) → slice_get (field_names (map member_of fields.now)) k ≡ Some x → StandsTwice (field_names (map member_of fields.now)) x) }
+    ensures found { MatchOption result
+        (AreDistinct (field_names (map member_of fields.now)))
+        (λ k.
+            (x : Name) →
+            slice_get (field_names (map member_of fields.now)) k ≡ Some x →
+            StandsTwice (field_names (map member_of fields.now)) x) }
 {
     for k in 0..fields.len() {
         if is_field(&fields[..k], fields[k].name.it.as_str()) {
@@ -134,7 +145,13 @@ fn repeated_field(fields: &[Named<ValueSyntax>]) -> Option<usize>
 /// The first component that has no field.
 fn missing_component(components: &[Component], fields: &[Named<ValueSyntax>]) -> Option<usize>
     ensures within { IfSome result (λ k. k < length components.now) }
-    ensures found { MatchOption result (AreIn (component_names (map component_of components.now)) (field_names (map member_of fields.now))) (λ k. (x : Name) → slice_get (component_names (map component_of components.now)) k ≡ Some x → StandsIn (field_names (map member_of fields.now)) x → ⊥) }
+    ensures found { MatchOption result
+        (AreIn (component_names (map component_of components.now)) (field_names (map member_of fields.now)))
+        (λ k.
+            (x : Name) →
+            slice_get (component_names (map component_of components.now)) k ≡ Some x →
+            StandsIn (field_names (map member_of fields.now)) x →
+            ⊥) }
 {
     for k in 0..components.len() {
         if !is_field(fields, components[k].name.as_str()) {
@@ -146,9 +163,12 @@ fn missing_component(components: &[Component], fields: &[Named<ValueSyntax>]) ->
 
 /// Whether the fields have the components' names, in their order.
 fn are_in_order(components: &[Component], fields: &[Named<ValueSyntax>]) -> bool
-    ensures yes { result ≡ true → component_names (map component_of components.now) ≡ field_names (map member_of fields.now) }
+    ensures yes { result ≡ true →
+        component_names (map component_of components.now) ≡ field_names (map member_of fields.now) }
     ensures long { result ≡ true → length components.now ≡ length fields.now }
-    ensures no { result ≡ false → component_names (map component_of components.now) ≡ field_names (map member_of fields.now) → ⊥ }
+    ensures no { result ≡ false →
+        component_names (map component_of components.now) ≡ field_names (map member_of fields.now) →
+        ⊥ }
 {
     if components.len() != fields.len() {
         return false;
@@ -231,9 +251,14 @@ fn typed_component(
     notation: &ValueSyntax,
 ) -> Result<Value, ValueFault>
     requires simple { IsSomeAnd (slice_get schema.now component.now.ty.index) (λ r. IsSimple r.kind) }
-    ensures value { IfOk result (λ v. Notation scope.now schema.now within.now component.now.ty.index (tree_of notation.now) (abstract v)) }
-    ensures none { IfErr result (Lacks (Notation scope.now schema.now within.now component.now.ty.index (tree_of notation.now))) }
-    ensures fault { IfErr result (IsWrong scope.now schema.now within.now (string_bytes component.now.name) component.now.ty.index (tree_of notation.now)) }
+    ensures value { IfOk result
+        (λ v. Notation scope.now schema.now within.now component.now.ty.index (tree_of notation.now) (abstract v)) }
+    ensures none { IfErr result
+        (Lacks (Notation scope.now schema.now within.now component.now.ty.index (tree_of notation.now))) }
+    ensures fault { IfErr result
+        (IsWrong scope.now schema.now within.now
+            (string_bytes component.now.name) component.now.ty.index
+            (tree_of notation.now)) }
 {
     match behind_all(alloc, scope, within, notation) {
         Ok((module, last)) => {
@@ -256,9 +281,16 @@ fn typed_fields(
     fields: &[Named<ValueSyntax>],
 ) -> Result<Vec<Option<Value>>, ValueFault>
     requires simple { AllByRecursion (IsSimpleMember schema.now) (map component_of components.now) }
-    ensures values { IfOk result (λ vs. Fields scope.now schema.now within.now (map component_of components.now) (map member_of fields.now) (row_of_options (map (option_map abstract) vs.items))) }
-    ensures none { IfErr result (Lacks (Fields scope.now schema.now within.now (map component_of components.now) (map member_of fields.now))) }
-    ensures fault { IfErr result (AreWrong scope.now schema.now within.now (map component_of components.now) (map member_of fields.now)) }
+    ensures values { IfOk result
+        (λ vs.
+            Fields scope.now schema.now within.now
+            (map component_of components.now)
+            (map member_of fields.now)
+            (row_of_options (map (option_map abstract) vs.items))) }
+    ensures none { IfErr result
+        (Lacks (Fields scope.now schema.now within.now (map component_of components.now) (map member_of fields.now))) }
+    ensures fault { IfErr result
+        (AreWrong scope.now schema.now within.now (map component_of components.now) (map member_of fields.now)) }
 {
     if !are_in_order(components, fields) {
         return Err(disorder(alloc, within, at, components, fields)?);
@@ -297,7 +329,8 @@ pub fn typed(
 ) -> Result<Value, ValueFault>
     requires there { id.index < length schema.now }
     requires accepted { IsAccepted schema.now }
-    ensures value { IfOk result (λ v. Notation scope.now schema.now within.now id.index (tree_of notation.now) (abstract v)) }
+    ensures value { IfOk result
+        (λ v. Notation scope.now schema.now within.now id.index (tree_of notation.now) (abstract v)) }
     ensures none { IfErr result (Lacks (Notation scope.now schema.now within.now id.index (tree_of notation.now))) }
     ensures fault { IfErr result (IsWrong scope.now schema.now within.now [] id.index (tree_of notation.now)) }
 {

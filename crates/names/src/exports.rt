@@ -46,7 +46,7 @@ fn fill(alloc: Global, names: &[At<String>], table: &mut IndexSet<String>) -> Re
 
 impl Exports {
     /// These names, with their table.
-    pub fn of(alloc: Global, names: Vec<At<String>>) -> Result<Exports, NameFault>
+    pub(crate) fn of(alloc: Global, names: Vec<At<String>>) -> Result<Exports, NameFault>
         ensures ok { IfOk result (λ e. e ≡ map name_at names.items) }
         ensures fault { IfErr result (λ e. e ≡ faults.Memory) }
     {
@@ -58,14 +58,14 @@ impl Exports {
     }
 
     /// Is this one of the names?
-    pub fn has(&self, name: &str) -> bool
+    pub(crate) fn has(&self, name: &str) -> bool
         ensures { result ≡ true ↔ StandsIn self.now name.now }
     {
         self.table.contains(name)
     }
 
     /// The names, in order.
-    pub fn names(&self) -> &[At<String>]
+    pub(crate) fn names(&self) -> &[At<String>]
         ensures { map name_at result.now ≡ self.now }
     {
         &self.names

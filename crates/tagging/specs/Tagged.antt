@@ -34,7 +34,8 @@ pub record IsTagged (ts : List Type') : Type 0 where
   pub forms : (i j : ℕ) (t : Tag) (d : TagDefault) (p : Option (ℕ × ℕ)) →
       Is ts i (tagged t Implicit j) d p →
       Written ts j [] → ⊥
-  -- in an AUTOMATIC module a list whose additions bear written tags has them in its root too (X.680, clauses 25, 27, 29)
+  -- in an AUTOMATIC module a list whose additions bear written tags has them in its root too (X.680, clauses 25, 27,
+  -- 29)
   pub unmixed : (i : ℕ) (k : ListKind) (m : Bool) (cs : List Part) (p : Option (ℕ × ℕ)) →
       Is ts i (members k m cs) Automatic p →
       Bears ts cs true →

@@ -239,7 +239,8 @@ fn check_written(
 ) -> Result<(), Fault>
     requires linked { IsLinked columns.now.types }
     requires is { slice_get columns.now.types ty ≡ Some (type_of written.now) }
-    ensures { Checked columns.now.types result (Suits columns.now.types (kind_of written.now.shape) written.now.default) }
+    ensures { Checked columns.now.types result
+        (Suits columns.now.types (kind_of written.now.shape) written.now.default) }
 {
     match &written.shape {
         Shape::Simple(_) => Ok(()),

@@ -19,23 +19,6 @@ pub fn next(written: &Written) -> Option<usize>
     }
 }
 
-/// The core of a type, or a type that comes back to itself.
-pub fn core_of(types: &[Written], start: usize) -> Result<usize, usize>
-    requires closed { IsClosed (types_of types.now) }
-    requires there { start < length types.now }
-    ensures { MatchResult result (λ c. IsCore (types_of types.now) start c)
-        (λ i. (i < length types.now) × IsCircular (types_of types.now) i) }
-{
-    let mut at = start;
-    for step in 0..types.len() {
-        match next(&types[at]) {
-            None => return Ok(at),
-            Some(j) => at = j,
-        }
-    }
-    Err(at)
-}
-
 /// The core of a type, or a type that comes back to itself. The walk ends where it comes to a type whose core is known.
 fn core_by(types: &[Written], cores: &[usize], start: usize) -> Result<usize, usize>
     requires closed { IsClosed (types_of types.now) }

@@ -20,7 +20,8 @@ right [] ys k = let e : 0 + k ≡ k = omega arith in ap (λ n. slice_get ys n) e
 right (z ∷ xs) ys k = let e : suc (length xs) + k ≡ suc (length xs + k) = omega arith in ap (λ n. slice_get (z ∷ (xs ++ ys)) n) e ∙ right xs ys k
 
 -- an item of two lists stands in the first or behind it
-pub either : {X : Type 0} (xs ys : List X) (m : ℕ) (x : X) → slice_get (xs ++ ys) m ≡ Some x → (slice_get xs m ≡ Some x) ⊎ ((q : ℕ) × (m ≡ length xs + q) × (slice_get ys q ≡ Some x))
+pub either : {X : Type 0} (xs ys : List X) (m : ℕ) (x : X) → slice_get (xs ++ ys) m ≡ Some x →
+    (slice_get xs m ≡ Some x) ⊎ ((q : ℕ) × (m ≡ length xs + q) × (slice_get ys q ≡ Some x))
 either [] ys m x e = let z : m ≡ 0 + m = omega arith in inr (m, z, e)
 either (y ∷ xs) ys zero x e = inl e
 either (y ∷ xs) ys (suc m) x e =
@@ -42,12 +43,14 @@ stands_either xs ys x s =
       | inr r ↦ inr (r.0, r.2)
     ]
 
-pub stands_map : {X Y : Type 0} (f : X → Y) (xs : List X) (k : ℕ) (x : X) → slice_get xs k ≡ Some x → slice_get (map f xs) k ≡ Some (f x)
+pub stands_map : {X Y : Type 0} (f : X → Y) (xs : List X) (k : ℕ) (x : X) → slice_get xs k ≡ Some x →
+    slice_get (map f xs) k ≡ Some (f x)
 stands_map f [] k x e = absurd cc
 stands_map f (z ∷ xs) zero x e = let q : z ≡ x = cc in ap (λ y. Some (f y)) q
 stands_map f (z ∷ xs) (suc k) x e = stands_map f xs k x e
 
-pub mapped : {X Y : Type 0} (f : X → Y) (xs : List X) (k : ℕ) (y : Y) → slice_get (map f xs) k ≡ Some y → (x : X) × (slice_get xs k ≡ Some x) × (f x ≡ y)
+pub mapped : {X Y : Type 0} (f : X → Y) (xs : List X) (k : ℕ) (y : Y) → slice_get (map f xs) k ≡ Some y →
+    (x : X) × (slice_get xs k ≡ Some x) × (f x ≡ y)
 mapped f [] k y e = absurd cc
 mapped f (x ∷ xs) zero y e = (x, refl, (let q : f x ≡ y = cc in q))
 mapped f (x ∷ xs) (suc k) y e = mapped f xs k y e
@@ -71,7 +74,8 @@ pub distinct_none : {X : Type 0} → AreDistinct {A = X} []
 distinct_none {X} x t = let e : slice_get {X = X} [] t.first ≡ Some x = t.here in absurd cc
 
 -- one that doesn't stand there yet may come behind
-pub distinct_more : {X : Type 0} (xs : List X) (x : X) → AreDistinct xs → (StandsIn xs x → ⊥) → AreDistinct (xs ++ x ∷ [])
+pub distinct_more : {X : Type 0} (xs : List X) (x : X) → AreDistinct xs → (StandsIn xs x → ⊥) →
+    AreDistinct (xs ++ x ∷ [])
 distinct_more xs x d fresh y t =
     elim (either xs (x ∷ []) t.second y t.there) [
       | inl f ↦ elim (either xs (x ∷ []) t.first y t.here) [
@@ -86,19 +90,22 @@ distinct_more xs x d fresh y t =
 
 -- ---- places of a list
 
-pub drop_at : {X : Type 0} (xs : List X) (i : ℕ) (x : X) → i < length xs → x ≡ get_or xs i x → drop i xs ≡ x ∷ drop (i + 1) xs
+pub drop_at : {X : Type 0} (xs : List X) (i : ℕ) (x : X) → i < length xs → x ≡ get_or xs i x →
+    drop i xs ≡ x ∷ drop (i + 1) xs
 drop_at xs i x l e =
     let n : i + 1 ≡ suc i = omega arith in
     drop-cons xs i x l ∙ ap (λ y. y ∷ drop (suc i) xs) (sym e) ∙ ap (λ k. x ∷ drop k xs) (sym n)
 
 -- the element of this turn, in the list as it is seen
-pub item_at : {X Y : Type 0} (f : X → Y) (xs : List X) (i : ℕ) (x : X) → i < length xs → x ≡ get_or xs i x → slice_get (map f xs) i ≡ Some (f x)
+pub item_at : {X Y : Type 0} (f : X → Y) (xs : List X) (i : ℕ) (x : X) → i < length xs → x ≡ get_or xs i x →
+    slice_get (map f xs) i ≡ Some (f x)
 item_at f xs i x l e = stands_map f xs i x (slice_get_read xs (length xs) i x refl l e)
 
 pub none_left : {X : Type 0} (xs : List X) (i : ℕ) → length xs ≤ i → drop i xs ≡ []
 none_left xs i l = drop_all i xs l
 
-pub at_all : {X : Type 0} (P : X → Type 0) (xs : List X) (k : ℕ) (x : X) → AllByRecursion P xs → slice_get xs k ≡ Some x → P x
+pub at_all : {X : Type 0} (P : X → Type 0) (xs : List X) (k : ℕ) (x : X) → AllByRecursion P xs →
+    slice_get xs k ≡ Some x → P x
 at_all P [] k x a e = absurd cc
 at_all P (y ∷ xs) zero x a e = let q : y ≡ x = cc in subst P q a.0
 at_all P (y ∷ xs) (suc k) x a e = at_all P xs k x a.1 e
@@ -111,7 +118,9 @@ same_bytes x = (bytes_eq-Decides x x).1 refl
 pub equal_bytes : (x y : Name) → bytes_eq x y ≡ true → x ≡ y
 equal_bytes x y = (bytes_eq-Decides x y).0
 
-none_on : {X : Type 0} (x : Name) (e : Name × X) (es : List (Name × X)) (b : Bool) → bytes_eq x e.0 ≡ b → cond b (Some e.1) (under x es) ≡ None → (under x es ≡ None → StandsIn (names_of es) x → ⊥) → (i : ℕ) → slice_get (names_of (e ∷ es)) i ≡ Some x → ⊥
+none_on : {X : Type 0} (x : Name) (e : Name × X) (es : List (Name × X)) (b : Bool) → bytes_eq x e.0 ≡ b →
+    cond b (Some e.1) (under x es) ≡ None → (under x es ≡ None → StandsIn (names_of es) x → ⊥) → (i : ℕ) →
+    slice_get (names_of (e ∷ es)) i ≡ Some x → ⊥
 none_on x e es true q u go i s = absurd cc
 none_on x e es false q u go zero s =
     let n : e.0 ≡ x = cc in
@@ -124,7 +133,8 @@ pub under_none : {X : Type 0} (x : Name) (es : List (Name × X)) → under x es 
 under_none {X} x [] u s = let e : slice_get {X = Name} [] s.0 ≡ Some x = s.1 in absurd cc
 under_none x (e ∷ es) u s = none_on x e es (bytes_eq x e.0) refl u (under_none x es) s.0 s.1
 
-some_on : {X : Type 0} (x : Name) (e : Name × X) (es : List (Name × X)) (a : X) (b : Bool) → bytes_eq x e.0 ≡ b → cond b (Some e.1) (under x es) ≡ Some a → (under x es ≡ Some a → StandsIn es (x, a)) → StandsIn (e ∷ es) (x, a)
+some_on : {X : Type 0} (x : Name) (e : Name × X) (es : List (Name × X)) (a : X) (b : Bool) → bytes_eq x e.0 ≡ b →
+    cond b (Some e.1) (under x es) ≡ Some a → (under x es ≡ Some a → StandsIn es (x, a)) → StandsIn (e ∷ es) (x, a)
 some_on x e es a true q u go =
     let n : x ≡ e.0 = equal_bytes x e.0 q in
     let v : e.1 ≡ a = cc in

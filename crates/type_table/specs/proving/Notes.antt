@@ -32,14 +32,16 @@ set_here [] i s l = absurd (omega arith)
 set_here (x ∷ xs) zero s l = refl
 set_here (x ∷ xs) (suc i) s l = set_here xs i s (omega arith)
 
-pub set_only : (xs : List ℕ) (i j s n : ℕ) → slice_get (set xs i s) j ≡ Some n → slice_get xs j ≡ Some n ⊎ ((j ≡ i) × (n ≡ s))
+pub set_only : (xs : List ℕ) (i j s n : ℕ) → slice_get (set xs i s) j ≡ Some n →
+    slice_get xs j ≡ Some n ⊎ ((j ≡ i) × (n ≡ s))
 set_only [] i j s n e = inl e
 set_only (x ∷ xs) zero zero s n e = let q : s ≡ n = cc in inr (refl, sym q)
 set_only (x ∷ xs) zero (suc j) s n e = inl e
 set_only (x ∷ xs) (suc i) zero s n e = inl e
 set_only (x ∷ xs) (suc i) (suc j) s n e = elim (set_only xs i j s n e) [ inl h ↦ inl h | inr h ↦ inr (ap suc h.0, h.1) ]
 
-kept_or_new : (xs : List ℕ) (i j s n : ℕ) → slice_get xs j ≡ Some n → (slice_get (set xs i s) j ≡ Some n) ⊎ (slice_get (set xs i s) j ≡ Some s)
+kept_or_new : (xs : List ℕ) (i j s n : ℕ) → slice_get xs j ≡ Some n →
+    (slice_get (set xs i s) j ≡ Some n) ⊎ (slice_get (set xs i s) j ≡ Some s)
 kept_or_new [] i j s n e = absurd cc
 kept_or_new (x ∷ xs) zero zero s n e = inr refl
 kept_or_new (x ∷ xs) zero (suc j) s n e = inl e
@@ -64,13 +66,15 @@ module _ (n : ℕ) (P : ℕ → ℕ → Type 0) where
   right_first notes unknown i x e l = absurd (unknown i (x, e, l))
 
   -- a number that is noted is the one that is there
-  noted_at : (notes : List ℕ) (i : ℕ) → AreRight n P notes → IsKnown n notes i → (x : ℕ) → slice_get notes i ≡ Some x → (x < n) × P i x
+  noted_at : (notes : List ℕ) (i : ℕ) → AreRight n P notes → IsKnown n notes i → (x : ℕ) →
+      slice_get notes i ≡ Some x → (x < n) × P i x
   noted_at notes i known k x e =
       let f : k.0 ≡ x = same_Some k.0 x (sym k.1 ∙ e) in
       let l : x < n = subst (λ z. z < n) f k.2 in
       (l, known i x e l)
 
-  pub all_noted : (notes : List ℕ) → length notes ≡ n → AreRight n P notes → ((i : ℕ) → i < n → IsKnown n notes i) → AreNoted n P notes
+  pub all_noted : (notes : List ℕ) → length notes ≡ n → AreRight n P notes → ((i : ℕ) → i < n → IsKnown n notes i) →
+      AreNoted n P notes
   all_noted notes long known all = record {
     long = long;
     each = λ i x e. let w = slice_get_within notes i x e in noted_at notes i known (all i (omega (arith, w, long))) x e;

@@ -6,7 +6,9 @@ use Rattle.std.proofs.lemmas.Map.Steps.{length-le_from_distinct_below}
 use Rattle.type_table.specs.Walks.{onward, follow, EndsAt, ComesBack, IsWithin}
 use Rattle.std.proofs.lemmas.Bool.{eqb-true, or_cases, cases_Bool}
 
-walk_on : (next : ℕ → Option ℕ) (a b j : ℕ) (o : Option ℕ) → ((k : ℕ) → follow next a k ≡ Some j → follow next (a + b) k ≡ follow next b j) → onward o (λ k. follow next a k) ≡ Some j → onward o (λ k. follow next (a + b) k) ≡ follow next b j
+walk_on : (next : ℕ → Option ℕ) (a b j : ℕ) (o : Option ℕ) →
+    ((k : ℕ) → follow next a k ≡ Some j → follow next (a + b) k ≡ follow next b j) →
+    onward o (λ k. follow next a k) ≡ Some j → onward o (λ k. follow next (a + b) k) ≡ follow next b j
 walk_on next a b j None go e = absurd cc
 walk_on next a b j (Some k) go e = go k e
 
@@ -29,7 +31,9 @@ abbrev visited : (ℕ → Option ℕ) → ℕ → ℕ → List ℕ
 visited next zero i = i ∷ []
 visited next (suc k) i = i ∷ visited_on (next i) (λ j. visited next k j)
 
-length_on : (next : ℕ → Option ℕ) (k p : ℕ) (o : Option ℕ) → ((j : ℕ) → follow next k j ≡ Some p → length (visited next k j) ≡ suc k) → onward o (λ j. follow next k j) ≡ Some p → length (visited_on o (λ j. visited next k j)) ≡ suc k
+length_on : (next : ℕ → Option ℕ) (k p : ℕ) (o : Option ℕ) →
+    ((j : ℕ) → follow next k j ≡ Some p → length (visited next k j) ≡ suc k) →
+    onward o (λ j. follow next k j) ≡ Some p → length (visited_on o (λ j. visited next k j)) ≡ suc k
 length_on next k p None go e = absurd cc
 length_on next k p (Some j) go e = go j e
 
@@ -43,7 +47,9 @@ record Meets (next : ℕ → Option ℕ) (k i q : ℕ) : Type 0 where
   few : steps ≤ k
   leads : follow next steps i ≡ Some q
 
-meets_on : (next : ℕ → Option ℕ) (k i q : ℕ) (o : Option ℕ) → next i ≡ o → ((j : ℕ) → list_any (eqb q) (visited next k j) ≡ true → Meets next k j q) → list_any (eqb q) (visited_on o (λ j. visited next k j)) ≡ true → Meets next (suc k) i q
+meets_on : (next : ℕ → Option ℕ) (k i q : ℕ) (o : Option ℕ) → next i ≡ o →
+    ((j : ℕ) → list_any (eqb q) (visited next k j) ≡ true → Meets next k j q) →
+    list_any (eqb q) (visited_on o (λ j. visited next k j)) ≡ true → Meets next (suc k) i q
 meets_on next k i q None e go h = absurd cc
 meets_on next k i q (Some j) e go h =
     let m = go j h in
@@ -61,7 +67,8 @@ meets next (suc k) i q h =
       | inr f ↦ meets_on next k i q (next i) refl (λ j. meets next k j q) f
     ]
 
-below_on : (next : ℕ → Option ℕ) (n k i q : ℕ) (o : Option ℕ) → next i ≡ o → IsWithin next n → ((j : ℕ) → j < n → follow next k j ≡ Some q → q < n) → onward o (λ j. follow next k j) ≡ Some q → q < n
+below_on : (next : ℕ → Option ℕ) (n k i q : ℕ) (o : Option ℕ) → next i ≡ o → IsWithin next n →
+    ((j : ℕ) → j < n → follow next k j ≡ Some q → q < n) → onward o (λ j. follow next k j) ≡ Some q → q < n
 below_on next n k i q None e c go h = absurd cc
 below_on next n k i q (Some j) e c go h = go j (c i j e) h
 
@@ -87,7 +94,9 @@ apart x (y ∷ ys) =
       | inr e ↦ elim (apart x ys) [ inl a ↦ inl (e, a) | inr h ↦ inr (rw (e, h) refl) ]
     ]
 
-repeats_on : (next : ℕ → Option ℕ) (k i : ℕ) (o : Option ℕ) → next i ≡ o → ((j : ℕ) → IsDistinct eqb (visited next k j) ⊎ Repeats next k j) → IsDistinct eqb (i ∷ visited_on o (λ j. visited next k j)) ⊎ Repeats next (suc k) i
+repeats_on : (next : ℕ → Option ℕ) (k i : ℕ) (o : Option ℕ) → next i ≡ o →
+    ((j : ℕ) → IsDistinct eqb (visited next k j) ⊎ Repeats next k j) →
+    IsDistinct eqb (i ∷ visited_on o (λ j. visited next k j)) ⊎ Repeats next (suc k) i
 unfolding IsDistinct
 repeats_on next k i None e go = inl (tt, tt)
 repeats_on next k i (Some j) e go =
@@ -115,7 +124,8 @@ circular next n i p e r =
     record { steps = r.after; back = sym one ∙ ap (λ k. follow next k r.at) t ∙ two ∙ to_p }
 
 -- a follow of as many steps as there are places ends at a place that comes back to itself
-pub comes_back : (next : ℕ → Option ℕ) (n i p : ℕ) → IsWithin next n → i < n → follow next n i ≡ Some p → ComesBack next p
+pub comes_back : (next : ℕ → Option ℕ) (n i p : ℕ) → IsWithin next n → i < n → follow next n i ≡ Some p →
+    ComesBack next p
 comes_back next n i p c l e =
     elim (repeats next n i) [
       | inl d ↦ absurd (omega (arith, length_visited next n i p e, length-le_from_distinct_below (visited next n i) n d (λ q h. below next n (meets next n i q h).steps i q c l (meets next n i q h).leads)))
@@ -130,7 +140,8 @@ ends_once next c f v =
     absurd cc
 
 -- a walk that ends has fewer steps than there are places
-pub ended_few : (next : ℕ → Option ℕ) (n k i c : ℕ) → IsWithin next n → i < n → follow next k i ≡ Some c → next c ≡ None → k < n
+pub ended_few : (next : ℕ → Option ℕ) (n k i c : ℕ) → IsWithin next n → i < n → follow next k i ≡ Some c →
+    next c ≡ None → k < n
 ended_few next n k i c closed l e f =
     elim (repeats next k i) [
       | inl d ↦ omega (arith, length_visited next k i c e, length-le_from_distinct_below (visited next k i) n d (λ q h. below next n (meets next k i q h).steps i q closed l (meets next k i q h).leads))
@@ -138,7 +149,8 @@ ended_few next n k i c closed l e f =
     ]
 
 -- one step more
-pub one_more : (next : ℕ → Option ℕ) (k i at j : ℕ) → follow next k i ≡ Some at → next at ≡ Some j → follow next (k + 1) i ≡ Some j
+pub one_more : (next : ℕ → Option ℕ) (k i at j : ℕ) → follow next k i ≡ Some at → next at ≡ Some j →
+    follow next (k + 1) i ≡ Some j
 one_more next k i at j e f = walk_walk next k 1 i at e ∙ ap (λ o. onward o (λ q. Some q)) f
 
 -- around a circle any number of times
@@ -148,7 +160,8 @@ turns next (suc n) s i e =
     let z : suc n * suc s ≡ suc s + n * suc s = omega arith in
     rw z (walk_walk next (suc s) (n * suc s) i i e ∙ turns next n s i e)
 
-pub stops : (next : ℕ → Option ℕ) (k r i c : ℕ) → follow next k i ≡ Some c → next c ≡ None → follow next (k + suc r) i ≡ None
+pub stops : (next : ℕ → Option ℕ) (k r i c : ℕ) → follow next k i ≡ Some c → next c ≡ None →
+    follow next (k + suc r) i ≡ None
 stops next k r i c e f = walk_walk next k (suc r) i c e ∙ ap (λ o. onward o (λ j. follow next r j)) f
 
 pub ends_not_back : (next : ℕ → Option ℕ) (i c : ℕ) → EndsAt next i c → ComesBack next i → ⊥
