@@ -111,10 +111,10 @@ fn unknown_field(components: &[Component], fields: &[Named<ValueSyntax>]) -> Opt
     ensures found { MatchOption result
         (AreIn (field_names (map member_of fields.now)) (component_names (map component_of components.now)))
         (λ k.
-            (x : Name) →
-            slice_get (field_names (map member_of fields.now)) k ≡ Some x →
-            StandsIn (component_names (map component_of components.now)) x →
-            ⊥) }
+        (x : Name) →
+        slice_get (field_names (map member_of fields.now)) k ≡ Some x →
+        StandsIn (component_names (map component_of components.now)) x →
+        ⊥) }
 {
     for k in 0..fields.len() {
         if !is_component(components, fields[k].name.it.as_str()) {
@@ -130,9 +130,9 @@ fn repeated_field(fields: &[Named<ValueSyntax>]) -> Option<usize>
     ensures found { MatchOption result
         (AreDistinct (field_names (map member_of fields.now)))
         (λ k.
-            (x : Name) →
-            slice_get (field_names (map member_of fields.now)) k ≡ Some x →
-            StandsTwice (field_names (map member_of fields.now)) x) }
+        (x : Name) →
+        slice_get (field_names (map member_of fields.now)) k ≡ Some x →
+        StandsTwice (field_names (map member_of fields.now)) x) }
 {
     for k in 0..fields.len() {
         if is_field(&fields[..k], fields[k].name.it.as_str()) {
@@ -148,10 +148,10 @@ fn missing_component(components: &[Component], fields: &[Named<ValueSyntax>]) ->
     ensures found { MatchOption result
         (AreIn (component_names (map component_of components.now)) (field_names (map member_of fields.now)))
         (λ k.
-            (x : Name) →
-            slice_get (component_names (map component_of components.now)) k ≡ Some x →
-            StandsIn (field_names (map member_of fields.now)) x →
-            ⊥) }
+        (x : Name) →
+        slice_get (component_names (map component_of components.now)) k ≡ Some x →
+        StandsIn (field_names (map member_of fields.now)) x →
+        ⊥) }
 {
     for k in 0..components.len() {
         if !is_field(fields, components[k].name.as_str()) {
@@ -257,8 +257,8 @@ fn typed_component(
         (Lacks (Notation scope.now schema.now within.now component.now.ty.index (tree_of notation.now))) }
     ensures fault { IfErr result
         (IsWrong scope.now schema.now within.now
-            (string_bytes component.now.name) component.now.ty.index
-            (tree_of notation.now)) }
+        (string_bytes component.now.name) component.now.ty.index
+        (tree_of notation.now)) }
 {
     match behind_all(alloc, scope, within, notation) {
         Ok((module, last)) => {
@@ -283,10 +283,10 @@ fn typed_fields(
     requires simple { AllByRecursion (IsSimpleMember schema.now) (map component_of components.now) }
     ensures values { IfOk result
         (λ vs.
-            Fields scope.now schema.now within.now
-            (map component_of components.now)
-            (map member_of fields.now)
-            (row_of_options (map (option_map abstract) vs.items))) }
+        Fields scope.now schema.now within.now
+        (map component_of components.now)
+        (map member_of fields.now)
+        (row_of_options (map (option_map abstract) vs.items))) }
     ensures none { IfErr result
         (Lacks (Fields scope.now schema.now within.now (map component_of components.now) (map member_of fields.now))) }
     ensures fault { IfErr result

@@ -140,7 +140,7 @@ choice_types d = written (members Sequence false with_choice) d None ∷ written
 choice_clash : HasClash (choice_types tags.Explicit) 0
 choice_clash = clash_of 0 1 (here refl) (omega arith) refl refl both (integer_first refl refl)
     (alternative 2 false choice_parts 0 (part 3 mandatory) (as_written refl (core (here refl) refl))
-        (record { steps = 0; few = omega arith; leads = refl; ends = refl }) (here refl) refl (integer_first refl refl))
+    (record { steps = 0; few = omega arith; leads = refl; ends = refl }) (here refl) refl (integer_first refl refl))
   where
     both : Together Sequence with_choice 0 1
     both zero c l m e = absent_as (part 1 optional) c e refl
