@@ -19,7 +19,8 @@ is_default mandatory h = absurd h
 is_default optional h = absurd h
 is_default (default v) h = (v, refl)
 
-pub circle_of_leads : (ts : List Type') (i : ℕ) (t : Type') (l : ListKind) (marker : Bool) (cs : List Part) → slice_get ts i ≡ Some t → t.kind ≡ members l marker cs → LeadsTo ts cs i → IsDefaultCircle ts i
+pub circle_of_leads : (ts : List Type') (i : ℕ) (t : Type') (l : ListKind) (marker : Bool) (cs : List Part) →
+    slice_get ts i ≡ Some t → t.kind ≡ members l marker cs → LeadsTo ts cs i → IsDefaultCircle ts i
 circle_of_leads ts i t l marker cs e k h =
     let v = is_default h.defaulted.component.presence h.defaulted.defaulted in
     record {
@@ -40,7 +41,8 @@ circle_of_leads ts i t l marker cs e k h =
 same_members : (l k : ListKind) (m n : Bool) (cs ds : List Part) → members l m cs ≡ members k n ds → cs ≡ ds
 same_members l k m n cs ds e = cc
 
-pub leads_of_circle : (ts : List Type') (i : ℕ) (t : Type') (l : ListKind) (marker : Bool) (cs : List Part) → slice_get ts i ≡ Some t → t.kind ≡ members l marker cs → IsDefaultCircle ts i → LeadsTo ts cs i
+pub leads_of_circle : (ts : List Type') (i : ℕ) (t : Type') (l : ListKind) (marker : Bool) (cs : List Part) →
+    slice_get ts i ≡ Some t → t.kind ≡ members l marker cs → IsDefaultCircle ts i → LeadsTo ts cs i
 leads_of_circle ts i t l marker cs e k h =
     let w : h.written ≡ t = same_at ts i h.written t h.there e in
     let c : h.components ≡ cs = same_members h.list l h.marker marker h.components cs (sym h.is ∙ ap (λ (z : Type'). z.kind) w ∙ k) in
@@ -50,7 +52,8 @@ leads_of_circle ts i t l marker cs e k h =
       reaches = h.back;
     }
 
-no_members : (s : Shape) → ((l : ListKind) (m : Bool) (cs : Vec Component Global) → s ≡ shapes.Members l m cs → ⊥) → (l : ListKind) (m : Bool) (ps : List Part) → kind_of s ≡ members l m ps → ⊥
+no_members : (s : Shape) → ((l : ListKind) (m : Bool) (cs : Vec Component Global) → s ≡ shapes.Members l m cs → ⊥) →
+    (l : ListKind) (m : Bool) (ps : List Part) → kind_of s ≡ members l m ps → ⊥
 no_members (shapes.Simple p) n l m ps e = absurd cc
 no_members (shapes.Reference j) n l m ps e = absurd cc
 no_members (shapes.Tagged t k j) n l m ps e = absurd cc
@@ -58,13 +61,16 @@ no_members (shapes.Members k b cs) n l m ps e = n k b cs refl
 no_members (shapes.Elements k j) n l m ps e = absurd cc
 
 -- what is no list is in no circle
-pub no_list : (ts : List Type') (i : ℕ) (t : Type') (s : Shape) → slice_get ts i ≡ Some t → t.kind ≡ kind_of s → ((l : ListKind) (m : Bool) (cs : Vec Component Global) → s ≡ shapes.Members l m cs → ⊥) → IsDefaultCircle ts i → ⊥
+pub no_list : (ts : List Type') (i : ℕ) (t : Type') (s : Shape) → slice_get ts i ≡ Some t → t.kind ≡ kind_of s →
+    ((l : ListKind) (m : Bool) (cs : Vec Component Global) → s ≡ shapes.Members l m cs → ⊥) → IsDefaultCircle ts i → ⊥
 no_list ts i t s e k n h = no_members s n h.list h.marker h.components (sym k ∙ ap (λ (z : Type'). z.kind) (same_at ts i t h.written e h.there) ∙ h.is)
 
-is_of : (ts : List Type') (i : ℕ) (t : Type') (k : Kind) → slice_get ts i ≡ Some t → t.kind ≡ k → Is ts i k t.default t.place
+is_of : (ts : List Type') (i : ℕ) (t : Type') (k : Kind) → slice_get ts i ≡ Some t → t.kind ≡ k →
+    Is ts i k t.default t.place
 is_of ts i t k e q = record { constraints = t.constraints; assignment = t.assignment; found = e ∙ ap (λ z. Some (record { kind = z; constraints = t.constraints; default = t.default; place = t.place; assignment = t.assignment })) q }
 
-part_below : (ts : List Type') (i j : ℕ) (t : Type') (k : Kind) → IsClosed ts → HasMembers ts → HasElements ts → slice_get ts i ≡ Some t → t.kind ≡ k → IsPart j k → j < length ts
+part_below : (ts : List Type') (i j : ℕ) (t : Type') (k : Kind) → IsClosed ts → HasMembers ts → HasElements ts →
+    slice_get ts i ≡ Some t → t.kind ≡ k → IsPart j k → j < length ts
 part_below ts i j t (simple s) closed parts inner e q h = elim h [ ]
 part_below ts i j t (reference k) closed parts inner e q referred = closed i k (ap behind_of e ∙ ap behind q)
 part_below ts i j t (tagged g w k) closed parts inner e q behind_tag = closed i k (ap behind_of e ∙ ap behind q)

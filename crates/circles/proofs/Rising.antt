@@ -22,17 +22,22 @@ among j (tagged t w k) behind_tag = (0, refl)
 among j (members l m cs) (member n c e q) = (n, map_get (λ (c : Part). c.ty) cs n c e ∙ ap Some q)
 among j (elements e k) element = (0, refl)
 
-pub from_all : (r : ℕ) (ranks : List ℕ) (k : Kind) → ((n j : ℕ) → n < length (parts k) → slice_get (parts k) n ≡ Some j → r ≤ slice_index ranks j) → AreFrom r ranks k
+pub from_all : (r : ℕ) (ranks : List ℕ) (k : Kind) →
+    ((n j : ℕ) → n < length (parts k) → slice_get (parts k) n ≡ Some j → r ≤ slice_index ranks j) → AreFrom r ranks k
 from_all r ranks k all j h = let s = among j k h in all s.0 j (slice_get_within (parts k) s.0 j s.1) s.1
 
-pub type_there : (cs : List Component) (n : ℕ) (c : Component) → n < length cs → c ≡ get_or cs n c → Some c.ty ≡ slice_get (map (λ (p : Part). p.ty) (map part_of cs)) n
+pub type_there : (cs : List Component) (n : ℕ) (c : Component) → n < length cs → c ≡ get_or cs n c →
+    Some c.ty ≡ slice_get (map (λ (p : Part). p.ty) (map part_of cs)) n
 type_there cs n c l e = sym (map_get (λ (p : Part). p.ty) (map part_of cs) n (part_of c) (item_at part_of cs n c l e))
 
-pub rise_here : (ts : List Type') (ranks : List ℕ) (i r : ℕ) (u t : Type') → slice_get ts i ≡ Some u → r ≡ slice_index ranks i → AreFrom r ranks u.kind → slice_get ts i ≡ Some t → AreFrom (slice_index ranks i) ranks t.kind
+pub rise_here : (ts : List Type') (ranks : List ℕ) (i r : ℕ) (u t : Type') → slice_get ts i ≡ Some u →
+    r ≡ slice_index ranks i → AreFrom r ranks u.kind → slice_get ts i ≡ Some t →
+    AreFrom (slice_index ranks i) ranks t.kind
 rise_here ts ranks i r u t e q a f = subst (λ z. AreFrom z ranks t.kind) q (subst (λ (z : Type'). AreFrom r ranks z.kind) (same_Some u t (sym e ∙ f)) a)
 
 -- one component more
-pub above_more : (r : ℕ) (ranks : List ℕ) (cs : List Part) (n : ℕ) (c : Part) → slice_get cs n ≡ Some c → ((j : ℕ) → IsDefaultedBelow cs n j → r < slice_index ranks j) → (HasDefault c → r < slice_index ranks c.ty) →
+pub above_more : (r : ℕ) (ranks : List ℕ) (cs : List Part) (n : ℕ) (c : Part) → slice_get cs n ≡ Some c →
+    ((j : ℕ) → IsDefaultedBelow cs n j → r < slice_index ranks j) → (HasDefault c → r < slice_index ranks c.ty) →
     (j : ℕ) → IsDefaultedBelow cs (n + 1) j → r < slice_index ranks j
 above_more r ranks cs n c e before here j h =
     elim (last_or h.is.number n h.few) [
@@ -40,10 +45,12 @@ above_more r ranks cs n c e before here j h =
       | inr q ↦ (let s = same_at cs n h.is.component c (ap (λ z. slice_get cs z) (sym q) ∙ h.is.held) e in subst (λ z. r < slice_index ranks z) (sym (ap (λ (z : Part). z.ty) s) ∙ h.is.ty) (here (subst HasDefault s h.is.defaulted)))
     ]
 
-pub above_all : (r : ℕ) (ranks : List ℕ) (cs : List Part) (n : ℕ) → n ≡ length cs → ((j : ℕ) → IsDefaultedBelow cs n j → r < slice_index ranks j) → DefaultsAbove r ranks cs
+pub above_all : (r : ℕ) (ranks : List ℕ) (cs : List Part) (n : ℕ) → n ≡ length cs →
+    ((j : ℕ) → IsDefaultedBelow cs n j → r < slice_index ranks j) → DefaultsAbove r ranks cs
 above_all r ranks cs n q all j d = let l = slice_get_within cs d.number d.component d.held in all j (record { is = d; few = omega (arith, l, q) })
 
-reaches_up : (ts : List Type') (ranks : List ℕ) (i j : ℕ) → Rise ts ranks → Reaches ts i j → slice_index ranks i ≤ slice_index ranks j
+reaches_up : (ts : List Type') (ranks : List ℕ) (i j : ℕ) → Rise ts ranks → Reaches ts i j →
+    slice_index ranks i ≤ slice_index ranks j
 reaches_up ts ranks i j rise itself = omega arith
 reaches_up ts ranks i j rise (onward k t e p r) =
     let a = rise i t e k p in
@@ -51,7 +58,8 @@ reaches_up ts ranks i j rise (onward k t e p r) =
     omega (arith, a, b)
 
 -- a list whose components with a DEFAULT have higher ranks is in no circle
-pub no_circle : (ts : List Type') (ranks : List ℕ) (i : ℕ) (t : Type') (l : ListKind) (m : Bool) (cs : List Part) → Rise ts ranks → slice_get ts i ≡ Some t → t.kind ≡ members l m cs →
+pub no_circle : (ts : List Type') (ranks : List ℕ) (i : ℕ) (t : Type') (l : ListKind) (m : Bool) (cs : List Part) →
+    Rise ts ranks → slice_get ts i ≡ Some t → t.kind ≡ members l m cs →
     DefaultsAbove (slice_index ranks i) ranks cs → IsDefaultCircle ts i → ⊥
 no_circle ts ranks i t l m cs rise e k above h =
     let d = leads_of_circle ts i t l m cs e k h in

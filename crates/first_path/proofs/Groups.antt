@@ -25,14 +25,15 @@ below_zeros : (b n : ℕ) → 0 < b → AllBelowBase b (replicate n 0)
 below_zeros b zero l = tt
 below_zeros b (suc n) l = (l, below_zeros b n l)
 
-pub below_group : (b n k z : ℕ) (ds all : List ℕ) → 0 < b → AllBelowBase b ds → all ≡ ds ++ replicate z 0 → AllBelowBase b (take n (drop k all))
+pub below_group : (b n k z : ℕ) (ds all : List ℕ) → 0 < b → AllBelowBase b ds → all ≡ ds ++ replicate z 0 →
+    AllBelowBase b (take n (drop k all))
 below_group b n k z ds all l h e = below_take b n (drop k all) (below_drop b k all (rw e (below_append b ds (replicate z 0) h (below_zeros b z l))))
 
 wraps : (p d x : ℕ) → x ≡ p + d → x < 256 → (p % 256 + d) % 256 ≡ x
 wraps p d x e l = omega (arith, e, l)
 
-pub next_digit : (b n k : ℕ) (ds : List ℕ) → 0 < b → AllBelowBase b ds → b ^ length ds ≡ 256 → k < length ds → n ≡ number_from_digits b (take k ds)
-    → (n * b % 256 + get_or ds k 0) % 256 ≡ number_from_digits b (take (k + 1) ds)
+pub next_digit : (b n k : ℕ) (ds : List ℕ) → 0 < b → AllBelowBase b ds → b ^ length ds ≡ 256 → k < length ds →
+    n ≡ number_from_digits b (take k ds) → (n * b % 256 + get_or ds k 0) % 256 ≡ number_from_digits b (take (k + 1) ds)
 next_digit b n k ds z h f l e =
     let d = get_or ds k 0 in
     let s : k + 1 ≡ suc k = omega arith in

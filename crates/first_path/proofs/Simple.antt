@@ -9,5 +9,7 @@ use Rattle.asn_base.specs.Seen.{component_of}
 use Rattle.first_path.proofs.Lists.{all_at}
 use Rattle.asn_base.specs.declared.schema.Component.{Component as Component'}
 
-pub simple_at : (s : List Resolved) (cs : List Component') (i : ℕ) (c : Component') → AllByRecursion (IsSimpleMember s) (map component_of cs) → i < length cs → c ≡ get_or cs i c → IsSimpleMember s (component_of c)
+pub simple_at : (s : List Resolved) (cs : List Component') (i : ℕ) (c : Component') →
+    AllByRecursion (IsSimpleMember s) (map component_of cs) → i < length cs → c ≡ get_or cs i c →
+    IsSimpleMember s (component_of c)
 simple_at s cs i c a l e = all_at (IsSimpleMember s) (map component_of cs) i (component_of c) a (slice_get-map component_of cs i ∙ ap (option_map component_of) (slice_get_read cs (length cs) i c refl l e))

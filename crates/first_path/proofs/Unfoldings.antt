@@ -25,7 +25,10 @@ is_name e f h = subst IsIdentifier f (sym e ∙ h)
 pub is_no_name : {r : Bool} {a b : Name} → r ≡ is_identifier a → a ≡ b → r ≡ false → IsIdentifier b → ⊥
 is_no_name e f h n = let g : true ≡ false = sym (subst IsIdentifier (sym f) n) ∙ sym e ∙ h in cc
 
-pub member_match : {X : Type 0} (ts : List Type') (c : Part) (t : Type') (r : Option X) → IsIdentifier c.name → c.standing ≡ Root → c.presence ≡ mandatory → Unfolds ts c.ty t → MatchOption r (IsBasic t.kind) (λ _. IsBasic t.kind → ⊥) → MatchOption r (IsFirstMember ts c) (λ _. IsFirstMember ts c → ⊥)
+pub member_match : {X : Type 0} (ts : List Type') (c : Part) (t : Type') (r : Option X) → IsIdentifier c.name →
+    c.standing ≡ Root → c.presence ≡ mandatory → Unfolds ts c.ty t →
+    MatchOption r (IsBasic t.kind) (λ _. IsBasic t.kind → ⊥) →
+    MatchOption r (IsFirstMember ts c) (λ _. IsFirstMember ts c → ⊥)
 member_match ts c t None n o e u h = record { named = n; root = o; stands = e; behind = t; unfolds = u; basic = h }
 member_match ts c t (Some x) n o e u h = λ m. h (subst (λ v. IsBasic v.kind) (unfolds_once ts c.ty m.behind t m.unfolds u) m.basic)
 

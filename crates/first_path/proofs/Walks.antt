@@ -16,7 +16,8 @@ after_end : (next : ℕ → Option ℕ) (r c d : ℕ) → next c ≡ None → fo
 after_end next zero c d e f = let q : c ≡ d = cc in (refl, sym q)
 after_end next (suc r) c d e f = let g = ap (λ o. onward o (λ j. follow next r j)) e in absurd cc
 
-ends_before : (next : ℕ → Option ℕ) (i c d k l : ℕ) → k ≤ l → follow next k i ≡ Some c → next c ≡ None → follow next l i ≡ Some d → d ≡ c
+ends_before : (next : ℕ → Option ℕ) (i c d k l : ℕ) → k ≤ l → follow next k i ≡ Some c → next c ≡ None →
+    follow next l i ≡ Some d → d ≡ c
 ends_before next i c d k l h e f g =
     let r : ℕ = l - k in
     let s : k + r ≡ l = omega (arith, h) in

@@ -7,7 +7,8 @@ use Rattle.names.specs.declared.scope.Assigned.TheVariants as assigned
 use Rattle.names.specs.Modules.{name_of, type_count, value_count, all_assignments}
 use Rattle.names.specs.ByNumber.{root_of, named_from, roots_from, values_from, owned_by, scope_of, scopes_from, owned_from}
 
-pub named_behind : (n v : ℕ) (gs ks : List AssignmentTree) → named_from n v (gs ++ ks) ≡ named_from n v gs ++ named_from (n + length gs) (v + value_count gs) ks
+pub named_behind : (n v : ℕ) (gs ks : List AssignmentTree) →
+    named_from n v (gs ++ ks) ≡ named_from n v gs ++ named_from (n + length gs) (v + value_count gs) ks
 named_behind n v [] ks = let a : n + 0 ≡ n = omega arith in let b : v + 0 ≡ v = omega arith in rw (a, b) refl
 named_behind n v (assigns_type x t ∷ gs) ks =
     let a : n + suc (length gs) ≡ suc n + length gs = omega arith in
@@ -17,13 +18,15 @@ named_behind n v (assigns_value x t w ∷ gs) ks =
     let b : v + suc (value_count gs) ≡ suc v + value_count gs = omega arith in
     rw (a, b) (ap (λ l. (x, assigned.Value v) ∷ l) (named_behind (suc n) (suc v) gs ks))
 
-pub roots_behind : (n : ℕ) (gs ks : List AssignmentTree) → roots_from n (gs ++ ks) ≡ roots_from n gs ++ roots_from (n + length gs) ks
+pub roots_behind : (n : ℕ) (gs ks : List AssignmentTree) →
+    roots_from n (gs ++ ks) ≡ roots_from n gs ++ roots_from (n + length gs) ks
 roots_behind n [] ks = let a : n + 0 ≡ n = omega arith in rw a refl
 roots_behind n (g ∷ gs) ks =
     let a : n + suc (length gs) ≡ suc n + length gs = omega arith in
     rw a (ap (λ l. root_of n g ∷ l) (roots_behind (suc n) gs ks))
 
-pub values_behind : (n : ℕ) (gs ks : List AssignmentTree) → values_from n (gs ++ ks) ≡ values_from n gs ++ values_from (n + length gs) ks
+pub values_behind : (n : ℕ) (gs ks : List AssignmentTree) →
+    values_from n (gs ++ ks) ≡ values_from n gs ++ values_from (n + length gs) ks
 values_behind n [] ks = let a : n + 0 ≡ n = omega arith in rw a refl
 values_behind n (assigns_type x t ∷ gs) ks =
     let a : n + suc (length gs) ≡ suc n + length gs = omega arith in
@@ -63,7 +66,9 @@ pub all_behind : (ms ks : List ModuleTree) → all_assignments (ms ++ ks) ≡ al
 all_behind [] ks = refl
 all_behind (m ∷ ms) ks = ap (λ l. m.assignments ++ l) (all_behind ms ks) ∙ sym (append_assoc m.assignments (all_assignments ms) (all_assignments ks))
 
-pub scopes_behind : (n v : ℕ) (ms ks : List ModuleTree) → scopes_from n v (ms ++ ks) ≡ scopes_from n v ms ++ scopes_from (n + length (all_assignments ms)) (v + value_count (all_assignments ms)) ks
+pub scopes_behind : (n v : ℕ) (ms ks : List ModuleTree) →
+    scopes_from n v (ms ++ ks)
+    ≡ scopes_from n v ms ++ scopes_from (n + length (all_assignments ms)) (v + value_count (all_assignments ms)) ks
 scopes_behind n v [] ks = let a : n + 0 ≡ n = omega arith in let b : v + 0 ≡ v = omega arith in rw (a, b) refl
 scopes_behind n v (m ∷ ms) ks =
     let gs = m.assignments in
@@ -72,7 +77,8 @@ scopes_behind n v (m ∷ ms) ks =
     let b : v + value_count gs + value_count hs ≡ v + value_count (gs ++ hs) = omega (arith, values_count gs hs) in
     ap (λ l. (m.name, scope_of n v m) ∷ l) (scopes_behind (n + length gs) (v + value_count gs) ms ks ∙ ap (λ z. scopes_from (n + length gs) (v + value_count gs) ms ++ scopes_from z (v + value_count gs + value_count hs) ks) a ∙ ap (λ z. scopes_from (n + length gs) (v + value_count gs) ms ++ scopes_from (n + length (gs ++ hs)) z ks) b)
 
-pub owned_behind : (k : ℕ) (ms ks : List ModuleTree) → owned_from k (ms ++ ks) ≡ owned_from k ms ++ owned_from (k + length ms) ks
+pub owned_behind : (k : ℕ) (ms ks : List ModuleTree) →
+    owned_from k (ms ++ ks) ≡ owned_from k ms ++ owned_from (k + length ms) ks
 owned_behind k [] ks = let a : k + 0 ≡ k = omega arith in rw a refl
 owned_behind k (m ∷ ms) ks =
     let a : k + suc (length ms) ≡ suc k + length ms = omega arith in

@@ -16,20 +16,28 @@ use Rattle.names.specs.proving.Distinct.{drop_at}
 use Rattle.names.proofs.Behind.{types_count, values_count, all_behind}
 
 -- one module more
-pub types_drop_module : (ms : List Module) (i : ℕ) (m : Module) → i < length ms → m ≡ get_or ms i m → type_count (all_assignments (map module_tree_of (drop i ms))) ≡ type_count (map given_of m.assignments.items) + type_count (all_assignments (map module_tree_of (drop (i + 1) ms)))
+pub types_drop_module : (ms : List Module) (i : ℕ) (m : Module) → i < length ms → m ≡ get_or ms i m →
+    type_count (all_assignments (map module_tree_of (drop i ms)))
+    ≡ type_count (map given_of m.assignments.items) + type_count
+    (all_assignments (map module_tree_of (drop (i + 1) ms)))
 types_drop_module ms i m l e = ap (λ z. type_count (all_assignments (map module_tree_of z))) (drop_at ms i m l e) ∙ types_count (map given_of m.assignments.items) (all_assignments (map module_tree_of (drop (i + 1) ms)))
 
-pub values_drop_module : (ms : List Module) (i : ℕ) (m : Module) → i < length ms → m ≡ get_or ms i m → value_count (all_assignments (map module_tree_of (drop i ms))) ≡ value_count (map given_of m.assignments.items) + value_count (all_assignments (map module_tree_of (drop (i + 1) ms)))
+pub values_drop_module : (ms : List Module) (i : ℕ) (m : Module) → i < length ms → m ≡ get_or ms i m →
+    value_count (all_assignments (map module_tree_of (drop i ms)))
+    ≡ value_count (map given_of m.assignments.items) + value_count
+    (all_assignments (map module_tree_of (drop (i + 1) ms)))
 values_drop_module ms i m l e = ap (λ z. value_count (all_assignments (map module_tree_of z))) (drop_at ms i m l e) ∙ values_count (map given_of m.assignments.items) (all_assignments (map module_tree_of (drop (i + 1) ms)))
 
 -- ---- what passes a limit
 
-around : {X : Type 0} (xs : List X) (i : ℕ) (x : X) → i < length xs → x ≡ get_or xs i x → take i xs ++ x ∷ drop (i + 1) xs ≡ xs
+around : {X : Type 0} (xs : List X) (i : ℕ) (x : X) → i < length xs → x ≡ get_or xs i x →
+    take i xs ++ x ∷ drop (i + 1) xs ≡ xs
 around xs i x l e = ap (λ r. take i xs ++ r) (sym (drop_at xs i x l e)) ∙ take-append-drop i xs
 
 module _ (count : List AssignmentTree → ℕ) (add : (gs ks : List AssignmentTree) → count (gs ++ ks) ≡ count gs + count ks) (n : ℕ) where
   -- the assignment at i passes the limit, where so many stand before it
-  pub past_here : (gs : List Assignment) (i : ℕ) (g : Assignment) (k now : ℕ) → i < length gs → g ≡ get_or gs i g → now ≡ n → now + count (map given_of (drop i gs)) ≡ k + count (map given_of gs) → count (given_of g ∷ []) ≡ 1 →
+  pub past_here : (gs : List Assignment) (i : ℕ) (g : Assignment) (k now : ℕ) → i < length gs → g ≡ get_or gs i g →
+      now ≡ n → now + count (map given_of (drop i gs)) ≡ k + count (map given_of gs) → count (given_of g ∷ []) ≡ 1 →
       (x : Name) → name_of (given_of g) ≡ x → IsPastHere count n k (map given_of gs) x
   past_here gs i g k now l e full sum one x q =
       let before = map given_of (take i gs) in
@@ -39,7 +47,9 @@ module _ (count : List AssignmentTree → ℕ) (add : (gs ks : List AssignmentTr
       let a : count (map given_of gs) ≡ count before + count (given_of g ∷ behind) = ap count (sym s) ∙ add before (given_of g ∷ behind) in
       record { before = before; given = given_of g; behind = behind; splits = s; assigns = q; full = omega (arith, full, sum, d, a); counted = one }
 
-  past_module : (ms : List Module) (i : ℕ) (m : Module) (k : ℕ) (M x : Name) → i < length ms → m ≡ get_or ms i m → M ≡ name_at m.name → k + count (all_assignments (map module_tree_of (drop i ms))) ≡ count (all_assignments (map module_tree_of ms)) →
+  past_module : (ms : List Module) (i : ℕ) (m : Module) (k : ℕ) (M x : Name) → i < length ms → m ≡ get_or ms i m →
+      M ≡ name_at m.name →
+      k + count (all_assignments (map module_tree_of (drop i ms))) ≡ count (all_assignments (map module_tree_of ms)) →
       IsPastHere count n k (map given_of m.assignments.items) x → IsPast count n (map module_tree_of ms) M x
   past_module ms i m k M x l e q sum h =
       let before = map module_tree_of (take i ms) in
@@ -52,7 +62,8 @@ module _ (count : List AssignmentTree → ℕ) (add : (gs ks : List AssignmentTr
       record { before = before; tree = module_tree_of m; behind = behind; splits = s; named = sym q; here = subst (λ j. IsPastHere count n j (map given_of m.assignments.items) x) same h }
 
 -- what passes a limit in one module passes it in all
-pub past_naming : (ms : List Module) (i : ℕ) (m : Module) (t v : ℕ) (M : Name) (gs : List AssignmentTree) (e : NameFault) → i < length ms → m ≡ get_or ms i m → M ≡ name_at m.name → gs ≡ map given_of m.assignments.items →
+pub past_naming : (ms : List Module) (i : ℕ) (m : Module) (t v : ℕ) (M : Name) (gs : List AssignmentTree)
+    (e : NameFault) → i < length ms → m ≡ get_or ms i m → M ≡ name_at m.name → gs ≡ map given_of m.assignments.items →
     t + type_count (all_assignments (map module_tree_of (drop i ms))) ≡ type_count (all_assignments (map module_tree_of ms)) → v + value_count (all_assignments (map module_tree_of (drop i ms))) ≡ value_count (all_assignments (map module_tree_of ms)) →
     IsPastCount t v M gs e → IsNamingFault (map module_tree_of ms) e
 past_naming ms i m t v M gs faults.Memory l d q r a b p = tt
@@ -72,7 +83,9 @@ past_naming ms i m t v M gs (faults.Circular s) l d q r a b p = absurd p
 past_naming ms i m t v M gs (faults.UnknownModule s) l d q r a b p = absurd p
 
 -- the assignment that passes a limit is counted too
-pub past_more : (count : List AssignmentTree → ℕ) → ((gs ks : List AssignmentTree) → count (gs ++ ks) ≡ count gs + count ks) → (n : ℕ) (ms : List ModuleTree) (M x : Name) → IsPast count n ms M x → n < count (all_assignments ms)
+pub past_more : (count : List AssignmentTree → ℕ) →
+    ((gs ks : List AssignmentTree) → count (gs ++ ks) ≡ count gs + count ks) → (n : ℕ) (ms : List ModuleTree)
+    (M x : Name) → IsPast count n ms M x → n < count (all_assignments ms)
 past_more count add n ms M x p =
     let h = p.here in
     let a : count (all_assignments ms) ≡ count (all_assignments p.before) + count (all_assignments (p.tree ∷ p.behind)) =

@@ -15,7 +15,9 @@ none_map : {X Y : Type 0} (f : X → Y) (o : Option X) → option_map f o ≡ No
 none_map f None e = refl
 none_map f (Some x) e = absurd cc
 
-pub inserted : {X Y S : Type 0} (f : X → Y) (m : IndexMap (String Global) X S) (k : String Global) (v : X) (x : Name) (es : List (String Global × X)) → string_bytes k ≡ x → under x (seen f m.entries) ≡ None → es ≡ insert_entry string_eq m.entries k v →
+pub inserted : {X Y S : Type 0} (f : X → Y) (m : IndexMap (String Global) X S) (k : String Global) (v : X)
+    (x : Name) (es : List (String Global × X)) → string_bytes k ≡ x → under x (seen f m.entries) ≡ None →
+    es ≡ insert_entry string_eq m.entries k v →
     seen f es ≡ seen f m.entries ++ (x, f v) ∷ []
 inserted f m k v x es q none e =
     let absent : get string_eq m k ≡ None = none_map f (get string_eq m k) (sym (under_seen f m.entries (string_bytes k)) ∙ ap (λ y. under y (seen f m.entries)) q ∙ none) in

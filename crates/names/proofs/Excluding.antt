@@ -14,7 +14,8 @@ use Rattle.names.proofs.Counting.{past_more}
 use Rattle.names.specs.proving.Distinct.{stands_map}
 
 -- two modules of one name are one module
-one_module : (ms : List ModuleTree) (a b : ModuleTree) → AreDistinct (map (λ m. m.name) ms) → StandsIn ms a → StandsIn ms b → a.name ≡ b.name → a ≡ b
+one_module : (ms : List ModuleTree) (a b : ModuleTree) → AreDistinct (map (λ m. m.name) ms) → StandsIn ms a →
+    StandsIn ms b → a.name ≡ b.name → a ≡ b
 one_module ms a b d s t e =
     let x = stands_map (λ (m : ModuleTree). m.name) ms s.0 a s.1 in
     let y = stands_map (λ (m : ModuleTree). m.name) ms t.0 b t.1 ∙ ap Some (sym e) in

@@ -29,7 +29,8 @@ pub record ArePlaced (k : ℕ) (all rest : List AssignmentTree) (old now : Table
   pub distinct : AreDistinct (map name_of done)
   pub adds : Adds k done old now
 
-pub placed_start : (k : ℕ) (all : List AssignmentTree) (old : Tables) (names : List (Name × Assigned)) → names ≡ [] → ArePlaced k all all old old names
+pub placed_start : (k : ℕ) (all : List AssignmentTree) (old : Tables) (names : List (Name × Assigned)) →
+    names ≡ [] → ArePlaced k all all old old names
 placed_start k all old names e = record {
   done = [];
   splits = refl;
@@ -38,15 +39,18 @@ placed_start k all old names e = record {
   adds = record { owned = sym (append-nil (map assignment_of old.assignments.items)); roots = sym (append-nil (sources_of old.roots.items)); values = sym (append-nil (map value_of old.values.items)) };
 }
 
-more_owned : (k : ℕ) (gs : List AssignmentTree) (old now : Tables) → Adds k gs old now → length now.assignments.items ≡ length old.assignments.items + length gs
+more_owned : (k : ℕ) (gs : List AssignmentTree) (old now : Tables) → Adds k gs old now →
+    length now.assignments.items ≡ length old.assignments.items + length gs
 more_owned k gs old now a =
     sym (length-map now.assignments.items assignment_of) ∙ ap length a.owned ∙ length-append (map assignment_of old.assignments.items) (owned_by k gs) ∙ ap (λ z. z + length (owned_by k gs)) (length-map old.assignments.items assignment_of) ∙ ap (λ z. length old.assignments.items + z) (length_owned k gs)
 
-more_values : (k : ℕ) (gs : List AssignmentTree) (old now : Tables) → Adds k gs old now → length now.values.items ≡ length old.values.items + value_count gs
+more_values : (k : ℕ) (gs : List AssignmentTree) (old now : Tables) → Adds k gs old now →
+    length now.values.items ≡ length old.values.items + value_count gs
 more_values k gs old now a =
     sym (length-map now.values.items value_of) ∙ ap length a.values ∙ length-append (map value_of old.values.items) (values_from (length old.assignments.items) gs) ∙ ap (λ z. z + length (values_from (length old.assignments.items) gs)) (length-map old.values.items value_of) ∙ ap (λ z. length old.values.items + z) (length_values (length old.assignments.items) gs)
 
-adds_more : (k : ℕ) (gs ks : List AssignmentTree) (old now new : Tables) → Adds k gs old now → Adds k ks now new → Adds k (gs ++ ks) old new
+adds_more : (k : ℕ) (gs ks : List AssignmentTree) (old now new : Tables) → Adds k gs old now → Adds k ks now new →
+    Adds k (gs ++ ks) old new
 adds_more k gs ks old now new a b =
     let n = length old.assignments.items in
     let la = more_owned k gs old now a in
@@ -56,7 +60,8 @@ adds_more k gs ks old now new a b =
       values = b.values ∙ ap (λ z. map value_of now.values.items ++ values_from z ks) la ∙ ap (λ z. z ++ values_from (n + length gs) ks) a.values ∙ append_assoc (map value_of old.values.items) (values_from n gs) (values_from (n + length gs) ks) ∙ ap (λ z. map value_of old.values.items ++ z) (sym (values_behind n gs ks));
     }
 
-pub placed_step : (k : ℕ) (all rest : List AssignmentTree) (g : AssignmentTree) (old now new : Tables) (names names' : List (Name × Assigned)) → ArePlaced k all (g ∷ rest) old now names →
+pub placed_step : (k : ℕ) (all rest : List AssignmentTree) (g : AssignmentTree) (old now new : Tables)
+    (names names' : List (Name × Assigned)) → ArePlaced k all (g ∷ rest) old now names →
     names' ≡ names ++ named_from (length now.assignments.items) (length now.values.items) (g ∷ []) → under (name_of g) names ≡ None → Adds k (g ∷ []) now new → ArePlaced k all rest old new names'
 placed_step k all rest g old now new names names' p e u b =
     let n = length old.assignments.items in
@@ -72,14 +77,16 @@ placed_step k all rest g old now new names names' p e u b =
       adds = adds_more k p.done (g ∷ []) old now new p.adds b;
     }
 
-pub placed_end : (k : ℕ) (all : List AssignmentTree) (old now : Tables) (names : List (Name × Assigned)) → ArePlaced k all [] old now names →
+pub placed_end : (k : ℕ) (all : List AssignmentTree) (old now : Tables) (names : List (Name × Assigned)) →
+    ArePlaced k all [] old now names →
     (names ≡ named_from (length old.assignments.items) (length old.values.items) all) × AreDistinct (map name_of all) × Adds k all old now
 placed_end k all old now names p =
     let e : p.done ≡ all = sym (append-nil p.done) ∙ p.splits in
     (p.named ∙ ap (named_from (length old.assignments.items) (length old.values.items)) e, subst (λ l. AreDistinct (map name_of l)) e p.distinct, subst (λ l. Adds k l old now) e p.adds)
 
 -- what a fault 30 or want of memory leads to
-tells : (Q : Name → Name → Type 0) (P : NameFault → Type 0) → P faults.Memory → ((s : Spot) → Q (module_told s) (name_told s) → P (faults.Twice s)) → (e : NameFault) → TellsTwice Q e → P e
+tells : (Q : Name → Name → Type 0) (P : NameFault → Type 0) → P faults.Memory →
+    ((s : Spot) → Q (module_told s) (name_told s) → P (faults.Twice s)) → (e : NameFault) → TellsTwice Q e → P e
 tells Q P m t faults.Memory q = m
 tells Q P m t (faults.Twice s) q = t s q
 tells Q P m t (faults.UnknownName s) q = absurd q
@@ -89,22 +96,28 @@ tells Q P m t (faults.Circular s) q = absurd q
 tells Q P m t (faults.UnknownModule s) q = absurd q
 
 -- a name that is taken stands twice among all
-taken_twice : (M x : Name) (xs ys all : List Name) (e : NameFault) → xs ++ x ∷ ys ≡ all → IsTaken M x xs e → IsRepeated M all e
+taken_twice : (M x : Name) (xs ys all : List Name) (e : NameFault) → xs ++ x ∷ ys ≡ all → IsTaken M x xs e →
+    IsRepeated M all e
 taken_twice M x xs ys all e q t =
     tells (λ m y. (m ≡ M) × (y ≡ x) × StandsIn xs x) (IsRepeated M all) tt (λ s u. (u.0, subst (λ z. StandsTwice all z) (sym u.1) (subst (λ l. StandsTwice l x) q (twice_across xs (x ∷ ys) x u.2 (0, refl))))) e t
 
-twice_taken : {X : Type 0} (M x : Name) (es : List (Name × X)) (e : NameFault) → IsTwice M x es e → IsTaken M x (names_of es) e
+twice_taken : {X : Type 0} (M x : Name) (es : List (Name × X)) (e : NameFault) → IsTwice M x es e →
+    IsTaken M x (names_of es) e
 twice_taken {X} M x es e t =
     tells (λ m y. (m ≡ M) × (y ≡ x) × (a : X) × (under x es ≡ Some a)) (IsTaken M x (names_of es)) tt (λ s u. (u.0, u.1, name_under x es u.2 u.3)) e t
 
-pub placed_fault : (k : ℕ) (all rest : List AssignmentTree) (g : AssignmentTree) (old now : Tables) (names : List (Name × Assigned)) (M : Name) (e : NameFault) → ArePlaced k all (g ∷ rest) old now names → IsTwice M (name_of g) names e → IsRepeated M (map name_of all) e
+pub placed_fault : (k : ℕ) (all rest : List AssignmentTree) (g : AssignmentTree) (old now : Tables)
+    (names : List (Name × Assigned)) (M : Name) (e : NameFault) → ArePlaced k all (g ∷ rest) old now names →
+    IsTwice M (name_of g) names e → IsRepeated M (map name_of all) e
 placed_fault k all rest g old now names M e p t =
     let same : names_of names ≡ map name_of p.done = ap names_of p.named ∙ names_named (length old.assignments.items) (length old.values.items) p.done in
     taken_twice M (name_of g) (map name_of p.done) (map name_of rest) (map name_of all) e (sym (map-append name_of p.done (g ∷ rest)) ∙ ap (map name_of) p.splits) (subst (λ l. IsTaken M (name_of g) l e) same (twice_taken M (name_of g) names e t))
 
 -- ---- imports
 
-pub import_distinct : (as' : List (Name × Assigned)) (is is' : List (Name × Name)) (x N : Name) → AreDistinct (names_of as' ++ names_of is) → under x as' ≡ None → under x is ≡ None → is' ≡ is ++ (x, N) ∷ [] → AreDistinct (names_of as' ++ names_of is')
+pub import_distinct : (as' : List (Name × Assigned)) (is is' : List (Name × Name)) (x N : Name) →
+    AreDistinct (names_of as' ++ names_of is) → under x as' ≡ None → under x is ≡ None → is' ≡ is ++ (x, N) ∷ [] →
+    AreDistinct (names_of as' ++ names_of is')
 import_distinct as' is is' x N d u w e =
     let same : (names_of as' ++ names_of is) ++ x ∷ [] ≡ names_of as' ++ names_of is' = append_assoc (names_of as') (names_of is) (x ∷ []) ∙ ap (λ l. names_of as' ++ l) (sym (ap names_of e ∙ map-append (λ (p : Name × Name). p.0) is ((x, N) ∷ []))) in
     subst AreDistinct same (distinct_more (names_of as' ++ names_of is) x d (λ s. elim (stands_either (names_of as') (names_of is) x s) [
@@ -112,34 +125,41 @@ import_distinct as' is is' x N d u w e =
       | inr b ↦ under_none x is w b
     ]))
 
-pub import_sum : {X : Type 0} (is is' rest all : List X) (i : X) → is ++ i ∷ rest ≡ all → is' ≡ is ++ i ∷ [] → is' ++ rest ≡ all
+pub import_sum : {X : Type 0} (is is' rest all : List X) (i : X) → is ++ i ∷ rest ≡ all → is' ≡ is ++ i ∷ [] →
+    is' ++ rest ≡ all
 import_sum is is' rest all i q e = ap (λ l. l ++ rest) e ∙ append_assoc is (i ∷ []) rest ∙ q
 
-pub import_fault : (M x N : Name) (xs : List Name) (is rest all : List (Name × Name)) (e : NameFault) → is ++ (x, N) ∷ rest ≡ all → IsTaken M x (xs ++ names_of is) e → IsRepeated M (xs ++ names_of all) e
+pub import_fault : (M x N : Name) (xs : List Name) (is rest all : List (Name × Name)) (e : NameFault) →
+    is ++ (x, N) ∷ rest ≡ all → IsTaken M x (xs ++ names_of is) e → IsRepeated M (xs ++ names_of all) e
 import_fault M x N xs is rest all e q t =
     taken_twice M x (xs ++ names_of is) (names_of rest) (xs ++ names_of all) e (append_assoc xs (names_of is) (x ∷ names_of rest) ∙ ap (λ l. xs ++ l) (sym (map-append (λ (p : Name × Name). p.0) is ((x, N) ∷ rest)) ∙ ap names_of q)) t
 
-pub imports_sum : {X : Type 0} (is is' one rest all : List X) → is ++ (one ++ rest) ≡ all → is' ≡ is ++ one → is' ++ rest ≡ all
+pub imports_sum : {X : Type 0} (is is' one rest all : List X) → is ++ (one ++ rest) ≡ all → is' ≡ is ++ one →
+    is' ++ rest ≡ all
 imports_sum is is' one rest all q e = ap (λ l. l ++ rest) e ∙ append_assoc is one rest ∙ q
 
-pub repeated_more : (M : Name) (xs ys all : List Name) (e : NameFault) → xs ++ ys ≡ all → IsRepeated M xs e → IsRepeated M all e
+pub repeated_more : (M : Name) (xs ys all : List Name) (e : NameFault) → xs ++ ys ≡ all → IsRepeated M xs e →
+    IsRepeated M all e
 repeated_more M xs ys all e q t =
     tells (λ m y. (m ≡ M) × StandsTwice xs y) (IsRepeated M all) tt (λ s u. (u.0, subst (λ l. StandsTwice l (name_told s)) q (twice_left xs ys (name_told s) u.1))) e t
 
-pub imports_fault : (M : Name) (xs : List Name) (is one rest all : List (Name × Name)) (e : NameFault) → is ++ (one ++ rest) ≡ all → IsRepeated M (xs ++ names_of (is ++ one)) e → IsRepeated M (xs ++ names_of all) e
+pub imports_fault : (M : Name) (xs : List Name) (is one rest all : List (Name × Name)) (e : NameFault) →
+    is ++ (one ++ rest) ≡ all → IsRepeated M (xs ++ names_of (is ++ one)) e → IsRepeated M (xs ++ names_of all) e
 imports_fault M xs is one rest all e q t =
     repeated_more M (xs ++ names_of (is ++ one)) (names_of rest) (xs ++ names_of all) e (append_assoc xs (names_of (is ++ one)) (names_of rest) ∙ ap (λ l. xs ++ l) (sym (map-append (λ (p : Name × Name). p.0) (is ++ one) rest) ∙ ap names_of (append_assoc is one rest ∙ q))) t
 
 -- ---- modules
 
-stands_last : {X : Type 0} (P : X → Type 0) (xs : List X) (x : X) → ((y : X) → StandsIn xs y → P y) → P x → (y : X) → StandsIn (xs ++ x ∷ []) y → P y
+stands_last : {X : Type 0} (P : X → Type 0) (xs : List X) (x : X) → ((y : X) → StandsIn xs y → P y) → P x →
+    (y : X) → StandsIn (xs ++ x ∷ []) y → P y
 stands_last P xs x f p y s =
     elim (stands_either xs (x ∷ []) y s) [
       | inl a ↦ f y a
       | inr b ↦ subst P (stands_one x y b) p
     ]
 
-pub gathered_more : (ms : List ModuleTree) (t : ModuleTree) (g g' : Gathered) → HasGathered ms g → under t.name (scopes g.modules.entries) ≡ None →
+pub gathered_more : (ms : List ModuleTree) (t : ModuleTree) (g g' : Gathered) → HasGathered ms g →
+    under t.name (scopes g.modules.entries) ≡ None →
     scopes g'.modules.entries ≡ scopes g.modules.entries ++ (t.name, scope_of (length g.tables.assignments.items) (length g.tables.values.items) t) ∷ [] →
     map header_of g'.headers.items ≡ map header_of g.headers.items ++ (t.name, t.tag_default) ∷ [] →
     Adds (length g.headers.items) t.assignments g.tables g'.tables → AreDistinct (names_in t) → HasGathered (ms ++ t ∷ []) g'
@@ -164,13 +184,15 @@ gathered_more ms t g g' h u s d a n =
     }
 
 -- the name of a module is that of one before it
-pub module_twice : (ms rest : List ModuleTree) (t : ModuleTree) (g : Gathered) (m : Module) → HasGathered ms g → under t.name (scopes g.modules.entries) ≡ Some m → StandsTwice (map (λ m. m.name) (ms ++ t ∷ rest)) t.name
+pub module_twice : (ms rest : List ModuleTree) (t : ModuleTree) (g : Gathered) (m : Module) → HasGathered ms g →
+    under t.name (scopes g.modules.entries) ≡ Some m → StandsTwice (map (λ m. m.name) (ms ++ t ∷ rest)) t.name
 module_twice ms rest t g m h u =
     let same : names_of (scopes g.modules.entries) ≡ map (λ m. m.name) ms = ap names_of h.scopes ∙ names_scopes 0 0 ms in
     let s = subst (λ l. StandsIn l t.name) same (name_under t.name (scopes g.modules.entries) m u) in
     subst (λ l. StandsTwice l t.name) (sym (map-append (λ m. m.name) ms (t ∷ rest))) (twice_across (map (λ m. m.name) ms) (t.name ∷ map (λ m. m.name) rest) t.name s (0, refl))
 
-pub scope_fault : (ms rest : List ModuleTree) (t : ModuleTree) (M : Name) (e : NameFault) → M ≡ t.name → IsRepeated M (names_in t) e → IsNamingFault (ms ++ t ∷ rest) e
+pub scope_fault : (ms rest : List ModuleTree) (t : ModuleTree) (M : Name) (e : NameFault) → M ≡ t.name →
+    IsRepeated M (names_in t) e → IsNamingFault (ms ++ t ∷ rest) e
 scope_fault ms rest t M e q r =
     tells (λ m y. (m ≡ M) × StandsTwice (names_in t) y) (IsNamingFault (ms ++ t ∷ rest)) tt (λ s u. inr (record { number = length ms + 0; tree = t; there = right ms (t ∷ rest) 0; named = sym q ∙ sym u.0; twice = u.1 })) e r
 
@@ -180,11 +202,14 @@ pub record ArePartly (all rest : List ModuleTree) (g : Gathered) : Type 0 where
   pub splits : done ++ rest ≡ all
   pub gathered : HasGathered done g
 
-pub partly_step : (all rest : List ModuleTree) (t : ModuleTree) (g g' : Gathered) → ArePartly all (t ∷ rest) g → ((ms : List ModuleTree) → HasGathered ms g → HasGathered (ms ++ t ∷ []) g') → ArePartly all rest g'
+pub partly_step : (all rest : List ModuleTree) (t : ModuleTree) (g g' : Gathered) → ArePartly all (t ∷ rest) g →
+    ((ms : List ModuleTree) → HasGathered ms g → HasGathered (ms ++ t ∷ []) g') → ArePartly all rest g'
 partly_step all rest t g g' p f = record { done = p.done ++ t ∷ []; splits = append_assoc p.done (t ∷ []) rest ∙ p.splits; gathered = f p.done p.gathered }
 
 pub partly_end : (all : List ModuleTree) (g : Gathered) → ArePartly all [] g → HasGathered all g
 partly_end all g p = subst (λ l. HasGathered l g) (sym (append-nil p.done) ∙ p.splits) p.gathered
 
-pub partly_fault : (all rest : List ModuleTree) (t : ModuleTree) (g : Gathered) (e : NameFault) → ArePartly all (t ∷ rest) g → ((ms rest : List ModuleTree) → HasGathered ms g → IsNamingFault (ms ++ t ∷ rest) e) → IsNamingFault all e
+pub partly_fault : (all rest : List ModuleTree) (t : ModuleTree) (g : Gathered) (e : NameFault) →
+    ArePartly all (t ∷ rest) g → ((ms rest : List ModuleTree) → HasGathered ms g → IsNamingFault (ms ++ t ∷ rest) e) →
+    IsNamingFault all e
 partly_fault all rest t g e p f = subst (λ l. IsNamingFault l e) p.splits (f p.done rest p.gathered)

@@ -15,7 +15,8 @@ use Rattle.names.specs.proving.Distinct.{mapped, same_bytes, equal_bytes}
 abbrev is_name : Name → At (String Global) → Bool
 is_name x n = bytes_eq x (name_at n)
 
-pub any_stands : (x : Name) (ns : List (At (String Global))) → list_any (λ n. bytes_eq x (name_at n)) ns ≡ true → StandsIn (map name_at ns) x
+pub any_stands : (x : Name) (ns : List (At (String Global))) → list_any (λ n. bytes_eq x (name_at n)) ns ≡ true →
+    StandsIn (map name_at ns) x
 any_stands x [] e = absurd cc
 any_stands x (n ∷ ns) e =
     elim (or_cases (bytes_eq x (name_at n)) (list_any (is_name x) ns) e) [
@@ -23,13 +24,17 @@ any_stands x (n ∷ ns) e =
       | inr b ↦ (let s = any_stands x ns b in (suc s.0, s.1))
     ]
 
-pub stands_any : (x : Name) (ns : List (At (String Global))) → StandsIn (map name_at ns) x → list_any (λ n. bytes_eq x (name_at n)) ns ≡ true
+pub stands_any : (x : Name) (ns : List (At (String Global))) → StandsIn (map name_at ns) x →
+    list_any (λ n. bytes_eq x (name_at n)) ns ≡ true
 stands_any x ns s =
     let m = mapped name_at ns s.0 x s.1 in
     any_passes_from_place (is_name x) ns s.0 m.0 m.1 (ap (bytes_eq x) m.2 ∙ same_bytes x)
 
 -- one name more
-pub any_more : (x : Name) (ns : List (At (String Global))) (i : ℕ) (n : At (String Global)) → i < length ns → n ≡ get_or ns i n → list_any (λ n. bytes_eq x (name_at n)) (take (i + 1) ns) ≡ (list_any (λ n. bytes_eq x (name_at n)) (take i ns) || bytes_eq x (name_at n))
+pub any_more : (x : Name) (ns : List (At (String Global))) (i : ℕ) (n : At (String Global)) → i < length ns →
+    n ≡ get_or ns i n →
+    list_any (λ n. bytes_eq x (name_at n)) (take (i + 1) ns)
+    ≡ (list_any (λ n. bytes_eq x (name_at n)) (take i ns) || bytes_eq x (name_at n))
 any_more x ns i n l e = list_any_more (is_name x) ns i n l ∙ ap (λ m. list_any (is_name x) (take i ns) || is_name x m) (sym e)
 
 -- which of two names is tested makes no difference

@@ -33,7 +33,8 @@ owned_one m [] i a e = absurd cc
 owned_one m (g ∷ gs) zero a e = ap (λ z. z.0) (sym (same_Some (m, name_of g) a e))
 owned_one m (g ∷ gs) (suc i) a e = owned_one m gs i a e
 
-owned_there : (k : ℕ) (ms : List ModuleTree) (i : ℕ) (a : ℕ × Name) → slice_get (owned_from k ms) i ≡ Some a → a.0 < k + length ms
+owned_there : (k : ℕ) (ms : List ModuleTree) (i : ℕ) (a : ℕ × Name) → slice_get (owned_from k ms) i ≡ Some a →
+    a.0 < k + length ms
 owned_there k [] i a e = absurd cc
 owned_there k (m ∷ ms) i a e =
     elim (either (owned_by k m.assignments) (owned_from (suc k) ms) i a e) [
@@ -41,7 +42,8 @@ owned_there k (m ∷ ms) i a e =
       | inr r ↦ (let w = owned_there (suc k) ms r.0 a r.2 in omega (arith, w))
     ]
 
-valued_there : (n t : ℕ) (gs : List AssignmentTree) → n + length gs ≤ t → (i : ℕ) (v : Value) → slice_get (values_from n gs) i ≡ Some v → (v.ty < t) × (v.assignment < t)
+valued_there : (n t : ℕ) (gs : List AssignmentTree) → n + length gs ≤ t → (i : ℕ) (v : Value) →
+    slice_get (values_from n gs) i ≡ Some v → (v.ty < t) × (v.assignment < t)
 valued_there n t [] h i v e = absurd cc
 valued_there n t (assigns_type x u ∷ gs) h i v e = valued_there (suc n) t gs (omega (arith, h)) i v e
 valued_there n t (assigns_value x u w ∷ gs) h zero v e =
@@ -51,7 +53,8 @@ valued_there n t (assigns_value x u w ∷ gs) h zero v e =
     (omega (arith, a, h), omega (arith, b, h))
 valued_there n t (assigns_value x u w ∷ gs) h (suc i) v e = valued_there (suc n) t gs (omega (arith, h)) i v e
 
-given_there : (n v t w : ℕ) (gs : List AssignmentTree) → n + length gs ≤ t → v + value_count gs ≤ w → (i : ℕ) (x : Name) (a : Assigned) → slice_get (named_from n v gs) i ≡ Some (x, a) → IsGiven t w a
+given_there : (n v t w : ℕ) (gs : List AssignmentTree) → n + length gs ≤ t → v + value_count gs ≤ w → (i : ℕ)
+    (x : Name) (a : Assigned) → slice_get (named_from n v gs) i ≡ Some (x, a) → IsGiven t w a
 given_there n v t w [] h k i x a e = absurd cc
 given_there n v t w (assigns_type y u ∷ gs) h k zero x a e =
     let q : assigned.Type n ≡ a = ap (λ z. z.1) (same_Some (y, assigned.Type n) (x, a) e) in
@@ -64,7 +67,9 @@ given_there n v t w (assigns_value y u z ∷ gs) h k zero x a e =
     subst (IsGiven t w) q l
 given_there n v t w (assigns_value y u z ∷ gs) h k (suc i) x a e = given_there (suc n) (suc v) t w gs (omega (arith, h)) (omega (arith, k)) i x a e
 
-scopes_there : (n v t w : ℕ) (ms : List ModuleTree) → n + length (all_assignments ms) ≤ t → v + value_count (all_assignments ms) ≤ w → (k : ℕ) (M : Name) (m : Module) → slice_get (scopes_from n v ms) k ≡ Some (M, m) →
+scopes_there : (n v t w : ℕ) (ms : List ModuleTree) → n + length (all_assignments ms) ≤ t →
+    v + value_count (all_assignments ms) ≤ w → (k : ℕ) (M : Name) (m : Module) →
+    slice_get (scopes_from n v ms) k ≡ Some (M, m) →
     (x : Name) (a : Assigned) → StandsIn m.assigned (x, a) → IsGiven t w a
 scopes_there n v t w [] h j k M m e x a s = absurd cc
 scopes_there n v t w (u ∷ ms) h j zero M m e x a s =
@@ -77,7 +82,9 @@ scopes_there n v t w (u ∷ ms) h j (suc k) M m e x a s =
     let lv = values_count u.assignments (all_assignments ms) in
     scopes_there (n + length u.assignments) (v + value_count u.assignments) t w ms (omega (arith, h, la)) (omega (arith, j, lv)) k M m e x a s
 
-meaning_there : (ms : List ModuleTree) (t w : ℕ) → length (all_assignments ms) ≤ t → value_count (all_assignments ms) ≤ w → (M x : Name) (a : Assigned) → Meaning (scopes_from 0 0 ms) M x a → IsGiven t w a
+meaning_there : (ms : List ModuleTree) (t w : ℕ) → length (all_assignments ms) ≤ t →
+    value_count (all_assignments ms) ≤ w → (M x : Name) (a : Assigned) → Meaning (scopes_from 0 0 ms) M x a →
+    IsGiven t w a
 meaning_there ms t w h j M x a (own m e f) =
     let s = under_some M (scopes_from 0 0 ms) m e in
     scopes_there 0 0 t w ms (omega (arith, h)) (omega (arith, j)) s.0 M m s.1 x a (under_some x m.assigned a f)

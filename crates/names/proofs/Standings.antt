@@ -20,7 +20,8 @@ use Rattle.names.proofs.Behind.{names_named, names_scopes}
 use Rattle.names.specs.proving.Distinct.{under_none, under_some, name_under, twice_across}
 
 -- what holds of all
-pub all_stood : {Y : Type 0} (ys : List Y) (P : Y → Type 0) (n : ℕ) → n ≡ length ys → ((k : ℕ) (y : Y) → k < n → slice_get ys k ≡ Some y → P y) → (y : Y) → StandsIn ys y → P y
+pub all_stood : {Y : Type 0} (ys : List Y) (P : Y → Type 0) (n : ℕ) → n ≡ length ys →
+    ((k : ℕ) (y : Y) → k < n → slice_get ys k ≡ Some y → P y) → (y : Y) → StandsIn ys y → P y
 all_stood ys P n e f y s = let w = slice_get_within ys s.0 y s.1 in f s.0 y (omega (arith, w, e)) s.1
 
 -- ---- the modules behind a table of names
@@ -34,7 +35,8 @@ pub record Tells (ms : List ModuleTree) (M : Name) (m : Module) : Type 0 where
   pub imports : m.imports ≡ imports_of tree.imports
   pub exports : m.exports ≡ tree.exports
 
-pub tells : (n v : ℕ) (ms : List ModuleTree) (k : ℕ) (M : Name) (m : Module) → slice_get (scopes_from n v ms) k ≡ Some (M, m) → Tells ms M m
+pub tells : (n v : ℕ) (ms : List ModuleTree) (k : ℕ) (M : Name) (m : Module) →
+    slice_get (scopes_from n v ms) k ≡ Some (M, m) → Tells ms M m
 tells n v [] k M m e = absurd cc
 tells n v (t ∷ ms) zero M m e =
     let q : (t.name, scope_of n v t) ≡ (M, m) = same_Some _ _ e in
@@ -58,7 +60,8 @@ pub record Told (ss : List (Name × Module)) (t : ModuleTree) : Type 0 where
   pub imports : scope.imports ≡ imports_of t.imports
   pub exports : scope.exports ≡ t.exports
 
-pub told : (n v : ℕ) (ms : List ModuleTree) (k : ℕ) (t : ModuleTree) → slice_get ms k ≡ Some t → Told (scopes_from n v ms) t
+pub told : (n v : ℕ) (ms : List ModuleTree) (k : ℕ) (t : ModuleTree) → slice_get ms k ≡ Some t →
+    Told (scopes_from n v ms) t
 told n v [] k t e = absurd cc
 told n v (u ∷ ms) zero t e =
     let q : u ≡ t = same_Some u t e in
@@ -74,7 +77,8 @@ offers ms N x o =
     let t = tells 0 0 ms s.0 N o.other s.1 in
     record { tree = t.tree; there = t.there; named = sym t.named; assigns = subst (λ l. StandsIn l x) t.assigned (name_under x o.other.assigned o.assigned o.assigns); exported = subst (λ z. IsExported z x) t.exports o.exported }
 
-pub are_named : (ms : List ModuleTree) (g : Gathered) → HasGathered ms g → AreStanding (scopes g.modules.entries) → AreNamed ms
+pub are_named : (ms : List ModuleTree) (g : Gathered) → HasGathered ms g → AreStanding (scopes g.modules.entries) →
+    AreNamed ms
 are_named ms g h s =
     let a = subst AreStanding h.scopes s in
     record {
@@ -91,10 +95,12 @@ are_named ms g h s =
 absent : (ms : List ModuleTree) (N : Name) → under N (scopes_from 0 0 ms) ≡ None → StandsIn (map (λ m. m.name) ms) N → ⊥
 absent ms N u s = under_none N (scopes_from 0 0 ms) u (subst (λ l. StandsIn l N) (sym (names_scopes 0 0 ms)) s)
 
-unassigned : (m : Module) (t : ModuleTree) (x : Name) → names_of m.assigned ≡ assigned_names t → under x m.assigned ≡ None → StandsIn (assigned_names t) x → ⊥
+unassigned : (m : Module) (t : ModuleTree) (x : Name) → names_of m.assigned ≡ assigned_names t →
+    under x m.assigned ≡ None → StandsIn (assigned_names t) x → ⊥
 unassigned m t x e u s = under_none x m.assigned u (subst (λ l. StandsIn l x) (sym e) s)
 
-export_fault : (ms : List ModuleTree) (M : Name) (m : Module) (e : NameFault) → Tells ms M m → IsExportFault M m e → IsNamingFault ms e
+export_fault : (ms : List ModuleTree) (M : Name) (m : Module) (e : NameFault) → Tells ms M m → IsExportFault M m e →
+    IsNamingFault ms e
 export_fault ms M m faults.Memory t f = tt
 export_fault ms M m (faults.UnknownName s) t f =
     inl (record { tree = t.tree; there = t.there; named = sym t.named ∙ sym f.2.0; names = f.0; list = sym t.exports ∙ f.1; listed = f.2.1; unassigned = unassigned m t.tree (name_told s) t.assigned f.2.2 })
@@ -105,7 +111,8 @@ export_fault ms M m (faults.Circular s) t f = absurd f.2
 export_fault ms M m (faults.UnknownModule s) t f = absurd f.2
 
 module _ (ms : List ModuleTree) (M : Name) (m : Module) (t : Tells ms M m) (N x : Name) (s : StandsIn m.imports (x, N)) where
-  taken_from : (y : Name) → y ≡ x → (n : Module) (r : Tells ms N n) → StandsIn (imports_of t.tree.imports) (y, r.tree.name)
+  taken_from : (y : Name) → y ≡ x → (n : Module) (r : Tells ms N n) →
+      StandsIn (imports_of t.tree.imports) (y, r.tree.name)
   taken_from y e n r = subst (λ l. StandsIn l (y, r.tree.name)) t.imports (subst (λ z. StandsIn m.imports (z, r.tree.name)) (sym e) (subst (λ z. StandsIn m.imports (x, z)) r.named s))
 
   import_fault : (e : NameFault) → IsImportFault (scopes_from 0 0 ms) M N x e → IsNamingFault ms e
@@ -142,18 +149,21 @@ module _ (ms : List ModuleTree) (M : Name) (m : Module) (t : Tells ms M m) (N x 
   import_fault (faults.Twice a) f = absurd f
   import_fault (faults.Circular a) f = absurd f
 
-one_fault : (ms : List ModuleTree) (M : Name) (m : Module) (e : NameFault) → Tells ms M m → IsExportFault M m e ⊎ IsImportsFault (scopes_from 0 0 ms) M m.imports e → IsNamingFault ms e
+one_fault : (ms : List ModuleTree) (M : Name) (m : Module) (e : NameFault) → Tells ms M m →
+    IsExportFault M m e ⊎ IsImportsFault (scopes_from 0 0 ms) M m.imports e → IsNamingFault ms e
 one_fault ms M m e t (inl f) = export_fault ms M m e t f
 one_fault ms M m e t (inr f) = import_fault ms M m t f.0 f.1 f.2 e f.3
 
 scopes_fault : (ms : List ModuleTree) (e : NameFault) → IsStandingFault (scopes_from 0 0 ms) e → IsNamingFault ms e
 scopes_fault ms e f = one_fault ms f.0 f.1 e (tells 0 0 ms f.2.0 f.0 f.1 f.2.1) f.3
 
-pub standing_fault : (ms : List ModuleTree) (g : Gathered) (e : NameFault) → HasGathered ms g → IsStandingFault (scopes g.modules.entries) e → IsNamingFault ms e
+pub standing_fault : (ms : List ModuleTree) (g : Gathered) (e : NameFault) → HasGathered ms g →
+    IsStandingFault (scopes g.modules.entries) e → IsNamingFault ms e
 standing_fault ms g e h f = scopes_fault ms e (subst (λ z. IsStandingFault z e) h.scopes f)
 
 -- no module imports a name that it assigns
-pub are_apart : (ms : List ModuleTree) → ((m : ModuleTree) → StandsIn ms m → AreDistinct (names_in m)) → IsApart (scopes_from 0 0 ms)
+pub are_apart : (ms : List ModuleTree) → ((m : ModuleTree) → StandsIn ms m → AreDistinct (names_in m)) →
+    IsApart (scopes_from 0 0 ms)
 are_apart ms d M x N m u i = by (under x m.assigned) refl
   where
     by : (o : Option Assigned) → under x m.assigned ≡ o → o ≡ None
@@ -166,7 +176,9 @@ are_apart ms d M x N m u i = by (under x m.assigned) refl
         absurd (d t.tree t.there x (twice_across (assigned_names t.tree) (names_of (imports_of t.tree.imports)) x one two))
 
 -- what holds of the first items of a list, and of the next
-pub more_of : {Y : Type 0} (ys : List Y) (P : Y → Type 0) (i : ℕ) (y : Y) → slice_get ys i ≡ Some y → ((k : ℕ) (z : Y) → k < i → slice_get ys k ≡ Some z → P z) → P y → (k : ℕ) (z : Y) → k < i + 1 → slice_get ys k ≡ Some z → P z
+pub more_of : {Y : Type 0} (ys : List Y) (P : Y → Type 0) (i : ℕ) (y : Y) → slice_get ys i ≡ Some y →
+    ((k : ℕ) (z : Y) → k < i → slice_get ys k ≡ Some z → P z) → P y → (k : ℕ) (z : Y) → k < i + 1 →
+    slice_get ys k ≡ Some z → P z
 more_of ys P i y e below here k z l h =
     below_more (λ j. (u : _) → slice_get ys j ≡ Some u → P u) i (λ j m u q. below j u m q) (λ u q. (let same : y ≡ u = same_Some y u (sym e ∙ q) in subst P same here)) k l z h
 

@@ -24,15 +24,22 @@ use Rattle.resolve.specs.proving.Assembled.{IsTableFrom, IsTablesFault, TellsTyp
 
 -- what the laws of the table say of types that are numbered
 pub record Laws : Type 0 where
-  pub roots : (ms : List (Name × Module)) (hs : List (Name × TagDefault)) (gs : List (ℕ × Name)) (roots : List Source) (ts : List Type') → AreNumbered ms hs gs roots ts → length roots ≤ length ts
-  pub stand : (ms : List (Name × Module)) (hs : List (Name × TagDefault)) (gs : List (ℕ × Name)) (roots : List Source) (ts : List Type') → AreNumbered ms hs gs roots ts → (i : ℕ) (t : Type') → slice_get ts i ≡ Some t → t.assignment < length gs
-  pub closed : (ms : List (Name × Module)) (hs : List (Name × TagDefault)) (gs : List (ℕ × Name)) (roots : List Source) (ts : List Type') → AreNumbered ms hs gs roots ts →
+  pub roots : (ms : List (Name × Module)) (hs : List (Name × TagDefault)) (gs : List (ℕ × Name))
+      (roots : List Source) (ts : List Type') → AreNumbered ms hs gs roots ts → length roots ≤ length ts
+  pub stand : (ms : List (Name × Module)) (hs : List (Name × TagDefault)) (gs : List (ℕ × Name))
+      (roots : List Source) (ts : List Type') → AreNumbered ms hs gs roots ts → (i : ℕ) (t : Type') →
+      slice_get ts i ≡ Some t → t.assignment < length gs
+  pub closed : (ms : List (Name × Module)) (hs : List (Name × TagDefault)) (gs : List (ℕ × Name))
+      (roots : List Source) (ts : List Type') → AreNumbered ms hs gs roots ts →
       ((M x : Name) (N : Option Name) (j : ℕ) → Refers ms M N x (assigned.Type j) → j < length ts) → IsClosed ts
-  pub linked : (ms : List (Name × Module)) (hs : List (Name × TagDefault)) (gs : List (ℕ × Name)) (roots : List Source) (ts : List Type') → AreNumbered ms hs gs roots ts →
+  pub linked : (ms : List (Name × Module)) (hs : List (Name × TagDefault)) (gs : List (ℕ × Name))
+      (roots : List Source) (ts : List Type') → AreNumbered ms hs gs roots ts →
       ((M x : Name) (N : Option Name) (j : ℕ) → Refers ms M N x (assigned.Type j) → j < length ts) → HaveNoPlace roots → AllUnfold ts → IsLinked ts
 
 -- the table of the parts of what is gathered is its table
-pub table_of : (g : Gathered) (ns : List (Name × Module)) (hs : List Header) (as' : List Assignment) (ts : List Type') → ns ≡ seen module_of g.modules.entries → hs ≡ g.headers.items → as' ≡ g.tables.assignments.items →
+pub table_of : (g : Gathered) (ns : List (Name × Module)) (hs : List Header) (as' : List Assignment)
+    (ts : List Type') → ns ≡ seen module_of g.modules.entries → hs ≡ g.headers.items →
+    as' ≡ g.tables.assignments.items →
     AreNumbered ns (map header_of hs) (map assignment_of as') (sources_of g.tables.roots.items) ts → IsTableFrom g ts
 table_of g ns hs as' ts en eh ea all =
     subst (λ n. AreNumbered n (map header_of g.headers.items) (map assignment_of g.tables.assignments.items) (sources_of g.tables.roots.items) ts) en
@@ -40,7 +47,9 @@ table_of g ns hs as' ts en eh ea all =
     (subst (λ a. AreNumbered ns (map header_of hs) (map assignment_of a) (sources_of g.tables.roots.items) ts) ea all))
 
 -- a type of the table that comes back to itself, told with its module and its assignment
-pub circular_fault : (g : Gathered) (hs : List Header) (as' : List Assignment) (ts : List Type') (i : ℕ) (w : Type') (e : NameFault) → hs ≡ g.headers.items → as' ≡ g.tables.assignments.items → IsTableFrom g ts → slice_get ts i ≡ Some w → IsCircular ts i →
+pub circular_fault : (g : Gathered) (hs : List Header) (as' : List Assignment) (ts : List Type') (i : ℕ) (w : Type')
+    (e : NameFault) → hs ≡ g.headers.items → as' ≡ g.tables.assignments.items → IsTableFrom g ts →
+    slice_get ts i ≡ Some w → IsCircular ts i →
     TellsType (map header_of hs) (map assignment_of as') w e → IsTablesFault g e
 circular_fault g hs as' ts i w faults.Memory eh ea all there back f = tt
 circular_fault g hs as' ts i w (faults.Circular s) eh ea all there back f = record {
@@ -67,7 +76,8 @@ module _ (law : Laws) (g : Gathered) (r : IsReady g) (ts : List Type') (all : Is
       let n = law.roots (seen module_of g.modules.entries) (map header_of g.headers.items) (map assignment_of g.tables.assignments.items) (sources_of g.tables.roots.items) ts all in
       omega (arith, h, n, length-map g.tables.roots.items source_of)
 
-  meant : (M x : Name) (N : Option Name) (j : ℕ) → Refers (seen module_of g.modules.entries) M N x (assigned.Type j) → j < length ts
+  meant : (M x : Name) (N : Option Name) (j : ℕ) →
+      Refers (seen module_of g.modules.entries) M N x (assigned.Type j) → j < length ts
   meant M x N j h = within j (r.named M x (assigned.Type j) (refers_meaning (seen module_of g.modules.entries) M x N (assigned.Type j) h))
 
   pub closed : IsClosed ts
@@ -78,7 +88,8 @@ module _ (law : Laws) (g : Gathered) (r : IsReady g) (ts : List Type') (all : Is
       let n = law.stand (seen module_of g.modules.entries) (map header_of g.headers.items) (map assignment_of g.tables.assignments.items) (sources_of g.tables.roots.items) ts all i t e in
       omega (arith, n, length-map g.tables.assignments.items assignment_of)
 
-  there : (a : Assigned) → IsGiven (length g.tables.roots.items) (length g.tables.values.items) a → IsThere (program_from g ts) a
+  there : (a : Assigned) → IsGiven (length g.tables.roots.items) (length g.tables.values.items) a →
+      IsThere (program_from g ts) a
   there (assigned.Type i) h = within i h
   there (assigned.Value i) h = omega (arith, h, length-map g.tables.values.items value_of)
 

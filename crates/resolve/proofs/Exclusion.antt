@@ -29,7 +29,8 @@ use Rattle.resolve.specs.proving.Unknown.{IsUnknownIn}
 some_same : {A : Type 0} (x y : A) → Some x ≡ Some y → x ≡ y
 some_same x y e = cc
 
-one_header : (p : Program) (o o' : ℕ) (M N : Name) (d d' : TagDefault) → o ≡ o' → slice_get p.headers o ≡ Some (M, d) → slice_get p.headers o' ≡ Some (N, d') → M ≡ N
+one_header : (p : Program) (o o' : ℕ) (M N : Name) (d d' : TagDefault) → o ≡ o' →
+    slice_get p.headers o ≡ Some (M, d) → slice_get p.headers o' ≡ Some (N, d') → M ≡ N
 one_header p o o' M N d d' q e f =
     let s : (M, d) ≡ (N, d') = some_same (M, d) (N, d') (sym e ∙ ap (slice_get p.headers) q ∙ f) in
     ap (λ z. z.0) s
@@ -58,13 +59,15 @@ ValueMeans p i = (v : Value) (M x : Name) → slice_get p.values i ≡ Some v �
 pub sound_at : (p : Program) (i : ℕ) (t : Type') → slice_get p.types i ≡ Some t → IsSoundKind t.kind → SoundAt p i
 sound_at p i t e h u f = subst (λ z. IsSoundKind z.kind) (some_same t u (sym e ∙ f)) h
 
-pub type_means : (p : Program) (i : ℕ) (t : Type') (M x : Name) → slice_get p.types i ≡ Some t → IsAssignment p t.assignment M x → MeanValues p.modules M (qualified_in t) → TypeMeans p i
+pub type_means : (p : Program) (i : ℕ) (t : Type') (M x : Name) → slice_get p.types i ≡ Some t →
+    IsAssignment p t.assignment M x → MeanValues p.modules M (qualified_in t) → TypeMeans p i
 type_means p i t M x e a m u N y f b =
     let q : t ≡ u = some_same t u (sym e ∙ f) in
     let c : IsAssignment p t.assignment N y = subst (λ z. IsAssignment p z.assignment N y) (sym q) b in
     subst (λ z. MeanValues p.modules z (qualified_in u)) (one_module p t.assignment M x N y a c) (subst (λ z. MeanValues p.modules M (qualified_in z)) q m)
 
-pub value_means : (p : Program) (i : ℕ) (v : Value) (M x : Name) → slice_get p.values i ≡ Some v → IsAssignment p v.assignment M x → MeanValues p.modules M (qualified v.notation) → ValueMeans p i
+pub value_means : (p : Program) (i : ℕ) (v : Value) (M x : Name) → slice_get p.values i ≡ Some v →
+    IsAssignment p v.assignment M x → MeanValues p.modules M (qualified v.notation) → ValueMeans p i
 value_means p i v M x e a m u N y f b =
     let q : v ≡ u = some_same v u (sym e ∙ f) in
     let c : IsAssignment p v.assignment N y = subst (λ z. IsAssignment p z.assignment N y) (sym q) b in
@@ -72,7 +75,8 @@ value_means p i v M x e a m u N y f b =
 
 -- ---- faults of one type or value are faults of the program
 
-pub kind_fault : (p : Program) (i : ℕ) (t : Type') (M a : Name) (e : NameFault) → slice_get p.types i ≡ Some t → IsAssignment p t.assignment M a → IsKindFault M a t.kind e → IsSoundFault p e
+pub kind_fault : (p : Program) (i : ℕ) (t : Type') (M a : Name) (e : NameFault) → slice_get p.types i ≡ Some t →
+    IsAssignment p t.assignment M a → IsKindFault M a t.kind e → IsSoundFault p e
 kind_fault p i t M a faults.Memory h s u = tt
 kind_fault p i t M a (faults.Twice z) h s u =
     record { assigns = a; written = record { number = i; written = t; there = h; stands = moved p t.assignment M (module_told z) a a u.0 refl s; such = u.1 } }
@@ -86,7 +90,9 @@ kind_fault p i t M a (faults.UnknownModule z) h s u = u
 abbrev IsWrittenIn : Program → Name → Name → Name → Name → Type 0
 IsWrittenIn p M a N x = IsTypeIn p M a (λ t. StandsIn (qualified_in t) (N, x)) ⊎ IsValueIn p M a (λ v. StandsIn (qualified v.notation) (N, x))
 
-unknown_fault : (p : Program) (M a : Name) (rs : List (Name × Name)) (e : NameFault) → ((m N x : Name) → m ≡ M → StandsIn rs (N, x) → IsWrittenIn p m a N x) → IsUnknownIn p.modules M rs e → IsSoundFault p e
+unknown_fault : (p : Program) (M a : Name) (rs : List (Name × Name)) (e : NameFault) →
+    ((m N x : Name) → m ≡ M → StandsIn rs (N, x) → IsWrittenIn p m a N x) → IsUnknownIn p.modules M rs e →
+    IsSoundFault p e
 unknown_fault p M a rs faults.Memory w u = tt
 unknown_fault p M a rs (faults.UnknownName s) w u = record {
   owner = u.1;
@@ -100,15 +106,18 @@ unknown_fault p M a rs (faults.NotExported s) w u = absurd u
 unknown_fault p M a rs (faults.Circular s) w u = absurd u
 unknown_fault p M a rs (faults.UnknownModule s) w u = absurd u
 
-pub type_fault : (p : Program) (i : ℕ) (t : Type') (M a : Name) (e : NameFault) → slice_get p.types i ≡ Some t → IsAssignment p t.assignment M a → IsUnknownIn p.modules M (qualified_in t) e → IsSoundFault p e
+pub type_fault : (p : Program) (i : ℕ) (t : Type') (M a : Name) (e : NameFault) → slice_get p.types i ≡ Some t →
+    IsAssignment p t.assignment M a → IsUnknownIn p.modules M (qualified_in t) e → IsSoundFault p e
 type_fault p i t M a e h s u = unknown_fault p M a (qualified_in t) e (λ m N x q r. inl (record { number = i; written = t; there = h; stands = moved p t.assignment M m a a q refl s; such = r })) u
 
-pub value_fault : (p : Program) (i : ℕ) (v : Value) (M a : Name) (e : NameFault) → slice_get p.values i ≡ Some v → IsAssignment p v.assignment M a → IsUnknownIn p.modules M (qualified v.notation) e → IsSoundFault p e
+pub value_fault : (p : Program) (i : ℕ) (v : Value) (M a : Name) (e : NameFault) → slice_get p.values i ≡ Some v →
+    IsAssignment p v.assignment M a → IsUnknownIn p.modules M (qualified v.notation) e → IsSoundFault p e
 value_fault p i v M a e h s u = unknown_fault p M a (qualified v.notation) e (λ m N x q r. inr (record { number = i; value = v; there = h; stands = moved p v.assignment M m a a q refl s; such = r })) u
 
 -- ---- a sound program has no fault
 
-twice_among : {Z : Type 0} (xs : List Name) (zs : List Z) (x : Name) → AreDistinct xs → AreDistinct zs → IsTwiceAmong xs zs x → ⊥
+twice_among : {Z : Type 0} (xs : List Name) (zs : List Z) (x : Name) → AreDistinct xs → AreDistinct zs →
+    IsTwiceAmong xs zs x → ⊥
 twice_among xs zs x d e (inl t) = d x t
 twice_among xs zs x d e (inr t) = e t.number t.twice
 
@@ -157,7 +166,8 @@ passed limits.Modules k h g = h
 passed limits.Types k h g = h
 passed limits.Values k h g = h
 
-no_value : (p : Program) (M x N a : Name) → ((i : ℕ) → Refers p.modules M (Some N) x (assigned.Value i) → ⊥) → IsSound p → IsWrittenIn p M a N x → ⊥
+no_value : (p : Program) (M x N a : Name) → ((i : ℕ) → Refers p.modules M (Some N) x (assigned.Value i) → ⊥) →
+    IsSound p → IsWrittenIn p M a N x → ⊥
 no_value p M x N a none g (inl t) = let r = g.types t.number t.written M a t.there t.stands t.such.0 N x t.such.1 in none r.0 r.1
 no_value p M x N a none g (inr v) = let r = g.values v.number v.value M a v.there v.stands v.such.0 N x v.such.1 in none r.0 r.1
 

@@ -20,7 +20,8 @@ use Rattle.resolve.specs.proving.Unknown.{named}
 abbrev seen : ℕ → ValueForm ValueSyntax → Tree
 seen n f = layer (map-ValueSyntax ValueSyntax Tree tree_of (record { at = n; form = f })).form
 
-by_form : (v : ValueSyntax) (f : ValueForm ValueSyntax) → (out-ValueSyntax v).form ≡ f → tree_of v ≡ seen (out-ValueSyntax v).at f
+by_form : (v : ValueSyntax) (f : ValueForm ValueSyntax) → (out-ValueSyntax v).form ≡ f →
+    tree_of v ≡ seen (out-ValueSyntax v).at f
 by_form v f e = fold_out-ValueSyntax Tree value_layer v ∙ ap (seen (out-ValueSyntax v).at) e
 
 all_each : (vs : List Tree) → qualified_each (trees vs) ≡ each qualified vs
@@ -31,25 +32,33 @@ all_fields : (vs : List (Name × Tree)) → qualified_fields (members vs) ≡ ea
 all_fields [] = refl
 all_fields (v ∷ vs) = ap (λ l. qualified v.1 ++ l) (all_fields vs)
 
-same_members : (h : Named ValueSyntax → Named Tree) → ((n : Named ValueSyntax) → (name_at (h n).name, (h n).value) ≡ member_of n) → (xs : List (Named ValueSyntax)) → map (λ n. (name_at n.name, n.value)) (map h xs) ≡ map member_of xs
+same_members : (h : Named ValueSyntax → Named Tree) →
+    ((n : Named ValueSyntax) → (name_at (h n).name, (h n).value) ≡ member_of n) → (xs : List (Named ValueSyntax)) →
+    map (λ n. (name_at n.name, n.value)) (map h xs) ≡ map member_of xs
 same_members h e [] = refl
 same_members h e (x ∷ xs) = ap (λ m. m ∷ map (λ n. (name_at n.name, n.value)) (map h xs)) (e x) ∙ ap (λ ms. member_of x ∷ ms) (same_members h e xs)
 
-pub reference_names : (v : ValueSyntax) (r : Reference) → (out-ValueSyntax v).form ≡ forms.Reference r → qualified (tree_of v) ≡ named r
+pub reference_names : (v : ValueSyntax) (r : Reference) → (out-ValueSyntax v).form ≡ forms.Reference r →
+    qualified (tree_of v) ≡ named r
 reference_names v r e = ap qualified (by_form v (forms.Reference r) e)
 
-pub chosen_names : (v : ValueSyntax) (x : String Global) (b : Box ValueSyntax Global) → (out-ValueSyntax v).form ≡ forms.Chosen x b → qualified (tree_of v) ≡ qualified (tree_of b.value)
+pub chosen_names : (v : ValueSyntax) (x : String Global) (b : Box ValueSyntax Global) →
+    (out-ValueSyntax v).form ≡ forms.Chosen x b → qualified (tree_of v) ≡ qualified (tree_of b.value)
 chosen_names v x b e = ap qualified (by_form v (forms.Chosen x b) e)
 
-pub items_names : (v : ValueSyntax) (vs : Vec ValueSyntax Global) → (out-ValueSyntax v).form ≡ forms.Items vs → qualified (tree_of v) ≡ each qualified (map tree_of vs.items)
+pub items_names : (v : ValueSyntax) (vs : Vec ValueSyntax Global) → (out-ValueSyntax v).form ≡ forms.Items vs →
+    qualified (tree_of v) ≡ each qualified (map tree_of vs.items)
 items_names v vs e = ap qualified (by_form v (forms.Items vs) e) ∙ all_each (map tree_of vs.items)
 
-pub fields_names : (v : ValueSyntax) (fs : Vec (Named ValueSyntax) Global) → (out-ValueSyntax v).form ≡ forms.Fields fs → qualified (tree_of v) ≡ each (λ m. qualified m.1) (map member_of fs.items)
+pub fields_names : (v : ValueSyntax) (fs : Vec (Named ValueSyntax) Global) →
+    (out-ValueSyntax v).form ≡ forms.Fields fs →
+    qualified (tree_of v) ≡ each (λ m. qualified m.1) (map member_of fs.items)
 fields_names v fs e =
     ap qualified (by_form v (forms.Fields fs) e) ∙ ap (λ ms. qualified_fields (members ms)) (same_members _ (λ n. refl) fs.items) ∙ all_fields (map member_of fs.items)
 
 -- what a name behind the name of module N stands for is no value
-pub behind_none : (ms : List (Name × Module)) (M : Name) (o : Option Name) (N x m y : Name) → o ≡ Some N → m ≡ M → y ≡ x → ((i : ℕ) → Refers ms M o x (assigned.Value i) → ⊥) →
+pub behind_none : (ms : List (Name × Module)) (M : Name) (o : Option Name) (N x m y : Name) → o ≡ Some N → m ≡ M →
+    y ≡ x → ((i : ℕ) → Refers ms M o x (assigned.Value i) → ⊥) →
     (m ≡ M) × (K : Name) × StandsIn (behind_module o x) (K, y) × ((i : ℕ) → Refers ms M (Some K) y (assigned.Value i) → ⊥)
 behind_none ms M o N x m y q e f none = (
   e,

@@ -20,7 +20,8 @@ use Rattle.resolve.specs.Sound.{IsSound, IsSoundFault}
 abbrev program : List (Name × Module) → List (Name × TagDefault) → List (ℕ × Name) → List Type' → List Value → Program
 program ms hs gs ts vs = record { modules = ms; headers = hs; assignments = gs; types = ts; values = vs }
 
-numbered_of : (ms : List ModuleTree) (p : Program) → IsProgramOf ms p → AreNumbered (scopes_from 0 0 ms) (headers_of ms) (owned_from 0 ms) (roots_of ms) p.types
+numbered_of : (ms : List ModuleTree) (p : Program) → IsProgramOf ms p →
+    AreNumbered (scopes_from 0 0 ms) (headers_of ms) (owned_from 0 ms) (roots_of ms) p.types
 numbered_of ms p a =
     subst (λ l. AreNumbered l (headers_of ms) (owned_from 0 ms) (roots_of ms) p.types) a.modules (subst (λ l. AreNumbered p.modules l (owned_from 0 ms) (roots_of ms) p.types) a.headers (subst (λ l. AreNumbered p.modules p.headers l (roots_of ms) p.types) a.assignments a.types))
 
@@ -38,7 +39,8 @@ abbrev pub TableExcludes : Type 0
 TableExcludes = (ms : List (Name × Module)) (hs : List (Name × TagDefault)) (gs : List (ℕ × Name)) (roots : List Source) (ts : List Type') →
     AreNumbered ms hs gs roots ts → IsApart ms → length ts ≤ 65536 → AllUnfold ts → (e : NameFault) → (e ≡ faults.Memory → ⊥) → IsTableFault ms hs gs roots e → ⊥
 
-pub one_program : Apart → OneTable → (ms : List ModuleTree) (p q : Program) → AreNamed ms → IsProgramOf ms p → IsProgramOf ms q → p ≡ q
+pub one_program : Apart → OneTable → (ms : List ModuleTree) (p q : Program) → AreNamed ms → IsProgramOf ms p →
+    IsProgramOf ms q → p ≡ q
 one_program apart one_table ms p q n a b =
     let t = one_table (scopes_from 0 0 ms) (headers_of ms) (owned_from 0 ms) (roots_of ms) p.types q.types (apart ms n.names) (numbered_of ms p a) (numbered_of ms q b) in
     ap (λ l. program l p.headers p.assignments p.types p.values) (a.modules ∙ sym b.modules)
@@ -48,8 +50,14 @@ one_program apart one_table ms p q n a b =
     ∙ ap (λ l. program q.modules q.headers q.assignments q.types l) (a.values ∙ sym b.values)
 
 module _ (apart : Apart) (one_table : OneTable) (names_exclude : NamesExclude) (table_exclude : TableExcludes)
-    (sound : (p : Program) (e : NameFault) → (e ≡ faults.Memory → ⊥) → IsSoundFault p e → IsSound p → ⊥) (ms : List ModuleTree) (p : Program) (l : Links ms p) where
-  one_of : (e : NameFault) → (e ≡ faults.Memory → ⊥) → IsNamesFault ms e ⊎ (IsTableFault (scopes_from 0 0 ms) (headers_of ms) (owned_from 0 ms) (roots_of ms) e ⊎ ((q : Program) × IsProgramOf ms q × IsSoundFault q e)) → ⊥
+    (sound : (p : Program) (e : NameFault) → (e ≡ faults.Memory → ⊥) → IsSoundFault p e → IsSound p →
+    ⊥) (ms : List ModuleTree) (p : Program) (l : Links ms p) where
+  one_of : (e : NameFault) → (e ≡ faults.Memory → ⊥) →
+      IsNamesFault ms e
+      ⊎
+      (IsTableFault (scopes_from 0 0 ms) (headers_of ms) (owned_from 0 ms) (roots_of ms) e
+      ⊎ ((q : Program) × IsProgramOf ms q × IsSoundFault q e)) →
+      ⊥
   one_of e n (inl f) = names_exclude ms e f l.named l.few
   one_of e n (inr (inl f)) = table_exclude (scopes_from 0 0 ms) (headers_of ms) (owned_from 0 ms) (roots_of ms) p.types (numbered_of ms p l.program) (apart ms l.named.names) l.types l.unfolds e n f
   one_of e n (inr (inr r)) = sound p e n (subst (λ z. IsSoundFault z e) (one_program apart one_table ms r.0 p l.named r.1 l.program) r.2) l.sound

@@ -24,7 +24,8 @@ use Rattle.resolve.specs.Sound.{IsSoundFault}
 use Rattle.resolve.specs.proving.Assembled.{IsOf, IsAssembled, IsAssemblyFault, IsTableFrom, IsTablesFault}
 
 -- the table of what is gathered is that of the modules
-same_table : (ms : List ModuleTree) (g : Gathered) (ts : List Type') → HasGathered ms g → IsTableFrom g ts → AreNumbered (scopes_from 0 0 ms) (headers_of ms) (owned_from 0 ms) (roots_of ms) ts
+same_table : (ms : List ModuleTree) (g : Gathered) (ts : List Type') → HasGathered ms g → IsTableFrom g ts →
+    AreNumbered (scopes_from 0 0 ms) (headers_of ms) (owned_from 0 ms) (roots_of ms) ts
 same_table ms g ts h a =
     subst (λ l. AreNumbered l (headers_of ms) (owned_from 0 ms) (roots_of ms) ts) h.scopes
     (subst (λ l. AreNumbered (seen module_of g.modules.entries) l (owned_from 0 ms) (roots_of ms) ts) h.headers
@@ -47,7 +48,8 @@ program_of ms g p h o =
           (subst (λ l. AreNumbered (scopes_from 0 0 ms) (headers_of ms) l (roots_of ms) p.types) (sym assignments) (same_table ms g p.types h o.types)));
     }
 
-pub are_linked : (ms : List ModuleTree) (g : Gathered) (p : Program) → AreFew ms → AreNamed ms → HasGathered ms g → IsAssembled g p → Links ms p
+pub are_linked : (ms : List ModuleTree) (g : Gathered) (p : Program) → AreFew ms → AreNamed ms → HasGathered ms g →
+    IsAssembled g p → Links ms p
 are_linked ms g p f n h a = record { named = n; few = f; program = program_of ms g p h a.program; types = a.few; unfolds = a.unfolds; sound = a.sound }
 
 pub naming_link : (ms : List ModuleTree) (e : NameFault) → IsNamingFault ms e → IsLinkFault ms e
@@ -71,7 +73,8 @@ behind_link ms (faults.NotExported s) f = inr f
 behind_link ms (faults.Circular s) f = inr f
 behind_link ms (faults.UnknownModule s) f = inr f
 
-pub assembly_link : (ms : List ModuleTree) (g : Gathered) (e : NameFault) → HasGathered ms g → IsAssemblyFault g e → IsLinkFault ms e
+pub assembly_link : (ms : List ModuleTree) (g : Gathered) (e : NameFault) → HasGathered ms g → IsAssemblyFault g e →
+    IsLinkFault ms e
 assembly_link ms g e h (inl f) =
     behind_link ms e (inl (subst (λ l. IsTableFault l (headers_of ms) (owned_from 0 ms) (roots_of ms) e) h.scopes (subst (λ l. IsTableFault (seen module_of g.modules.entries) l (owned_from 0 ms) (roots_of ms) e) h.headers
     (subst (λ l. IsTableFault (seen module_of g.modules.entries) (map header_of g.headers.items) l (roots_of ms) e) h.assignments (subst (λ l. IsTableFault (seen module_of g.modules.entries) (map header_of g.headers.items) (map assignment_of g.tables.assignments.items) l e) h.roots f)))))

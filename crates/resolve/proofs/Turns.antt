@@ -20,7 +20,8 @@ module _ (ms : List (Name × Module)) (M : Name) where
         | inr r ↦ q r.0 N x r.2
       ]
 
-  pub unknown_front : (xs ys : List (Name × Name)) (e : NameFault) → IsUnknownIn ms M xs e → IsUnknownIn ms M (xs ++ ys) e
+  pub unknown_front : (xs ys : List (Name × Name)) (e : NameFault) → IsUnknownIn ms M xs e →
+      IsUnknownIn ms M (xs ++ ys) e
   unknown_front xs ys faults.Memory u = tt
   unknown_front xs ys (faults.UnknownName s) u = (u.0, u.1, stands_left xs ys (u.1, name_told s) u.2, u.3)
   unknown_front xs ys (faults.Limit l s) u = u
@@ -29,7 +30,8 @@ module _ (ms : List (Name × Module)) (M : Name) where
   unknown_front xs ys (faults.Circular s) u = u
   unknown_front xs ys (faults.UnknownModule s) u = u
 
-  pub unknown_behind : (xs ys : List (Name × Name)) (e : NameFault) → IsUnknownIn ms M ys e → IsUnknownIn ms M (xs ++ ys) e
+  pub unknown_behind : (xs ys : List (Name × Name)) (e : NameFault) → IsUnknownIn ms M ys e →
+      IsUnknownIn ms M (xs ++ ys) e
   unknown_behind xs ys faults.Memory u = tt
   unknown_behind xs ys (faults.UnknownName s) u = (u.0, u.1, stands_right xs ys (u.1, name_told s) u.2, u.3)
   unknown_behind xs ys (faults.Limit l s) u = u
@@ -48,10 +50,12 @@ module _ (ms : List (Name × Module)) (M : Name) where
 
   -- a list of things, of which f tells the names once they are seen by g: thing x stands at i, and those before it are done
   module _ {X Y : Type 0} (f : Y → List (Name × Name)) (g : X → Y) (xs : List X) (whole : List (Name × Name)) (i : ℕ) where
-    front : (x : X) → i < length xs → x ≡ get_or xs i x → each f (map g (drop i xs)) ≡ f (g x) ++ each f (map g (drop (i + 1) xs))
+    front : (x : X) → i < length xs → x ≡ get_or xs i x →
+        each f (map g (drop i xs)) ≡ f (g x) ++ each f (map g (drop (i + 1) xs))
     front x l e = ap (λ r. each f (map g r)) (drop_at xs i x l e)
 
-    pub left_step : (x : X) → i < length xs → x ≡ get_or xs i x → Left whole (each f (map g (drop i xs))) → MeanValues ms M (f (g x)) → Left whole (each f (map g (drop (i + 1) xs)))
+    pub left_step : (x : X) → i < length xs → x ≡ get_or xs i x → Left whole (each f (map g (drop i xs))) →
+        MeanValues ms M (f (g x)) → Left whole (each f (map g (drop (i + 1) xs)))
     left_step x l e h m =
         let rest = each f (map g (drop (i + 1) xs)) in
         let q = front x l e in
@@ -60,7 +64,8 @@ module _ (ms : List (Name × Module)) (M : Name) where
           fault = λ b u. h.fault b (subst (λ l. IsUnknownIn ms M l b) (sym q) (unknown_behind (f (g x)) rest b u));
         }
 
-    pub left_fault : (x : X) (b : NameFault) → i < length xs → x ≡ get_or xs i x → Left whole (each f (map g (drop i xs))) → IsUnknownIn ms M (f (g x)) b → IsUnknownIn ms M whole b
+    pub left_fault : (x : X) (b : NameFault) → i < length xs → x ≡ get_or xs i x →
+        Left whole (each f (map g (drop i xs))) → IsUnknownIn ms M (f (g x)) b → IsUnknownIn ms M whole b
     left_fault x b l e h u =
         let rest = each f (map g (drop (i + 1) xs)) in
         h.fault b (subst (λ l. IsUnknownIn ms M l b) (sym (front x l e)) (unknown_front (f (g x)) rest b u))

@@ -23,7 +23,8 @@ use Rattle.tagging.specs.Tagged.{Clash}
 use Rattle.tagging.proofs.Tables.{contains_at, contained_at}
 
 -- what can stand together with the member at a place can with that behind it, where the one at this place may be absent
-together_next : (k : ListKind) (cs : List Part) (p q : ℕ) (c : Part) → slice_get cs q ≡ Some c → Passes k c → Together k cs p q → Together k cs p (q + 1)
+together_next : (k : ListKind) (cs : List Part) (p q : ℕ) (c : Part) → slice_get cs q ≡ Some c → Passes k c →
+    Together k cs p q → Together k cs p (q + 1)
 together_next Sequence cs p q c e h t = λ r d l m f. elim (cases_lt r q) [
   | inl x ↦ t r d l x f
   | inr y ↦ (let s : q ≡ r = omega (arith, y, m) in subst (λ z. may_be_absent z ≡ true) (same_Some c d (sym e ∙ ap (slice_get cs) s ∙ f)) h)
@@ -31,7 +32,8 @@ together_next Sequence cs p q c e h t = λ r d l m f. elim (cases_lt r q) [
 together_next Set cs p q c e h t = tt
 together_next Choice cs p q c e h t = tt
 
-together_here : (k : ListKind) (cs : List Part) (q : ℕ) (c : Part) → slice_get cs q ≡ Some c → Passes k c → Together k cs q (q + 1)
+together_here : (k : ListKind) (cs : List Part) (q : ℕ) (c : Part) → slice_get cs q ≡ Some c → Passes k c →
+    Together k cs q (q + 1)
 together_here Sequence cs q c e h = λ r d l m f. let s : q ≡ r = omega (arith, l, m) in subst (λ z. may_be_absent z ≡ true) (same_Some c d (sym e ∙ ap (slice_get cs) s ∙ f)) h
 together_here Set cs q c e h = tt
 together_here Choice cs q c e h = tt
@@ -41,12 +43,14 @@ together_back Sequence cs p q t = λ r c l m e. t r c l (omega arith) e
 together_back Set cs p q t = tt
 together_back Choice cs p q t = tt
 
-not_passed : (k : ListKind) (cs : List Part) (p q : ℕ) (c : Part) → slice_get cs q ≡ Some c → (Passes k c → ⊥) → p < q + 1 → Together k cs p (q + 1) → ⊥
+not_passed : (k : ListKind) (cs : List Part) (p q : ℕ) (c : Part) → slice_get cs q ≡ Some c → (Passes k c → ⊥) →
+    p < q + 1 → Together k cs p (q + 1) → ⊥
 not_passed Sequence cs p q c e f l t = f (t q c (omega arith) (omega arith) e)
 not_passed Set cs p q c e f l t = f tt
 not_passed Choice cs p q c e f l t = f tt
 
-pub collected_at : (ts : List Type') (cs : List Part) (us : List (List Label)) (k : ℕ) (c : Part) (u : List Label) → Collected ts cs us → slice_get cs k ≡ Some c → slice_get us k ≡ Some u → AreFirst ts c.ty u
+pub collected_at : (ts : List Type') (cs : List Part) (us : List (List Label)) (k : ℕ) (c : Part) (u : List Label) →
+    Collected ts cs us → slice_get cs k ≡ Some c → slice_get us k ≡ Some u → AreFirst ts c.ty u
 collected_at ts cs us k c u none e f = absurd cc
 collected_at ts cs us zero c u (one {c = c'} {us = u'} a w) e f =
     let s : c' ≡ c = cc in
@@ -54,7 +58,8 @@ collected_at ts cs us zero c u (one {c = c'} {us = u'} a w) e f =
     subst (λ x. AreFirst ts x.ty u) s (subst (AreFirst ts c'.ty) t a)
 collected_at ts cs us (suc k) c u (one {cs = cs'} {vs = vs} a w) e f = collected_at ts cs' vs k c u w e f
 
-pub list_at : (vs : List (Vec Label Global)) (k : ℕ) (v : Vec Label Global) → k < length vs → v ≡ get_or vs k v → slice_get (tag_lists vs) k ≡ Some v.items
+pub list_at : (vs : List (Vec Label Global)) (k : ℕ) (v : Vec Label Global) → k < length vs → v ≡ get_or vs k v →
+    slice_get (tag_lists vs) k ≡ Some v.items
 list_at vs k v l e = slice_get-map (λ x. x.items) vs k ∙ ap (option_map (λ x. x.items)) (slice_get_read vs (length vs) k v refl l e)
 
 -- ---- tags in an ordered set
@@ -130,7 +135,10 @@ put_either false = refl
 abbrev pub PutsOne : (old new : List (ℕ × ℕ)) → ℕ × ℕ → Type 0
 PutsOne old new k = (x : ℕ × ℕ) → (IsIn new x → IsIn old x ⊎ (k ≡ x)) × (IsIn old x ⊎ (k ≡ x) → IsIn new x)
 
-pub put_one : (old new : List (ℕ × ℕ)) (k : ℕ × ℕ) → ((q : ℕ × ℕ) → list_any (λ y. is_eq (key_cmp q y)) new ≡ cond (is_eq (key_cmp k q)) true (list_any (λ y. is_eq (key_cmp q y)) old)) → PutsOne old new k
+pub put_one : (old new : List (ℕ × ℕ)) (k : ℕ × ℕ) →
+    ((q : ℕ × ℕ) → list_any (λ y. is_eq (key_cmp q y)) new
+    ≡ cond (is_eq (key_cmp k q)) true (list_any (λ y. is_eq (key_cmp q y)) old)) →
+    PutsOne old new k
 put_one old new k f x = (
   λ h. put_cases k x (list_any (λ y. is_eq (key_cmp x y)) old) (is_eq (key_cmp k x)) refl (sym (f x) ∙ h),
   λ h. f x ∙ elim h [
@@ -151,7 +159,8 @@ PutsTo us n old new = (x : ℕ × ℕ) → (IsIn new x → IsIn old x ⊎ HasKey
 same_tag : (us : List Label) (i : ℕ) (t u : Label) → slice_get us i ≡ Some t → slice_get us i ≡ Some u → t ≡ u
 same_tag us i t u e f = same_Some t u (sym e ∙ f)
 
-pub put_next : (us : List Label) (n : ℕ) (t : Label) (old mid new : List (ℕ × ℕ)) → slice_get us n ≡ Some t → PutsTo us n old mid → PutsOne mid new (key_of t) → PutsTo us (n + 1) old new
+pub put_next : (us : List Label) (n : ℕ) (t : Label) (old mid new : List (ℕ × ℕ)) → slice_get us n ≡ Some t →
+    PutsTo us n old mid → PutsOne mid new (key_of t) → PutsTo us (n + 1) old new
 put_next us n t old mid new e f g x = (
   λ h. elim ((g x).0 h) [
     | inl a ↦ elim ((f x).0 a) [ inl b ↦ inl b | inr b ↦ inr (record { has = b.has; few = omega (arith, b.few) }) ]
@@ -166,7 +175,8 @@ put_next us n t old mid new e f g x = (
   ],
 )
 
-pub put_end : (us : List Label) (n : ℕ) (old new : List (ℕ × ℕ)) → length us ≤ n → PutsTo us n old new → (x : ℕ × ℕ) → (IsIn new x → IsIn old x ⊎ HasKey us x) × (IsIn old x ⊎ HasKey us x → IsIn new x)
+pub put_end : (us : List Label) (n : ℕ) (old new : List (ℕ × ℕ)) → length us ≤ n → PutsTo us n old new →
+    (x : ℕ × ℕ) → (IsIn new x → IsIn old x ⊎ HasKey us x) × (IsIn old x ⊎ HasKey us x → IsIn new x)
 put_end us n old new l f x = (
   λ h. elim ((f x).0 h) [ inl a ↦ inl a | inr b ↦ inr b.has ],
   λ h. elim h [
@@ -179,20 +189,24 @@ put_end us n old new l f x = (
 abbrev pub NoneTo : List Label → ℕ → List (ℕ × ℕ) → Type 0
 NoneTo us n keys = (x : ℕ × ℕ) → HasKeyTo us n x → IsIn keys x → ⊥
 
-pub none_next : (us : List Label) (n : ℕ) (t : Label) (keys : List (ℕ × ℕ)) → slice_get us n ≡ Some t → NoneTo us n keys → (IsIn keys (key_of t) → ⊥) → NoneTo us (n + 1) keys
+pub none_next : (us : List Label) (n : ℕ) (t : Label) (keys : List (ℕ × ℕ)) → slice_get us n ≡ Some t →
+    NoneTo us n keys → (IsIn keys (key_of t) → ⊥) → NoneTo us (n + 1) keys
 none_next us n t keys e f g x b h =
     elim (cases_lt b.has.place n) [
       | inl l ↦ f x (record { has = b.has; few = l }) h
       | inr m ↦ (let q : b.has.place ≡ n = omega (arith, m, b.few) in g (subst (IsIn keys) (sym (ap key_of (same_tag us n t b.has.tag e (ap (slice_get us) (sym q) ∙ b.has.there)) ∙ b.has.is)) h))
     ]
 
-pub none_end : (us : List Label) (n : ℕ) (keys : List (ℕ × ℕ)) → length us ≤ n → NoneTo us n keys → (x : ℕ × ℕ) → HasKey us x → IsIn keys x → ⊥
+pub none_end : (us : List Label) (n : ℕ) (keys : List (ℕ × ℕ)) → length us ≤ n → NoneTo us n keys → (x : ℕ × ℕ) →
+    HasKey us x → IsIn keys x → ⊥
 none_end us n keys l f x b h = let w = slice_get_within us b.place b.tag b.there in f x (record { has = b; few = omega (arith, l, w) }) h
 
 -- ---- tags that the member at a place can meet
 
-pub meets_next : (k : ListKind) (cs : List Part) (vs : List (List Label)) (q : ℕ) (c : Part) (us : List Label) (mid new : List (ℕ × ℕ)) → slice_get cs q ≡ Some c → slice_get vs q ≡ Some us → Passes k c → Meets k cs vs q mid →
-    ((x : ℕ × ℕ) → (IsIn new x → IsIn mid x ⊎ HasKey us x) × (IsIn mid x ⊎ HasKey us x → IsIn new x)) → Meets k cs vs (q + 1) new
+pub meets_next : (k : ListKind) (cs : List Part) (vs : List (List Label)) (q : ℕ) (c : Part) (us : List Label)
+    (mid new : List (ℕ × ℕ)) → slice_get cs q ≡ Some c → slice_get vs q ≡ Some us → Passes k c → Meets k cs vs q mid →
+    ((x : ℕ × ℕ) → (IsIn new x → IsIn mid x ⊎ HasKey us x) × (IsIn mid x ⊎ HasKey us x →
+    IsIn new x)) → Meets k cs vs (q + 1) new
 meets_next k cs vs q c us mid new d e r f g x = (
   λ h. elim ((g x).0 h) [
     | inl a ↦ (let m = (f x).0 a in record { place = m.place; before = omega (arith, m.before); together = together_next k cs m.place q c d r m.together; tags = m.tags; there = m.there; has = m.has })
@@ -204,10 +218,12 @@ meets_next k cs vs q c us mid new d e r f g x = (
   ],
 )
 
-pub meets_none : (k : ListKind) (cs : List Part) (vs : List (List Label)) (q : ℕ) (c : Part) (keys : List (ℕ × ℕ)) → slice_get cs q ≡ Some c → (Passes k c → ⊥) → keys ≡ [] → Meets k cs vs (q + 1) keys
+pub meets_none : (k : ListKind) (cs : List Part) (vs : List (List Label)) (q : ℕ) (c : Part) (keys : List (ℕ × ℕ)) →
+    slice_get cs q ≡ Some c → (Passes k c → ⊥) → keys ≡ [] → Meets k cs vs (q + 1) keys
 meets_none k cs vs q c keys d r e x = (λ h. absurd (none_in keys x e h), λ m. absurd (not_passed k cs m.place q c d r m.before m.together))
 
-tags_at : (ts : List Type') (cs : List Part) (vs : List (List Label)) (k : ℕ) (c : Part) → Collected ts cs vs → slice_get cs k ≡ Some c → (u : List Label) × (slice_get vs k ≡ Some u) × AreFirst ts c.ty u
+tags_at : (ts : List Type') (cs : List Part) (vs : List (List Label)) (k : ℕ) (c : Part) → Collected ts cs vs →
+    slice_get cs k ≡ Some c → (u : List Label) × (slice_get vs k ≡ Some u) × AreFirst ts c.ty u
 tags_at ts cs vs k c none e = absurd cc
 tags_at ts cs vs zero c (one {c = c'} {us = u} a w) e =
     let s : c' ≡ c = cc in
@@ -215,8 +231,10 @@ tags_at ts cs vs zero c (one {c = c'} {us = u} a w) e =
 tags_at ts cs vs (suc k) c (one {cs = cs'} {vs = vs'} a w) e = tags_at ts cs' vs' k c w e
 
 -- a member that meets no tag is apart from those before it
-pub clear_next : (ts : List Type') (k : ListKind) (cs : List Part) (vs : List (List Label)) (q : ℕ) (us : List Label) (keys : List (ℕ × ℕ)) → Collected ts cs vs → slice_get vs q ≡ Some us → Meets k cs vs q keys →
-    ((x : ℕ × ℕ) → HasKey us x → IsIn keys x → ⊥) → ((p : ℕ) → IsClear ts k cs p q) → (p : ℕ) → IsClear ts k cs p (q + 1)
+pub clear_next : (ts : List Type') (k : ListKind) (cs : List Part) (vs : List (List Label)) (q : ℕ)
+    (us : List Label) (keys : List (ℕ × ℕ)) → Collected ts cs vs → slice_get vs q ≡ Some us → Meets k cs vs q keys →
+    ((x :
+    ℕ × ℕ) → HasKey us x → IsIn keys x → ⊥) → ((p : ℕ) → IsClear ts k cs p q) → (p : ℕ) → IsClear ts k cs p (q + 1)
 clear_next ts k cs vs q us keys col e f free before p r c d l m g h t =
     elim (cases_lt r q) [
       | inl z ↦ before p r c d l z g h t
@@ -239,7 +257,8 @@ member_there (c ∷ cs) zero l = (c, refl)
 member_there (c ∷ cs) (suc k) l = member_there cs k (omega arith)
 
 -- a member that meets a tag clashes
-pub clash_met : (ts : List Type') (k : ListKind) (cs : List Part) (vs : List (List Label)) (q : ℕ) (us : List Label) (keys : List (ℕ × ℕ)) (x : ℕ × ℕ) → Collected ts cs vs → q < length cs → slice_get vs q ≡ Some us →
+pub clash_met : (ts : List Type') (k : ListKind) (cs : List Part) (vs : List (List Label)) (q : ℕ) (us : List Label)
+    (keys : List (ℕ × ℕ)) (x : ℕ × ℕ) → Collected ts cs vs → q < length cs → slice_get vs q ≡ Some us →
     Meets k cs vs q keys → HasKey us x → IsIn keys x → (p : ℕ) × Clash ts k cs p q
 clash_met ts k cs vs q us keys x col l e f b h =
     let m = (f x).0 h in
@@ -261,5 +280,6 @@ clash_met ts k cs vs q us keys x col l e f b h =
     )
 
 -- where all members are clear the list is distinct
-pub distinct_all : (ts : List Type') (k : ListKind) (cs : List Part) (n : ℕ) → length cs ≤ n → ((p : ℕ) → IsClear ts k cs p n) → Distinct ts k cs
+pub distinct_all : (ts : List Type') (k : ListKind) (cs : List Part) (n : ℕ) → length cs ≤ n →
+    ((p : ℕ) → IsClear ts k cs p n) → Distinct ts k cs
 distinct_all ts k cs n l all p q c d m e f t = let w = slice_get_within cs q d f in all p q c d m (omega (arith, w, l)) e f t

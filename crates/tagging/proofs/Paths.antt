@@ -31,14 +31,16 @@ is_at ts i t e = record { constraints = t.constraints; assignment = t.assignment
 pub next_is : (ts : List Type') (i : ℕ) (t : Type') → slice_get ts i ≡ Some t → next ts i ≡ behind_kind t.kind
 next_is ts i t e = ap behind_of e
 
-pub same_kind : {ts : List Type'} {i : ℕ} {k m : Kind} {d e : TagDefault} {l n : Option (ℕ × ℕ)} → Is ts i k d l → Is ts i m e n → k ≡ m
+pub same_kind : {ts : List Type'} {i : ℕ} {k m : Kind} {d e : TagDefault} {l n : Option (ℕ × ℕ)} → Is ts i k d l →
+    Is ts i m e n → k ≡ m
 same_kind x y = let e = sym x.found ∙ y.found in ap kind_in e
   where
     kind_in : Option Type' → Kind
     kind_in None = reference 0
     kind_in (Some t) = t.kind
 
-pub same_default : {ts : List Type'} {i : ℕ} {k m : Kind} {d e : TagDefault} {l n : Option (ℕ × ℕ)} → Is ts i k d l → Is ts i m e n → d ≡ e
+pub same_default : {ts : List Type'} {i : ℕ} {k m : Kind} {d e : TagDefault} {l n : Option (ℕ × ℕ)} →
+    Is ts i k d l → Is ts i m e n → d ≡ e
 same_default {d = d} x y = ap default_in (sym x.found ∙ y.found)
   where
     default_in : Option Type' → TagDefault
@@ -55,20 +57,25 @@ own_of (elements y j) e = (_, refl)
 own_of (reference j) e = absurd cc
 own_of (tagged t k j) e = absurd cc
 
-written_behind : (ts : List Type') (i j : ℕ) (k : Kind) (d : TagDefault) (l : Option (ℕ × ℕ)) → Is ts i k d l → behind_kind k ≡ Some j → (p : Path) × Written ts j p → (p : Path) × Written ts i p
+written_behind : (ts : List Type') (i j : ℕ) (k : Kind) (d : TagDefault) (l : Option (ℕ × ℕ)) → Is ts i k d l →
+    behind_kind k ≡ Some j → (p : Path) × Written ts j p → (p : Path) × Written ts i p
 written_behind ts i j (simple n) d l h e w = absurd cc
 written_behind ts i j (members y m cs) d l h e w = absurd cc
 written_behind ts i j (elements y m) d l h e w = absurd cc
 written_behind ts i j (reference m) d l h e w = let q : m ≡ j = cc in (w.0, behind h (subst (λ n. Written ts n w.0) (sym q) w.1))
 written_behind ts i j (tagged t k m) d l h e w = let q : m ≡ j = cc in ((label t, form_of k d w.0) ∷ w.0, inside h (subst (λ n. Written ts n w.0) (sym q) w.1) refl)
 
-written_on : (ts : List Type') (k i : ℕ) (t : Type') (c : ℕ) (o : Option ℕ) → IsClosed ts → slice_get ts i ≡ Some t → next ts i ≡ o →
-    ((j : ℕ) → j < length ts → walk ts k j ≡ Some c → (p : Path) × Written ts j p) → onward o (λ j. walk ts k j) ≡ Some c → (p : Path) × Written ts i p
+written_on : (ts : List Type') (k i : ℕ) (t : Type') (c : ℕ) (o : Option ℕ) → IsClosed ts →
+    slice_get ts i ≡ Some t → next ts i ≡ o →
+    ((j :
+    ℕ) → j < length ts → walk ts k j ≡ Some c → (p : Path) × Written ts j p) → onward o (λ j. walk ts k j)
+    ≡ Some c → (p : Path) × Written ts i p
 written_on ts k i t c None cl e f go h = absurd cc
 written_on ts k i t c (Some j) cl e f go h =
     written_behind ts i j t.kind t.default t.place (is_at ts i t e) (sym (next_is ts i t e) ∙ f) (go j (cl i j f) h)
 
-written_by : (ts : List Type') (k i c : ℕ) → IsClosed ts → i < length ts → walk ts k i ≡ Some c → next ts c ≡ None → (p : Path) × Written ts i p
+written_by : (ts : List Type') (k i c : ℕ) → IsClosed ts → i < length ts → walk ts k i ≡ Some c → next ts c ≡ None →
+    (p : Path) × Written ts i p
 written_by ts zero i c cl l e f =
     let h = there ts i l in
     let s : i ≡ c = cc in
@@ -114,7 +121,8 @@ never_long ts i at k l e =
     let g = sym f ∙ ap (λ q. walk ts q i) s ∙ e in
     absurd cc
 
-pub form_same : (k : Keyword) (d : TagDefault) (p : Path) (o : Option Label) → o ≡ outermost p → form_before k d (is_none o) ≡ form_of k d p
+pub form_same : (k : Keyword) (d : TagDefault) (p : Path) (o : Option Label) → o ≡ outermost p →
+    form_before k d (is_none o) ≡ form_of k d p
 form_same k d p o e = ap (λ u. form_before k d (is_none u)) e ∙ same_form k d p
   where
     same_form : (k : Keyword) (d : TagDefault) (p : Path) → form_before k d (is_none (outermost p)) ≡ form_of k d p
@@ -127,13 +135,16 @@ form_same k d p o e = ap (λ u. form_before k d (is_none u)) e ∙ same_form k d
     same_form Absent Automatic (x ∷ p) = refl
 
 -- the length of the whole
-pub added_long : (ts : List Type') (i : ℕ) (b w p : Path) → Adds ts i b w → Written ts i p → length w ≡ length b + length p
+pub added_long : (ts : List Type') (i : ℕ) (b w p : Path) → Adds ts i b w → Written ts i p →
+    length w ≡ length b + length p
 added_long ts i b w p a v = ap length a.is ∙ length-append b a.path ∙ ap (λ q. length b + length q) (written_unique ts i a.path p a.written v)
 
-pub pushed : (v w : List FormedTag) (p : Path) (x : FormedTag) → w ≡ v ++ x ∷ [] → path_of w ++ p ≡ path_of v ++ ((label x.tag, x.form) ∷ p)
+pub pushed : (v w : List FormedTag) (p : Path) (x : FormedTag) → w ≡ v ++ x ∷ [] →
+    path_of w ++ p ≡ path_of v ++ ((label x.tag, x.form) ∷ p)
 pushed v w p x e = rw (e, map-append, append_assoc) refl
 
-pub pushed_last : (v w : List FormedTag) (x : FormedTag) (o : Path) → w ≡ v ++ x ∷ [] → path_of (x ∷ []) ≡ o → path_of w ≡ path_of v ++ o
+pub pushed_last : (v w : List FormedTag) (x : FormedTag) (o : Path) → w ≡ v ++ x ∷ [] → path_of (x ∷ []) ≡ o →
+    path_of w ≡ path_of v ++ o
 pushed_last v w x o e f = rw (e, map-append) (ap (λ q. path_of v ++ q) f)
 
 pub path_long : (v : List FormedTag) (p : Path) → length (path_of v ++ p) ≡ length v + length p

@@ -29,7 +29,8 @@ part i o = record { name = []; ty = i; presence = o; standing = Root }
 abbrev addition : ℕ → PresenceTree → Option ℕ → Part
 addition i o g = record { name = []; ty = i; presence = o; standing = Addition g }
 
-here : {ts : List Type'} {i : ℕ} {k : Kind} {d : TagDefault} {p : Option (ℕ × ℕ)} → slice_get ts i ≡ Some (written k d p) → Is ts i k d p
+here : {ts : List Type'} {i : ℕ} {k : Kind} {d : TagDefault} {p : Option (ℕ × ℕ)} →
+    slice_get ts i ≡ Some (written k d p) → Is ts i k d p
 here e = record { constraints = []; assignment = 0; found = e }
 
 abbrev context : (n : ℕ) → n < 2147483648 → Tag
@@ -97,7 +98,8 @@ clash_of p q is before at_first at_second together in_first in_second = record {
 }
 
 -- a type that is INTEGER has its tag first
-integer_first : {ts : List Type'} {i : ℕ} {d : TagDefault} {p : Option (ℕ × ℕ)} → slice_get ts i ≡ Some (written int d p) →
+integer_first : {ts : List Type'} {i : ℕ} {d : TagDefault} {p : Option (ℕ × ℕ)} →
+    slice_get ts i ≡ Some (written int d p) →
     automatic ts i ≡ None → First ts i (Universal, 2)
 integer_first e n = outermost (as_written n (core (here e) refl))
 
@@ -239,7 +241,10 @@ explicit_there : Tags (choice_tagged word.Absent tags.Implicit) 0 (((Context, 0)
 explicit_there = as_written refl (inside (here refl) (behind (here refl) (core (here refl) refl)) refl)
 
 -- a tag behind the reference: no untagged CHOICE
-passing_a_tag : Tags (tag_before 1 ∷ written (reference 2) tags.Explicit None ∷ written (tagged zero_tag word.Implicit 3) tags.Explicit None ∷ written int tags.Explicit None ∷ []) 0
+passing_a_tag :
+    Tags
+    (tag_before 1 ∷ written (reference 2) tags.Explicit None ∷ written
+    (tagged zero_tag word.Implicit 3) tags.Explicit None ∷ written int tags.Explicit None ∷ []) 0
     (((Context, 0), Explicit) ∷ ((Context, 0), Implicit) ∷ ((Universal, 2), Explicit) ∷ [])
 passing_a_tag = as_written refl (inside (here refl) (behind (here refl) (inside (here refl) (core (here refl) refl) refl)) refl)
 
@@ -305,7 +310,8 @@ mixed_refused = record {
   root = λ r. none_bears r.number r.member r.there r.stands r.bears;
 }
   where
-    none_bears : (n : ℕ) (c : Part) → slice_get mixed n ≡ Some c → is_addition c.standing ≡ false → bears_tag (slice_get mixed_types c.ty) ≡ true → ⊥
+    none_bears : (n : ℕ) (c : Part) → slice_get mixed n ≡ Some c → is_addition c.standing ≡ false →
+        bears_tag (slice_get mixed_types c.ty) ≡ true → ⊥
     none_bears zero c e f g = let s : part 1 mandatory ≡ c = cc in let h = subst (λ x. bears_tag (slice_get mixed_types x.ty) ≡ true) (sym s) g in absurd cc
     none_bears (suc zero) c e f g = let s : addition 2 mandatory None ≡ c = cc in let h = subst (λ x. is_addition x.standing ≡ false) (sym s) f in absurd cc
     none_bears (suc (suc n)) c e f g = absurd cc

@@ -19,11 +19,13 @@ pub front_count : (ts : List Type') (i f n : ℕ) → Front ts i f → TagCount 
 front_count ts i f n (here h e) w = w
 front_count ts i f n (through {j = j} h u) w = as_behind h (front_count ts j f n u w)
 
-pub front_not : (ts : List Type') (i f : ℕ) (k : Kind) (d : TagDefault) (l : Option (ℕ × ℕ)) → Front ts i f → Is ts f k d l → is_reference k ≡ false
+pub front_not : (ts : List Type') (i f : ℕ) (k : Kind) (d : TagDefault) (l : Option (ℕ × ℕ)) → Front ts i f →
+    Is ts f k d l → is_reference k ≡ false
 front_not ts i f k d l (here h e) g = ap is_reference (same_kind g h) ∙ e
 front_not ts i f k d l (through {j = j} h u) g = front_not ts j f k d l u g
 
-pub front_through : (ts : List Type') (i j f : ℕ) (k : Kind) (d : TagDefault) (l : Option (ℕ × ℕ)) → Front ts i f → Is ts i k d l → k ≡ reference j → Front ts j f
+pub front_through : (ts : List Type') (i j f : ℕ) (k : Kind) (d : TagDefault) (l : Option (ℕ × ℕ)) → Front ts i f →
+    Is ts i k d l → k ≡ reference j → Front ts j f
 front_through ts i j f k d l (here h e) g r = let x = sym (ap is_reference (same_kind h g ∙ r)) ∙ e in absurd cc
 front_through ts i j f k d l (through {j = m} h u) g r = let x = same_kind h g ∙ r in let q : m ≡ j = cc in subst (λ z. Front ts z f) q u
 
@@ -37,7 +39,8 @@ own_there (elements y j) e f = (_, refl)
 own_there (reference j) e f = absurd cc
 own_there (tagged t k j) e f = absurd cc
 
-pub ends_there : (ts : List Type') (i f : ℕ) (k : Kind) (d : TagDefault) (l : Option (ℕ × ℕ)) (q : Path) → Front ts i f → Is ts f k d l → is_tagged k ≡ false → ((p : Path) → own k ≡ Some p → p ≡ q) →
+pub ends_there : (ts : List Type') (i f : ℕ) (k : Kind) (d : TagDefault) (l : Option (ℕ × ℕ)) (q : Path) →
+    Front ts i f → Is ts f k d l → is_tagged k ≡ false → ((p : Path) → own k ≡ Some p → p ≡ q) →
     Written ts i q × TagCount ts i 0
 ends_there ts i f k d l q u h e g =
     let o = own_there k (front_not ts i f k d l u h) e in (
@@ -45,7 +48,8 @@ ends_there ts i f k d l q u h e g =
       front_count ts i f 0 u (none_written h o.1),
     )
 
-pub inside_there : (ts : List Type') (i f j : ℕ) (t : Tag) (w : Keyword) (d : TagDefault) (l : Option (ℕ × ℕ)) → IsLinked ts → Front ts i f → Is ts f (tagged t w j) d l → IsInside ts i t w d j
+pub inside_there : (ts : List Type') (i f j : ℕ) (t : Tag) (w : Keyword) (d : TagDefault) (l : Option (ℕ × ℕ)) →
+    IsLinked ts → Front ts i f → Is ts f (tagged t w j) d l → IsInside ts i t w d j
 inside_there ts i f j t w d l k u h = record {
   there = k.closed f j (ap behind_of h.found);
   tags = λ p v. front_written ts i f ((label t, form_of w d p) ∷ p) u (inside h v refl);
@@ -82,13 +86,16 @@ Passed ts start at passed = (n : ℕ) → TagCount ts at n → TagCount ts start
 pub none_passed : (ts : List Type') (start : ℕ) → Passed ts start start 0
 none_passed ts start n w = let e : n ≡ 0 + n = omega arith in subst (TagCount ts start) e w
 
-pub few_passed : (ts : List Type') (start at passed : ℕ) → Passed ts start at passed → TagCount ts at 0 → passed ≤ 4 → (n : ℕ) → TagCount ts start n → n ≤ 4
+pub few_passed : (ts : List Type') (start at passed : ℕ) → Passed ts start at passed → TagCount ts at 0 →
+    passed ≤ 4 → (n : ℕ) → TagCount ts start n → n ≤ 4
 few_passed ts start at passed onto c l n w = let e : passed + 0 ≡ n = count_unique ts start (passed + 0) n (onto 0 c) w in omega (arith, e, l)
 
-pub many_passed : (ts : List Type') (start at passed : ℕ) → IsLinked ts → at < length ts → Passed ts start at passed → 4 < passed → IsOverfull ts start
+pub many_passed : (ts : List Type') (start at passed : ℕ) → IsLinked ts → at < length ts →
+    Passed ts start at passed → 4 < passed → IsOverfull ts start
 many_passed ts start at passed k l onto m = let c = count_exists ts at k l in record { count = passed + c.0; counts = onto c.0 c.1; many = omega (arith, m) }
 
-pub one_passed : (ts : List Type') (start at passed : ℕ) (t : Tag) (w : Keyword) (d : TagDefault) (j : ℕ) → Passed ts start at passed → IsInside ts at t w d j → Passed ts start j (passed + 1)
+pub one_passed : (ts : List Type') (start at passed : ℕ) (t : Tag) (w : Keyword) (d : TagDefault) (j : ℕ) →
+    Passed ts start at passed → IsInside ts at t w d j → Passed ts start j (passed + 1)
 one_passed ts start at passed t w d j onto u n c =
     let e : passed + suc n ≡ passed + 1 + n = omega arith in
     subst (TagCount ts start) e (onto (suc n) (u.count n c))

@@ -19,25 +19,30 @@ use Rattle.resolve.specs.Program.{Program, IsAssignment}
 use Rattle.tagging.specs.Faults.{StandsIn}
 use Rattle.tagging.specs.Tags.{is_tagged}
 
-pub is_here : (ws : List Written) (i : ℕ) (w : Written) → i < length ws → w ≡ get_or ws i w → Is (types_of ws) i (kind_of w.shape) w.default (place_of w.place)
+pub is_here : (ws : List Written) (i : ℕ) (w : Written) → i < length ws → w ≡ get_or ws i w →
+    Is (types_of ws) i (kind_of w.shape) w.default (place_of w.place)
 is_here ws i w l e = record { constraints = _; assignment = _; found = type_at ws i w l e }
 
 -- one place more of a list
-pub take_next : {X : Type 0} (xs : List X) (i : ℕ) (x : X) → slice_get xs i ≡ Some x → take (i + 1) xs ≡ take i xs ++ x ∷ []
+pub take_next : {X : Type 0} (xs : List X) (i : ℕ) (x : X) → slice_get xs i ≡ Some x →
+    take (i + 1) xs ≡ take i xs ++ x ∷ []
 take_next xs i x e = take_more xs i x (slice_get_within xs i x e) ∙ ap (λ z. take i xs ++ z ∷ []) (get_or_from_slice_get xs i x x e)
 
 -- the members of a list as they lie in memory
-pub part_at : (cs : List Component) (i : ℕ) (c : Component) → i < length cs → c ≡ get_or cs i c → slice_get (map part_of cs) i ≡ Some (part_of c)
+pub part_at : (cs : List Component) (i : ℕ) (c : Component) → i < length cs → c ≡ get_or cs i c →
+    slice_get (map part_of cs) i ≡ Some (part_of c)
 part_at cs i c l e = item_at part_of cs i c l e
 
-pub part_more : (cs : List Component) (i : ℕ) (c : Component) → i < length cs → c ≡ get_or cs i c → take (i + 1) (map part_of cs) ≡ take i (map part_of cs) ++ part_of c ∷ []
+pub part_more : (cs : List Component) (i : ℕ) (c : Component) → i < length cs → c ≡ get_or cs i c →
+    take (i + 1) (map part_of cs) ≡ take i (map part_of cs) ++ part_of c ∷ []
 part_more cs i c l e = take_next (map part_of cs) i (part_of c) (part_at cs i c l e)
 
 pub parts_long : (cs : List Component) → length (map part_of cs) ≡ length cs
 parts_long cs = length-map cs part_of
 
 -- a list has a member where its members as definitions see them have one
-pub any_seen : {X Y : Type 0} (f : Y → Bool) (g : X → Y) (xs : List X) → list_any f (map g xs) ≡ list_any (λ x. f (g x)) xs
+pub any_seen : {X Y : Type 0} (f : Y → Bool) (g : X → Y) (xs : List X) →
+    list_any f (map g xs) ≡ list_any (λ x. f (g x)) xs
 any_seen f g [] = refl
 any_seen f g (x ∷ xs) = rw (any_seen f g xs) refl
 
@@ -54,7 +59,8 @@ pub contained_at : {X : Type 0} (xs : List X) (x : X) (h : Contains xs x) → sl
 contained_at xs x h = slice_get_read xs (length xs) h.0 x refl h.1 (sym h.2)
 
 -- a shape that is no tag
-pub no_tag : (s : Shape) → ((t : Tag) (k : Keyword) (j : ℕ) → s ≡ shapes.Tagged t k j → ⊥) → is_tagged (kind_of s) ≡ false
+pub no_tag : (s : Shape) → ((t : Tag) (k : Keyword) (j : ℕ) → s ≡ shapes.Tagged t k j → ⊥) →
+    is_tagged (kind_of s) ≡ false
 no_tag (shapes.Simple x) f = refl
 no_tag (shapes.Reference j) f = refl
 no_tag (shapes.Tagged t k j) f = absurd (f t k j refl)
@@ -62,5 +68,6 @@ no_tag (shapes.Members k m cs) f = refl
 no_tag (shapes.Elements k j) f = refl
 
 -- where a type stands that linked modules tell of
-pub stands_home : (p q : Program) (i : ℕ) (t : Type') (M x : List ℕ) → q ≡ p → slice_get p.types i ≡ Some t → ((u : Type') → slice_get q.types i ≡ Some u → IsAssignment q u.assignment M x) → StandsIn p i M x
+pub stands_home : (p q : Program) (i : ℕ) (t : Type') (M x : List ℕ) → q ≡ p → slice_get p.types i ≡ Some t →
+    ((u : Type') → slice_get q.types i ≡ Some u → IsAssignment q u.assignment M x) → StandsIn p i M x
 stands_home p q i t M x e f h = record { type = t; found = f; assigned = subst (λ z. IsAssignment z t.assignment M x) e (h t (ap (λ z. slice_get z.types i) e ∙ f)) }

@@ -27,15 +27,18 @@ use Rattle.tagging.specs.proving.Step.{Outermost}
 use Rattle.tagging.proofs.Paths.{written_exists, written_unique}
 use Rattle.tagging.proofs.Fronts.{within_all, head_first, first_head, head_unique}
 
-pub collected_push : (ts : List Type') (cs : List Part) (vs : List (List Label)) (c : Part) (us : List Label) → Collected ts cs vs → AreFirst ts c.ty us → Collected ts (cs ++ c ∷ []) (vs ++ us ∷ [])
+pub collected_push : (ts : List Type') (cs : List Part) (vs : List (List Label)) (c : Part) (us : List Label) →
+    Collected ts cs vs → AreFirst ts c.ty us → Collected ts (cs ++ c ∷ []) (vs ++ us ∷ [])
 collected_push ts cs vs c us nothing a = one a nothing
 collected_push ts cs vs c us (one {cs = cs'} {vs = vs'} b w) a = one b (collected_push ts cs' vs' c us w a)
 
-pub collected_long : (ts : List Type') (cs : List Part) (vs : List (List Label)) → Collected ts cs vs → length vs ≡ length cs
+pub collected_long : (ts : List Type') (cs : List Part) (vs : List (List Label)) → Collected ts cs vs →
+    length vs ≡ length cs
 collected_long ts cs vs nothing = refl
 collected_long ts cs vs (one {cs = cs'} {vs = vs'} b w) = ap suc (collected_long ts cs' vs' w)
 
-front_none : (ts : List Type') (cs : List Part) (us : List Label) (n : ℕ) (c : Part) → Fronts ts cs us → slice_get cs n ≡ Some c → Tags ts c.ty [] → ⊥
+front_none : (ts : List Type') (cs : List Part) (us : List Label) (n : ℕ) (c : Part) → Fronts ts cs us →
+    slice_get cs n ≡ Some c → Tags ts c.ty [] → ⊥
 front_none ts cs us n c none e t = absurd cc
 front_none ts cs us zero c (front {c = b} {t = u} h f) e t = let s : b ≡ c = cc in let x = head_unique ts c.ty (Some u) None (subst (λ z. Head ts z.ty (Some u)) s h) (record { path = []; tags = t; is = refl }) in absurd cc
 front_none ts cs us (suc n) c (front {cs = cs'} {us = us'} h f) e t = front_none ts cs' us' n c f e t
@@ -60,7 +63,8 @@ not_sequence Choice f = inl refl
 pub has_tag : (ts : List Type') (i : ℕ) (t : Label) → Outermost ts i (Some t) → Written ts i [] → ⊥
 has_tag ts i t o w = let e = written_unique ts i o.path [] o.written w in let f = o.is ∙ ap outermost e in absurd cc
 
-pub inside_table : (ts : List Type') (i j : ℕ) (t : Tag) (w : Keyword) (d : TagDefault) (p : Option (ℕ × ℕ)) → IsLinked ts → Is ts i (tagged t w j) d p → j < length ts
+pub inside_table : (ts : List Type') (i j : ℕ) (t : Tag) (w : Keyword) (d : TagDefault) (p : Option (ℕ × ℕ)) →
+    IsLinked ts → Is ts i (tagged t w j) d p → j < length ts
 inside_table ts i j t w d p k h = k.closed i j (ap behind_of h.found)
 
 -- where each type breaks no rule, the table is tagged
@@ -74,7 +78,8 @@ count_there ts i n (none_written h e) = below ts i _ h.found
 count_there ts i n (as_behind h c) = below ts i _ h.found
 count_there ts i n (one_more h c) = below ts i _ h.found
 
-numbered_at : (ts : List Type') (i n : ℕ) (o : Option Type') → slice_get ts i ≡ o → automatic_of ts o ≡ Some n → i < length ts
+numbered_at : (ts : List Type') (i n : ℕ) (o : Option Type') → slice_get ts i ≡ o → automatic_of ts o ≡ Some n →
+    i < length ts
 numbered_at ts i n None e f = absurd cc
 numbered_at ts i n (Some t) e f = below ts i t e
 
@@ -92,7 +97,8 @@ all_good ts g = record {
   distinct = λ i k m cs d p h. ((g i (below ts i _ h.found)).suits (members k m cs) d p h).distinct;
 }
 
-bears : (ts : List Type') (k : ListKind) (cs : List Part) (n : ℕ) (c : Part) → (k ≡ Choice) ⊎ (k ≡ Set) → BearTags ts k cs → slice_get cs n ≡ Some c → Tags ts c.ty [] → ⊥
+bears : (ts : List Type') (k : ListKind) (cs : List Part) (n : ℕ) (c : Part) → (k ≡ Choice) ⊎ (k ≡ Set) →
+    BearTags ts k cs → slice_get cs n ≡ Some c → Tags ts c.ty [] → ⊥
 bears ts Sequence cs n c (inl e) b f t = absurd cc
 bears ts Sequence cs n c (inr e) b f t = absurd cc
 bears ts Set cs n c w b f t = b n c f t
@@ -109,7 +115,8 @@ none_breaks ts TagClash i s t =
     let c = s.clash in
     t.distinct i s.kind s.marker s.cs s.default s.place s.is s.one s.other c.first c.second c.before c.at_first c.at_second c.together c.tag c.in_first c.in_second
 
-pub implicit_at : (ts : List Type') (i j : ℕ) (k : Keyword) (t : Tag) (d : TagDefault) (p : Option (ℕ × ℕ)) → k ≡ Implicit → Is ts i (tagged t k j) d p → Written ts j [] → IsImplicit ts i
+pub implicit_at : (ts : List Type') (i j : ℕ) (k : Keyword) (t : Tag) (d : TagDefault) (p : Option (ℕ × ℕ)) →
+    k ≡ Implicit → Is ts i (tagged t k j) d p → Written ts j [] → IsImplicit ts i
 implicit_at ts i j k t d p e h w = record { tag = t; inner = j; default = d; place = p; is = subst (λ q. Is ts i (tagged t q j) d p) e h; untagged = w }
 
 pub suits_tag : (ts : List Type') (k : Keyword) (j : ℕ) → (Written ts j [] → ⊥) → SuitsTag ts k j
@@ -121,7 +128,8 @@ suits_tag ts Explicit j f = tt
 pub tags_exist : (ts : List Type') (i : ℕ) → IsLinked ts → i < length ts → (p : Path) × Tags ts i p
 tags_exist ts i k l = tags_by ts i (automatic ts i) (written_exists ts i k l) refl
   where
-    tags_by : (ts : List Type') (i : ℕ) (o : Option ℕ) → (p : Path) × Written ts i p → automatic ts i ≡ o → (p : Path) × Tags ts i p
+    tags_by : (ts : List Type') (i : ℕ) (o : Option ℕ) → (p : Path) × Written ts i p → automatic ts i ≡ o →
+        (p : Path) × Tags ts i p
     tags_by ts i None w e = (w.0, as_written e w.1)
     tags_by ts i (Some n) w e = (_, numbered e w.1 refl)
 
@@ -149,10 +157,12 @@ no_other_fault p (faults.MixedAutomatic x) n s t = none_breaks p.types MixedAuto
 abbrev pub NoneBears : List Type' → List Part → Bool → ℕ → Type 0
 NoneBears ts cs b n = (r : Bears ts cs b) → n ≤ r.number
 
-pub bears_here : (ts : List Type') (cs : List Part) (b : Bool) (n : ℕ) (c : Part) → slice_get cs n ≡ Some c → BearsHere ts c b → BearsAt ts cs b n
+pub bears_here : (ts : List Type') (cs : List Part) (b : Bool) (n : ℕ) (c : Part) → slice_get cs n ≡ Some c →
+    BearsHere ts c b → BearsAt ts cs b n
 bears_here ts cs b n c e h = record { bearing = record { number = n; member = c; there = e; stands = h.stands; bears = h.bears }; is = refl }
 
-pub none_next : (ts : List Type') (cs : List Part) (b : Bool) (n : ℕ) (c : Part) → slice_get cs n ≡ Some c → (BearsHere ts c b → ⊥) → NoneBears ts cs b n → NoneBears ts cs b (n + 1)
+pub none_next : (ts : List Type') (cs : List Part) (b : Bool) (n : ℕ) (c : Part) → slice_get cs n ≡ Some c →
+    (BearsHere ts c b → ⊥) → NoneBears ts cs b n → NoneBears ts cs b (n + 1)
 none_next ts cs b n c e f g r = elim (cases_lt n r.number) [
   | inl l ↦ omega (arith, l)
   | inr m ↦ (
@@ -166,5 +176,6 @@ none_next ts cs b n c e f g r = elim (cases_lt n r.number) [
     some_one : {x y : Part} → Some x ≡ Some y → x ≡ y
     some_one h = cc
 
-pub none_bear : (ts : List Type') (cs : List Part) (b : Bool) (n : ℕ) → length cs ≤ n → NoneBears ts cs b n → Bears ts cs b → ⊥
+pub none_bear : (ts : List Type') (cs : List Part) (b : Bool) (n : ℕ) → length cs ≤ n → NoneBears ts cs b n →
+    Bears ts cs b → ⊥
 none_bear ts cs b n l f r = let w = slice_get_within cs r.number r.member r.there in let m = f r in omega (arith, w, l, m)

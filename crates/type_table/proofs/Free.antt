@@ -16,7 +16,8 @@ same_number m n e = cc
 
 -- ---- being among numbers
 
-on_head : (z y : ℤ) (ys : List ℤ) (b : Bool) → int_eq z y ≡ b → (b || is_among z ys) ≡ true → (is_among z ys ≡ true → StandsIn ys z) → StandsIn (y ∷ ys) z
+on_head : (z y : ℤ) (ys : List ℤ) (b : Bool) → int_eq z y ≡ b → (b || is_among z ys) ≡ true →
+    (is_among z ys ≡ true → StandsIn ys z) → StandsIn (y ∷ ys) z
 on_head z y ys true e h rest = (0, ap Some (sym ((Decides-int_eq z y).0 e)))
 on_head z y ys false e h rest = let r = rest h in (suc r.0, r.1)
 
@@ -84,7 +85,8 @@ row_fits n k used h =
 
 -- ---- the least number from n on that is none of these
 
-pub one_free : (used other : List ℤ) (n y z : ℕ) → ((w : ℤ) → StandsIn used w → StandsIn other w) → ((w : ℤ) → StandsIn other w → StandsIn used w) → IsFree used n y → IsFree other n z → y ≡ z
+pub one_free : (used other : List ℤ) (n y z : ℕ) → ((w : ℤ) → StandsIn used w → StandsIn other w) →
+    ((w : ℤ) → StandsIn other w → StandsIn used w) → IsFree used n y → IsFree other n z → y ≡ z
 one_free used other n y z f g a b = elim (cases_order y z) [
   | inl e ↦ e
   | inr (inl l) ↦ absurd (a.unused (g (pos y) (b.taken y a.from l)))
@@ -108,12 +110,14 @@ taken_all used n m l h s =
     let d = row_fits n (suc (length used)) used (λ k a b. all k a (omega (arith, l, b))) in
     omega (arith, d)
 
-first_on : (used : List ℤ) (n m k : ℕ) (b : Bool) → is_among (pos m) used ≡ b → n + length used ≤ m + suc k → n ≤ m → AreTaken used n m →
+first_on : (used : List ℤ) (n m k : ℕ) (b : Bool) → is_among (pos m) used ≡ b → n + length used ≤ m + suc k →
+    n ≤ m → AreTaken used n m →
     (n + length used ≤ suc m + k → n ≤ suc m → AreTaken used n (suc m) → IsFree used n (first_free k (suc m) used)) → IsFree used n (cond b (first_free k (suc m) used) m)
 first_on used n m k true e l f h go = go (omega (arith, l)) (omega (arith, f)) (taken_more used n m h (among_stands (pos m) used e))
 first_on used n m k false e l f h go = record { from = f; unused = not_among (pos m) used e; taken = h }
 
-first_is : (used : List ℤ) (n m k : ℕ) → n + length used ≤ m + k → n ≤ m → AreTaken used n m → IsFree used n (first_free k m used)
+first_is : (used : List ℤ) (n m k : ℕ) → n + length used ≤ m + k → n ≤ m → AreTaken used n m →
+    IsFree used n (first_free k m used)
 first_is used n m zero l f h = record { from = f; unused = taken_all used n m (omega (arith, l)) h; taken = h }
 first_is used n m (suc k) l f h = first_on used n m k (is_among (pos m) used) refl l f h (λ a b t. first_is used n (suc m) k a b t)
 

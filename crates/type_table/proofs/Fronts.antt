@@ -8,10 +8,12 @@ use Rattle.names.specs.proving.Distinct.{distinct_more, distinct_none, drop_at, 
 use Rattle.type_table.specs.proving.Sets.{Puts, IsSetOf}
 
 -- what is seen of this turn's item
-pub seen_at : {X Y A : Type 0} (f : Y → A) (g : X → Y) (xs : List X) (i : ℕ) (x : X) → i < length xs → x ≡ get_or xs i x → slice_get (map f (map g xs)) i ≡ Some (f (g x))
+pub seen_at : {X Y A : Type 0} (f : Y → A) (g : X → Y) (xs : List X) (i : ℕ) (x : X) → i < length xs →
+    x ≡ get_or xs i x → slice_get (map f (map g xs)) i ≡ Some (f (g x))
 seen_at f g xs i x l e = stands_map f (map g xs) i (g x) (item_at g xs i x l e)
 
-pub seen_long : {X Y A : Type 0} (f : Y → A) (g : X → Y) (xs : List X) (i : ℕ) → length xs ≤ i → length (map f (map g xs)) ≤ i
+pub seen_long : {X Y A : Type 0} (f : Y → A) (g : X → Y) (xs : List X) (i : ℕ) → length xs ≤ i →
+    length (map f (map g xs)) ≤ i
 seen_long f g xs i l = omega (arith, l, length-map (map g xs) f, length-map xs g)
 
 module _ {A : Type 0} (zs : List A) (i : ℕ) (x : A) (e : slice_get zs i ≡ Some x) where
@@ -41,11 +43,14 @@ set_more old new ys z h put y = (
 )
 
 -- the set of those that come first, and this one
-pub front_set : {A : Type 0} (zs : List A) (i : ℕ) (x : A) → slice_get zs i ≡ Some x → (old new : List A) → IsSetOf old (take i zs) → Puts old new x → IsSetOf new (take (i + 1) zs)
+pub front_set : {A : Type 0} (zs : List A) (i : ℕ) (x : A) → slice_get zs i ≡ Some x → (old new : List A) →
+    IsSetOf old (take i zs) → Puts old new x → IsSetOf new (take (i + 1) zs)
 front_set zs i x e old new h put = subst (IsSetOf new) (sym (front_more zs i x e)) (set_more old new (take i zs) x h put)
 
 -- what holds of the first items of a list, and of the next
-pub each_more : {A : Type 0} (P : A → Type 0) (zs : List A) (i : ℕ) (x : A) → slice_get zs i ≡ Some x → ((k : ℕ) (z : A) → k < i → slice_get zs k ≡ Some z → P z) → P x → (k : ℕ) (z : A) → k < i + 1 → slice_get zs k ≡ Some z → P z
+pub each_more : {A : Type 0} (P : A → Type 0) (zs : List A) (i : ℕ) (x : A) → slice_get zs i ≡ Some x →
+    ((k : ℕ) (z : A) → k < i → slice_get zs k ≡ Some z → P z) → P x → (k : ℕ) (z : A) → k < i + 1 →
+    slice_get zs k ≡ Some z → P z
 each_more P zs i x e below here k z l h = below_more (λ j. (u : _) → slice_get zs j ≡ Some u → P u) i (λ j m u q. below j u m q) (λ u q. subst P (same_Some x u (sym e ∙ q)) here) k l z h
 
 -- ---- in a list
@@ -58,13 +63,15 @@ pub record Kept {A : Type 0} (zs done : List A) (i : ℕ) : Type 0 where
 pub kept_start : {A : Type 0} (zs done : List A) → done ≡ [] → Kept zs done 0
 kept_start zs done e = record { same = e; apart = distinct_none }
 
-pub kept_more : {A : Type 0} (zs done new : List A) (i : ℕ) (x : A) → slice_get zs i ≡ Some x → Kept zs done i → new ≡ done ++ x ∷ [] → (StandsIn done x → ⊥) → Kept zs new (i + 1)
+pub kept_more : {A : Type 0} (zs done new : List A) (i : ℕ) (x : A) → slice_get zs i ≡ Some x → Kept zs done i →
+    new ≡ done ++ x ∷ [] → (StandsIn done x → ⊥) → Kept zs new (i + 1)
 kept_more zs done new i x e k n fresh = record {
   same = n ∙ ap (λ d. d ++ x ∷ []) k.same ∙ sym (front_more zs i x e);
   apart = front_distinct zs i x e k.apart (λ s. fresh (subst (λ d. StandsIn d x) (sym k.same) s));
 }
 
-pub kept_twice : {A : Type 0} (zs done : List A) (i : ℕ) (x : A) → slice_get zs i ≡ Some x → Kept zs done i → StandsIn done x → StandsTwice zs x
+pub kept_twice : {A : Type 0} (zs done : List A) (i : ℕ) (x : A) → slice_get zs i ≡ Some x → Kept zs done i →
+    StandsIn done x → StandsTwice zs x
 kept_twice zs done i x e k s = front_twice zs i x e (subst (λ d. StandsIn d x) k.same s)
 
 pub kept_all : {A : Type 0} (zs done : List A) (i : ℕ) → length zs ≤ i → Kept zs done i → (done ≡ zs) × AreDistinct zs
@@ -79,13 +86,15 @@ pub record KeptIn {A : Type 0} (zs keys : List A) (i : ℕ) : Type 0 where
 pub kept_in_start : {A : Type 0} (zs keys : List A) → keys ≡ [] → KeptIn zs keys 0
 kept_in_start zs keys e = record { same = λ y. (subst (λ l. StandsIn l y) e, subst (λ l. StandsIn l y) (sym e)); apart = distinct_none }
 
-pub kept_in_more : {A : Type 0} (zs keys new : List A) (i : ℕ) (x : A) → slice_get zs i ≡ Some x → KeptIn zs keys i → Puts keys new x → (StandsIn keys x → ⊥) → KeptIn zs new (i + 1)
+pub kept_in_more : {A : Type 0} (zs keys new : List A) (i : ℕ) (x : A) → slice_get zs i ≡ Some x →
+    KeptIn zs keys i → Puts keys new x → (StandsIn keys x → ⊥) → KeptIn zs new (i + 1)
 kept_in_more zs keys new i x e k put fresh = record {
   same = front_set zs i x e keys new k.same put;
   apart = front_distinct zs i x e k.apart (λ s. fresh ((k.same x).1 s));
 }
 
-pub kept_in_twice : {A : Type 0} (zs keys : List A) (i : ℕ) (x : A) → slice_get zs i ≡ Some x → KeptIn zs keys i → StandsIn keys x → StandsTwice zs x
+pub kept_in_twice : {A : Type 0} (zs keys : List A) (i : ℕ) (x : A) → slice_get zs i ≡ Some x → KeptIn zs keys i →
+    StandsIn keys x → StandsTwice zs x
 kept_in_twice zs keys i x e k s = front_twice zs i x e ((k.same x).0 s)
 
 pub kept_in_all : {A : Type 0} (zs keys : List A) (i : ℕ) → length zs ≤ i → KeptIn zs keys i → AreDistinct zs

@@ -6,7 +6,8 @@ use Rattle.type_table.specs.Table.{Type', next, walk, IsCore, IsClosed, IsCircul
 use Rattle.type_table.specs.Walks.{onward}
 use Rattle.type_table.specs.proving.Walks.{walk_walk, ended_few, ends_not_back}
 
-core_steps : (ts : List Type') (i j c k : ℕ) → walk ts k i ≡ Some c → next ts c ≡ None → next ts i ≡ Some j → k < length ts → IsCore ts j c
+core_steps : (ts : List Type') (i j c k : ℕ) → walk ts k i ≡ Some c → next ts c ≡ None → next ts i ≡ Some j →
+    k < length ts → IsCore ts j c
 core_steps ts i j c zero w f e l =
     let q : i ≡ c = cc in
     let g = sym e ∙ ap (next ts) q ∙ f in
@@ -19,13 +20,15 @@ pub core_on : (ts : List Type') (i j c : ℕ) → IsCore ts i c → next ts i �
 core_on ts i j c u e = core_steps ts i j c u.steps u.leads u.ends e u.few
 
 -- so has each type before it
-pub core_before : (ts : List Type') (k i at c : ℕ) → IsClosed ts → i < length ts → walk ts k i ≡ Some at → IsCore ts at c → IsCore ts i c
+pub core_before : (ts : List Type') (k i at c : ℕ) → IsClosed ts → i < length ts → walk ts k i ≡ Some at →
+    IsCore ts at c → IsCore ts i c
 core_before ts k i at c closed l w u =
     let w' : walk ts (k + u.steps) i ≡ Some c = walk_walk (next ts) k u.steps i at w ∙ u.leads in
     record { steps = k + u.steps; few = ended_few (next ts) (length ts) (k + u.steps) i c closed l w' u.ends; leads = w'; ends = u.ends }
 
 -- a walk that ends comes to a core
-pub core_ended : (ts : List Type') (k i c : ℕ) → IsClosed ts → i < length ts → walk ts k i ≡ Some c → next ts c ≡ None → IsCore ts i c
+pub core_ended : (ts : List Type') (k i c : ℕ) → IsClosed ts → i < length ts → walk ts k i ≡ Some c →
+    next ts c ≡ None → IsCore ts i c
 core_ended ts k i c closed l w f = record { steps = k; few = ended_few (next ts) (length ts) k i c closed l w f; leads = w; ends = f }
 
 pub core_not_circular : (ts : List Type') (i c : ℕ) → IsCore ts i c → IsCircular ts i → ⊥

@@ -13,7 +13,8 @@ within_more zs y w l i z e = elim (either zs (y ∷ []) i z e) [
   | inr r ↦ subst IsWithinLimit (stands_one y z (r.0, r.2)) l
 ]
 
-pub within_puts : (old new : List ℤ) (y : ℤ) → Puts old new y → AreWithinLimit old → IsWithinLimit y → AreWithinLimit new
+pub within_puts : (old new : List ℤ) (y : ℤ) → Puts old new y → AreWithinLimit old → IsWithinLimit y →
+    AreWithinLimit new
 within_puts old new y p w l i z e = elim ((p z).0 (i, e)) [
   | inl s ↦ w s.0 z s.1
   | inr q ↦ subst IsWithinLimit q l

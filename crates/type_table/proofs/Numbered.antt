@@ -24,9 +24,11 @@ module _ (ms : List (Name × Module)) (hs : List (Name × TagDefault)) (gs : Lis
     pub first : ℕ
     pub there : slice_get ts k ≡ Some t
     pub top : IsTop ms hs gs (n + first) s t
-    pub parts : (q : ℕ) (c : Source) → slice_get (parts_of s.assignment (i + k) s.tree) q ≡ Some c → slice_get (all_parts i ss) (first + q) ≡ Some c
+    pub parts : (q : ℕ) (c : Source) → slice_get (parts_of s.assignment (i + k) s.tree) q ≡ Some c →
+        slice_get (all_parts i ss) (first + q) ≡ Some c
 
-  pub at : (i n k : ℕ) (ss : List Source) (ts : List Type') (s : Source) → AreTops ms hs gs i n ss ts → slice_get ss k ≡ Some s → At i n k ss ts s
+  pub at : (i n k : ℕ) (ss : List Source) (ts : List Type') (s : Source) → AreTops ms hs gs i n ss ts →
+      slice_get ss k ≡ Some s → At i n k ss ts s
   at i n k [] [] s a e = absurd cc
   at i n k [] (t ∷ ts) s a e = absurd a
   at i n k (x ∷ ss) [] s a e = absurd a
@@ -93,7 +95,8 @@ no_place i n None e f = absurd cc
 no_place i n (Some p) e f = absurd cc
 
 module _ (ms : List (Name × Module)) (hs : List (Name × TagDefault)) (gs : List (ℕ × Name)) where
-  source_at : (i n k : ℕ) (ss : List Source) (ts : List Type') (t : Type') → AreTops ms hs gs i n ss ts → slice_get ts k ≡ Some t → (s : Source) × (slice_get ss k ≡ Some s)
+  source_at : (i n k : ℕ) (ss : List Source) (ts : List Type') (t : Type') → AreTops ms hs gs i n ss ts →
+      slice_get ts k ≡ Some t → (s : Source) × (slice_get ss k ≡ Some s)
   source_at i n k [] [] t a e = absurd cc
   source_at i n k [] (y ∷ ts) t a e = absurd a
   source_at i n k (x ∷ ss) [] t a e = absurd a
@@ -109,7 +112,8 @@ module _ (ms : List (Name × Module)) (hs : List (Name × TagDefault)) (gs : Lis
     part : slice_get (parts_of s.assignment (i + k) s.tree) q ≡ Some c
     number : m ≡ (at ms hs gs i n k ss ts s a there).first + q
 
-  from : (i n m : ℕ) (ss : List Source) (ts : List Type') (a : AreTops ms hs gs i n ss ts) (c : Source) → slice_get (all_parts i ss) m ≡ Some c → From i n m ss ts a c
+  from : (i n m : ℕ) (ss : List Source) (ts : List Type') (a : AreTops ms hs gs i n ss ts) (c : Source) →
+      slice_get (all_parts i ss) m ≡ Some c → From i n m ss ts a c
   unfolding at
   from i n m [] [] a c e = absurd cc
   from i n m [] (t ∷ ts) a c e = absurd a
@@ -131,7 +135,8 @@ module _ (ms : List (Name × Module)) (hs : List (Name × TagDefault)) (gs : Lis
             })
       ]
 
-  same_default : (n m : ℕ) (s c : Source) (t u : Type') → IsTop ms hs gs n s t → IsTop ms hs gs m c u → c.assignment ≡ s.assignment → u.default ≡ t.default
+  same_default : (n m : ℕ) (s c : Source) (t u : Type') → IsTop ms hs gs n s t → IsTop ms hs gs m c u →
+      c.assignment ≡ s.assignment → u.default ≡ t.default
   same_default n m s c t u a b e =
       let o : Some (b.owner, b.assigns) ≡ Some (a.owner, a.assigns) = sym b.assigned ∙ ap (λ x. slice_get gs x) e ∙ a.assigned in
       let w : b.owner ≡ a.owner = ap (owner_or 0) o in
@@ -143,10 +148,12 @@ module _ (ms : List (Name × Module)) (hs : List (Name × TagDefault)) (gs : Lis
     first : ℕ
     source : Source
     top : IsTop ms hs gs first source t
-    parts : (q : ℕ) (c : Source) → slice_get (parts_of source.assignment i source.tree) q ≡ Some c → (u : Type') × (slice_get ts (first + q) ≡ Some u) × (u.place ≡ c.place) × (u.default ≡ t.default)
+    parts : (q : ℕ) (c : Source) → slice_get (parts_of source.assignment i source.tree) q ≡ Some c →
+        (u : Type') × (slice_get ts (first + q) ≡ Some u) × (u.place ≡ c.place) × (u.default ≡ t.default)
 
   module _ (roots : List Source) (ts : List Type') (all : AreNumbered ms hs gs roots ts) where
-    pub part_there : (x q : ℕ) (c : Source) → slice_get (all_parts 0 all.sources) (x + q) ≡ Some c → slice_get all.sources (length roots + x + q) ≡ Some c
+    pub part_there : (x q : ℕ) (c : Source) → slice_get (all_parts 0 all.sources) (x + q) ≡ Some c →
+        slice_get all.sources (length roots + x + q) ≡ Some c
     part_there x q c e =
         let z : length roots + x + q ≡ length roots + (x + q) = omega arith in
         ap (λ l. slice_get l (length roots + x + q)) all.all ∙ ap (λ m. slice_get (roots ++ all_parts 0 all.sources) m) z ∙ right roots (all_parts 0 all.sources) (x + q) ∙ e
@@ -182,13 +189,15 @@ module _ (ms : List (Name × Module)) (hs : List (Name × TagDefault)) (gs : Lis
         subst (λ x. x < length gs) (sym n.top.assignment) (slice_get_within gs n.source.assignment (n.top.owner, n.top.assigns) n.top.assigned)
 
     module _ (meant : (M x : Name) (N : Option Name) (j : ℕ) → Refers ms M N x (assigned.Type j) → j < length ts) where
-      one_there : (i : ℕ) (t : Type') (e : Entry ts i t) (c : Source) → slice_get (parts_of e.source.assignment i e.source.tree) 0 ≡ Some c → e.first < length ts
+      one_there : (i : ℕ) (t : Type') (e : Entry ts i t) (c : Source) →
+          slice_get (parts_of e.source.assignment i e.source.tree) 0 ≡ Some c → e.first < length ts
       one_there i t e c h =
           let p = e.parts 0 c h in
           let w : e.first + 0 < length ts = slice_get_within ts (e.first + 0) p.0 p.1 in
           omega (arith, w)
 
-      behind_there : (i : ℕ) (t : Type') (e : Entry ts i t) (k : Kind) (j : ℕ) → Parts ms e.top.within e.first (form_of e.source.tree) k → behind k ≡ Some j → j < length ts
+      behind_there : (i : ℕ) (t : Type') (e : Entry ts i t) (k : Kind) (j : ℕ) →
+          Parts ms e.top.within e.first (form_of e.source.tree) k → behind k ≡ Some j → j < length ts
       behind_there i t e (simple p) j (plain f) h = absurd cc
       behind_there i t e (reference z) j (referring N x r f) h = let q : z ≡ j = cc in subst (λ y. y < length ts) q (meant e.top.within x N z r)
       behind_there i t e (tagged g w n) j (tagging u f) h = let q : e.first ≡ j = cc in subst (λ y. y < length ts) q (one_there i t e (record { tree = u; assignment = e.source.assignment; place = None }) (ap (λ l. slice_get l 0) (f e.source.assignment i)))
@@ -199,14 +208,19 @@ module _ (ms : List (Name × Module)) (hs : List (Name × TagDefault)) (gs : Lis
       closed_on i j None e h = absurd cc
       closed_on i j (Some t) e h = let n = entry i t e in behind_there i t n t.kind j (kind_parts ms n.top.within n.first (form_of n.source.tree) t.kind n.top.kind) h
 
-      listing_of : (M : Name) (n : ℕ) (f : FormTree) (l : ListKind) (m : Bool) (cs : List Part) → Parts ms M n f (members l m cs) → (us : _) × (cs ≡ numbered n us) × ((a i : ℕ) → form_parts a i f ≡ member_sources a i 0 us)
+      listing_of : (M : Name) (n : ℕ) (f : FormTree) (l : ListKind) (m : Bool) (cs : List Part) →
+          Parts ms M n f (members l m cs) →
+          (us : _) × (cs ≡ numbered n us) × ((a i : ℕ) → form_parts a i f ≡ member_sources a i 0 us)
       listing_of M n tree l m cs (listing us f) = (us, refl, f)
 
-      having_there : (i : ℕ) (t : Type') (e : Entry ts i t) (y : ElementsKind) (j : ℕ) → Parts ms e.top.within e.first (form_of e.source.tree) (elements y j) → j < length ts
+      having_there : (i : ℕ) (t : Type') (e : Entry ts i t) (y : ElementsKind) (j : ℕ) →
+          Parts ms e.top.within e.first (form_of e.source.tree) (elements y j) → j < length ts
       having_there i t e y j (having u f) = one_there i t e (record { tree = u; assignment = e.source.assignment; place = None }) (ap (λ l. slice_get l 0) (f e.source.assignment i))
 
       -- member n of the list that type i is
-      member_there : (i n : ℕ) (l : ListKind) (m : Bool) (cs : List Part) (d : TagDefault) (p : Option (ℕ × ℕ)) (c : Part) → Is ts i (members l m cs) d p → slice_get cs n ≡ Some c → (k : Kind) × Is ts c.ty k d (Some (i, n))
+      member_there : (i n : ℕ) (l : ListKind) (m : Bool) (cs : List Part) (d : TagDefault) (p : Option (ℕ × ℕ))
+          (c : Part) → Is ts i (members l m cs) d p → slice_get cs n ≡ Some c →
+          (k : Kind) × Is ts c.ty k d (Some (i, n))
       member_there i n l m cs d p c is h =
           let e = entry i _ is.found in
           let g = listing_of e.top.within e.first (form_of e.source.tree) l m cs (kind_parts ms e.top.within e.first (form_of e.source.tree) (members l m cs) e.top.kind) in
@@ -233,7 +247,8 @@ module _ (ms : List (Name × Module)) (hs : List (Name × TagDefault)) (gs : Lis
           let e = entry i _ is.found in
           having_there i _ e y j (kind_parts ms e.top.within e.first (form_of e.source.tree) (elements y j) e.top.kind)
 
-      none_in_one : (u : TypeTree) (a q i m : ℕ) (s : Source) → slice_get (record { tree = u; assignment = a; place = None } ∷ []) q ≡ Some s → s.place ≡ Some (i, m) → ⊥
+      none_in_one : (u : TypeTree) (a q i m : ℕ) (s : Source) →
+          slice_get (record { tree = u; assignment = a; place = None } ∷ []) q ≡ Some s → s.place ≡ Some (i, m) → ⊥
       none_in_one u a zero i m s e h =
           let w : record { tree = u; assignment = a; place = None } ≡ s = cc in
           let z : None ≡ Some (i, m) = ap (λ r. r.place) w ∙ h in
@@ -241,8 +256,11 @@ module _ (ms : List (Name × Module)) (hs : List (Name × TagDefault)) (gs : Lis
       none_in_one u a (suc q) i m s e h = absurd cc
 
       -- a part with a place is that member of a list
-      listed_on : (M : Name) (n : ℕ) (tree : FormTree) (kind : Kind) (a k q i m : ℕ) (s : Source) → Parts ms M n tree kind → slice_get (form_parts a k tree) q ≡ Some s → s.place ≡ Some (i, m) →
-          (l : ListKind) × (marker : Bool) × (cs : List Part) × (part : Part) × (kind ≡ members l marker cs) × (slice_get cs q ≡ Some part) × (part.ty ≡ n + q) × (i ≡ k) × (m ≡ q)
+      listed_on : (M : Name) (n : ℕ) (tree : FormTree) (kind : Kind) (a k q i m : ℕ) (s : Source) →
+          Parts ms M n tree kind → slice_get (form_parts a k tree) q ≡ Some s → s.place ≡ Some (i, m) →
+          (l :
+          ListKind) × (marker : Bool) × (cs : List Part) × (part : Part) × (kind ≡ members l marker cs)
+          × (slice_get cs q ≡ Some part) × (part.ty ≡ n + q) × (i ≡ k) × (m ≡ q)
       listed_on M n tree kind a k q i m s (plain f) e h = let w : slice_get [] q ≡ Some s = ap (λ l. slice_get l q) (sym (f a k)) ∙ e in absurd cc
       listed_on M n tree kind a k q i m s (referring N x r f) e h = let w : slice_get [] q ≡ Some s = ap (λ l. slice_get l q) (sym (f a k)) ∙ e in absurd cc
       listed_on M n tree kind a k q i m s (tagging u f) e h = absurd (none_in_one u a q i m s (ap (λ l. slice_get l q) (sym (f a k)) ∙ e) h)
@@ -255,7 +273,8 @@ module _ (ms : List (Name × Module)) (hs : List (Name × TagDefault)) (gs : Lis
           let z : m ≡ q = omega (arith, y) in
           (l, marker, numbered n us, r.part, refl, r.there, r.ty, x, z)
 
-      is_member : (j i n : ℕ) (k : Kind) (d : TagDefault) → AllByRecursion (λ s. s.place ≡ None) roots → Is ts j k d (Some (i, n)) → IsMember ts i n j d
+      is_member : (j i n : ℕ) (k : Kind) (d : TagDefault) → AllByRecursion (λ s. s.place ≡ None) roots →
+          Is ts j k d (Some (i, n)) → IsMember ts i n j d
       is_member j i n k d none is =
           let s = source_at 0 (length roots) j all.sources ts _ all.tops is.found in
           let b = at ms hs gs 0 (length roots) j all.sources ts s.0 all.tops s.1 in

@@ -27,7 +27,8 @@ past_least : (m : ℕ) (z : ℤ) → IsAbove m z → past z ≤ m
 past_least m (pos k) a = omega (arith, a)
 past_least m (negsuc k) a = omega arith
 
-above_more : (m : ℕ) (y : ℤ) (earlier : List ℤ) → IsAbove m y → ((z : ℤ) → StandsIn earlier z → IsAbove m z) → (z : ℤ) (i : ℕ) → slice_get (y ∷ earlier) i ≡ Some z → IsAbove m z
+above_more : (m : ℕ) (y : ℤ) (earlier : List ℤ) → IsAbove m y → ((z : ℤ) → StandsIn earlier z → IsAbove m z) →
+    (z : ℤ) (i : ℕ) → slice_get (y ∷ earlier) i ≡ Some z → IsAbove m z
 above_more m y earlier a h z zero e = let q : y ≡ z = cc in subst (IsAbove m) q a
 above_more m y earlier a h z (suc i) e = h z (i, e)
 
@@ -56,7 +57,8 @@ next_free used earlier n z f h = record {
   ];
 }
 
-roots : (given earlier : List ℤ) (n : ℕ) (is : List Item) → IsFront earlier n → AreRootNumbers given earlier is (root_from given n is)
+roots : (given earlier : List ℤ) (n : ℕ) (is : List Item) → IsFront earlier n →
+    AreRootNumbers given earlier is (root_from given n is)
 roots given earlier n [] f = no_root_item
 roots given earlier n ((x, Some z) ∷ is) f = root_written x z (roots given earlier n is f)
 roots given earlier n ((x, None) ∷ is) f =
@@ -66,7 +68,8 @@ roots given earlier n ((x, None) ∷ is) f =
 pub root_are : (is : List Item) → AreRootNumbers (given_numbers is) [] is (root_numbers is)
 root_are is = roots (given_numbers is) [] 0 is front_start
 
-additions : (used earlier : List ℤ) (n : ℕ) (is : List Item) → IsFront earlier n → AreAdditionNumbers used earlier is (additions_from used n is)
+additions : (used earlier : List ℤ) (n : ℕ) (is : List Item) → IsFront earlier n →
+    AreAdditionNumbers used earlier is (additions_from used n is)
 additions used earlier n [] f = no_addition
 additions used earlier n ((x, Some z) ∷ is) f = addition_written x z (additions used (z ∷ earlier) (max n (past z)) is (front_written earlier n z f))
 additions used earlier n ((x, None) ∷ is) f =
@@ -83,7 +86,8 @@ one_next used earlier m n a b =
     let r = b.least m a.unused a.above in
     omega (arith, l, r)
 
-pub one_root : (given earlier : List ℤ) (is : List Item) (ys zs : List ℤ) → AreRootNumbers given earlier is ys → AreRootNumbers given earlier is zs → ys ≡ zs
+pub one_root : (given earlier : List ℤ) (is : List Item) (ys zs : List ℤ) → AreRootNumbers given earlier is ys →
+    AreRootNumbers given earlier is zs → ys ≡ zs
 one_root given earlier [] [] [] no_root_item no_root_item = refl
 one_root given earlier [] [] (w ∷ zs) a b = elim b [ ]
 one_root given earlier [] (y ∷ ys) zs a b = elim a [ ]
@@ -96,7 +100,8 @@ one_root given earlier ((x, None) ∷ is) (y ∷ ys) (w ∷ zs) (root_counted x1
     let e = one_next given earlier m n f g in
     ap (λ k. pos k ∷ ys) e ∙ ap (λ l. pos n ∷ l) (one_root given (pos n ∷ earlier) is ys zs (subst (λ k. AreRootNumbers given (pos k ∷ earlier) is ys) e a) b)
 
-pub one_additions : (used earlier : List ℤ) (is : List Item) (ys zs : List ℤ) → AreAdditionNumbers used earlier is ys → AreAdditionNumbers used earlier is zs → ys ≡ zs
+pub one_additions : (used earlier : List ℤ) (is : List Item) (ys zs : List ℤ) →
+    AreAdditionNumbers used earlier is ys → AreAdditionNumbers used earlier is zs → ys ≡ zs
 one_additions used earlier [] [] [] no_addition no_addition = refl
 one_additions used earlier [] [] (w ∷ zs) a b = elim b [ ]
 one_additions used earlier [] (y ∷ ys) zs a b = elim a [ ]

@@ -30,7 +30,8 @@ record Like (xs : List Source) (k : ℕ) (s : Source) : Type 0 where
 like_itself : (xs : List Source) (k : ℕ) (s : Source) → slice_get xs k ≡ Some s → Like xs k s
 like_itself xs k s e = record { source = s; there = e; tree = refl; assignment = refl }
 
-members_like : (a i j n : ℕ) (ms : TypeMembers) (k : ℕ) (s : Source) → slice_get (member_sources a i n ms) k ≡ Some s → Like (member_sources a j n ms) k s
+members_like : (a i j n : ℕ) (ms : TypeMembers) (k : ℕ) (s : Source) →
+    slice_get (member_sources a i n ms) k ≡ Some s → Like (member_sources a j n ms) k s
 members_like a i j n no_member k s e = absurd cc
 members_like a i j n (member_and x t o g ms) zero s e =
     let q = same_Some (record { tree = t; assignment = a; place = Some (i, n) }) s e in
@@ -40,14 +41,16 @@ members_like a i j n (member_and x t o g ms) (suc k) s e =
     record { source = r.source; there = r.there; tree = r.tree; assignment = r.assignment }
 
 -- the parts of a type, whatever its number is
-parts_like : (a i j : ℕ) (t : TypeTree) (k : ℕ) (s : Source) → slice_get (parts_of a i t) k ≡ Some s → Like (parts_of a j t) k s
+parts_like : (a i j : ℕ) (t : TypeTree) (k : ℕ) (s : Source) → slice_get (parts_of a i t) k ≡ Some s →
+    Like (parts_of a j t) k s
 parts_like a i j (a_type (a_simple p) cs) k s e = like_itself [] k s e
 parts_like a i j (a_type (a_reference N x) cs) k s e = like_itself [] k s e
 parts_like a i j (a_type (a_list l m us) cs) k s e = members_like a i j 0 us k s e
 parts_like a i j (a_type (an_elements z t) cs) k s e = like_itself _ k s e
 parts_like a i j (a_type (a_tagged g w t) cs) k s e = like_itself _ k s e
 
-nothing_not : (ms : List (Name × Module)) (M : Name) (n : ℕ) (f : FormTree) (k : Kind) (x : Name) → IsKind ms M n f k → RefersToNothing ms M f x → ⊥
+nothing_not : (ms : List (Name × Module)) (M : Name) (n : ℕ) (f : FormTree) (k : Kind) (x : Name) →
+    IsKind ms M n f k → RefersToNothing ms M f x → ⊥
 nothing_not ms M n (a_simple p) k x a u = u
 nothing_not ms M n (a_reference N y) k x a u = u.1 a.0 a.1
 nothing_not ms M n (a_list l m us) k x a u = u
@@ -95,7 +98,8 @@ module _ (ms : List (Name × Module)) (hs : List (Name × TagDefault)) (gs : Lis
       let u = unfolds c.number l in
       core_not_circular ts c.number u.0 u.1 (subst (λ z. IsCircular z c.number) q c.circular)
 
-  pub table_exclude : IsApart ms → length ts ≤ 65536 → AllUnfold ts → (e : NameFault) → (e ≡ faults.Memory → ⊥) → IsTableFault ms hs gs roots e → ⊥
+  pub table_exclude : IsApart ms → length ts ≤ 65536 → AllUnfold ts → (e : NameFault) → (e ≡ faults.Memory → ⊥) →
+      IsTableFault ms hs gs roots e → ⊥
   table_exclude apart few unfolds faults.Memory n f = n refl
   table_exclude apart few unfolds (faults.UnknownName z) n f = unknown_not (module_told z) (name_told z) f
   table_exclude apart few unfolds (faults.Circular z) n f = circular_not apart unfolds (module_told z) (name_told z) f

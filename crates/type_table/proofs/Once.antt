@@ -75,7 +75,8 @@ one_sources k (x ∷ r) (y ∷ q) (z ∷ w) e f =
     ap (λ s. s ∷ r) (a ∙ sym b) ∙ ap (λ l. y ∷ l) (one_sources (suc k) r q (w ++ parts_of z.assignment k z.tree) c d)
 
 module _ (ms : List (Name × Module)) (apart : IsApart ms) where
-  one_reference : (M x : Name) (N : Option Name) (i j : ℕ) → Refers ms M N x (assigned.Type i) → Refers ms M N x (assigned.Type j) → i ≡ j
+  one_reference : (M x : Name) (N : Option Name) (i j : ℕ) → Refers ms M N x (assigned.Type i) →
+      Refers ms M N x (assigned.Type j) → i ≡ j
   one_reference M x N i j r q =
       let e : Some (assigned.Type i) ≡ Some (assigned.Type j) = sym (meaning_found ms M x (assigned.Type i) apart (refers_meaning ms M x N (assigned.Type i) r)) ∙ meaning_found ms M x (assigned.Type j) apart (refers_meaning ms M x N (assigned.Type j) q) in
       cc
@@ -104,7 +105,8 @@ module _ (ms : List (Name × Module)) (apart : IsApart ms) where
         ∙ ap (λ z. record { kind = u.kind; constraints = u.constraints; default = u.default; place = z; assignment = t.assignment }) p
         ∙ ap (λ z. record { kind = u.kind; constraints = u.constraints; default = u.default; place = u.place; assignment = z }) g
 
-    one_tops : (i n : ℕ) (ss : List Source) (ts us : List Type') → AreTops ms hs gs i n ss ts → AreTops ms hs gs i n ss us → ts ≡ us
+    one_tops : (i n : ℕ) (ss : List Source) (ts us : List Type') → AreTops ms hs gs i n ss ts →
+        AreTops ms hs gs i n ss us → ts ≡ us
     one_tops i n [] [] [] a b = refl
     one_tops i n [] [] (u ∷ us) a b = absurd b
     one_tops i n [] (t ∷ ts) us a b = absurd a
@@ -113,7 +115,8 @@ module _ (ms : List (Name × Module)) (apart : IsApart ms) where
     one_tops i n (s ∷ ss) (t ∷ ts) (u ∷ us) a b =
         ap (λ z. z ∷ ts) (one_top n s t u a.0 b.0) ∙ ap (λ l. u ∷ l) (one_tops (suc i) (n + length (parts_of s.assignment i s.tree)) ss ts us a.1 b.1)
 
-    pub one_table : (roots : List Source) (ts us : List Type') → AreNumbered ms hs gs roots ts → AreNumbered ms hs gs roots us → ts ≡ us
+    pub one_table : (roots : List Source) (ts us : List Type') → AreNumbered ms hs gs roots ts →
+        AreNumbered ms hs gs roots us → ts ≡ us
     one_table roots ts us a b =
         let s = one_sources 0 a.sources b.sources roots a.all b.all in
         one_tops 0 (length roots) a.sources ts us a.tops (subst (λ l. AreTops ms hs gs 0 (length roots) l us) (sym s) b.tops)

@@ -15,12 +15,17 @@ use Rattle.type_table.specs.Numbering.{form_parts, inner_source, member_sources,
 
 pub data Parts (ms : List (Name × Module)) (M : Name) (n : ℕ) (f : FormTree) : Kind → Type 0 where
   plain : {p : Plain} → ((a i : ℕ) → form_parts a i f ≡ []) → Parts ms M n f (simple p)
-  referring : {j : ℕ} (N : Option Name) (x : Name) → Refers ms M N x (assigned.Type j) → ((a i : ℕ) → form_parts a i f ≡ []) → Parts ms M n f (reference j)
-  tagging : {g : Tag} {w : Keyword} (u : TypeTree) → ((a i : ℕ) → form_parts a i f ≡ inner_source a u) → Parts ms M n f (tagged g w n)
-  listing : {l : ListKind} {m : Bool} (us : TypeMembers) → ((a i : ℕ) → form_parts a i f ≡ member_sources a i 0 us) → Parts ms M n f (members l m (numbered n us))
-  having : {e : ElementsKind} (u : TypeTree) → ((a i : ℕ) → form_parts a i f ≡ inner_source a u) → Parts ms M n f (elements e n)
+  referring : {j : ℕ} (N : Option Name) (x : Name) → Refers ms M N x (assigned.Type j) →
+      ((a i : ℕ) → form_parts a i f ≡ []) → Parts ms M n f (reference j)
+  tagging : {g : Tag} {w : Keyword} (u : TypeTree) → ((a i : ℕ) → form_parts a i f ≡ inner_source a u) →
+      Parts ms M n f (tagged g w n)
+  listing : {l : ListKind} {m : Bool} (us : TypeMembers) →
+      ((a i : ℕ) → form_parts a i f ≡ member_sources a i 0 us) → Parts ms M n f (members l m (numbered n us))
+  having : {e : ElementsKind} (u : TypeTree) → ((a i : ℕ) → form_parts a i f ≡ inner_source a u) →
+      Parts ms M n f (elements e n)
 
-pub kind_parts : (ms : List (Name × Module)) (M : Name) (n : ℕ) (f : FormTree) (k : Kind) → IsKind ms M n f k → Parts ms M n f k
+pub kind_parts : (ms : List (Name × Module)) (M : Name) (n : ℕ) (f : FormTree) (k : Kind) → IsKind ms M n f k →
+    Parts ms M n f k
 kind_parts ms M n (a_simple p) k e = subst (λ q. Parts ms M n (a_simple p) q) (sym e) (plain (λ a i. refl))
 kind_parts ms M n (a_reference N x) k e = subst (λ q. Parts ms M n (a_reference N x) q) (sym e.2) (referring N x e.1 (λ a i. refl))
 kind_parts ms M n (a_list l m us) k e = subst (λ q. Parts ms M n (a_list l m us) q) (sym e) (listing us (λ a i. refl))
@@ -34,7 +39,8 @@ pub record Member (a i n m k : ℕ) (us : TypeMembers) (p : Part) : Type 0 where
   pub ty : p.ty ≡ n + k
   pub place : source.place ≡ Some (i, m + k)
 
-pub member_at : (a i n m k : ℕ) (us : TypeMembers) (p : Part) → slice_get (numbered n us) k ≡ Some p → Member a i n m k us p
+pub member_at : (a i n m k : ℕ) (us : TypeMembers) (p : Part) → slice_get (numbered n us) k ≡ Some p →
+    Member a i n m k us p
 member_at a i n m k no_member p e = absurd cc
 member_at a i n m zero (member_and x t o g us) p e =
     let q : record { name = x; ty = n; presence = o; standing = g } ≡ p = cc in
@@ -54,7 +60,8 @@ pub record Listed (a i n m k : ℕ) (us : TypeMembers) (s : Source) : Type 0 whe
   pub ty : part.ty ≡ n + k
   pub place : s.place ≡ Some (i, m + k)
 
-pub listed_at : (a i n m k : ℕ) (us : TypeMembers) (s : Source) → slice_get (member_sources a i m us) k ≡ Some s → Listed a i n m k us s
+pub listed_at : (a i n m k : ℕ) (us : TypeMembers) (s : Source) → slice_get (member_sources a i m us) k ≡ Some s →
+    Listed a i n m k us s
 listed_at a i n m k no_member s e = absurd cc
 listed_at a i n m zero (member_and x t o g us) s e =
     let q : record { tree = t; assignment = a; place = Some (i, m) } ≡ s = cc in

@@ -32,20 +32,24 @@ pub record IsHalfway (ms : List (Name × Module)) (hs : List (Name × TagDefault
   -- each numbering of all begins so
   pub begins : (ss : List Source) → ss ≡ roots ++ all_parts 0 ss → (rest : List Source) × (ss ≡ done ++ rest)
 
-all_at : {X : Type 0} (P : X → Type 0) (xs : List X) → ((k : ℕ) (x : X) → slice_get xs k ≡ Some x → P x) → AllByRecursion P xs
+all_at : {X : Type 0} (P : X → Type 0) (xs : List X) → ((k : ℕ) (x : X) → slice_get xs k ≡ Some x → P x) →
+    AllByRecursion P xs
 all_at P [] f = tt
 all_at P (x ∷ xs) f = (f 0 x refl, all_at P xs (λ k y e. f (suc k) y e))
 
-all_both : {X : Type 0} (P : X → Type 0) (xs ys : List X) → AllByRecursion P xs → AllByRecursion P ys → AllByRecursion P (xs ++ ys)
+all_both : {X : Type 0} (P : X → Type 0) (xs ys : List X) → AllByRecursion P xs → AllByRecursion P ys →
+    AllByRecursion P (xs ++ ys)
 all_both P [] ys a b = b
 all_both P (x ∷ xs) ys a b = (a.0, all_both P xs ys a.1 b)
 
-members_of_one : (Q : ℕ → Type 0) (a i n : ℕ) (ms : TypeMembers) → Q a → AllByRecursion (λ s. Q s.assignment) (member_sources a i n ms)
+members_of_one : (Q : ℕ → Type 0) (a i n : ℕ) (ms : TypeMembers) → Q a →
+    AllByRecursion (λ s. Q s.assignment) (member_sources a i n ms)
 members_of_one Q a i n no_member q = tt
 members_of_one Q a i n (member_and x t o g ms) q = (q, members_of_one Q a i (suc n) ms q)
 
 -- the parts of a type stand in its assignment
-pub parts_of_one : (Q : ℕ → Type 0) (a i : ℕ) (t : TypeTree) → Q a → AllByRecursion (λ s. Q s.assignment) (parts_of a i t)
+pub parts_of_one : (Q : ℕ → Type 0) (a i : ℕ) (t : TypeTree) → Q a →
+    AllByRecursion (λ s. Q s.assignment) (parts_of a i t)
 parts_of_one Q a i (a_type (a_simple p) cs) q = tt
 parts_of_one Q a i (a_type (a_reference N x) cs) q = tt
 parts_of_one Q a i (a_type (a_list l m us) cs) q = members_of_one Q a i 0 us q
@@ -73,7 +77,8 @@ item_at (x ∷ xs) zero l = (x, refl)
 item_at (x ∷ xs) (suc k) l = item_at xs k (omega (arith, l))
 
 module _ (ms : List (Name × Module)) (hs : List (Name × TagDefault)) (gs : List (ℕ × Name)) where
-  tops_more : (i n : ℕ) (ss : List Source) (ts : List Type') (s : Source) (t : Type') → AreTops ms hs gs i n ss ts → IsTop ms hs gs (n + length (all_parts i ss)) s t → AreTops ms hs gs i n (ss ++ s ∷ []) (ts ++ t ∷ [])
+  tops_more : (i n : ℕ) (ss : List Source) (ts : List Type') (s : Source) (t : Type') → AreTops ms hs gs i n ss ts →
+      IsTop ms hs gs (n + length (all_parts i ss)) s t → AreTops ms hs gs i n (ss ++ s ∷ []) (ts ++ t ∷ [])
   tops_more i n [] [] s t a h = let e : n + 0 ≡ n = omega arith in (subst (λ k. IsTop ms hs gs k s t) e h, tt)
   tops_more i n [] (y ∷ ts) s t a h = absurd a
   tops_more i n (x ∷ ss) [] s t a h = absurd a
@@ -94,22 +99,28 @@ module _ (ms : List (Name × Module)) (hs : List (Name × TagDefault)) (gs : Lis
     begins = λ ss e. (ss, refl);
   }
 
-  number_is : (roots : List Source) (ts : List Type') (s : Source) (rest : List Source) (k : ℕ) → (h : IsHalfway ms hs gs roots ts (s ∷ rest) k) → length roots + length (all_parts 0 h.done) ≡ k + 1 + length rest
+  number_is : (roots : List Source) (ts : List Type') (s : Source) (rest : List Source) (k : ℕ) →
+      (h : IsHalfway ms hs gs roots ts (s ∷ rest) k) → length roots + length (all_parts 0 h.done) ≡ k + 1 + length rest
   number_is roots ts s rest k h = omega (arith, ap length h.all, length-append roots (all_parts 0 h.done), length-append h.done (s ∷ rest), h.count)
 
-  parts_next : (roots : List Source) (ts : List Type') (s : Source) (rest : List Source) (k : ℕ) → (h : IsHalfway ms hs gs roots ts (s ∷ rest) k) → all_parts 0 (h.done ++ s ∷ []) ≡ all_parts 0 h.done ++ parts_of s.assignment k s.tree
+  parts_next : (roots : List Source) (ts : List Type') (s : Source) (rest : List Source) (k : ℕ) →
+      (h : IsHalfway ms hs gs roots ts (s ∷ rest) k) →
+      all_parts 0 (h.done ++ s ∷ []) ≡ all_parts 0 h.done ++ parts_of s.assignment k s.tree
   parts_next roots ts s rest k h =
       all_append 0 h.done (s ∷ []) ∙ ap (λ j. all_parts 0 h.done ++ all_parts j (s ∷ [])) (let e : 0 + length h.done ≡ k = omega (arith, h.count) in e) ∙ ap (λ l. all_parts 0 h.done ++ l) (all_one k s)
 
   -- a numbering of all begins with one type more
-  begins_more : (roots : List Source) (ts : List Type') (s : Source) (rest : List Source) (k : ℕ) → (h : IsHalfway ms hs gs roots ts (s ∷ rest) k) → (ss : List Source) → ss ≡ roots ++ all_parts 0 ss → (more : List Source) × (ss ≡ (h.done ++ s ∷ []) ++ more)
+  begins_more : (roots : List Source) (ts : List Type') (s : Source) (rest : List Source) (k : ℕ) →
+      (h : IsHalfway ms hs gs roots ts (s ∷ rest) k) → (ss : List Source) → ss ≡ roots ++ all_parts 0 ss →
+      (more : List Source) × (ss ≡ (h.done ++ s ∷ []) ++ more)
   begins_more roots ts s rest k h ss e =
       let b = h.begins ss e in
       let x = all_parts (0 + length h.done) b.0 in
       let one = e ∙ ap (λ z. roots ++ all_parts 0 z) b.1 ∙ ap (λ l. roots ++ l) (all_append 0 h.done b.0) ∙ sym (append_assoc roots (all_parts 0 h.done) x) ∙ ap (λ l. l ++ x) h.all in
       (rest ++ x, one ∙ append_assoc h.done (s ∷ rest) x ∙ sym (append_assoc h.done (s ∷ []) (rest ++ x)))
 
-  pub halfway_step : (roots : List Source) (ts : List Type') (s : Source) (rest waiting : List Source) (k : ℕ) (t : Type') → IsHalfway ms hs gs roots ts (s ∷ rest) k → IsTop ms hs gs (k + 1 + length rest) s t →
+  pub halfway_step : (roots : List Source) (ts : List Type') (s : Source) (rest waiting : List Source) (k : ℕ)
+      (t : Type') → IsHalfway ms hs gs roots ts (s ∷ rest) k → IsTop ms hs gs (k + 1 + length rest) s t →
       waiting ≡ rest ++ parts_of s.assignment k s.tree → IsHalfway ms hs gs roots (ts ++ t ∷ []) waiting (k + 1)
   halfway_step roots ts s rest waiting k t h top w =
       let p = parts_of s.assignment k s.tree in
@@ -124,11 +135,13 @@ module _ (ms : List (Name × Module)) (hs : List (Name × TagDefault)) (gs : Lis
         begins = begins_more roots ts s rest k h;
       }
 
-  pub halfway_end : (roots : List Source) (ts : List Type') (k : ℕ) → IsHalfway ms hs gs roots ts [] k → AreNumbered ms hs gs roots ts
+  pub halfway_end : (roots : List Source) (ts : List Type') (k : ℕ) → IsHalfway ms hs gs roots ts [] k →
+      AreNumbered ms hs gs roots ts
   halfway_end roots ts k h = record { sources = h.done; all = sym (h.all ∙ append-nil h.done); tops = h.tops }
 
   -- a numbering of all begins with the types that wait and the parts of the first of them
-  begins_parts : (roots : List Source) (ts : List Type') (s : Source) (rest : List Source) (k : ℕ) → (h : IsHalfway ms hs gs roots ts (s ∷ rest) k) → (ss : List Source) → ss ≡ roots ++ all_parts 0 ss →
+  begins_parts : (roots : List Source) (ts : List Type') (s : Source) (rest : List Source) (k : ℕ) →
+      (h : IsHalfway ms hs gs roots ts (s ∷ rest) k) → (ss : List Source) → ss ≡ roots ++ all_parts 0 ss →
       (more : List Source) × (ss ≡ (h.done ++ s ∷ rest) ++ (parts_of s.assignment k s.tree ++ more))
   begins_parts roots ts s rest k h ss e =
       let b = begins_more roots ts s rest k h ss e in
@@ -139,7 +152,9 @@ module _ (ms : List (Name × Module)) (hs : List (Name × TagDefault)) (gs : Lis
       let two : all_parts 0 ss ≡ a ++ (p ++ x) = ap (all_parts 0) b.1 ∙ all_append 0 z b.0 ∙ ap (λ l. l ++ x) (parts_next roots ts s rest k h) ∙ append_assoc a p x in
       (x, e ∙ ap (λ l. roots ++ l) two ∙ sym (append_assoc roots a (p ++ x)) ∙ ap (λ l. l ++ (p ++ x)) h.all)
 
-  more_than : (roots : List Source) (ts : List Type') (s : Source) (rest : List Source) (k : ℕ) → IsHalfway ms hs gs roots ts (s ∷ rest) k → k + 1 + length rest ≤ 65536 → 65536 < k + 1 + length rest + length (parts_of s.assignment k s.tree) → AreMore 65536 s.assignment roots
+  more_than : (roots : List Source) (ts : List Type') (s : Source) (rest : List Source) (k : ℕ) →
+      IsHalfway ms hs gs roots ts (s ∷ rest) k → k + 1 + length rest ≤ 65536 →
+      65536 < k + 1 + length rest + length (parts_of s.assignment k s.tree) → AreMore 65536 s.assignment roots
   more_than roots ts s rest k h f l = λ ss e.
       let b = begins_parts roots ts s rest k h ss e in
       let p = parts_of s.assignment k s.tree in
@@ -152,7 +167,9 @@ module _ (ms : List (Name × Module)) (hs : List (Name × TagDefault)) (gs : Lis
         at_all (λ c. c.assignment ≡ s.assignment) p q.0 one.0 (parts_of_one (λ a. a ≡ s.assignment) s.assignment k s.tree refl) one.1,
       )
 
-  pub halfway_fault : (roots : List Source) (ts : List Type') (s : Source) (rest : List Source) (k : ℕ) (e : NameFault) → IsHalfway ms hs gs roots ts (s ∷ rest) k → k + 1 + length rest ≤ 65536 → IsSourceFault ms hs gs k (k + 1 + length rest) s e → IsNumberingFault ms hs gs roots e
+  pub halfway_fault : (roots : List Source) (ts : List Type') (s : Source) (rest : List Source) (k : ℕ)
+      (e : NameFault) → IsHalfway ms hs gs roots ts (s ∷ rest) k → k + 1 + length rest ≤ 65536 →
+      IsSourceFault ms hs gs k (k + 1 + length rest) s e → IsNumberingFault ms hs gs roots e
   halfway_fault roots ts s rest k faults.Memory h w f = tt
   halfway_fault roots ts s rest k (faults.UnknownName z) h w f = record { assignment = s.assignment; owner = f.0; assigns = f.1; default = f.2; tree = s.tree; occurs = h.occur.0; assigned = f.3; header = f.4; unknown = f.5 }
   halfway_fault roots ts s rest k (faults.Limit limits.Types z) h w f = record { assignment = s.assignment; owner = f.0; default = f.1; more = more_than roots ts s rest k h w f.4; assigned = f.2; header = f.3 }

@@ -12,7 +12,8 @@ use Rattle.type_table.specs.Numbering.{form_of, RefersToNothing, parts_of}
 use Rattle.type_table.specs.proving.Checks.{IsUnknown, IsTypesLimit, IsSourceFault}
 use Rattle.names.specs.Faults.{name_told}
 
-pub unknown_source : (ms : List (Name × Module)) (hs : List (Name × TagDefault)) (gs : List (ℕ × Name)) (i n : ℕ) (s : Source) (M : Name) (d : TagDefault) (owner : ℕ) (x : Name) (e : NameFault) →
+pub unknown_source : (ms : List (Name × Module)) (hs : List (Name × TagDefault)) (gs : List (ℕ × Name)) (i n : ℕ)
+    (s : Source) (M : Name) (d : TagDefault) (owner : ℕ) (x : Name) (e : NameFault) →
     slice_get gs s.assignment ≡ Some (owner, x) → slice_get hs owner ≡ Some (M, d) → IsUnknown ms M (form_of s.tree) e → IsSourceFault ms hs gs i n s e
 unknown_source ms hs gs i n s M d owner x faults.Memory g h u = tt
 unknown_source ms hs gs i n s M d owner x (faults.UnknownName t) g h u =
@@ -24,7 +25,8 @@ unknown_source ms hs gs i n s M d owner x (faults.Circular t) g h u = absurd u
 unknown_source ms hs gs i n s M d owner x (faults.UnknownModule t) g h u = absurd u
 
 -- a type whose parts are too many stands in the assignment that the fault tells
-pub limit_source : (ms : List (Name × Module)) (hs : List (Name × TagDefault)) (gs : List (ℕ × Name)) (i n : ℕ) (s : Source) (M : Name) (d : TagDefault) (owner : ℕ) (x : Name) (e : NameFault) →
+pub limit_source : (ms : List (Name × Module)) (hs : List (Name × TagDefault)) (gs : List (ℕ × Name)) (i n : ℕ)
+    (s : Source) (M : Name) (d : TagDefault) (owner : ℕ) (x : Name) (e : NameFault) →
     slice_get gs s.assignment ≡ Some (owner, x) → slice_get hs owner ≡ Some (M, d) → 65536 < n + length (parts_of s.assignment i s.tree) → IsTypesLimit M x e → IsSourceFault ms hs gs i n s e
 limit_source ms hs gs i n s M d owner x faults.Memory g h l u = tt
 limit_source ms hs gs i n s M d owner x (faults.Limit limits.Types t) g h l u =

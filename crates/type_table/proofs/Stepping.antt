@@ -6,10 +6,12 @@ use Rattle.trees.specs.Types.{item_of}
 use Rattle.names.specs.proving.Distinct.{right, drop_at}
 use Rattle.type_table.specs.Items.{number_or, counted_to, root_from, past, additions_from}
 
-step_more : {X : Type 0} (zs : List X) (y z : X) (rest more all : List X) → zs ++ y ∷ rest ≡ all → z ≡ y → more ≡ rest → (zs ++ z ∷ []) ++ more ≡ all
+step_more : {X : Type 0} (zs : List X) (y z : X) (rest more all : List X) → zs ++ y ∷ rest ≡ all → z ≡ y →
+    more ≡ rest → (zs ++ z ∷ []) ++ more ≡ all
 step_more zs y z rest more all h e f = append_assoc zs (z ∷ []) more ∙ ap (λ q. zs ++ q ∷ more) e ∙ ap (λ q. zs ++ y ∷ q) f ∙ h
 
-pub root_step : (given zs new : List ℤ) (n m i : ℕ) (items : List EnumeratedItem) (item : EnumeratedItem) (z : ℤ) (all : List ℤ) → i < length items → item ≡ get_or items i item →
+pub root_step : (given zs new : List ℤ) (n m i : ℕ) (items : List EnumeratedItem) (item : EnumeratedItem) (z : ℤ)
+    (all : List ℤ) → i < length items → item ≡ get_or items i item →
     zs ++ root_from given n (map item_of (drop i items)) ≡ all → z ≡ number_or n given item.number → m ≡ counted_to n given item.number → new ≡ zs ++ z ∷ [] →
     new ++ root_from given m (map item_of (drop (i + 1) items)) ≡ all
 root_step given zs new n m i items item z all l e h a b c =
@@ -20,12 +22,14 @@ root_step given zs new n m i items item z all l e h a b c =
     (ap (λ k. root_from given k (map item_of (drop (i + 1) items))) b)
 
 -- what is left of additions begins with this turn's number
-pub additions_left : (root zs : List ℤ) (n i : ℕ) (items : List EnumeratedItem) (item : EnumeratedItem) (all : List ℤ) → i < length items → item ≡ get_or items i item →
+pub additions_left : (root zs : List ℤ) (n i : ℕ) (items : List EnumeratedItem) (item : EnumeratedItem)
+    (all : List ℤ) → i < length items → item ≡ get_or items i item →
     zs ++ additions_from root n (map item_of (drop i items)) ≡ all →
     zs ++ number_or n root item.number ∷ additions_from root (max n (past (number_or n root item.number))) (map item_of (drop (i + 1) items)) ≡ all
 additions_left root zs n i items item all l e h = ap (λ q. zs ++ additions_from root n (map item_of q)) (sym (drop_at items i item l e)) ∙ h
 
-pub additions_step : (root zs new : List ℤ) (n m i : ℕ) (items : List EnumeratedItem) (item : EnumeratedItem) (z : ℤ) (all : List ℤ) → i < length items → item ≡ get_or items i item →
+pub additions_step : (root zs new : List ℤ) (n m i : ℕ) (items : List EnumeratedItem) (item : EnumeratedItem)
+    (z : ℤ) (all : List ℤ) → i < length items → item ≡ get_or items i item →
     zs ++ additions_from root n (map item_of (drop i items)) ≡ all → z ≡ number_or n root item.number → m ≡ max n (past z) → new ≡ zs ++ z ∷ [] →
     new ++ additions_from root m (map item_of (drop (i + 1) items)) ≡ all
 additions_step root zs new n m i items item z all l e h a b c =
@@ -36,7 +40,8 @@ additions_step root zs new n m i items item z all l e h a b c =
     (ap (λ k. additions_from root k (map item_of (drop (i + 1) items))) (b ∙ ap (λ q. max n (past q)) a))
 
 -- the number of this turn's addition, in all of them
-pub addition_here : (root zs : List ℤ) (n i : ℕ) (items : List EnumeratedItem) (item : EnumeratedItem) → i < length items → item ≡ get_or items i item → length zs ≡ length root + i →
+pub addition_here : (root zs : List ℤ) (n i : ℕ) (items : List EnumeratedItem) (item : EnumeratedItem) →
+    i < length items → item ≡ get_or items i item → length zs ≡ length root + i →
     zs ++ additions_from root n (map item_of (drop i items)) ≡ root ++ additions_from root 0 (map item_of items) →
     slice_get (additions_from root 0 (map item_of items)) i ≡ Some (number_or n root item.number)
 addition_here root zs n i items item l e long h =

@@ -19,29 +19,35 @@ use Rattle.type_table.specs.Numbering.{member_sources, form_of, constraints_of}
 use Rattle.type_table.specs.Seen.{form_seen}
 use Rattle.type_table.specs.proving.Checks.{IsNothing, IsUnknown}
 
-pub form_is : (f : TypeForm TypeSyntax) → form_layer (former-TypeSyntax-form.map TypeSyntax TypeTree type_tree_of f) ≡ form_seen f
+pub form_is : (f : TypeForm TypeSyntax) →
+    form_layer (former-TypeSyntax-form.map TypeSyntax TypeTree type_tree_of f) ≡ form_seen f
 form_is (forms.Simple s) = refl
 form_is (forms.Reference r) = refl
 form_is (forms.List k marker ms) = ap (λ l. a_list k marker (type_members l)) (together ms.items)
   where
-    together : (l : List (Member TypeSyntax)) → map member_layer (map (former-TypeSyntax-form-at-8.map TypeSyntax TypeTree type_tree_of) l) ≡ map type_member_of l
+    together : (l : List (Member TypeSyntax)) →
+        map member_layer (map (former-TypeSyntax-form-at-8.map TypeSyntax TypeTree type_tree_of) l)
+        ≡ map type_member_of l
     together [] = refl
     together (m ∷ l) = ap (λ r. type_member_of m ∷ r) (together l)
 form_is (forms.Elements k t) = refl
 form_is (forms.Tagged tag word t) = refl
 
-pub tree_is : (t : TypeSyntax) → type_tree_of t ≡ a_type (form_seen (out-TypeSyntax t).form) (map constraint_of (out-TypeSyntax t).constraints.items)
+pub tree_is : (t : TypeSyntax) →
+    type_tree_of t ≡ a_type (form_seen (out-TypeSyntax t).form) (map constraint_of (out-TypeSyntax t).constraints.items)
 tree_is t = fold_out-TypeSyntax TypeTree type_layer t ∙ ap (λ f. a_type f (map constraint_of (out-TypeSyntax t).constraints.items)) (form_is (out-TypeSyntax t).form)
 
 pub form_is_seen : (t : TypeSyntax) → form_of (type_tree_of t) ≡ form_seen (out-TypeSyntax t).form
 form_is_seen t = ap form_of (tree_is t)
 
-pub constraints_are : (t : TypeSyntax) → map constraint_of (out-TypeSyntax t).constraints.items ≡ constraints_of (type_tree_of t)
+pub constraints_are : (t : TypeSyntax) →
+    map constraint_of (out-TypeSyntax t).constraints.items ≡ constraints_of (type_tree_of t)
 constraints_are t = sym (ap constraints_of (tree_is t))
 
 count : (a i n : ℕ) (ms : List MemberTree) → length (member_sources a i n (type_members ms)) ≡ length ms
 count a i n [] = refl
 count a i n (m ∷ ms) = ap suc (count a i (suc n) ms)
 
-pub count_is : (a i n : ℕ) (ms : List (Member TypeSyntax)) → length (member_sources a i n (type_members (map type_member_of ms))) ≡ length ms
+pub count_is : (a i n : ℕ) (ms : List (Member TypeSyntax)) →
+    length (member_sources a i n (type_members (map type_member_of ms))) ≡ length ms
 count_is a i n ms = count a i n (map type_member_of ms) ∙ length-map ms type_member_of

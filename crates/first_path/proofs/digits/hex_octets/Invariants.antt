@@ -9,5 +9,6 @@ invariant-loop-zero l = l.padded.items ≡ l.digits ++ replicate l.zero 0
 abbrev pub invariant-loop-i : goal.invariant-loop-i
 invariant-loop-i l = record {
   long : length l.octets.items ≡ l.i;
-  each : (k : ℕ) → k < l.i → slice_index l.octets.items k ≡ number_from_digits 16 (take 2 (drop (2 * k) l.padded.items));
+  each : (k : ℕ) → k < l.i →
+      slice_index l.octets.items k ≡ number_from_digits 16 (take 2 (drop (2 * k) l.padded.items));
 }

@@ -8,6 +8,8 @@ use Rattle.names.proofs.gather.import_all.Given as goal
 abbrev pub invariant-loop-names : goal.invariant-loop-names
 invariant-loop-names l =
     record {
-      sum : origins l.imports.entries ++ imports_of (map import_of l.names-iterator.rest.items) ≡ imports_of (map import_of l.fn.given.items);
+      sum :
+          origins l.imports.entries ++ imports_of (map import_of l.names-iterator.rest.items)
+          ≡ imports_of (map import_of l.fn.given.items);
       distinct : AreDistinct (names_of (meanings l.assigned.entries) ++ names_of (origins l.imports.entries));
     }

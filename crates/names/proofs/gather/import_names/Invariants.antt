@@ -8,6 +8,8 @@ use Rattle.names.proofs.gather.import_names.Given as goal
 abbrev pub invariant-loop-name : goal.invariant-loop-name
 invariant-loop-name l =
     record {
-      sum : origins l.imports.entries ++ map (λ x. (x, name_at l.from)) (map name_at l.name-iterator.rest.items) ≡ origins l.fn.imports.entries ++ map (λ x. (x, name_at l.from)) (map name_at l.fn.names.items);
+      sum :
+          origins l.imports.entries ++ map (λ x. (x, name_at l.from)) (map name_at l.name-iterator.rest.items)
+          ≡ origins l.fn.imports.entries ++ map (λ x. (x, name_at l.from)) (map name_at l.fn.names.items);
       distinct : AreDistinct (names_of (meanings l.assigned.entries) ++ names_of (origins l.imports.entries));
     }

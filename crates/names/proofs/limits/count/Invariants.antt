@@ -6,8 +6,12 @@ use Rattle.names.proofs.limits.count.Given as goal
 abbrev pub invariant-loop-given : goal.invariant-loop-given
 invariant-loop-given l =
     record {
-      types : l.counts.types + type_count (map given_of (drop l.given-index l.givens)) ≡ l.fn.counts.types + type_count (map given_of l.fn.givens);
-      values : l.counts.values + value_count (map given_of (drop l.given-index l.givens)) ≡ l.fn.counts.values + value_count (map given_of l.fn.givens);
+      types :
+          l.counts.types + type_count (map given_of (drop l.given-index l.givens))
+          ≡ l.fn.counts.types + type_count (map given_of l.fn.givens);
+      values :
+          l.counts.values + value_count (map given_of (drop l.given-index l.givens))
+          ≡ l.fn.counts.values + value_count (map given_of l.fn.givens);
       few_types : l.counts.types ≤ 4096;
       few_values : l.counts.values ≤ 65536;
     }

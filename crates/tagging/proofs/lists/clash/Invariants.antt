@@ -8,5 +8,6 @@ use Rattle.tagging.proofs.lists.clash.Given as goal
 abbrev pub invariant-loop-place : goal.invariant-loop-place
 invariant-loop-place l = record {
   meets : Meets l.kind (map part_of l.members) (tag_lists l.firsts) l.place l.seen.keys;
-  clear : (ts : List Type') → Collected ts (map part_of l.members) (tag_lists l.firsts) → (p : ℕ) → IsClear ts l.kind (map part_of l.members) p l.place;
+  clear : (ts : List Type') → Collected ts (map part_of l.members) (tag_lists l.firsts) → (p : ℕ) →
+      IsClear ts l.kind (map part_of l.members) p l.place;
 }

@@ -9,6 +9,7 @@ abbrev pub invariant-loop-passed : goal.invariant-loop-passed
 invariant-loop-passed l = record {
   inside : l.at < length l.columns.types;
   passed : Passed l.columns.types l.start l.at l.passed;
-  onto : (p q : Path) → Written l.columns.types l.at p → q ≡ path_of l.path.items ++ p → Adds l.columns.types l.start (path_of l.fn.before.items) q;
+  onto : (p q : Path) → Written l.columns.types l.at p → q ≡ path_of l.path.items ++ p →
+      Adds l.columns.types l.start (path_of l.fn.before.items) q;
   room : 4 ≤ l.path.capacity;
 }

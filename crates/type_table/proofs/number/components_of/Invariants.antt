@@ -9,6 +9,13 @@ abbrev pub invariant-loop-name : goal.invariant-loop-name
 invariant-loop-name l =
     record {
       count : length l.components.items + length l.name-iterator.rest.items ≡ length l.fn.members.items;
-      components : map part_of l.components.items ++ numbered (l.first + length l.components.items) (type_members (map type_member_of l.name-iterator.rest.items)) ≡ numbered l.first (type_members (map type_member_of l.fn.members.items));
-      parts : map source_of l.parts.items ++ member_sources l.assignment l.list (length l.components.items) (type_members (map type_member_of l.name-iterator.rest.items)) ≡ map source_of l.fn.parts.items ++ member_sources l.assignment l.list 0 (type_members (map type_member_of l.fn.members.items));
+      components :
+          map part_of l.components.items ++ numbered (l.first + length l.components.items)
+          (type_members (map type_member_of l.name-iterator.rest.items))
+          ≡ numbered l.first (type_members (map type_member_of l.fn.members.items));
+      parts :
+          map source_of l.parts.items ++ member_sources l.assignment l.list (length l.components.items)
+          (type_members (map type_member_of l.name-iterator.rest.items))
+          ≡ map source_of l.fn.parts.items ++ member_sources l.assignment l.list 0
+          (type_members (map type_member_of l.fn.members.items));
     }

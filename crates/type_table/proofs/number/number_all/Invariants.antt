@@ -7,7 +7,9 @@ use Rattle.type_table.proofs.number.number_all.Given as goal
 abbrev pub invariant-loop-number : goal.invariant-loop-number
 invariant-loop-number l =
     record {
-      halfway : IsHalfway l.names (map header_of l.headers) (map assignment_of l.assignments) (sources_of l.fn.roots.items) (types_of l.types.items) (sources_of l.sources.items) l.number;
+      halfway :
+          IsHalfway l.names (map header_of l.headers) (map assignment_of l.assignments) (sources_of l.fn.roots.items)
+          (types_of l.types.items) (sources_of l.sources.items) l.number;
       count : length l.types.items ≡ l.number;
       few : l.number + length l.sources.items ≤ 65536;
     }
