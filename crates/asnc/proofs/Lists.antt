@@ -1,9 +1,7 @@
 -- Lists and their elements.
-use Rattle.std.proofs.Common.{◌≡◌, ℕ, suc, ◌+◌, ◌<◌, List, [], ◌∷◌, ◌++◌, length, map, take, Some, sym, ap, ◌∙◌, arith, refl, option_map, get_or}
-use Rattle.std.specs.Prelude.{slice_get}
+use Rattle.std.proofs.Common.{◌≡◌, ℕ, suc, ◌+◌, ◌<◌, List, [], ◌∷◌, ◌++◌, length, map, take, sym, ap, ◌∙◌, arith, get_or}
 use Rattle.std.specs.List.{AllZip}
 use Rattle.std.proofs.Math.Seq.{take-suc}
-use Rattle.std.proofs.lemmas.Option.{slice_get-map, slice_get_read}
 use Rattle.std.proofs.lemmas.List.{map-append}
 
 one_taken : {X Y : Type 0} (f : X → Y) (xs : List X) (k : ℕ) (x : X) → k < length xs → x ≡ get_or xs k x →
@@ -26,7 +24,3 @@ pub zip_more : {A B X Y : Type 0} (R : X → Y → Type 0) (f : A → X) (g : B 
 zip_more R f g xs k x old new y l e h n r =
     let q = ap (map g) n ∙ map-append g old (y ∷ []) in
     rw (one_taken f xs k x l e, q) (zip_push R (map f (take k xs)) (map g old) (f x) (g y) h r)
-
-pub seen_here : {X Y : Type 0} (f : X → Y) (xs : List X) (i : ℕ) (x : X) → i < length xs → x ≡ get_or xs i x →
-    slice_get (map f xs) i ≡ Some (f x)
-seen_here f xs i x l q = slice_get-map f xs i ∙ ap (option_map f) (slice_get_read xs (length xs) i x refl l q)

@@ -21,7 +21,7 @@ use Rattle.messages.specs.declared.fault.Fault.TheVariants as faults
 use Rattle.first_path.specs.FirstPath.{IsFirstPath}
 use Rattle.asnc.specs.Opening.{IsModule, IsKitOf, IsOutsideFault, SaysMemory, octets_of}
 use Rattle.messages.specs.Status.{name_number_of}
-use Rattle.asnc.proofs.Lists.{seen_here}
+use Rattle.names.specs.proving.Distinct.{item_at}
 use Rattle.first_path.specs.LeftOut.{IsOutside}
 use Rattle.first_path.specs.declared.fault.Construct.{Construct}
 use Rattle.trees.specs.Values.{Name}
@@ -62,7 +62,7 @@ pub same_more : {A B X Y : Type 0} (R : X → Y → Type 0) (f : A → X) (g : B
     ((ys : List Y) → AllZip R (map f xs) ys → map g old ≡ take k ys) → new ≡ old ++ y ∷ [] →
     ((z : Y) → R (f x) z → g y ≡ z) → (ys : List Y) → AllZip R (map f xs) ys → map g new ≡ take (k + 1) ys
 same_more R f g xs k x old new y l e h n r ys z =
-    let t = zip_at R (map f xs) ys k (f x) z (seen_here f xs k x l e) in
+    let t = zip_at R (map f xs) ys k (f x) z (item_at f xs k x l e) in
     let m : k + 1 ≡ suc k = omega arith in
     ap (map g) n ∙ map-append g old (y ∷ []) ∙ ap (λ zs. zs ++ g y ∷ []) (h ys z) ∙ ap (λ w. take k ys ++ w ∷ []) (r t.0 t.2) ∙ sym (front_more ys k t.0 t.1) ∙ ap (λ j. take j ys) (sym m)
 
@@ -78,7 +78,7 @@ same_all R f g xs k old l h ys z =
 -- a text that is a module is not refused, but for want of memory
 pub refused_memory : {A X Y : Type 0} (R : X → Y → Type 0) (f : A → X) (P : Type 0) (xs : List A) (k : ℕ) (x : A) →
     k < length xs → x ≡ get_or xs k x → ((z : Y) → R (f x) z → P) → (ys : List Y) → AllZip R (map f xs) ys → P
-refused_memory R f P xs k x l e r ys z = let t = zip_at R (map f xs) ys k (f x) z (seen_here f xs k x l e) in r t.0 t.2
+refused_memory R f P xs k x l e r ys z = let t = zip_at R (map f xs) ys k (f x) z (item_at f xs k x l e) in r t.0 t.2
 
 -- a construct that is left out stands in no program that is taken
 abbrev pub Excludes : Type 0

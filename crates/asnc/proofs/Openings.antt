@@ -6,8 +6,8 @@ use Rattle.std.specs.List.{AllZip}
 use Rattle.trees.specs.Modules.{ModuleTree}
 use Rattle.messages.specs.declared.fault.Fault.{Fault}
 use Rattle.messages.specs.declared.fault.Fault.TheVariants as faults
-use Rattle.asnc.specs.Opening.{IsModule, IsRefusedAt, IsTextFault, IsNoKit, StandsIn, octets_of}
-use Rattle.asnc.proofs.Lists.{seen_here}
+use Rattle.asnc.specs.Opening.{IsModule, IsRefusedAt, IsTextFault, octets_of}
+use Rattle.names.specs.proving.Distinct.{item_at}
 
 zip_front : {A X Y : Type 0} (R : X → Y → Type 0) (f : A → X) (xs : List A) (k : ℕ) (ms : List Y) (i : ℕ) (y : X) →
     AllZip R (map f (take k xs)) ms → i < k → slice_get (map f xs) i ≡ Some y → (m : Y) × R y m
@@ -22,13 +22,13 @@ pub first_refused : (xs : List (Vec ℕ Global)) (k : ℕ) (x : Vec ℕ Global) 
     AllZip IsModule (map octets_of (take k xs)) ms → IsRefusedAt k t fault → IsTextFault (map octets_of xs) fault
 first_refused xs k x t ms (faults.Text i f) l e q z h = record {
   text = t;
-  there = subst (λ j. slice_get (map octets_of xs) j ≡ Some t) (sym h.0) (subst (λ o. slice_get (map octets_of xs) k ≡ Some o) (sym q) (seen_here octets_of xs k x l e));
+  there = subst (λ j. slice_get (map octets_of xs) j ≡ Some t) (sym h.0) (subst (λ o. slice_get (map octets_of xs) k ≡ Some o) (sym q) (item_at octets_of xs k x l e));
   stands = h.1;
   before = λ j y m g. zip_front IsModule octets_of xs k ms j y z (subst (λ n. j < n) h.0 m) g;
 }
 first_refused xs k x t ms (faults.Tree i f) l e q z h = record {
   text = t;
-  there = subst (λ j. slice_get (map octets_of xs) j ≡ Some t) (sym h.0) (subst (λ o. slice_get (map octets_of xs) k ≡ Some o) (sym q) (seen_here octets_of xs k x l e));
+  there = subst (λ j. slice_get (map octets_of xs) j ≡ Some t) (sym h.0) (subst (λ o. slice_get (map octets_of xs) k ≡ Some o) (sym q) (item_at octets_of xs k x l e));
   stands = h.1;
   before = λ j y m g. zip_front IsModule octets_of xs k ms j y z (subst (λ n. j < n) h.0 m) g;
 }

@@ -5,11 +5,12 @@ use Rattle.std.proofs.lemmas.Option.{slice_get_within, same_Some}
 use Rattle.trees.specs.Values.{Name, Tree, reference}
 use Rattle.names.specs.declared.scope.Assigned.{Assigned}
 use Rattle.names.specs.declared.scope.Assigned.TheVariants as assigned
-use Rattle.names.specs.Names.{Module, Meaning, Refers, bare, within, across}
+use Rattle.names.specs.Names.{Meaning, Refers, within}
 use Rattle.names.specs.proving.Meanings.{refers_meaning}
 use Rattle.resolve.specs.Program.{Program, IsThere, IsWhole}
 use Rattle.type_table.specs.Walks.{onward, follow, EndsAt, ComesBack, Reaches, IsWithin}
 use Rattle.first_path.specs.Notations.{IsOwn, IsValueAt, IsLast, own, referred, IsValueLast, MeansValue, RefersTo, listed, AreReferred}
+use Rattle.first_path.proofs.Lists.{below_or}
 use Rattle.first_path.proofs.Walks.{ends_next}
 use Rattle.type_table.specs.proving.Walks.{ends_not_back}
 
@@ -179,16 +180,6 @@ listed_over : (os : List (Option ℕ)) (i : ℕ) → length os ≤ i → listed 
 listed_over [] i l = refl
 listed_over (x ∷ os) zero l = absurd (omega (arith, l))
 listed_over (x ∷ os) (suc i) l = listed_over os i (omega (arith, l))
-
-below_or : (i n : ℕ) → i < n + 1 → (i < n) ⊎ (i ≡ n)
-below_or zero zero l = inr refl
-below_or zero (suc n) l = inl (omega arith)
-below_or (suc i) zero l = absurd (omega (arith, l))
-below_or (suc i) (suc n) l =
-    elim (below_or i n (omega (arith, l))) [
-      | inl h ↦ inl (omega (arith, h))
-      | inr h ↦ inr (ap suc h)
-    ]
 
 under_or : (i n : ℕ) → (i < n) ⊎ (n ≤ i)
 under_or i zero = inr (omega arith)

@@ -1,19 +1,10 @@
 -- Lists and their elements.
-use Rattle.std.proofs.Common.{◌≡◌, ◌⊎◌, inl, inr, ℕ, zero, suc, ◌+◌, ◌<◌, ◌≤◌, true, List, [], ◌∷◌, ◌++◌, length, map, take, Some, refl, sym, ap, ◌∙◌, arith, option_map, subst, get_or}
-use Rattle.std.specs.Prelude.{slice_get, bytes_eq}
+use Rattle.std.proofs.Common.{◌≡◌, ◌⊎◌, inl, inr, ℕ, zero, suc, ◌+◌, ◌<◌, List, [], ◌∷◌, ◌++◌, length, map, take, Some, refl, sym, ap, ◌∙◌, arith, option_map, subst, get_or}
+use Rattle.std.specs.Prelude.{slice_get}
 use Rattle.std.specs.List.{AllByRecursion, AllZip}
 use Rattle.std.proofs.Math.Seq.{take-suc}
 use Rattle.std.proofs.lemmas.Option.{slice_get-map, slice_get_read}
-use Rattle.std.proofs.lemmas.List.{map-append, take_all, length-map}
-use Rattle.std.proofs.lemmas.Slice.Eq.{bytes_eq-Decides}
-use Rattle.trees.specs.Values.{Name}
-
--- equal octets are one name
-pub same_name : (x y : Name) → bytes_eq x y ≡ true → x ≡ y
-same_name x y e = (bytes_eq-Decides x y).0 e
-
-pub its_own : (x : Name) → bytes_eq x x ≡ true
-its_own x = (bytes_eq-Decides x x).1 refl
+use Rattle.std.proofs.lemmas.List.{map-append, length-map}
 
 pub one_taken : {X Y : Type 0} (f : X → Y) (xs : List X) (k : ℕ) (x : X) → k < length xs → x ≡ get_or xs k x →
     map f (take (k + 1) xs) ≡ map f (take k xs) ++ f x ∷ []
@@ -57,12 +48,6 @@ pub all_step : {X : Type 0} (P : X → Type 0) (xs : List X) (k : ℕ) (x : X) �
     AllByRecursion P (take k xs) → P x → AllByRecursion P (take (k + 1) xs)
 all_step P xs k x e h p = let n : k + 1 ≡ suc k = omega arith in subst (λ j. AllByRecursion P (take j xs)) (sym n) (all_taken P xs k x e h p)
 
-pub all_at : {X : Type 0} (P : X → Type 0) (xs : List X) (i : ℕ) (x : X) → AllByRecursion P xs →
-    slice_get xs i ≡ Some x → P x
-all_at P [] i x a e = absurd cc
-all_at P (y ∷ xs) zero x a e = let q : y ≡ x = cc in rw (sym q) a.0
-all_at P (y ∷ xs) (suc i) x a e = all_at P xs i x a.1 e
-
 pub all_by_index : {X : Type 0} (P : X → Type 0) (xs : List X) → ((i : ℕ) (x : X) → slice_get xs i ≡ Some x → P x) →
     AllByRecursion P xs
 all_by_index P [] h = tt
@@ -87,6 +72,16 @@ some_below [] i l = absurd (omega (arith, l))
 some_below (x ∷ xs) zero l = (x, refl)
 some_below (x ∷ xs) (suc i) l = some_below xs i (omega (arith, l))
 
+pub below_or : (i n : ℕ) → i < n + 1 → (i < n) ⊎ (i ≡ n)
+below_or zero zero l = inr refl
+below_or zero (suc n) l = inl (omega arith)
+below_or (suc i) zero l = absurd (omega (arith, l))
+below_or (suc i) (suc n) l =
+    elim (below_or i n (omega (arith, l))) [
+      | inl h ↦ inl (omega (arith, h))
+      | inr h ↦ inr (ap suc h)
+    ]
+
 -- what is seen of a list, at a place
 pub inside_seen : {X Y : Type 0} (f : X → Y) (xs : List X) (ys : List Y) (i : ℕ) → map f xs ≡ ys → i < length ys →
     i < length xs
@@ -95,7 +90,3 @@ inside_seen f xs ys i e l = let m = length-map xs f in let n = ap length e in om
 pub seen_at : {X Y : Type 0} (f : X → Y) (xs : List X) (ys : List Y) (i : ℕ) (x : X) → map f xs ≡ ys →
     i < length ys → x ≡ get_or xs i x → slice_get ys i ≡ Some (f x)
 seen_at f xs ys i x e l q = ap (λ zs. slice_get zs i) (sym e) ∙ slice_get-map f xs i ∙ ap (option_map f) (slice_get_read xs (length xs) i x refl (inside_seen f xs ys i e l) q)
-
-pub seen_here : {X Y : Type 0} (f : X → Y) (xs : List X) (i : ℕ) (x : X) → i < length xs → x ≡ get_or xs i x →
-    slice_get (map f xs) i ≡ Some (f x)
-seen_here f xs i x l q = slice_get-map f xs i ∙ ap (option_map f) (slice_get_read xs (length xs) i x refl l q)

@@ -1,18 +1,19 @@
 -- Names of components and of fields.
-use Rattle.std.proofs.Common.{◌≡◌, ◌⊎◌, inl, inr, ℕ, zero, suc, ◌+◌, ◌<◌, ◌≤◌, ◌||◌, Bool, true, false, not, true≢false, List, [], ◌∷◌, length, map, take, Some, refl, sym, ap, ◌∙◌, arith, subst, get_or}
+use Rattle.std.proofs.Common.{◌≡◌, inl, inr, ℕ, zero, suc, ◌+◌, ◌<◌, ◌≤◌, ◌||◌, Bool, true, false, not, true≢false, List, [], ◌∷◌, length, map, take, Some, refl, sym, ap, ◌∙◌, arith, subst, get_or}
 use Rattle.std.specs.Prelude.{slice_get, bytes_eq, string_bytes}
 use Rattle.std.specs.List.{list_any}
-use Rattle.std.proofs.lemmas.Option.{slice_get_within}
+use Rattle.std.proofs.lemmas.Option.{slice_get_within, same_Some}
 use Rattle.std.proofs.lemmas.List.{length-map}
 use Rattle.std.proofs.lemmas.Slice.Eq.{bytes_eq-Decides}
-use Rattle.asn_base.specs.declared.schema.Component.{Component as Component'}
 use Rattle.asn_base.specs.Seen.{component_of}
+use Rattle.asn_base.specs.declared.schema.Component.{Component as Component'}
 use Rattle.trees.specs.Values.{Name, name_at, member_of}
 use Rattle.trees.specs.declared.value.Named.{Named}
 use Rattle.trees.specs.declared.value.ValueSyntax.{ValueSyntax}
 use Rattle.names.specs.Modules.{StandsIn, StandsTwice, AreDistinct}
 use Rattle.first_path.specs.Wrong.{component_names, field_names, AreIn}
-use Rattle.first_path.proofs.Lists.{seen_here}
+use Rattle.first_path.proofs.Lists.{below_or}
+use Rattle.names.specs.proving.Distinct.{item_at}
 
 pub component_texts : (cs : List Component') → component_names (map component_of cs) ≡ map (λ c. string_bytes c.name) cs
 component_texts [] = refl
@@ -25,14 +26,11 @@ field_texts (f ∷ fs) = ap (λ xs. name_at f.name ∷ xs) (field_texts fs)
 pub component_named : (cs : List Component') (k : ℕ) (c : Component') (x : Name) → k < length cs →
     c ≡ get_or cs k c → x ≡ string_bytes (get_or cs k c).name →
     slice_get (component_names (map component_of cs)) k ≡ Some x
-component_named cs k c x l e q = ap (λ xs. slice_get xs k) (component_texts cs) ∙ seen_here (λ c. string_bytes c.name) cs k c l e ∙ ap (λ z. Some (string_bytes z.name)) e ∙ ap Some (sym q)
+component_named cs k c x l e q = ap (λ xs. slice_get xs k) (component_texts cs) ∙ item_at (λ c. string_bytes c.name) cs k c l e ∙ ap (λ z. Some (string_bytes z.name)) e ∙ ap Some (sym q)
 
 pub field_named : (fs : List (Named ValueSyntax)) (k : ℕ) (f : Named ValueSyntax) (x : Name) → k < length fs →
     f ≡ get_or fs k f → x ≡ name_at (get_or fs k f).name → slice_get (field_names (map member_of fs)) k ≡ Some x
-field_named fs k f x l e q = ap (λ xs. slice_get xs k) (field_texts fs) ∙ seen_here (λ f. name_at f.name) fs k f l e ∙ ap (λ z. Some (name_at z.name)) e ∙ ap Some (sym q)
-
-pub some_name : (x y : Name) → Some x ≡ Some y → x ≡ y
-some_name x y e = cc
+field_named fs k f x l e q = ap (λ xs. slice_get xs k) (field_texts fs) ∙ item_at (λ f. name_at f.name) fs k f l e ∙ ap (λ z. Some (name_at z.name)) e ∙ ap Some (sym q)
 
 -- ---- a name among others
 
@@ -58,7 +56,7 @@ or_right false c h = h
 any_out : {K : Type 0} (f : K → Name) (x : Name) (ks : List K) → list_any (λ k. bytes_eq (f k) x) ks ≡ false →
     (i : ℕ) → slice_get (map f ks) i ≡ Some x → ⊥
 any_out f x [] h i e = absurd cc
-any_out f x (k ∷ ks) h zero e = true≢false (sym ((bytes_eq-Decides (f k) x).1 (some_name (f k) x e)) ∙ or_left (bytes_eq (f k) x) (list_any (λ k. bytes_eq (f k) x) ks) h)
+any_out f x (k ∷ ks) h zero e = true≢false (sym ((bytes_eq-Decides (f k) x).1 (same_Some (f k) x e)) ∙ or_left (bytes_eq (f k) x) (list_any (λ k. bytes_eq (f k) x) ks) h)
 any_out f x (k ∷ ks) h (suc i) e = any_out f x ks (or_right (bytes_eq (f k) x) (list_any (λ k. bytes_eq (f k) x) ks) h) i e
 
 pub is_component : (cs : List Component') (x : Name) (b : Bool) →
@@ -79,16 +77,6 @@ pub no_field : (fs : List (Named ValueSyntax)) (x : Name) (b : Bool) →
     b ≡ list_any (λ f. bytes_eq (name_at f.name) x) fs → b ≡ false → StandsIn (field_names (map member_of fs)) x → ⊥
 no_field fs x b e h s = any_out (λ f. name_at f.name) x fs (sym e ∙ h) s.0 (ap (λ xs. slice_get xs s.0) (sym (field_texts fs)) ∙ s.1)
 
-below_or_at : (j k : ℕ) → j < k + 1 → (j < k) ⊎ (j ≡ k)
-below_or_at zero zero l = inr refl
-below_or_at zero (suc k) l = inl (omega arith)
-below_or_at (suc j) zero l = absurd (omega (arith, l))
-below_or_at (suc j) (suc k) l =
-    elim (below_or_at j k (omega (arith, l))) [
-      | inl h ↦ inl (omega (arith, h))
-      | inr h ↦ inr (ap suc h)
-    ]
-
 -- ---- the names of one list that stand in another, from the front
 
 -- the first k names stand in the other list
@@ -101,9 +89,9 @@ in_none xs ys j x l e = absurd (omega (arith, l))
 pub in_more : (xs ys : List Name) (k : ℕ) (n : Name) → AreInFirst xs ys k → slice_get xs k ≡ Some n →
     StandsIn ys n → AreInFirst xs ys (k + 1)
 in_more xs ys k n h e s j x l g =
-    elim (below_or_at j k l) [
+    elim (below_or j k l) [
       | inl b ↦ h j x b g
-      | inr q ↦ subst (StandsIn ys) (some_name n x (sym e ∙ ap (slice_get xs) (sym q) ∙ g)) s
+      | inr q ↦ subst (StandsIn ys) (same_Some n x (sym e ∙ ap (slice_get xs) (sym q) ∙ g)) s
     ]
 
 pub in_all : (xs ys : List Name) (k : ℕ) → AreInFirst xs ys k → length xs ≤ k → AreIn xs ys
@@ -125,9 +113,9 @@ IsNewAt xs k n = (i : ℕ) → i < k → slice_get xs i ≡ Some n → ⊥
 pub once_more : (xs : List Name) (k : ℕ) (n : Name) → AreOnceFirst xs k → slice_get xs k ≡ Some n → IsNewAt xs k n →
     AreOnceFirst xs (k + 1)
 once_more xs k n h e new i j x l b f g =
-    elim (below_or_at j k b) [
+    elim (below_or j k b) [
       | inl c ↦ h i j x l c f g
-      | inr q ↦ (let s = some_name n x (sym e ∙ ap (slice_get xs) (sym q) ∙ g) in new i (omega (arith, l, q)) (f ∙ ap Some (sym s)))
+      | inr q ↦ (let s = same_Some n x (sym e ∙ ap (slice_get xs) (sym q) ∙ g) in new i (omega (arith, l, q)) (f ∙ ap Some (sym s)))
     ]
 
 pub once_all : (xs : List Name) (k : ℕ) → AreOnceFirst xs k → length xs ≤ k → AreDistinct xs
@@ -173,7 +161,7 @@ same_none xs ys j l = absurd (omega (arith, l))
 pub same_more : (xs ys : List Name) (k : ℕ) → AreSameFirst xs ys k → slice_get xs k ≡ slice_get ys k →
     AreSameFirst xs ys (k + 1)
 same_more xs ys k h e j l =
-    elim (below_or_at j k l) [
+    elim (below_or j k l) [
       | inl b ↦ h j b
       | inr q ↦ subst (λ i. slice_get xs i ≡ slice_get ys i) (sym q) e
     ]
@@ -184,7 +172,7 @@ same_all_on [] [] e h = refl
 same_all_on [] (y ∷ ys) e h = absurd (omega (arith, e))
 same_all_on (x ∷ xs) [] e h = absurd (omega (arith, e))
 same_all_on (x ∷ xs) (y ∷ ys) e h =
-    let q = some_name x y (h 0 (omega arith)) in
+    let q = same_Some x y (h 0 (omega arith)) in
     let r = same_all_on xs ys (omega (arith, e)) (λ j l. h (suc j) (omega (arith, l))) in
     ap (λ z. z ∷ xs) q ∙ ap (λ zs. y ∷ zs) r
 
@@ -212,7 +200,7 @@ field_count fs = ap length (field_texts fs) ∙ length-map fs (λ f. name_at f.n
 pub unequal : (a b : Name) (xs ys : List Name) (k : ℕ) → slice_get xs k ≡ Some a → slice_get ys k ≡ Some b →
     true ≡ not (bytes_eq a b) → xs ≡ ys → ⊥
 unequal a b xs ys k e f g h =
-    let q = some_name a b (sym e ∙ ap (λ zs. slice_get zs k) h ∙ f) in
+    let q = same_Some a b (sym e ∙ ap (λ zs. slice_get zs k) h ∙ f) in
     let t : bytes_eq a b ≡ true = (bytes_eq-Decides a b).1 q in
     let n : true ≡ not true = g ∙ ap not t in
     absurd cc
@@ -224,4 +212,4 @@ pub named_alike : (cs : List Component') (fs : List (Named ValueSyntax)) (i : �
 named_alike cs fs i c f l e k g h =
     let a = component_named cs i c (string_bytes c.name) l e (ap (λ z. string_bytes z.name) e) in
     let b = field_named fs i f (name_at f.name) k g (ap (λ z. name_at z.name) g) in
-    some_name (string_bytes c.name) (name_at f.name) (sym a ∙ ap (λ zs. slice_get zs i) h ∙ b)
+    same_Some (string_bytes c.name) (name_at f.name) (sym a ∙ ap (λ zs. slice_get zs i) h ∙ b)

@@ -11,9 +11,10 @@ use Rattle.trees.specs.declared.value.ValueSyntax.{ValueSyntax}
 use Rattle.trees.specs.declared.value.ValueSyntax.TheOpen.{ValueSyntax-F}
 use Rattle.trees.specs.declared.value.ValueSyntax.TheViews.{out-ValueSyntax}
 use Rattle.trees.specs.declared.value.ValueSyntax.TheFolds.{fold_out-ValueSyntax, map-ValueSyntax}
+use Rattle.names.specs.proving.Distinct.{item_at}
 use Rattle.first_path.specs.FirstPath.{IsFirstNotation, AreFirstFields}
 use Rattle.first_path.specs.Notations.{named, fields_in}
-use Rattle.first_path.proofs.Lists.{one_taken, seen_here}
+use Rattle.first_path.proofs.Lists.{one_taken}
 
 abbrev named_tree : Named ValueSyntax → Named Tree
 named_tree f = record { name = f.name; value = tree_of f.value }
@@ -61,4 +62,4 @@ first_at (g ∷ fs) (suc k) f h e = first_at fs k f h.1 e
 
 pub no_field_at : (xs : List (Named ValueSyntax)) (k : ℕ) (x : Named ValueSyntax) → k < length xs →
     x ≡ get_or xs k x → (IsFirstNotation (tree_of x.value) → ⊥) → AreFirstFields (members (map member_of xs)) → ⊥
-no_field_at xs k x l e n h = n (first_at (map member_of xs) k (member_of x) h (seen_here member_of xs k x l e))
+no_field_at xs k x l e n h = n (first_at (map member_of xs) k (member_of x) h (item_at member_of xs k x l e))

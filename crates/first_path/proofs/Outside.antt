@@ -1,5 +1,5 @@
 -- Constructs that are left out, seen from what a search answers.
-use Rattle.std.proofs.Common.{◌≡◌, inl, inr, ◌<◌, List, [], ◌∷◌, length, map, Option, Some, None, false, refl, sym, ap, ◌∙◌, arith, subst, get_or}
+use Rattle.std.proofs.Common.{◌≡◌, inl, inr, ◌<◌, List, [], ◌∷◌, length, map, Option, Some, None, false, sym, ap, ◌∙◌, arith, subst, get_or}
 use Rattle.std.specs.Prelude.{IfSome}
 use Rattle.trees.specs.Constraints.{constraint_of}
 use Rattle.trees.specs.Types.{Plain, mandatory}
@@ -17,11 +17,11 @@ use Rattle.names.specs.Modules.{StandsIn}
 use Rattle.type_table.specs.Table.{Part, Kind, simple, Type'}
 use Rattle.type_table.specs.Table as tables
 use Rattle.resolve.specs.Program.{Program}
+use Rattle.names.specs.proving.Distinct.{at_all}
 use Rattle.first_path.specs.declared.fault.Construct.{Construct}
 use Rattle.first_path.specs.declared.fault.Construct.TheVariants as constructs
 use Rattle.first_path.specs.FirstPath.{Unfolds, IsFirstPath, IsFirstType, IsFirstNotation}
 use Rattle.first_path.specs.LeftOut.{plain_construct, core_construct, constraint_construct, IsPartOut, of_type, IsKindOut, plain, member, IsTypeOut, constraint, IsOutside, IsNotationOut, null_value, quoted, alternative, numbers, values as item_values, inside}
-use Rattle.first_path.proofs.Lists.{all_at}
 use Rattle.first_path.proofs.Notated.{named_members}
 
 pub part_out : (ts : List Type') (q : Part) (t : Type') (r : Option Construct) → q.presence ≡ mandatory →
@@ -86,6 +86,6 @@ constraint_out ts t vs v c e l g h = let r = head_seen constraint_of v vs l g in
 
 -- a construct that is left out stands in no program that is taken
 pub excludes : (p : Program) (c : Construct) (M x : Name) → IsOutside p c M x → IsFirstPath p → ⊥
-excludes p c M x (inl t) f = t.other (all_at (λ h. h.1 ≡ Explicit) p.headers t.number (M, t.default) f.headers t.there)
-excludes p c M x (inr (inl t)) f = t.such.0 (all_at (IsFirstType p.types) p.types t.number t.written f.types t.there)
-excludes p c M x (inr (inr t)) f = t.such.0 (all_at (λ v. IsFirstNotation v.notation) p.values t.number t.value f.values t.there)
+excludes p c M x (inl t) f = t.other (at_all (λ h. h.1 ≡ Explicit) p.headers t.number (M, t.default) f.headers t.there)
+excludes p c M x (inr (inl t)) f = t.such.0 (at_all (IsFirstType p.types) p.types t.number t.written f.types t.there)
+excludes p c M x (inr (inr t)) f = t.such.0 (at_all (λ v. IsFirstNotation v.notation) p.values t.number t.value f.values t.there)

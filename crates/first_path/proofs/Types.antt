@@ -10,10 +10,10 @@ use Rattle.asn_base.specs.Types.{Component, Resolved}
 use Rattle.asn_base.specs.Names.{IsIdentifier, IsMember, is_first, is_later, AreDistinct, AreNames}
 use Rattle.asn_base.specs.Accepted.{IsAccepted, IsAcceptedType, IsSimple, IsSimpleMember, IsOfFirstStage}
 use Rattle.asn_base.specs.Seen.{resolved_of, constraint_of, kind_of as core_kind_of, types_of as resolved_types_of}
-use Rattle.asn_base.specs.declared.constraint.Constraint.{Constraint as Constraint'}
 use Rattle.asn_base.specs.declared.schema.Core.{Core}
 use Rattle.asn_base.specs.declared.schema.Core.TheVariants as cores
 use Rattle.asn_base.specs.declared.schema.Resolved.{Resolved as Resolved'}
+use Rattle.asn_base.specs.declared.constraint.Constraint.{Constraint as Constraint'}
 use Rattle.trees.specs.declared.types.NamedNumber.{NamedNumber}
 use Rattle.trees.specs.Types.{an_integer, number_of, plain_of}
 use Rattle.trees.specs.declared.types.Simple.{Simple}
@@ -25,10 +25,11 @@ use Rattle.trees.specs.declared.types.ListKind.TheVariants as lists
 use Rattle.type_table.specs.Seen.{kind_of}
 use Rattle.names.specs.Modules as twice
 use Rattle.type_table.specs.Lists.{AreSound, IsSoundKind, root_count}
-use Rattle.type_table.specs.Table.{Part, Kind, simple, reference, tagged, members, elements, Type', behind, behind_of, IsLinked}
+use Rattle.type_table.specs.Table.{Part, Kind, simple, reference, tagged, members, elements, Type', behind, IsLinked}
+use Rattle.names.specs.proving.Distinct.{at_all}
 use Rattle.first_path.specs.FirstPath.{IsBasic, Unfolds, IsFirstMember, IsFirstKind, IsFirstType, PartsInside}
 use Rattle.first_path.specs.Resolving.{IsComponent, IsKind, boolean, integer, octet_string, sequence, IsUniversal, IsTypeOf, AreTypes}
-use Rattle.first_path.proofs.Lists.{all_at, all_by_index, get_push, some_below}
+use Rattle.first_path.proofs.Lists.{all_by_index, get_push, some_below}
 use Rattle.first_path.proofs.Unfoldings.{unfolds_once, parts_inside}
 
 pub basic_boolean : (s : Shape) (x : Simple) → s ≡ shapes.Simple x → x ≡ simples.Boolean →
@@ -72,7 +73,7 @@ no_other ts (elements x j) f e nb ns = f
 
 first_unfolded : (ts : List Type') (i : ℕ) (t : Type') → AllByRecursion (IsFirstType ts) ts → Unfolds ts i t →
     IsFirstKind ts t.kind
-first_unfolded ts i t a u = (all_at (IsFirstType ts) ts u.number t a u.there).kind
+first_unfolded ts i t a u = (at_all (IsFirstType ts) ts u.number t a u.there).kind
 
 -- the types of a front of the table
 pub record AreFront (ts : List Type') (s : List Resolved) (n : ℕ) : Type 0 where

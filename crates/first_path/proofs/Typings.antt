@@ -2,25 +2,25 @@
 use Rattle.std.proofs.Common.{◌≡◌, inl, inr, ℕ, zero, suc, ◌+◌, ◌<◌, ◌≤◌, List, [], ◌∷◌, ◌++◌, length, map, take, Option, Some, None, refl, sym, ap, ◌∙◌, option_map, string_bytes, subst, get_or, Bool, true, false, not}
 use Rattle.std.specs.Prelude.{slice_get, bytes_eq, Result, Ok, Err, IfOk, IfErr, Vec}
 use Rattle.std.specs.Global.{Global}
-use Rattle.asn_base.specs.declared.schema.Resolved.{Resolved as Resolved'}
 use Rattle.asn_base.specs.declared.schema.Core.TheVariants as cores
 use Rattle.std.proofs.lemmas.List.{map-append, take_all}
 use Rattle.std.proofs.lemmas.Option.{slice_get-map, slice_get_read}
 use Rattle.asn_base.specs.declared.tag.Tag.{Tag}
 use Rattle.asn_base.specs.declared.value.Value.{Value}
-use Rattle.asn_base.specs.declared.schema.Component.{Component as Component'}
 use Rattle.asn_base.specs.Abstract.{AbstractValue, abstract, row_of_options}
 use Rattle.asn_base.specs.Types.{Kind, a_sequence, Component, Resolved, Is}
 use Rattle.asn_base.specs.Accepted.{IsSimple}
 use Rattle.asn_base.specs.Seen.{component_of, kind_of, resolved_of}
+use Rattle.asn_base.specs.declared.schema.Component.{Component as Component'}
+use Rattle.asn_base.specs.declared.schema.Resolved.{Resolved as Resolved'}
 use Rattle.trees.specs.Values.{Name, Tree, member_of, name_at, tree_of}
 use Rattle.trees.specs.declared.value.Named.{Named}
 use Rattle.trees.specs.declared.value.ValueSyntax.{ValueSyntax}
 use Rattle.resolve.specs.Program.{Program}
 use Rattle.first_path.specs.declared.fault.ValueFault.{ValueFault}
-use Rattle.first_path.specs.Notations.{IsLast, IsOnlyLast, IsLeaf, truth, whole_number, bit_text, hex_text, Notation, leaf, sequence, Fields, no_field, field, Lacks, fields_in}
-use Rattle.first_path.specs.Wrong.{IsOther}
-use Rattle.first_path.proofs.Lists.{one_taken, same_name}
+use Rattle.first_path.specs.Notations.{IsLast, IsOnlyLast, IsLeaf, truth, Notation, leaf, sequence, Fields, no_field, field, Lacks, fields_in}
+use Rattle.names.specs.proving.Distinct.{equal_bytes}
+use Rattle.first_path.proofs.Lists.{one_taken}
 
 abbrev pub IsNoSequence : Kind → Type 0
 IsNoSequence (a_sequence e cs) = ⊥
@@ -155,7 +155,7 @@ pub named_at : (fs : List (Named ValueSyntax)) (i : ℕ) (f : Named ValueSyntax)
 named_at fs i f l e = slice_get-map member_of fs i ∙ ap (option_map member_of) (slice_get_read fs (length fs) i f refl l e)
 
 pub equal_names : (a b x y : Name) → a ≡ x → b ≡ y → false ≡ not (bytes_eq a b) → x ≡ y
-equal_names a b x y e f g = sym e ∙ same_name a b (truth (bytes_eq a b) g) ∙ f
+equal_names a b x y e f g = sym e ∙ equal_bytes a b (truth (bytes_eq a b) g) ∙ f
   where
     truth : (c : Bool) → false ≡ not c → c ≡ true
     truth true h = refl

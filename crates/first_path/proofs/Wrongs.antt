@@ -2,10 +2,10 @@
 use Rattle.std.proofs.Common.{◌≡◌, inr, ℕ, zero, suc, List, [], ◌∷◌, map, take, Option, Some, None, refl, sym, ap, ◌∙◌, subst, ◌↔◌}
 use Rattle.std.specs.Prelude.{slice_get, Result, Ok, Err, IfErr, MatchResult}
 use Rattle.asn_base.specs.declared.tag.Tag.{Tag}
-use Rattle.asn_base.specs.declared.schema.Component.{Component as Component'}
 use Rattle.asn_base.specs.Abstract.{AbstractValue}
 use Rattle.asn_base.specs.Types.{Kind, Component, Resolved, Is}
 use Rattle.asn_base.specs.Seen.{component_of}
+use Rattle.asn_base.specs.declared.schema.Component.{Component as Component'}
 use Rattle.trees.specs.Values.{Name, Tree, member_of, reference}
 use Rattle.names.specs.Faults.{module_told, name_told}
 use Rattle.trees.specs.declared.value.Named.{Named}

@@ -4,7 +4,7 @@ use Rattle.std.specs.Int.Digits.{number_from_digits, AllBelowBase}
 use Rattle.asn_base.specs.declared.tag.Tag.{Tag}
 use Rattle.asn_base.specs.Abstract.{AbstractValue, boolean, integer, octets, fields, Row, end, present}
 use Rattle.asn_base.specs.Types.{Kind, a_boolean, an_integer, an_octet_string, a_sequence, Component, Constraint, Resolved, Is}
-use Rattle.trees.specs.Values.{Name, Tree, yes, no, null, number, binary, hex, chars, reference, chosen, nothing, numbers, items, Members, no_member, member_and}
+use Rattle.trees.specs.Values.{Name, Tree, yes, no, number, binary, hex, reference, nothing, Members, no_member, member_and}
 use Rattle.trees.specs.Values as trees
 use Rattle.trees.specs.declared.place.Spot.{Spot}
 use Rattle.names.specs.declared.scope.Assigned.TheVariants as assigned

@@ -1,6 +1,7 @@
 -- Faults of types and names in a program, and that they exclude a sound one.
-use Rattle.std.proofs.Common.{◌≡◌, ◌⊎◌, ◌^◌, inl, inr, ℕ, pos, List, length, ◌+◌, Some, refl, sym, subst, ap, ◌∙◌, arith}
+use Rattle.std.proofs.Common.{◌≡◌, ◌⊎◌, ◌^◌, inl, inr, ℕ, pos, List, length, map, get_or, ◌<◌, ◌+◌, Some, refl, sym, subst, ap, ◌∙◌, arith}
 use Rattle.std.specs.Prelude.{slice_get}
+use Rattle.std.proofs.lemmas.Option.{same_Some}
 use Rattle.trees.specs.Values.{Name}
 use Rattle.trees.specs.Types.{Plain, an_integer, a_bit_string, an_enumerated}
 use Rattle.trees.specs.declared.module.TagDefault.{TagDefault}
@@ -13,7 +14,7 @@ use Rattle.names.specs.Faults.{module_told, name_told}
 use Rattle.names.specs.Modules.{StandsIn, AreDistinct}
 use Rattle.names.specs.Names.{Refers}
 use Rattle.names.specs.Sources.{Value}
-use Rattle.names.specs.proving.Distinct.{mapped, right}
+use Rattle.names.specs.proving.Distinct.{item_at, mapped, right}
 use Rattle.type_table.specs.Items.{additions_of, root_numbers, addition_numbers}
 use Rattle.type_table.specs.Lists.{IsSoundPlain, IsSoundKind}
 use Rattle.type_table.specs.ListFaults.{IsTwiceAmong, IsTwicePlain, IsTwiceIn, HasManyMembers, HasManyItems, HasFarBit, HasGreatNumber, HasPassed}
@@ -24,20 +25,22 @@ use Rattle.resolve.specs.Qualified.{qualified, qualified_in, MeanValues}
 use Rattle.resolve.specs.Sound.{IsSound, IsSoundFault}
 use Rattle.resolve.specs.proving.Unknown.{IsUnknownIn}
 
--- ---- where an assignment stands
+-- the element of this turn, in the list as a program has it
+pub turn_there : {X Y : Type 0} (f : X → Y) (xs : List X) (zs : List Y) (i : ℕ) (x : X) → map f xs ≡ zs →
+    i < length xs → x ≡ get_or xs i x → slice_get zs i ≡ Some (f x)
+turn_there f xs zs i x e l h = ap (λ z. slice_get z i) (sym e) ∙ item_at f xs i x l h
 
-some_same : {A : Type 0} (x y : A) → Some x ≡ Some y → x ≡ y
-some_same x y e = cc
+-- ---- where an assignment stands
 
 one_header : (p : Program) (o o' : ℕ) (M N : Name) (d d' : TagDefault) → o ≡ o' →
     slice_get p.headers o ≡ Some (M, d) → slice_get p.headers o' ≡ Some (N, d') → M ≡ N
 one_header p o o' M N d d' q e f =
-    let s : (M, d) ≡ (N, d') = some_same (M, d) (N, d') (sym e ∙ ap (slice_get p.headers) q ∙ f) in
+    let s : (M, d) ≡ (N, d') = same_Some (M, d) (N, d') (sym e ∙ ap (slice_get p.headers) q ∙ f) in
     ap (λ z. z.0) s
 
 one_module : (p : Program) (k : ℕ) (M x N y : Name) → IsAssignment p k M x → IsAssignment p k N y → M ≡ N
 one_module p k M x N y a b =
-    let s : (a.owner, x) ≡ (b.owner, y) = some_same (a.owner, x) (b.owner, y) (sym a.assigned ∙ b.assigned) in
+    let s : (a.owner, x) ≡ (b.owner, y) = same_Some (a.owner, x) (b.owner, y) (sym a.assigned ∙ b.assigned) in
     one_header p a.owner b.owner M N a.tags b.tags (ap (λ z. z.0) s) a.header b.header
 
 moved : (p : Program) (k : ℕ) (M N x y : Name) → N ≡ M → y ≡ x → IsAssignment p k M x → IsAssignment p k N y
@@ -57,19 +60,19 @@ abbrev pub ValueMeans : Program → ℕ → Type 0
 ValueMeans p i = (v : Value) (M x : Name) → slice_get p.values i ≡ Some v → IsAssignment p v.assignment M x → MeanValues p.modules M (qualified v.notation)
 
 pub sound_at : (p : Program) (i : ℕ) (t : Type') → slice_get p.types i ≡ Some t → IsSoundKind t.kind → SoundAt p i
-sound_at p i t e h u f = subst (λ z. IsSoundKind z.kind) (some_same t u (sym e ∙ f)) h
+sound_at p i t e h u f = subst (λ z. IsSoundKind z.kind) (same_Some t u (sym e ∙ f)) h
 
 pub type_means : (p : Program) (i : ℕ) (t : Type') (M x : Name) → slice_get p.types i ≡ Some t →
     IsAssignment p t.assignment M x → MeanValues p.modules M (qualified_in t) → TypeMeans p i
 type_means p i t M x e a m u N y f b =
-    let q : t ≡ u = some_same t u (sym e ∙ f) in
+    let q : t ≡ u = same_Some t u (sym e ∙ f) in
     let c : IsAssignment p t.assignment N y = subst (λ z. IsAssignment p z.assignment N y) (sym q) b in
     subst (λ z. MeanValues p.modules z (qualified_in u)) (one_module p t.assignment M x N y a c) (subst (λ z. MeanValues p.modules M (qualified_in z)) q m)
 
 pub value_means : (p : Program) (i : ℕ) (v : Value) (M x : Name) → slice_get p.values i ≡ Some v →
     IsAssignment p v.assignment M x → MeanValues p.modules M (qualified v.notation) → ValueMeans p i
 value_means p i v M x e a m u N y f b =
-    let q : v ≡ u = some_same v u (sym e ∙ f) in
+    let q : v ≡ u = same_Some v u (sym e ∙ f) in
     let c : IsAssignment p v.assignment N y = subst (λ z. IsAssignment p z.assignment N y) (sym q) b in
     subst (λ z. MeanValues p.modules z (qualified u.notation)) (one_module p v.assignment M x N y a c) (subst (λ z. MeanValues p.modules M (qualified z.notation)) q m)
 

@@ -4,6 +4,7 @@ use Rattle.trees.specs.Values.{Name}
 use Rattle.names.specs.declared.fault.NameFault.{NameFault}
 use Rattle.names.specs.declared.fault.NameFault.TheVariants as faults
 use Rattle.names.specs.Faults.{name_told}
+use Rattle.names.specs.Modules.{StandsIn}
 use Rattle.names.specs.Names.{Module}
 use Rattle.names.specs.proving.Distinct.{drop_at, either, none_left, stands_left, stands_right}
 use Rattle.resolve.specs.Qualified.{each, MeanValues}
@@ -20,25 +21,24 @@ module _ (ms : List (Name × Module)) (M : Name) where
         | inr r ↦ q r.0 N x r.2
       ]
 
+  -- a fault of some names is one of all
+  unknown_among : (xs zs : List (Name × Name)) → ((z : Name × Name) → StandsIn xs z → StandsIn zs z) → (e : NameFault) →
+      IsUnknownIn ms M xs e → IsUnknownIn ms M zs e
+  unknown_among xs zs h faults.Memory u = tt
+  unknown_among xs zs h (faults.UnknownName s) u = (u.0, u.1, h (u.1, name_told s) u.2, u.3)
+  unknown_among xs zs h (faults.Limit l s) u = u
+  unknown_among xs zs h (faults.Twice s) u = u
+  unknown_among xs zs h (faults.NotExported s) u = u
+  unknown_among xs zs h (faults.Circular s) u = u
+  unknown_among xs zs h (faults.UnknownModule s) u = u
+
   pub unknown_front : (xs ys : List (Name × Name)) (e : NameFault) → IsUnknownIn ms M xs e →
       IsUnknownIn ms M (xs ++ ys) e
-  unknown_front xs ys faults.Memory u = tt
-  unknown_front xs ys (faults.UnknownName s) u = (u.0, u.1, stands_left xs ys (u.1, name_told s) u.2, u.3)
-  unknown_front xs ys (faults.Limit l s) u = u
-  unknown_front xs ys (faults.Twice s) u = u
-  unknown_front xs ys (faults.NotExported s) u = u
-  unknown_front xs ys (faults.Circular s) u = u
-  unknown_front xs ys (faults.UnknownModule s) u = u
+  unknown_front xs ys e u = unknown_among xs (xs ++ ys) (stands_left xs ys) e u
 
   pub unknown_behind : (xs ys : List (Name × Name)) (e : NameFault) → IsUnknownIn ms M ys e →
       IsUnknownIn ms M (xs ++ ys) e
-  unknown_behind xs ys faults.Memory u = tt
-  unknown_behind xs ys (faults.UnknownName s) u = (u.0, u.1, stands_right xs ys (u.1, name_told s) u.2, u.3)
-  unknown_behind xs ys (faults.Limit l s) u = u
-  unknown_behind xs ys (faults.Twice s) u = u
-  unknown_behind xs ys (faults.NotExported s) u = u
-  unknown_behind xs ys (faults.Circular s) u = u
-  unknown_behind xs ys (faults.UnknownModule s) u = u
+  unknown_behind xs ys e u = unknown_among ys (xs ++ ys) (stands_right xs ys) e u
 
   -- what holds of the rest holds of the whole
   pub record Left (whole rest : List (Name × Name)) : Type 0 where

@@ -7,7 +7,7 @@ use Rattle.trees.specs.declared.module.TagDefault.{TagDefault}
 use Rattle.trees.specs.declared.types.ListKind.TheVariants.{Sequence, Set, Choice}
 use Rattle.type_table.specs.Table.{Type', Kind, simple, reference, tagged, members, elements, behind as behind_kind, behind_of, next, walk, Is, IsClosed, IsLinked}
 use Rattle.tagging.specs.declared.path.FormedTag.{FormedTag}
-use Rattle.tagging.specs.Tags.{Label, label, Path, path_of, outermost, own, form_of, Written, core, behind, inside, TagCount}
+use Rattle.tagging.specs.Tags.{Label, label, Path, path_of, outermost, own, form_of, Written, core, behind, inside}
 use Rattle.type_table.specs.Walks.{onward}
 use Rattle.type_table.specs.proving.Walks.{stops}
 use Rattle.tagging.specs.proving.Step.{form_before, Adds}

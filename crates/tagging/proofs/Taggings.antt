@@ -14,11 +14,11 @@ use Rattle.trees.specs.declared.types.ListKind.TheVariants.{Sequence, Set, Choic
 use Rattle.type_table.specs.Table.{Part, Type', tagged, members, behind_of, Is, IsLinked}
 use Rattle.tagging.specs.declared.check.Rule.{Rule}
 use Rattle.tagging.specs.declared.check.Rule.TheVariants.{Tags as TagsRule, TagNumber, TagClash, ImplicitChoice, UntaggedChoice, MixedAutomatic}
-use Rattle.tagging.specs.Tags.{Label, Path, outermost, Tags, as_written, numbered, Written, core, behind, inside, TagCount, none_written, as_behind, one_more, automatic, automatic_of}
+use Rattle.tagging.specs.Tags.{Label, Path, outermost, Tags, as_written, numbered, Written, TagCount, none_written, as_behind, one_more, automatic, automatic_of}
 use Rattle.tagging.specs.proving.Heads.{Head, Fronts, none, front, AreFirst}
 use Rattle.tagging.specs.proving.Lists.{Collected, none as nothing, one}
 use Rattle.tagging.specs.Tagged.{Bears, OneFirst, HaveOneFirst, BearTags, IsTagged, IsImplicit, Breaks}
-use Rattle.tagging.specs.Faults.{Stands, StandsIn}
+use Rattle.tagging.specs.Faults.{Stands}
 use Rattle.tagging.specs.declared.fault.TagFault.{TagFault}
 use Rattle.tagging.specs.declared.fault.TagFault.TheVariants as faults
 use Rattle.tagging.specs.declared.fault.Limit.TheVariants as limits

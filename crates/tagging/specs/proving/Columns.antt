@@ -1,5 +1,5 @@
 -- What is found once for all types of a table: where references lead, and which lists are tagged automatically.
-use Rattle.std.specs.Prelude.{◌≡◌, ◌<◌, ℕ, Bool, true, false, List, Option, Some, map, length, slice_get}
+use Rattle.std.specs.Prelude.{◌≡◌, ℕ, Bool, true, false, List, Option, map, length}
 use Rattle.trees.specs.declared.module.TagDefault.{TagDefault}
 use Rattle.type_table.specs.Table.{Type', Kind, reference, Is}
 use Rattle.type_table.specs.proving.Notes.{AreRight, AreNoted}

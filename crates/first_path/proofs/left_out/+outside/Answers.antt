@@ -4,7 +4,7 @@ use Rattle.trees.specs.Values.{tree_of}
 use Rattle.first_path.specs.FirstPath.{IsFirstNotation}
 use Rattle.first_path.specs.LeftOut.{IsNotationOut}
 use Rattle.trees.specs.Values.{member_of}
-use Rattle.first_path.proofs.Lists.{seen_here}
+use Rattle.names.specs.proving.Distinct.{item_at}
 use Rattle.first_path.proofs.Notated.{fields_layer, fields_more, no_field_at}
 use Rattle.first_path.proofs.Outside.{fields_out, null_out, quoted_out, alternative_out, numbers_out, values_out}
 use Rattle.first_path.proofs.left_out.+outside.Goals.{outside_notation-in-Null, outside_notation-in-CharacterString, outside_notation-in-Chosen, outside_notation-in-Numbers, outside_notation-in-Items}
@@ -25,7 +25,7 @@ outside_notation-returns-in-Fields-clause-construct t c =
     fields_out (tree_of c.args.notation.now) (map member_of c.in-Fields.fields.items) c.outside_fields.result (fields_layer c.args.notation.now c.in-Fields.fields c.in-Fields.is) (rw c.as_slice.ensures.value at c.outside_fields.ensures.construct)
 
 pub outside_fields-returns-in-Some-clause-construct : goal.outside_fields-returns-in-Some-clause-construct
-outside_fields-returns-in-Some-clause-construct t c = (member_of c.field-item.result, (c.loop-field.field-index, seen_here member_of c.args.fields.now c.loop-field.field-index c.field-item.result c.loop-field-test.true c.field-item.is), c.in-Some.ensures.construct)
+outside_fields-returns-in-Some-clause-construct t c = (member_of c.field-item.result, (c.loop-field.field-index, item_at member_of c.args.fields.now c.loop-field.field-index c.field-item.result c.loop-field-test.true c.field-item.is), c.in-Some.ensures.construct)
 
 pub outside_notation-returns-clause-construct : goal.outside_notation-returns-clause-construct
 outside_notation-returns-clause-construct t c =

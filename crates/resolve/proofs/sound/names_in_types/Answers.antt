@@ -1,29 +1,24 @@
-use Rattle.std.proofs.Common.{◌≡◌, ◌<◌, length, Some, sym, ap, ◌∙◌, arith, below_more}
-use Rattle.std.specs.Prelude.{slice_get}
+use Rattle.std.proofs.Common.{◌<◌, length, ap, arith, below_more}
 use Rattle.std.proofs.lemmas.Option.{slice_get_within}
 use Rattle.std.proofs.lemmas.Result.{err_from_is_err_and}
 use Rattle.type_table.specs.Seen.{type_of}
-use Rattle.type_table.specs.proving.Tables.{type_at, as_long}
-use Rattle.resolve.proofs.Exclusion.{TypeMeans, type_means, type_fault}
+use Rattle.type_table.specs.proving.Tables.{as_long}
+use Rattle.resolve.proofs.Exclusion.{TypeMeans, type_means, type_fault, turn_there}
 use Rattle.resolve.proofs.sound.names_in_types.Goals as goal
 
 pub returns-in_err-names_in_type-clause-fault : goal.returns-in_err-names_in_type-clause-fault
 returns-in_err-names_in_type-clause-fault c =
-    let i = c.loop-index.index in
     let w = c.index-types-index.result in
-    let l : c.loop-index.index < length c.types-types.result.now = c.loop-index-test.true in
-    let there : slice_get c.args.linked.now.types i ≡ Some (type_of w) = ap (λ z. slice_get z i) (sym c.types-types.ensures.types) ∙ type_at c.types-types.result.now i w l c.index-types-index.is in
+    let there = turn_there type_of c.types-types.result.now c.args.linked.now.types c.loop-index.index w c.types-types.ensures.types c.loop-index-test.true c.index-types-index.is in
     let p = err_from_is_err_and c.from_residual.result c.from_residual.ensures.1 in
-    rw (p.1, p.2) (type_fault c.args.linked.now i (type_of w) c.home-home.result.module.now c.home-home.result.name.now c.in_err-names_in_type.field-0.0 there (c.home-home.ensures (type_of w) there) c.in_err-names_in_type.ensures)
+    rw (p.1, p.2) (type_fault c.args.linked.now c.loop-index.index (type_of w) c.home-home.result.module.now c.home-home.result.name.now c.in_err-names_in_type.field-0.0 there (c.home-home.ensures (type_of w) there) c.in_err-names_in_type.ensures)
 
 pub loop-index-preserved : goal.loop-index-preserved
 loop-index-preserved c =
-    let i = c.loop-index.index in
     let w = c.index-types-index.result in
-    let l : c.loop-index.index < length c.types-types.result.now = c.loop-index-test.true in
-    let there : slice_get c.args.linked.now.types i ≡ Some (type_of w) = ap (λ z. slice_get z i) (sym c.types-types.ensures.types) ∙ type_at c.types-types.result.now i w l c.index-types-index.is in
-    below_more (TypeMeans c.args.linked.now) i c.loop-index.invariant
-    (type_means c.args.linked.now i (type_of w) c.home-home.result.module.now c.home-home.result.name.now there (c.home-home.ensures (type_of w) there) c.in_ok-names_in_type.ensures)
+    let there = turn_there type_of c.types-types.result.now c.args.linked.now.types c.loop-index.index w c.types-types.ensures.types c.loop-index-test.true c.index-types-index.is in
+    below_more (TypeMeans c.args.linked.now) c.loop-index.index c.loop-index.invariant
+    (type_means c.args.linked.now c.loop-index.index (type_of w) c.home-home.result.module.now c.home-home.result.name.now there (c.home-home.ensures (type_of w) there) c.in_ok-names_in_type.ensures)
 
 pub returns-clause-good : goal.returns-clause-good
 returns-clause-good c = λ k t M x e a.

@@ -1,38 +1,26 @@
-use Rattle.std.proofs.Common.{◌≡◌, ◌<◌, length, Some, sym, ap, ◌∙◌, arith, below_more}
-use Rattle.std.specs.Prelude.{slice_get}
+use Rattle.std.proofs.Common.{◌<◌, length, ap, arith, below_more}
 use Rattle.std.proofs.lemmas.List.{length-map}
 use Rattle.std.proofs.lemmas.Option.{slice_get_within}
 use Rattle.std.proofs.lemmas.Result.{err_from_is_err_and}
 use Rattle.names.specs.Sources.{value_of}
-use Rattle.names.specs.proving.Distinct.{item_at}
-use Rattle.resolve.proofs.Exclusion.{ValueMeans, value_means, value_fault}
+use Rattle.resolve.proofs.Exclusion.{ValueMeans, value_means, value_fault, turn_there}
 use Rattle.resolve.proofs.sound.names_in_values.Goals as goal
 
 pub assigned-home-requires : goal.assigned-home-requires
 assigned-home-requires c =
-    let i = c.loop-value.value-index in
-    let v = c.value-item.result in
-    let l : c.loop-value.value-index < length c.values-values.result.now = c.loop-value-test.true in
-    let there : slice_get c.args.linked.now.values i ≡ Some (value_of v) = ap (λ z. slice_get z i) (sym c.values-values.ensures) ∙ item_at value_of c.values-values.result.now i v l c.value-item.is in
-    (c.whole.ensures.valued i (value_of v) there).1
+    (c.whole.ensures.valued c.loop-value.value-index (value_of c.value-item.result) (turn_there value_of c.values-values.result.now c.args.linked.now.values c.loop-value.value-index c.value-item.result c.values-values.ensures c.loop-value-test.true c.value-item.is)).1
 
 pub returns-in_err-names_in_value-clause-fault : goal.returns-in_err-names_in_value-clause-fault
 returns-in_err-names_in_value-clause-fault c =
-    let i = c.loop-value.value-index in
-    let v = c.value-item.result in
-    let l : c.loop-value.value-index < length c.values-values.result.now = c.loop-value-test.true in
-    let there : slice_get c.args.linked.now.values i ≡ Some (value_of v) = ap (λ z. slice_get z i) (sym c.values-values.ensures) ∙ item_at value_of c.values-values.result.now i v l c.value-item.is in
     let p = err_from_is_err_and c.from_residual.result c.from_residual.ensures.1 in
-    rw (p.1, p.2) (value_fault c.args.linked.now i (value_of v) c.assigned-home.result.module.now c.assigned-home.result.name.now c.in_err-names_in_value.field-0.0 there c.assigned-home.ensures c.in_err-names_in_value.ensures)
+    rw (p.1, p.2) (value_fault c.args.linked.now c.loop-value.value-index (value_of c.value-item.result) c.assigned-home.result.module.now c.assigned-home.result.name.now c.in_err-names_in_value.field-0.0
+    (turn_there value_of c.values-values.result.now c.args.linked.now.values c.loop-value.value-index c.value-item.result c.values-values.ensures c.loop-value-test.true c.value-item.is) c.assigned-home.ensures c.in_err-names_in_value.ensures)
 
 pub loop-value-preserved : goal.loop-value-preserved
 loop-value-preserved c =
-    let i = c.loop-value.value-index in
-    let v = c.value-item.result in
-    let l : c.loop-value.value-index < length c.values-values.result.now = c.loop-value-test.true in
-    let there : slice_get c.args.linked.now.values i ≡ Some (value_of v) = ap (λ z. slice_get z i) (sym c.values-values.ensures) ∙ item_at value_of c.values-values.result.now i v l c.value-item.is in
-    below_more (ValueMeans c.args.linked.now) i c.loop-value.invariant
-    (value_means c.args.linked.now i (value_of v) c.assigned-home.result.module.now c.assigned-home.result.name.now there c.assigned-home.ensures c.in_ok-names_in_value.ensures)
+    below_more (ValueMeans c.args.linked.now) c.loop-value.value-index c.loop-value.invariant
+    (value_means c.args.linked.now c.loop-value.value-index (value_of c.value-item.result) c.assigned-home.result.module.now c.assigned-home.result.name.now
+    (turn_there value_of c.values-values.result.now c.args.linked.now.values c.loop-value.value-index c.value-item.result c.values-values.ensures c.loop-value-test.true c.value-item.is) c.assigned-home.ensures c.in_ok-names_in_value.ensures)
 
 pub returns-clause-good : goal.returns-clause-good
 returns-clause-good c = λ k v M x e a.

@@ -1,28 +1,21 @@
-use Rattle.std.proofs.Common.{◌≡◌, ◌<◌, length, Some, sym, ap, ◌∙◌, arith, below_more}
-use Rattle.std.specs.Prelude.{slice_get}
+use Rattle.std.proofs.Common.{◌<◌, length, ap, arith, below_more}
 use Rattle.std.proofs.lemmas.Option.{slice_get_within}
 use Rattle.std.proofs.lemmas.Result.{err_from_is_err_and}
 use Rattle.type_table.specs.Seen.{type_of}
-use Rattle.type_table.specs.proving.Tables.{type_at, as_long}
-use Rattle.resolve.proofs.Exclusion.{SoundAt, sound_at, kind_fault}
+use Rattle.type_table.specs.proving.Tables.{as_long}
+use Rattle.resolve.proofs.Exclusion.{SoundAt, sound_at, kind_fault, turn_there}
 use Rattle.resolve.proofs.sound.sound_lists.Goals as goal
 
 pub returns-in_err-sound_shape-clause-fault : goal.returns-in_err-sound_shape-clause-fault
 returns-in_err-sound_shape-clause-fault c =
-    let i = c.loop-index.index in
-    let w = c.index-types-index.result in
-    let l : c.loop-index.index < length c.types-types.result.now = c.loop-index-test.true in
-    let there : slice_get c.args.linked.now.types i ≡ Some (type_of w) = ap (λ z. slice_get z i) (sym c.types-types.ensures.types) ∙ type_at c.types-types.result.now i w l c.index-types-index.is in
+    let there = turn_there type_of c.types-types.result.now c.args.linked.now.types c.loop-index.index c.index-types-index.result c.types-types.ensures.types c.loop-index-test.true c.index-types-index.is in
     let p = err_from_is_err_and c.from_residual.result c.from_residual.ensures.1 in
-    rw (p.1, p.2) (kind_fault c.args.linked.now i (type_of w) c.home-home.result.module.now c.home-home.result.name.now c.in_err-sound_shape.field-0.0 there (c.home-home.ensures (type_of w) there) c.in_err-sound_shape.ensures)
+    rw (p.1, p.2) (kind_fault c.args.linked.now c.loop-index.index (type_of c.index-types-index.result) c.home-home.result.module.now c.home-home.result.name.now c.in_err-sound_shape.field-0.0 there (c.home-home.ensures (type_of c.index-types-index.result) there) c.in_err-sound_shape.ensures)
 
 pub loop-index-preserved : goal.loop-index-preserved
 loop-index-preserved c =
-    let i = c.loop-index.index in
-    let w = c.index-types-index.result in
-    let l : c.loop-index.index < length c.types-types.result.now = c.loop-index-test.true in
-    let there : slice_get c.args.linked.now.types i ≡ Some (type_of w) = ap (λ z. slice_get z i) (sym c.types-types.ensures.types) ∙ type_at c.types-types.result.now i w l c.index-types-index.is in
-    below_more (SoundAt c.args.linked.now) i c.loop-index.invariant (sound_at c.args.linked.now i (type_of w) there c.in_ok-sound_shape.ensures)
+    below_more (SoundAt c.args.linked.now) c.loop-index.index c.loop-index.invariant (sound_at c.args.linked.now c.loop-index.index (type_of c.index-types-index.result)
+    (turn_there type_of c.types-types.result.now c.args.linked.now.types c.loop-index.index c.index-types-index.result c.types-types.ensures.types c.loop-index-test.true c.index-types-index.is) c.in_ok-sound_shape.ensures)
 
 pub returns-clause-good : goal.returns-clause-good
 returns-clause-good c = λ k t e.
