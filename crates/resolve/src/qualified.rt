@@ -1,8 +1,8 @@
 //! Names behind modules' names in values, constraints and types: each stands for a value.
 
-ghost use Rattle.std.specs.Prelude.{◌≡◌, true, false, map, option_map};
+ghost use Rattle.std.specs.Prelude.{◌≡◌, List, true, false, map, option_map};
 ghost use Rattle.trees.specs.Constraints.{end_of, range_of, constraint_of};
-ghost use Rattle.trees.specs.Values.{tree_of, member_of};
+ghost use Rattle.trees.specs.Values.{Name, tree_of, member_of};
 ghost use Rattle.trees.specs.Types.{presence_of};
 ghost use Rattle.type_table.specs.Seen.{kind_of, part_of, type_of};
 ghost use Rattle.resolve.specs.Qualified.{each, qualified, qualified_end, qualified_bound, qualified_range, qualified_constraint, qualified_presence, qualified_part, qualified_kind, qualified_in};
@@ -159,19 +159,47 @@ fn names_in_range(
     }
 }
 
-/// The names in ranges.
-fn names_in_ranges(
+/// What is written with names, of which some stand behind a module's name.
+trait Naming {
+    ghost Seen: { Type 0 };
+
+    ghost view: { Self → Seen };
+
+    ghost names: { Seen → List (Name × Name) };
+
+    /// The names that stand behind a module's name.
+    fn check(&self, alloc: Global, linked: &Linked, within: &str) -> Result<(), NameFault>
+        ensures { Answers linked.now within.now (names (view self.now)) result };
+}
+
+/// The names in all of these.
+fn names_in_all<T: Naming>(
     alloc: Global,
     linked: &Linked,
     within: &str,
-    ranges: &[RangeSyntax],
+    all: &[T],
 ) -> Result<(), NameFault>
-    ensures { Answers linked.now within.now (each qualified_range (map range_of ranges.now)) result }
+    ensures { Answers linked.now within.now (each T.names (map T.view all.now)) result }
 {
-    for range in ranges {
-        names_in_range(alloc, linked, within, range)?;
+    for one in all {
+        one.check(alloc, linked, within)?;
     }
     Ok(())
+}
+
+impl Naming for RangeSyntax {
+    ghost use Rattle.trees.specs.Constraints.{RangeTree, range_of};
+    ghost use Rattle.resolve.specs.Qualified.{qualified_range};
+
+    ghost Seen = { RangeTree };
+
+    ghost view = { range_of };
+
+    ghost names = { qualified_range };
+
+    fn check(&self, alloc: Global, linked: &Linked, within: &str) -> Result<(), NameFault> {
+        names_in_range(alloc, linked, within, self)
+    }
 }
 
 /// The names in a constraint.
@@ -184,27 +212,25 @@ fn names_in_constraint(
     ensures { Answers linked.now within.now (qualified_constraint (constraint_of constraint.now)) result }
 {
     match &constraint.form {
-        ConstraintForm::Values(allowed) => {
-            names_in_ranges(alloc, linked, within, &allowed.ranges)
-        }
-        ConstraintForm::Size(sizes) => names_in_ranges(alloc, linked, within, &sizes.ranges),
+        ConstraintForm::Values(allowed) => names_in_all(alloc, linked, within, &allowed.ranges),
+        ConstraintForm::Size(sizes) => names_in_all(alloc, linked, within, &sizes.ranges),
         ConstraintForm::From(_) => Ok(()),
     }
 }
 
-/// The names in the constraints behind a type.
-fn names_in_constraints(
-    alloc: Global,
-    linked: &Linked,
-    within: &str,
-    constraints: &[ConstraintSyntax],
-) -> Result<(), NameFault>
-    ensures { Answers linked.now within.now (each qualified_constraint (map constraint_of constraints.now)) result }
-{
-    for constraint in constraints {
-        names_in_constraint(alloc, linked, within, constraint)?;
+impl Naming for ConstraintSyntax {
+    ghost use Rattle.trees.specs.Constraints.{ConstraintTree, constraint_of};
+    ghost use Rattle.resolve.specs.Qualified.{qualified_constraint};
+
+    ghost Seen = { ConstraintTree };
+
+    ghost view = { constraint_of };
+
+    ghost names = { qualified_constraint };
+
+    fn check(&self, alloc: Global, linked: &Linked, within: &str) -> Result<(), NameFault> {
+        names_in_constraint(alloc, linked, within, self)
     }
-    Ok(())
 }
 
 /// The names in a DEFAULT.
@@ -223,19 +249,20 @@ fn names_in_presence(
     }
 }
 
-/// The names in the DEFAULTs of a list's members.
-fn names_in_members(
-    alloc: Global,
-    linked: &Linked,
-    within: &str,
-    given: &[Component],
-) -> Result<(), NameFault>
-    ensures { Answers linked.now within.now (each qualified_part (map part_of given.now)) result }
-{
-    for component in given {
-        names_in_presence(alloc, linked, within, &component.presence)?;
+impl Naming for Component {
+    ghost use Rattle.type_table.specs.Seen.{part_of};
+    ghost use Rattle.type_table.specs.Table.{Part};
+    ghost use Rattle.resolve.specs.Qualified.{qualified_part};
+
+    ghost Seen = { Part };
+
+    ghost view = { part_of };
+
+    ghost names = { qualified_part };
+
+    fn check(&self, alloc: Global, linked: &Linked, within: &str) -> Result<(), NameFault> {
+        names_in_presence(alloc, linked, within, &self.presence)
     }
-    Ok(())
 }
 
 /// The names in the DEFAULTs at a type.
@@ -251,7 +278,7 @@ fn names_in_shape(
         Shape::Simple(_) => Ok(()),
         Shape::Reference(_) => Ok(()),
         Shape::Tagged(_, _, _) => Ok(()),
-        Shape::Members(_, _, given) => names_in_members(alloc, linked, within, given),
+        Shape::Members(_, _, given) => names_in_all(alloc, linked, within, given),
         Shape::Elements(_, _) => Ok(()),
     }
 }
@@ -266,6 +293,6 @@ pub(crate) fn names_in_type(
     ensures { Answers linked.now within.now (qualified_in (type_of written.now)) result }
 {
     names_in_shape(alloc, linked, within, &written.shape)?;
-    names_in_constraints(alloc, linked, within, &written.constraints)?;
+    names_in_all(alloc, linked, within, &written.constraints)?;
     Ok(())
 }
