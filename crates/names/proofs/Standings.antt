@@ -1,5 +1,5 @@
 -- Exports and imports that stand in tables of names, and in the modules that gave them.
-use Rattle.std.proofs.Common.{◌≡◌, ◌⊎◌, inl, inr, ℕ, zero, suc, ◌+◌, ◌<◌, List, [], ◌∷◌, length, Some, None, map, refl, sym, subst, ap, ◌∙◌, arith, below_more}
+use Rattle.std.proofs.Common.{◌≡◌, ◌⊎◌, inl, inr, ℕ, zero, suc, ◌+◌, ◌<◌, List, [], ◌∷◌, length, Some, None, map, refl, sym, subst, ap, ◌∙◌, arith}
 use Rattle.std.specs.Prelude.{slice_get, Option, String}
 use Rattle.std.specs.Global.{Global}
 use Rattle.std.proofs.lemmas.Option.{same_Some, slice_get_within}
@@ -175,12 +175,10 @@ are_apart ms d M x N m u i = by (under x m.assigned) refl
         let two = subst (λ l. StandsIn (names_of l) x) t.imports (name_under x m.imports N i) in
         absurd (d t.tree t.there x (twice_across (assigned_names t.tree) (names_of (imports_of t.tree.imports)) x one two))
 
--- what holds of the first items of a list, and of the next
-pub more_of : {Y : Type 0} (ys : List Y) (P : Y → Type 0) (i : ℕ) (y : Y) → slice_get ys i ≡ Some y →
-    ((k : ℕ) (z : Y) → k < i → slice_get ys k ≡ Some z → P z) → P y → (k : ℕ) (z : Y) → k < i + 1 →
-    slice_get ys k ≡ Some z → P z
-more_of ys P i y e below here k z l h =
-    below_more (λ j. (u : _) → slice_get ys j ≡ Some u → P u) i (λ j m u q. below j u m q) (λ u q. (let same : y ≡ u = same_Some y u (sym e ∙ q) in subst P same here)) k l z h
+-- what a module's name stands for, once the name is read
+pub there_under : (ss : List (Name × Module)) (x N : Name) (o : Option Module) (m : Module) → x ≡ N → o ≡ under x ss →
+    o ≡ Some m → under N ss ≡ Some m
+there_under ss x N o m e f g = ap (λ z. under z ss) (sym e) ∙ sym f ∙ g
 
 pub seen_long : {X Y : Type 0} (f : X → Y) (es : List (String Global × X)) → length (seen f es) ≡ length es
 seen_long f [] = refl

@@ -8,13 +8,13 @@ use Rattle.type_table.specs.declared.table.Written.{Written}
 use Rattle.names.specs.Sources.{place_of}
 use Rattle.names.specs.proving.Distinct.{item_at}
 use Rattle.type_table.specs.proving.Tables.{type_at}
-use Rattle.type_table.specs.Seen.{types_of, kind_of, part_of}
+use Rattle.type_table.specs.Seen.{type_of, types_of, kind_of, part_of}
 use Rattle.type_table.specs.declared.table.Component.{Component}
 use Rattle.type_table.specs.declared.table.Shape.{Shape}
 use Rattle.type_table.specs.declared.table.Shape.TheVariants as shapes
 use Rattle.asn_base.specs.declared.tag.Tag.{Tag}
 use Rattle.trees.specs.declared.types.Keyword.{Keyword}
-use Rattle.type_table.specs.Table.{Type', Is}
+use Rattle.type_table.specs.Table.{Type', Kind, Is}
 use Rattle.resolve.specs.Program.{Program, IsAssignment}
 use Rattle.tagging.specs.Faults.{StandsIn}
 use Rattle.tagging.specs.Tags.{is_tagged}
@@ -22,6 +22,11 @@ use Rattle.tagging.specs.Tags.{is_tagged}
 pub is_here : (ws : List Written) (i : ℕ) (w : Written) → i < length ws → w ≡ get_or ws i w →
     Is (types_of ws) i (kind_of w.shape) w.default (place_of w.place)
 is_here ws i w l e = record { constraints = _; assignment = _; found = type_at ws i w l e }
+
+-- a type that is written as one of this kind
+pub is_kind : (ts : List Type') (i : ℕ) (w : Written) (k : Kind) → slice_get ts i ≡ Some (type_of w) →
+    kind_of w.shape ≡ k → Is ts i k w.default (place_of w.place)
+is_kind ts i w k e f = subst (λ m. Is ts i m w.default (place_of w.place)) f (record { constraints = _; assignment = _; found = e })
 
 -- one place more of a list
 pub take_next : {X : Type 0} (xs : List X) (i : ℕ) (x : X) → slice_get xs i ≡ Some x →

@@ -1,8 +1,8 @@
 -- Lists that are gone through from the front, what is gone through being kept in a list or in a set.
-use Rattle.std.proofs.Common.{◌≡◌, inl, inr, ℕ, ◌+◌, ◌<◌, ◌≤◌, ◌++◌, List, [], ◌∷◌, length, map, take, drop, get_or, Some, refl, sym, subst, ap, ◌∙◌, arith, below_more}
+use Rattle.std.proofs.Common.{◌≡◌, inl, inr, ℕ, ◌+◌, ◌<◌, ◌≤◌, ◌++◌, List, [], ◌∷◌, length, map, take, drop, get_or, Some, refl, sym, subst, ap, ◌∙◌, arith}
 use Rattle.std.specs.Prelude.{slice_get}
 use Rattle.std.proofs.lemmas.List.{length-map, take-append-drop, take_all, take_more}
-use Rattle.std.proofs.lemmas.Option.{same_Some, slice_get_within, get_or_from_slice_get}
+use Rattle.std.proofs.lemmas.Option.{slice_get_within, get_or_from_slice_get}
 use Rattle.names.specs.Modules.{StandsIn, StandsTwice, AreDistinct}
 use Rattle.names.specs.proving.Distinct.{distinct_more, distinct_none, drop_at, item_at, stands_either, stands_left, stands_map, stands_one, stands_right, twice_across}
 use Rattle.type_table.specs.proving.Sets.{Puts, IsSetOf}
@@ -46,12 +46,6 @@ set_more old new ys z h put y = (
 pub front_set : {A : Type 0} (zs : List A) (i : ℕ) (x : A) → slice_get zs i ≡ Some x → (old new : List A) →
     IsSetOf old (take i zs) → Puts old new x → IsSetOf new (take (i + 1) zs)
 front_set zs i x e old new h put = subst (IsSetOf new) (sym (front_more zs i x e)) (set_more old new (take i zs) x h put)
-
--- what holds of the first items of a list, and of the next
-pub each_more : {A : Type 0} (P : A → Type 0) (zs : List A) (i : ℕ) (x : A) → slice_get zs i ≡ Some x →
-    ((k : ℕ) (z : A) → k < i → slice_get zs k ≡ Some z → P z) → P x → (k : ℕ) (z : A) → k < i + 1 →
-    slice_get zs k ≡ Some z → P z
-each_more P zs i x e below here k z l h = below_more (λ j. (u : _) → slice_get zs j ≡ Some u → P u) i (λ j m u q. below j u m q) (λ u q. subst P (same_Some x u (sym e ∙ q)) here) k l z h
 
 -- ---- in a list
 

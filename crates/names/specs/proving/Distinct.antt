@@ -1,10 +1,10 @@
 -- Names that stand in a list, and lists in which none stands twice.
-use Rattle.std.proofs.Common.{◌≡◌, ◌<◌, ◌≤◌, ◌⊎◌, inl, inr, ℕ, zero, suc, ◌+◌, ◌++◌, Bool, true, false, cond, List, [], ◌∷◌, Some, None, length, map, drop, get_or, refl, sym, subst, ap, ◌∙◌, arith}
+use Rattle.std.proofs.Common.{◌≡◌, ◌<◌, ◌≤◌, ◌⊎◌, inl, inr, ℕ, zero, suc, ◌+◌, ◌++◌, Bool, true, false, cond, List, [], ◌∷◌, Some, None, length, map, drop, get_or, refl, sym, subst, ap, ◌∙◌, arith, below_more}
 use Rattle.std.specs.Prelude.{slice_get, bytes_eq}
 use Rattle.std.specs.List.{AllByRecursion}
 use Rattle.std.proofs.Math.Seq.{drop-cons}
 use Rattle.std.proofs.lemmas.List.{drop_all}
-use Rattle.std.proofs.lemmas.Option.{slice_get_within, slice_get_read}
+use Rattle.std.proofs.lemmas.Option.{same_Some, slice_get_within, slice_get_read}
 use Rattle.std.proofs.lemmas.Slice.Eq.{bytes_eq-Decides}
 use Rattle.trees.specs.Values.{Name}
 use Rattle.names.specs.Names.{names_of, under}
@@ -109,6 +109,14 @@ pub at_all : {X : Type 0} (P : X → Type 0) (xs : List X) (k : ℕ) (x : X) →
 at_all P [] k x a e = absurd cc
 at_all P (y ∷ xs) zero x a e = let q : y ≡ x = cc in subst P q a.0
 at_all P (y ∷ xs) (suc k) x a e = at_all P xs k x a.1 e
+
+-- what holds of the first items of a list, and of the next
+pub each_more : {X : Type 0} (xs : List X) (P : X → Type 0) (i : ℕ) (x : X) → slice_get xs i ≡ Some x →
+    ((k : ℕ) (y : X) → k < i → slice_get xs k ≡ Some y → P y) → P x → (k : ℕ) (y : X) → k < i + 1 →
+    slice_get xs k ≡ Some y → P y
+each_more xs P i x e below here k y l h =
+    below_more (λ j. (u : _) → slice_get xs j ≡ Some u → P u) i (λ j m u q. below j u m q)
+    (λ u q. subst P (same_Some x u (sym e ∙ q)) here) k l y h
 
 -- ---- tables of names
 

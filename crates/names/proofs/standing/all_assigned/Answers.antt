@@ -4,8 +4,8 @@ use Rattle.trees.specs.Values.{name_at}
 use Rattle.names.specs.Names.{names_of, under}
 use Rattle.names.specs.Modules.{StandsIn}
 use Rattle.names.specs.Scopes.{module_of}
-use Rattle.names.specs.proving.Distinct.{item_at, name_under}
-use Rattle.names.proofs.Standings.{more_of, all_stood}
+use Rattle.names.specs.proving.Distinct.{each_more, item_at, name_under}
+use Rattle.names.proofs.Standings.{all_stood}
 use Rattle.names.proofs.standing.all_assigned.Goals as goal
 
 pub loop-i-preserved : goal.loop-i-preserved
@@ -15,7 +15,7 @@ loop-i-preserved c =
     let as' = (module_of c.args.scope.now).assigned in
     let at = item_at name_at ns c.loop-i.i n c.loop-i-test.true c.index-names-i.is in
     let u : under (name_at n) as' ≡ Some c.in-Some.field-0 = ap (λ z. under z as') (sym c.as_str.ensures.value) ∙ sym c.assigned_to.ensures ∙ c.in-Some.is in
-    more_of (map name_at ns) (λ x. StandsIn (names_of as') x) c.loop-i.i (name_at n) at c.loop-i.invariant (name_under (name_at n) as' c.in-Some.field-0 u)
+    each_more (map name_at ns) (λ x. StandsIn (names_of as') x) c.loop-i.i (name_at n) at c.loop-i.invariant (name_under (name_at n) as' c.in-Some.field-0 u)
 
 pub returns-clause-ok : goal.returns-clause-ok
 returns-clause-ok c =

@@ -3,13 +3,14 @@ use Rattle.trees.specs.Values.{Name}
 use Rattle.names.specs.proving.Standing.{ExportAssigned, ImportOffered, IsExportFault, IsImportsFault}
 use Rattle.names.specs.Names.{Module}
 use Rattle.names.specs.Scopes.{module_of, scopes}
-use Rattle.names.proofs.Standings.{more_of, all_stood, seen_long}
+use Rattle.names.specs.proving.Distinct.{each_more}
+use Rattle.names.proofs.Standings.{all_stood, seen_long}
 use Rattle.names.proofs.standing.all_stand.Goals as goal
 
 pub loop-i-preserved : goal.loop-i-preserved
 loop-i-preserved c =
     let ss = scopes c.args.modules.now.entries in
-    more_of ss (λ (m : Name × Module). ExportAssigned m.1 × ImportOffered ss m.1.imports) c.loop-i.i (string_bytes c.module_at.result.0.now, module_of c.module_at.result.1.now) c.module_at.ensures c.loop-i.invariant (c.in-Ok.ensures.exports, c.in-Ok.ensures.imports)
+    each_more ss (λ (m : Name × Module). ExportAssigned m.1 × ImportOffered ss m.1.imports) c.loop-i.i (string_bytes c.module_at.result.0.now, module_of c.module_at.result.1.now) c.module_at.ensures c.loop-i.invariant (c.in-Ok.ensures.exports, c.in-Ok.ensures.imports)
 
 pub returns-in-Err-clause-fault : goal.returns-in-Err-clause-fault
 returns-in-Err-clause-fault c =

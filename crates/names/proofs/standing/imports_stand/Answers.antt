@@ -2,7 +2,8 @@ use Rattle.std.proofs.Common.{arith, ◌≡◌, length, subst, string_bytes}
 use Rattle.trees.specs.Values.{Name}
 use Rattle.names.specs.proving.Standing.{IsOffered, IsImportFault}
 use Rattle.names.specs.Scopes.{origin_of, origins, scopes}
-use Rattle.names.proofs.Standings.{more_of, all_stood, seen_long}
+use Rattle.names.specs.proving.Distinct.{each_more}
+use Rattle.names.proofs.Standings.{all_stood, seen_long}
 use Rattle.names.proofs.standing.imports_stand.Goals as goal
 
 pub loop-i-preserved : goal.loop-i-preserved
@@ -11,7 +12,7 @@ loop-i-preserved c =
     let x = string_bytes c.entry_at.result.0.now in
     let N = origin_of c.entry_at.result.1.now in
     let o = subst (λ z. IsOffered ss N z) c.as_str.ensures.value c.in-Ok.ensures.ok in
-    more_of (origins c.args.imports.now.entries) (λ (i : Name × Name). IsOffered ss i.1 i.0) c.loop-i.i (x, N) c.entry_at.ensures c.loop-i.invariant o
+    each_more (origins c.args.imports.now.entries) (λ (i : Name × Name). IsOffered ss i.1 i.0) c.loop-i.i (x, N) c.entry_at.ensures c.loop-i.invariant o
 
 pub returns-in-Err-clause-fault : goal.returns-in-Err-clause-fault
 returns-in-Err-clause-fault c =

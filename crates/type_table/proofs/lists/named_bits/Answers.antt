@@ -4,10 +4,10 @@ use Rattle.std.proofs.lemmas.Option.{slice_get_within}
 use Rattle.trees.specs.Values.{Name}
 use Rattle.trees.specs.Types.{bit_of, a_bit_string}
 use Rattle.names.specs.declared.fault.Limit.TheVariants as limits
-use Rattle.names.specs.proving.Distinct.{item_at}
+use Rattle.names.specs.proving.Distinct.{each_more, item_at}
 use Rattle.type_table.specs.Table.{simple}
 use Rattle.type_table.specs.proving.Checks.{texts}
-use Rattle.type_table.proofs.Fronts.{each_more, seen_at, seen_long, kept_start, kept_more, kept_all, kept_in_start, kept_in_more, kept_in_all}
+use Rattle.type_table.proofs.Fronts.{seen_at, seen_long, kept_start, kept_more, kept_all, kept_in_start, kept_in_more, kept_in_all}
 use Rattle.type_table.proofs.ListFaults.{kind_taken, kind_numbered, kind_limit}
 use Rattle.type_table.proofs.lists.named_bits.Goals as goal
 
@@ -27,7 +27,7 @@ loop-item-preserved c =
     record {
       names = kept_more _ (texts c.loop-item.names.keys) (texts c.name_once.new.names.keys) i _ (seen_at (λ (b : Name × ℕ). b.0) bit_of gs i c.item-item.result l c.item-item.is) c.loop-item.invariant.names c.in-Ok.ensures.added c.in-Ok.ensures.fresh;
       places = kept_in_more _ c.loop-item.places.keys c.place_once.new.places.keys i _ (seen_at (λ (b : Name × ℕ). b.1) bit_of gs i c.item-item.result l c.item-item.is) c.loop-item.invariant.places c.in-Ok-place_once.ensures.added c.in-Ok-place_once.ensures.fresh;
-      near = each_more (λ (b : Name × ℕ). b.1 ≤ 65535) (map bit_of gs) i (bit_of c.item-item.result) (item_at bit_of gs i c.item-item.result l c.item-item.is) c.loop-item.invariant.near near;
+      near = each_more (map bit_of gs) (λ (b : Name × ℕ). b.1 ≤ 65535) i (bit_of c.item-item.result) (item_at bit_of gs i c.item-item.result l c.item-item.is) c.loop-item.invariant.near near;
     }
 
 pub returns-in-Err-clause-fault : goal.returns-in-Err-clause-fault
