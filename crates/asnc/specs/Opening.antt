@@ -106,10 +106,10 @@ pub record AreNoKit (xs : List (List ℕ)) (fault : Fault) : Type 0 where
 
 -- The fault stands: of the octets of the first text that is refused, else of its tokens, else of the names of all
 -- modules, else of what stands in them. Memory speaks of no text.
-abbrev pub StandsIn : List (List ℕ) → Fault → Type 0
-StandsIn xs faults.Memory = ⊤
-StandsIn xs (faults.Text k f) = IsFirstRefused xs k (faults.Text k f)
-StandsIn xs (faults.Tree k f) = IsFirstRefused xs k (faults.Tree k f)
-StandsIn xs (faults.Name f) = AreNoKit xs (faults.Name f)
-StandsIn xs (faults.OutOfProfile c s) = AreNoKit xs (faults.OutOfProfile c s)
-StandsIn xs fault = ⊥
+abbrev pub IsOpeningFault : List (List ℕ) → Fault → Type 0
+IsOpeningFault xs faults.Memory = ⊤
+IsOpeningFault xs (faults.Text k f) = IsFirstRefused xs k (faults.Text k f)
+IsOpeningFault xs (faults.Tree k f) = IsFirstRefused xs k (faults.Tree k f)
+IsOpeningFault xs (faults.Name f) = AreNoKit xs (faults.Name f)
+IsOpeningFault xs (faults.OutOfProfile c s) = AreNoKit xs (faults.OutOfProfile c s)
+IsOpeningFault xs fault = ⊥

@@ -16,7 +16,7 @@ ghost use Rattle.first_path.specs.FirstPath.{IsFirstPath};
 ghost use Rattle.first_path.specs.LeftOut.{IsOutside};
 ghost use Rattle.first_path.specs.declared.fault.Construct.{Construct as Construct'};
 ghost use Rattle.asnc.specs.Named.{IsNamed, IsQualified, TypeNamed, ValueNamed};
-ghost use Rattle.asnc.specs.Opening.{IsKitOf, IsModule, IsNoKit, IsOpened, IsOutsideFault, SaysMemory, StandsIn, octets_of};
+ghost use Rattle.asnc.specs.Opening.{IsKitOf, IsModule, IsNoKit, IsOpened, IsOutsideFault, SaysMemory, IsOpeningFault, octets_of};
 ghost use Rattle.first_path.specs.Resolving.{AreTypes};
 ghost use Rattle.asnc.specs.Writing.{IsEncoded, IsNotEncoded};
 
@@ -161,7 +161,7 @@ impl Kit {
             IsOpened (map octets_of texts.now) p s →
             MatchResult result (λ k. k.scope ≡ p) SaysMemory }
         // A fault stands.
-        ensures fault { IfErr result (StandsIn (map octets_of texts.now)) }
+        ensures fault { IfErr result (IsOpeningFault (map octets_of texts.now)) }
     {
         match modules_of(alloc, texts) {
             Ok(modules) => kit_of(alloc, modules),
