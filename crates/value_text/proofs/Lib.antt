@@ -1,0 +1,5 @@
+pub mod Steps
+pub mod Bits
+pub mod Doubled
+pub mod Members
+pub mod Rows

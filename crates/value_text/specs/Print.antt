@@ -1,0 +1,133 @@
+-- The text that a value is printed in: its value notation (X.680, 18 to 29, 32, 33 and 41).
+use Rattle.std.specs.Prelude.{ℕ, ◌+◌, nat_le, ◌/◌, ◌%◌, ◌&&◌, ◌==◌, ℤ, Bool, true, false, List, [], ◌∷◌, ◌++◌}
+use Rattle.std.specs.Prelude.{Option, Some, None, slice_get, codes, decimal, if◌then◌else◌}
+use Rattle.std.specs.Fmt.{signed_decimal}
+use Rattle.std.specs.List.{list_any}
+use Rattle.std.specs.Ordering.{int_eq}
+use Rattle.asn_base.specs.Abstract.{AbstractValue, boolean, integer, enumerated, bits, octets, text, null, oid}
+use Rattle.asn_base.specs.Abstract.{relative_oid, fields, list, alternative, Row, end, absent, present}
+use Rattle.asn_base.specs.Types.{Item, Alternative, Component, Kind, a_null, an_enumerated, a_sequence_of, a_set_of}
+use Rattle.asn_base.specs.Types.{a_choice, Resolved}
+use Rattle.asn_base.specs.Schemas.{components}
+
+-- ---- what stands in braces, apostrophes or quotes
+
+abbrev pub braced : List ℕ → List ℕ
+braced x = codes "{" ++ (x ++ codes "}")
+
+abbrev pub truth_text : Bool → List ℕ
+truth_text b = if b then codes "TRUE" else codes "FALSE"
+
+-- a digit a bit
+abbrev pub bit_digits : List Bool → List ℕ
+bit_digits [] = []
+bit_digits (b ∷ bs) = (if b then 49 else 48) ∷ bit_digits bs
+
+-- 0 to 9, and the capitals from A on
+abbrev pub hex_digit : ℕ → ℕ
+hex_digit n = if nat_le n 9 then 48 + n else (55 + n)
+
+-- two digits an octet, the high one first
+abbrev pub hex_digits : List ℕ → List ℕ
+hex_digits [] = []
+hex_digits (o ∷ os) = hex_digit (o / 16) ∷ hex_digit (o % 16) ∷ hex_digits os
+
+abbrev pub hex_text : List ℕ → List ℕ
+hex_text o = codes "'" ++ (hex_digits o ++ codes "'H")
+
+-- each quote twice
+abbrev pub doubled : List ℕ → List ℕ
+doubled [] = []
+doubled (c ∷ o) = if c == 34 then (34 ∷ 34 ∷ doubled o) else (c ∷ doubled o)
+
+abbrev pub quoted : List ℕ → List ℕ
+quoted o = codes "\"" ++ (doubled o ++ codes "\"")
+
+-- LF, VT, FF and CR end a line (12.1.6)
+abbrev pub is_line_end : ℕ → Bool
+is_line_end c = nat_le 10 c && nat_le c 13
+
+-- a text, which stands on one line, or else its octets
+abbrev pub string_text : List ℕ → List ℕ
+string_text o = if list_any is_line_end o then hex_text o else quoted o
+
+-- numbers with a space between, and what stands before the first
+abbrev pub spaced : List ℕ → List ℕ → List ℕ
+spaced before [] = []
+spaced before (n ∷ ns) = before ++ (decimal n ++ spaced (codes " ") ns)
+
+-- what stands before a member
+abbrev pub comma_behind : (first : Bool) → List ℕ
+comma_behind first = if first then [] else codes ", "
+
+-- ---- what the type tells
+
+abbrev pub kind_in : Option Resolved → Kind
+kind_in None = a_null
+kind_in (Some r) = r.kind
+
+-- the kind of type t
+abbrev pub kind_at : List Resolved → ℕ → Kind
+kind_at s t = kind_in (slice_get s t)
+
+-- the items of an enumeration
+abbrev pub items_in : Kind → List Item
+items_in (an_enumerated root e more) = root ++ more
+items_in k = []
+
+-- the identifier of the first item with the number
+abbrev pub name_with : List Item → ℤ → Option (List ℕ)
+name_with [] z = None
+name_with (i ∷ is) z = if int_eq i.number z then Some i.name else name_with is z
+
+abbrev pub name_in : Option (List ℕ) → List ℕ
+name_in None = []
+name_in (Some x) = x
+
+-- the type of the elements
+abbrev pub element_in : Kind → Option ℕ
+element_in (a_sequence_of c u) = Some u
+element_in (a_set_of c u) = Some u
+element_in k = None
+
+abbrev pub alternatives_in : Kind → List Alternative
+alternatives_in (a_choice root e more) = root ++ more
+alternatives_in k = []
+
+-- ---- values
+
+abbrev mutual
+  -- the text of a value of type t
+  pub print : List Resolved → ℕ → AbstractValue → List ℕ
+  print s t (boolean b) = truth_text b
+  print s t (integer z) = signed_decimal z
+  print s t (enumerated z) = name_in (name_with (items_in (kind_at s t)) z)
+  print s t (bits b) = codes "'" ++ (bit_digits b ++ codes "'B")
+  print s t (octets o) = hex_text o
+  print s t (text o) = string_text o
+  print s t null = codes "NULL"
+  print s t (oid ns) = braced (spaced [] ns)
+  print s t (relative_oid ns) = braced (spaced [] ns)
+  print s t (fields vs) = braced (print_fields s (components (kind_at s t)) [] vs)
+  print s t (list vs) = elim (element_in (kind_at s t)) [
+      | None ↦ []
+      | Some u ↦ braced (print_elements s u [] vs)
+    ]
+  print s t (alternative i v) = elim (slice_get (alternatives_in (kind_at s t)) i) [
+      | None ↦ []
+      | Some a ↦ a.name ++ (codes " : " ++ print s a.type v)
+    ]
+
+  -- the components that are present, each with its name, and what stands before the first
+  pub print_fields : List Resolved → List Component → List ℕ → Row → List ℕ
+  print_fields s [] before vs = []
+  print_fields s (c ∷ cs) before end = []
+  print_fields s (c ∷ cs) before (absent vs) = print_fields s cs before vs
+  print_fields s (c ∷ cs) before (present v vs) =
+      before ++ (c.name ++ (codes " " ++ (print s c.type v ++ print_fields s cs (codes ", ") vs)))
+
+  -- elements of type u
+  pub print_elements : List Resolved → ℕ → List ℕ → Row → List ℕ
+  print_elements s u before end = []
+  print_elements s u before (absent vs) = print_elements s u before vs
+  print_elements s u before (present v vs) = before ++ (print s u v ++ print_elements s u (codes ", ") vs)

@@ -1,0 +1,154 @@
+//! Values that hold no others.
+
+ghost use Rattle.asn_base.specs.Abstract.{bits_of, bits_of_octet};
+ghost use Rattle.std.specs.Fmt.{signed_decimal};
+ghost use Rattle.std.specs.Prelude.{◌≡◌, ◌≤◌, ◌<◌, ◌++◌, IfOk, codes, string_bytes, take};
+ghost use Rattle.value_text.specs.Print.{bit_digits, braced, comma_behind, hex_digit, hex_digits, hex_text, spaced, truth_text};
+
+use asn_base::value::BitString;
+use std::alloc::AllocError;
+
+/// The text is added.
+pub fn append(out: &mut String, text: &str) -> Result<(), AllocError>
+    ensures { IfOk result (λ _. string_bytes out.new ≡ string_bytes out.old ++ text.now) }
+{
+    out.push_str(text)?;
+    Ok(())
+}
+
+/// A comma and a space, but before the first member.
+pub fn append_comma(out: &mut String, first: bool) -> Result<(), AllocError>
+    ensures { IfOk result (λ _. string_bytes out.new ≡ string_bytes out.old ++ comma_behind first) }
+{
+    append(out, if first { "" } else { ", " })?;
+    Ok(())
+}
+
+/// TRUE or FALSE.
+pub fn append_truth(out: &mut String, truth: bool) -> Result<(), AllocError>
+    ensures { IfOk result (λ _. string_bytes out.new ≡ string_bytes out.old ++ truth_text truth) }
+{
+    append(out, if truth { "TRUE" } else { "FALSE" })?;
+    Ok(())
+}
+
+/// A number in decimal.
+pub fn append_number(out: &mut String, number: i128) -> Result<(), AllocError>
+    ensures { IfOk result (λ _. string_bytes out.new ≡ string_bytes out.old ++ signed_decimal number) }
+{
+    let mut buffer = itoa::Buffer::new();
+    append(out, buffer.format(number))?;
+    Ok(())
+}
+
+/// A digit 0 or 1 for each bit.
+fn append_bits(out: &mut String, bits: &[bool]) -> Result<(), AllocError>
+    ensures { IfOk result (λ _. string_bytes out.new ≡ string_bytes out.old ++ bit_digits bits.now) }
+{
+    for i in 0..bits.len() {
+        append(out, if bits[i] { "1" } else { "0" })?;
+    }
+    Ok(())
+}
+
+/// The first bits of an octet, so many.
+fn append_octet_bits(out: &mut String, octet: u8, count: usize) -> Result<(), AllocError>
+    requires { count ≤ 8 }
+    ensures { IfOk result (λ _. string_bytes out.new ≡ string_bytes out.old ++ bit_digits (take count (bits_of_octet octet))) }
+{
+    let bits = [
+        octet / 128 == 1,
+        octet / 64 % 2 == 1,
+        octet / 32 % 2 == 1,
+        octet / 16 % 2 == 1,
+        octet / 8 % 2 == 1,
+        octet / 4 % 2 == 1,
+        octet / 2 % 2 == 1,
+        octet % 2 == 1,
+    ];
+    append_bits(out, &bits[..count])?;
+    Ok(())
+}
+
+/// The bits in apostrophes.
+pub fn append_bit_string(out: &mut String, bits: &BitString) -> Result<(), AllocError>
+    ensures { IfOk result (λ _. string_bytes out.new ≡ string_bytes out.old ++ (codes "'" ++ (bit_digits (bits_of bits.now) ++ codes "'B"))) }
+{
+    append(out, "'")?;
+    append_bits_of(out, bits)?;
+    append(out, "'B")?;
+    Ok(())
+}
+
+/// The bits, those of the last octet without the unused ones.
+fn append_bits_of(out: &mut String, bits: &BitString) -> Result<(), AllocError>
+    ensures { IfOk result (λ _. string_bytes out.new ≡ string_bytes out.old ++ bit_digits (bits_of bits.now)) }
+{
+    let octets = bits.octets.as_slice();
+    for i in 0..octets.len() {
+        let octet = octets[i];
+        let count = if i + 1 == octets.len() {
+            8 - bits.unused as usize
+        } else {
+            8
+        };
+        append_octet_bits(out, octet, count)?;
+    }
+    Ok(())
+}
+
+/// The hexadecimal digit, with a capital.
+fn hex_character(digit: u8) -> char
+    requires { digit < 16 }
+    ensures value { result ≡ hex_digit digit }
+    ensures ascii { result < 128 }
+{
+    if digit < 10 {
+        (b'0' + digit) as char
+    } else {
+        (b'A' + (digit - 10)) as char
+    }
+}
+
+/// Two hexadecimal digits for each octet.
+fn append_hex_digits(out: &mut String, octets: &[u8]) -> Result<(), AllocError>
+    ensures { IfOk result (λ _. string_bytes out.new ≡ string_bytes out.old ++ hex_digits octets.now) }
+{
+    for i in 0..octets.len() {
+        out.push(hex_character(octets[i] / 16))?;
+        out.push(hex_character(octets[i] % 16))?;
+    }
+    Ok(())
+}
+
+/// Octets as hexadecimal digits in apostrophes.
+pub fn append_octets(out: &mut String, octets: &[u8]) -> Result<(), AllocError>
+    ensures { IfOk result (λ _. string_bytes out.new ≡ string_bytes out.old ++ hex_text octets.now) }
+{
+    append(out, "'")?;
+    append_hex_digits(out, octets)?;
+    append(out, "'H")?;
+    Ok(())
+}
+
+/// Numbers in decimal with a space between.
+fn append_spaced(out: &mut String, numbers: &[u64]) -> Result<(), AllocError>
+    ensures { IfOk result (λ _. string_bytes out.new ≡ string_bytes out.old ++ spaced (codes "") numbers.now) }
+{
+    for i in 0..numbers.len() {
+        append(out, if i == 0 { "" } else { " " })?;
+        let mut buffer = itoa::Buffer::new();
+        append(out, buffer.format(numbers[i]))?;
+    }
+    Ok(())
+}
+
+/// The numbers of an object identifier in braces.
+pub fn append_arcs(out: &mut String, arcs: &[u64]) -> Result<(), AllocError>
+    ensures { IfOk result (λ _. string_bytes out.new ≡ string_bytes out.old ++ braced (spaced (codes "") arcs.now)) }
+{
+    append(out, "{")?;
+    append_spaced(out, arcs)?;
+    append(out, "}")?;
+    Ok(())
+}

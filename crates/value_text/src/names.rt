@@ -1,0 +1,63 @@
+//! What a type tells of its values: names and the types of members.
+
+ghost use Rattle.asn_base.specs.Schemas.{components};
+ghost use Rattle.asn_base.specs.Seen.{alternative_of, component_of, item_of, kind_of};
+ghost use Rattle.std.specs.Prelude.{◌≡◌, ◌++◌, None, Some, MatchOption, map, slice_get};
+ghost use Rattle.value_text.specs.Print.{alternatives_in, items_in, name_with};
+
+use asn_base::schema::{Alternative, Component, Core, Item};
+
+/// The components of a SEQUENCE or SET.
+pub fn components(core: &Core) -> &[Component]
+    ensures { map component_of result.now ≡ components (kind_of core.now) }
+{
+    match core {
+        Core::Sequence(_, components) => components.as_slice(),
+        Core::Set(_, components) => components.as_slice(),
+        _ => &[],
+    }
+}
+
+/// The name of the first item with the number.
+fn name_among(items: &[Item], number: i128) -> Option<&str>
+    ensures { MatchOption result (name_with (map item_of items.now) number ≡ None) (λ n. name_with (map item_of items.now) number ≡ Some n.now) }
+{
+    for i in 0..items.len() {
+        if items[i].number == number {
+            return Some(items[i].name.as_str());
+        }
+    }
+    None
+}
+
+/// The identifier of the item with the number.
+pub fn item_name(core: &Core, number: i128) -> Option<&str>
+    ensures { MatchOption result (name_with (items_in (kind_of core.now)) number ≡ None) (λ n. name_with (items_in (kind_of core.now)) number ≡ Some n.now) }
+{
+    match core {
+        Core::Enumerated(items) => match name_among(items.root.as_slice(), number) {
+            Some(name) => Some(name),
+            None => name_among(items.additions.as_slice(), number),
+        },
+        _ => None,
+    }
+}
+
+/// The alternative of a CHOICE with the number.
+pub fn alternative_at(core: &Core, number: usize) -> Option<&Alternative>
+    ensures { MatchOption result (slice_get (alternatives_in (kind_of core.now)) number ≡ None) (λ a. slice_get (alternatives_in (kind_of core.now)) number ≡ Some (alternative_of a.now)) }
+{
+    match core {
+        Core::Choice(alternatives) => {
+            let behind = alternatives.root.len();
+            if number < behind {
+                return Some(&alternatives.root[number]);
+            }
+            if number - behind < alternatives.additions.len() {
+                return Some(&alternatives.additions[number - behind]);
+            }
+            None
+        }
+        _ => None,
+    }
+}

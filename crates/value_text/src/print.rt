@@ -1,0 +1,119 @@
+//! The text of a value.
+
+ghost use Rattle.asn_base.specs.Abstract.{abstract, row_of_list, row_of_options};
+ghost use Rattle.asn_base.specs.Seen.{component_of};
+ghost use Rattle.asn_base.specs.Typed.{IsValue};
+ghost use Rattle.std.specs.List.{AllByRecursion};
+ghost use Rattle.std.specs.Prelude.{◌≡◌, ◌<◌, ◌++◌, IfOk, IsErrOf, codes, length, map, option_map, string_bytes};
+ghost use Rattle.value_text.specs.Print.{braced, print, print_elements, print_fields};
+
+use crate::fault::Fault;
+use crate::leaf::{append, append_arcs, append_bit_string, append_comma, append_number, append_octets, append_truth};
+use crate::names::{alternative_at, components, item_name};
+use crate::string::append_string;
+use asn_base::law::abstract_values;
+use asn_base::schema::{Component, Core, Schema, TypeId};
+use asn_base::value::Value;
+use std::alloc::{AllocError, Global};
+
+/// The text of the value is added.
+#[cycle(printing)]
+fn print_value(
+    schema: &Schema,
+    id: TypeId,
+    value: &Value,
+    out: &mut String,
+) -> Result<(), AllocError>
+    requires there { id.index < length schema.now }
+    ensures { IfOk result (λ _. string_bytes out.new ≡ string_bytes out.old ++ print schema.now id.index (abstract value.now)) }
+{
+    abstract_values();
+    let core = &schema.get(id).core;
+    match value {
+        Value::Bool(truth) => append_truth(out, *truth),
+        Value::Int(number) => append_number(out, *number),
+        Value::Enum(number) => match item_name(core, *number) {
+            Some(name) => append(out, name),
+            None => Ok(()),
+        },
+        Value::Bits(bits) => append_bit_string(out, bits),
+        Value::Octets(octets) => append_octets(out, octets.as_slice()),
+        Value::Text(text) => append_string(out, text.as_str()),
+        Value::Null => append(out, "NULL"),
+        Value::Oid(arcs) => append_arcs(out, arcs.as_slice()),
+        Value::RelativeOid(arcs) => append_arcs(out, arcs.as_slice()),
+        Value::Fields(values) => print_fields(schema, components(core), values.as_slice(), out),
+        Value::List(values) => match core {
+            Core::SequenceOf(_, element) => print_elements(schema, *element, values.as_slice(), out),
+            Core::SetOf(_, element) => print_elements(schema, *element, values.as_slice(), out),
+            _ => Ok(()),
+        },
+        Value::Alt(number, held) => match alternative_at(core, *number) {
+            Some(alternative) => {
+                append(out, alternative.name.as_str())?;
+                append(out, " : ")?;
+                print_value(schema, alternative.ty, held, out)
+            }
+            None => Ok(()),
+        },
+    }
+}
+
+/// The components that are present, each with its name, and commas between.
+#[cycle(printing)]
+fn print_fields(
+    schema: &Schema,
+    components: &[Component],
+    values: &[Option<Value>],
+    out: &mut String,
+) -> Result<(), AllocError>
+    requires there { AllByRecursion (λ c. c.type < length schema.now) (map component_of components.now) }
+    ensures { IfOk result (λ _. string_bytes out.new ≡ string_bytes out.old ++ braced (print_fields schema.now (map component_of components.now) (codes "") (row_of_options (map (option_map abstract) values.now)))) }
+{
+    append(out, "{")?;
+    let mut first = true;
+    for i in 0..values.len() {
+        if i < components.len() {
+            let component = &components[i];
+            if let Some(value) = &values[i] {
+                append_comma(out, first)?;
+                append(out, component.name.as_str())?;
+                append(out, " ")?;
+                print_value(schema, component.ty, value, out)?;
+                first = false;
+            }
+        }
+    }
+    append(out, "}")?;
+    Ok(())
+}
+
+/// The elements with commas between.
+#[cycle(printing)]
+fn print_elements(
+    schema: &Schema,
+    element: TypeId,
+    values: &[Value],
+    out: &mut String,
+) -> Result<(), AllocError>
+    requires there { element.index < length schema.now }
+    ensures { IfOk result (λ _. string_bytes out.new ≡ string_bytes out.old ++ braced (print_elements schema.now element.index (codes "") (row_of_list (map abstract values.now)))) }
+{
+    append(out, "{")?;
+    for i in 0..values.len() {
+        append_comma(out, i == 0)?;
+        print_value(schema, element, &values[i], out)?;
+    }
+    append(out, "}")?;
+    Ok(())
+}
+
+/// The text of any value.
+pub fn text_of(alloc: Global, schema: &Schema, id: TypeId, value: &Value) -> Result<String, AllocError>
+    requires there { id.index < length schema.now }
+    ensures { IfOk result (λ s. string_bytes s ≡ print schema.now id.index (abstract value.now)) }
+{
+    let mut out = String::new(alloc);
+    print_value(schema, id, value, &mut out)?;
+    Ok(out)
+}

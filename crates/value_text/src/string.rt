@@ -1,0 +1,55 @@
+//! Texts (X.680, 12.14 and 41).
+
+ghost use Rattle.std.specs.List.{list_any};
+ghost use Rattle.std.specs.Prelude.{◌≡◌, ◌++◌, IfOk, string_bytes};
+ghost use Rattle.value_text.specs.Print.{doubled, is_line_end, quoted, string_text};
+
+use crate::leaf::{append, append_octets};
+use std::alloc::AllocError;
+
+/// Whether a character stands there that ends a line: LF, VT, FF or CR.
+fn has_line_end(octets: &[u8]) -> bool
+    ensures { result ≡ list_any is_line_end octets.now }
+{
+    for i in 0..octets.len() {
+        if octets[i] >= 10 && octets[i] <= 13 {
+            return true;
+        }
+    }
+    false
+}
+
+/// The text with each quote twice.
+fn append_doubled(out: &mut String, text: &str) -> Result<(), AllocError>
+    ensures { IfOk result (λ _. string_bytes out.new ≡ string_bytes out.old ++ doubled text.now) }
+{
+    for c in text.chars() {
+        if c == '"' {
+            out.push('"')?;
+        }
+        out.push(c)?;
+    }
+    Ok(())
+}
+
+/// The text in quotes.
+fn append_quoted(out: &mut String, text: &str) -> Result<(), AllocError>
+    ensures { IfOk result (λ _. string_bytes out.new ≡ string_bytes out.old ++ quoted text.now) }
+{
+    append(out, "\"")?;
+    append_doubled(out, text)?;
+    append(out, "\"")?;
+    Ok(())
+}
+
+/// The text in quotes, or its octets as hexadecimal digits where a line ends in it.
+pub fn append_string(out: &mut String, text: &str) -> Result<(), AllocError>
+    ensures { IfOk result (λ _. string_bytes out.new ≡ string_bytes out.old ++ string_text text.now) }
+{
+    if has_line_end(text.as_bytes()) {
+        append_octets(out, text.as_bytes())?;
+        return Ok(());
+    }
+    append_quoted(out, text)?;
+    Ok(())
+}
