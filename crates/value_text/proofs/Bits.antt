@@ -1,5 +1,5 @@
 -- The bits of octets, of the last one not all.
-use Rattle.std.proofs.Common.{arith, ◌≡◌, ℕ, zero, suc, ◌+◌, ◌-◌, ◌*◌, ◌<◌, ◌≤◌, Bool, List, [], ◌∷◌, ◌++◌, length, drop, take, refl, sym, ap, subst, ◌∙◌}
+use Rattle.std.proofs.Common.{arith, ◌≡◌, ℕ, suc, ◌+◌, ◌-◌, ◌*◌, ◌<◌, Bool, List, [], ◌∷◌, ◌++◌, length, drop, take, refl, sym, ap, ◌∙◌}
 use Rattle.std.specs.Prelude.{flat_map, slice_index, if◌then◌else◌}
 use Rattle.std.proofs.Math.Seq.{take-nil}
 use Rattle.asn_base.specs.Abstract.{bits_of_octet}
@@ -37,9 +37,9 @@ module _ (os : List ℕ) (u i count : ℕ) (out new total : List ℕ) (lt : i < 
       let r : drop (i + 1) os ≡ [] = none_left os (i + 1) (omega (arith, e)) in
       let d : drop i os ≡ slice_index os i ∷ [] = front ∙ ap (λ l. slice_index os i ∷ l) r in
       let w : bit_digits (bits_from u (drop i os)) ≡ bit_digits (take count (bits_of_octet (slice_index os i))) ++ bit_digits (bits_from u (drop (i + 1) os)) =
-          ap (λ l. bit_digits (bits_from u l)) d ∙ ap bit_digits (last u (slice_index os i)) ∙ digits_joined (take (8 - u) (bits_of_octet (slice_index os i))) (bits_from u [])
-          ∙ ap (λ k. bit_digits (take k (bits_of_octet (slice_index os i))) ++ bit_digits (bits_from u [])) (sym f)
-          ∙ ap (λ l. bit_digits (take count (bits_of_octet (slice_index os i))) ++ bit_digits (bits_from u l)) (sym r) in
+      ap (λ l. bit_digits (bits_from u l)) d ∙ ap bit_digits (last u (slice_index os i)) ∙ digits_joined (take (8 - u) (bits_of_octet (slice_index os i))) (bits_from u [])
+      ∙ ap (λ k. bit_digits (take k (bits_of_octet (slice_index os i))) ++ bit_digits (bits_from u [])) (sym f)
+      ∙ ap (λ l. bit_digits (take count (bits_of_octet (slice_index os i))) ++ bit_digits (bits_from u l)) (sym r) in
       glued out (bit_digits (take count (bits_of_octet (slice_index os i)))) (bit_digits (bits_from u (drop (i + 1) os))) (bit_digits (bits_from u (drop i os))) new total w invariant adds
 
   pub before_last : u < 8 → i + 1 < length os → count ≡ 8 → new ++ bit_digits (bits_from u (drop (i + 1) os)) ≡ total
@@ -48,8 +48,8 @@ module _ (os : List ℕ) (u i count : ℕ) (out new total : List ℕ) (lt : i < 
       let r : drop (i + 1) os ≡ p ∷ drop ((i + 1) + 1) os = drop_at os (i + 1) p 0 l refl in
       let d : drop i os ≡ slice_index os i ∷ p ∷ drop ((i + 1) + 1) os = front ∙ ap (λ l. slice_index os i ∷ l) r in
       let w : bit_digits (bits_from u (drop i os)) ≡ bit_digits (take count (bits_of_octet (slice_index os i))) ++ bit_digits (bits_from u (drop (i + 1) os)) =
-          ap (λ l. bit_digits (bits_from u l)) d ∙ ap bit_digits (more u (slice_index os i) p (drop ((i + 1) + 1) os) few)
-          ∙ digits_joined (take 8 (bits_of_octet (slice_index os i))) (bits_from u (p ∷ drop ((i + 1) + 1) os))
-          ∙ ap (λ k. bit_digits (take k (bits_of_octet (slice_index os i))) ++ bit_digits (bits_from u (p ∷ drop ((i + 1) + 1) os))) (sym f)
-          ∙ ap (λ l. bit_digits (take count (bits_of_octet (slice_index os i))) ++ bit_digits (bits_from u l)) (sym r) in
+      ap (λ l. bit_digits (bits_from u l)) d ∙ ap bit_digits (more u (slice_index os i) p (drop ((i + 1) + 1) os) few)
+      ∙ digits_joined (take 8 (bits_of_octet (slice_index os i))) (bits_from u (p ∷ drop ((i + 1) + 1) os))
+      ∙ ap (λ k. bit_digits (take k (bits_of_octet (slice_index os i))) ++ bit_digits (bits_from u (p ∷ drop ((i + 1) + 1) os))) (sym f)
+      ∙ ap (λ l. bit_digits (take count (bits_of_octet (slice_index os i))) ++ bit_digits (bits_from u l)) (sym r) in
       glued out (bit_digits (take count (bits_of_octet (slice_index os i)))) (bit_digits (bits_from u (drop (i + 1) os))) (bit_digits (bits_from u (drop i os))) new total w invariant adds

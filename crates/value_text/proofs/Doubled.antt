@@ -1,6 +1,6 @@
 -- A text with each quote twice, character by character.
-use Rattle.std.proofs.Common.{arith, ◌≡◌, ℕ, ◌+◌, ◌<◌, ◌≤◌, Bool, true, false, List, [], ◌∷◌, ◌++◌, refl, sym, ap, ◌∙◌}
-use Rattle.std.specs.Prelude.{◌/◌, ◌%◌, ◌==◌, nat_lt, if◌then◌else◌, cond}
+use Rattle.std.proofs.Common.{arith, ◌≡◌, ℕ, ◌+◌, ◌≤◌, Bool, true, false, List, [], ◌∷◌, ◌++◌, refl, ap, ◌∙◌}
+use Rattle.std.specs.Prelude.{◌/◌, ◌%◌, ◌==◌, nat_lt, cond}
 use Rattle.std.specs.List.{AllByRecursion}
 use Rattle.std.proofs.Math.Utf8.{encode}
 use Rattle.std.proofs.lemmas.Bool.Decides.{nat_tests}
@@ -45,9 +45,9 @@ unfolding encode two three four
 no_quote c e = branches (nat_lt c 128) (c ∷ []) (cond (nat_lt c 2048) (two c) (cond (nat_lt c 65536) (three c) (four c))) (one_octet c e)
     (branches (nat_lt c 2048) (two c) (cond (nat_lt c 65536) (three c) (four c)) (more_octets (192 + c / 64) ((128 + c % 64) ∷ []) (far 192 (c / 64) (omega arith)) (high (c % 64)))
     (branches (nat_lt c 65536) (three c) (four c)
-        (more_octets (224 + c / 4096) ((128 + c / 64 % 64) ∷ (128 + c % 64) ∷ []) (far 224 (c / 4096) (omega arith)) (more_octets (128 + c / 64 % 64) ((128 + c % 64) ∷ []) (far 128 (c / 64 % 64) (omega arith)) (high (c % 64))))
-        (more_octets (240 + c / 262144) ((128 + c / 4096 % 64) ∷ (128 + c / 64 % 64) ∷ (128 + c % 64) ∷ []) (far 240 (c / 262144) (omega arith)) (more_octets (128 + c / 4096 % 64) ((128 + c / 64 % 64) ∷ (128 + c % 64) ∷ []) (far 128 (c / 4096 % 64) (omega arith))
-            (more_octets (128 + c / 64 % 64) ((128 + c % 64) ∷ []) (far 128 (c / 64 % 64) (omega arith)) (high (c % 64)))))))
+    (more_octets (224 + c / 4096) ((128 + c / 64 % 64) ∷ (128 + c % 64) ∷ []) (far 224 (c / 4096) (omega arith)) (more_octets (128 + c / 64 % 64) ((128 + c % 64) ∷ []) (far 128 (c / 64 % 64) (omega arith)) (high (c % 64))))
+    (more_octets (240 + c / 262144) ((128 + c / 4096 % 64) ∷ (128 + c / 64 % 64) ∷ (128 + c % 64) ∷ []) (far 240 (c / 262144) (omega arith)) (more_octets (128 + c / 4096 % 64) ((128 + c / 64 % 64) ∷ (128 + c % 64) ∷ []) (far 128 (c / 4096 % 64) (omega arith))
+    (more_octets (128 + c / 64 % 64) ((128 + c % 64) ∷ []) (far 128 (c / 64 % 64) (omega arith)) (high (c % 64)))))))
 
 unequal : (c : ℕ) → (c ≡ 34 → ⊥) → (c == 34) ≡ false
 unequal c n = grind (arith, nat_tests)

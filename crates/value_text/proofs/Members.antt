@@ -1,5 +1,5 @@
 -- The members of a value as loops go over them.
-use Rattle.std.proofs.Common.{arith, ◌≡◌, ℕ, zero, suc, ◌+◌, ◌*◌, ◌<◌, ◌≤◌, Bool, true, false, List, [], ◌∷◌, ◌++◌, length, drop, map, refl, sym, ap, subst, ◌∙◌, append_assoc, codes, get_or, Option, Some, None, option_map, string_bytes}
+use Rattle.std.proofs.Common.{arith, ◌≡◌, ℕ, zero, suc, ◌+◌, ◌*◌, ◌<◌, ◌≤◌, Bool, true, false, List, [], ◌∷◌, ◌++◌, length, drop, map, refl, sym, ap, subst, ◌∙◌, codes, get_or, Option, Some, None, option_map, string_bytes}
 use Rattle.std.specs.List.{AllByRecursion}
 use Rattle.asn_base.specs.declared.schema.Component.{Component as Component'}
 use Rattle.asn_base.specs.declared.value.Value.{Value}
@@ -40,7 +40,7 @@ pub member_nodes : (vs : List (Option Value)) (i : ℕ) (o : Option Value) (v : 
 member_nodes vs i o v l e f =
     let d = drop_at vs i o o l e ∙ ap (λ o. o ∷ drop (i + 1) vs) f in
     let n : row_nodes (row_of_options (map (option_map abstract) (drop i vs))) ≡ nodes (abstract v) + row_nodes (row_of_options (map (option_map abstract) (drop (i + 1) vs))) =
-        ap (λ l. row_nodes (row_of_options (map (option_map abstract) l))) d in
+    ap (λ l. row_nodes (row_of_options (map (option_map abstract) l))) d in
     let h = nodes_behind vs i in omega (arith, n, h)
 
 elements_behind : (vs : List Value) (i : ℕ) → row_nodes (row_of_list (map abstract (drop i vs))) ≤ row_nodes (row_of_list (map abstract vs))
@@ -52,7 +52,7 @@ pub element_nodes : (vs : List Value) (i : ℕ) (v : Value) → i < length vs �
 element_nodes vs i v l e =
     let d = drop_at vs i v v l e in
     let n : row_nodes (row_of_list (map abstract (drop i vs))) ≡ nodes (abstract v) + row_nodes (row_of_list (map abstract (drop (i + 1) vs))) =
-        ap (λ l. row_nodes (row_of_list (map abstract l))) d in
+    ap (λ l. row_nodes (row_of_list (map abstract l))) d in
     let h = elements_behind vs i in omega (arith, n, h)
 
 module _ (s : List Resolved) (cs : List Component') (vs : List (Option Value)) (i : ℕ) (first : Bool) (out total : List ℕ) (invariant : out ++ print_fields s (map component_of (drop i cs)) (comma_behind first) (row_of_options (map (option_map abstract) (drop i vs))) ≡ total) (in_values : i < length vs) where
@@ -71,8 +71,8 @@ module _ (s : List Resolved) (cs : List Component') (vs : List (Option Value)) (
     present_step v a b m new is f g h k =
         let text = print s c.ty.index (abstract v) in
         let d : print_fields s (map component_of (drop i cs)) (comma_behind first) (row_of_options (map (option_map abstract) (drop i vs))) ≡ comma_behind first ++ (string_bytes c.name ++ (codes " " ++ (text ++ rest (codes ", ")))) =
-            ap (λ l. print_fields s (map component_of l) (comma_behind first) (row_of_options (map (option_map abstract) (drop i vs)))) component
-            ∙ ap (λ l. print_fields s (map component_of (c ∷ drop (i + 1) cs)) (comma_behind first) (row_of_options (map (option_map abstract) l))) (member ∙ ap (λ o. o ∷ drop (i + 1) vs) is) in
+        ap (λ l. print_fields s (map component_of l) (comma_behind first) (row_of_options (map (option_map abstract) (drop i vs)))) component
+        ∙ ap (λ l. print_fields s (map component_of (c ∷ drop (i + 1) cs)) (comma_behind first) (row_of_options (map (option_map abstract) l))) (member ∙ ap (λ o. o ∷ drop (i + 1) vs) is) in
         let w = glued out (comma_behind first) (string_bytes c.name ++ (codes " " ++ (text ++ rest (codes ", ")))) _ a total d invariant f in
         let x = glued a (string_bytes c.name) (codes " " ++ (text ++ rest (codes ", "))) _ b total refl w g in
         let y = glued b (codes " ") (text ++ rest (codes ", ")) _ m total refl x h in
@@ -81,8 +81,8 @@ module _ (s : List Resolved) (cs : List Component') (vs : List (Option Value)) (
     pub absent_step : o ≡ None → out ++ rest (comma_behind first) ≡ total
     absent_step is =
         let d : print_fields s (map component_of (drop i cs)) (comma_behind first) (row_of_options (map (option_map abstract) (drop i vs))) ≡ rest (comma_behind first) =
-            ap (λ l. print_fields s (map component_of l) (comma_behind first) (row_of_options (map (option_map abstract) (drop i vs)))) component
-            ∙ ap (λ l. print_fields s (map component_of (c ∷ drop (i + 1) cs)) (comma_behind first) (row_of_options (map (option_map abstract) l))) (member ∙ ap (λ o. o ∷ drop (i + 1) vs) is) in
+        ap (λ l. print_fields s (map component_of l) (comma_behind first) (row_of_options (map (option_map abstract) (drop i vs)))) component
+        ∙ ap (λ l. print_fields s (map component_of (c ∷ drop (i + 1) cs)) (comma_behind first) (row_of_options (map (option_map abstract) l))) (member ∙ ap (λ o. o ∷ drop (i + 1) vs) is) in
         ap (λ l. out ++ l) (sym d) ∙ invariant
 
   pub behind_step : length cs ≤ i → out ++ print_fields s (map component_of (drop (i + 1) cs)) (comma_behind first) (row_of_options (map (option_map abstract) (drop (i + 1) vs))) ≡ total

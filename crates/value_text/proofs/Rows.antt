@@ -2,10 +2,9 @@
 use Rattle.std.proofs.Common.{◌≡◌, List, [], ◌∷◌, refl, true, false}
 use Rattle.std.specs.Prelude.{codes, pos, negsuc}
 use Rattle.std.specs.Fmt.{digits}
-use Rattle.asn_base.specs.declared.strings.StringKind.TheVariants.{Ia5}
-use Rattle.asn_base.specs.Abstract.{AbstractValue, boolean, integer, enumerated, bits, octets, text, null, oid}
+use Rattle.asn_base.specs.Abstract.{boolean, integer, enumerated, bits, octets, text, null, oid}
 use Rattle.asn_base.specs.Abstract.{relative_oid, fields, list, alternative, end, absent, present}
-use Rattle.asn_base.specs.Types.{any_number, any_size, a_boolean, an_integer, an_enumerated, a_named_bit_string}
+use Rattle.asn_base.specs.Types.{any_number, any_size, a_boolean, an_integer, an_enumerated}
 use Rattle.asn_base.specs.Types.{a_bit_string, an_octet_string, a_null, an_object_identifier, a_relative_oid}
 use Rattle.asn_base.specs.Types.{a_utf8_string, a_sequence, a_set, a_sequence_of, a_set_of, a_choice, mandatory}
 use Rattle.asn_base.specs.Types.{optional, default, Kind, Resolved}
@@ -22,9 +21,9 @@ abbrev types : List Resolved
 types = plain a_boolean
     ∷ plain (an_integer any_number)
     ∷ plain (an_enumerated
-        (record { name = codes "b"; number = negsuc 0 } ∷ record { name = codes "a"; number = pos 4 } ∷ [])
-        true
-        (record { name = codes "c-d"; number = pos 3 } ∷ []))
+    (record { name = codes "b"; number = negsuc 0 } ∷ record { name = codes "a"; number = pos 4 } ∷ [])
+    true
+    (record { name = codes "c-d"; number = pos 3 } ∷ []))
     ∷ plain (a_bit_string any_size)
     ∷ plain (an_octet_string any_size)
     ∷ plain a_null
@@ -32,18 +31,18 @@ types = plain a_boolean
     ∷ plain a_relative_oid
     ∷ plain (a_utf8_string any_size)
     ∷ plain (a_sequence false
-        (record { name = codes "a"; type = 1; presence = optional }
-        ∷ record { name = codes "b"; type = 0; presence = default (boolean true) }
-        ∷ record { name = codes "c"; type = 5; presence = mandatory } ∷ []))
+    (record { name = codes "a"; type = 1; presence = optional }
+    ∷ record { name = codes "b"; type = 0; presence = default (boolean true) }
+    ∷ record { name = codes "c"; type = 5; presence = mandatory } ∷ []))
     ∷ plain (a_set false
-        (record { name = codes "b"; type = 0; presence = optional }
-        ∷ record { name = codes "a"; type = 1; presence = mandatory } ∷ []))
+    (record { name = codes "b"; type = 0; presence = optional }
+    ∷ record { name = codes "a"; type = 1; presence = mandatory } ∷ []))
     ∷ plain (a_sequence_of any_size 1)
     ∷ plain (a_set_of any_size 11)
     ∷ plain (a_choice
-        (record { name = codes "a"; type = 1 } ∷ [])
-        true
-        (record { name = codes "b-c"; type = 13 } ∷ []))
+    (record { name = codes "a"; type = 1 } ∷ [])
+    true
+    (record { name = codes "b-c"; type = 13 } ∷ []))
     ∷ []
 
 -- ---- truth values, numbers, NULL

@@ -1,5 +1,6 @@
 -- The text that a value is printed in: its value notation (X.680, 18 to 29, 32, 33 and 41).
-use Rattle.std.specs.Prelude.{ℕ, ◌+◌, nat_le, ◌/◌, ◌%◌, ◌&&◌, ◌==◌, ℤ, Bool, true, false, List, [], ◌∷◌, ◌++◌}
+use Rattle.std.specs.Prelude.{◌≡◌, String, string_bytes}
+use Rattle.std.specs.Prelude.{ℕ, ◌+◌, nat_le, ◌/◌, ◌%◌, ◌&&◌, ◌==◌, ℤ, Bool, List, [], ◌∷◌, ◌++◌}
 use Rattle.std.specs.Prelude.{Option, Some, None, slice_get, codes, decimal, if◌then◌else◌}
 use Rattle.std.specs.Fmt.{signed_decimal}
 use Rattle.std.specs.List.{list_any}
@@ -9,6 +10,10 @@ use Rattle.asn_base.specs.Abstract.{relative_oid, fields, list, alternative, Row
 use Rattle.asn_base.specs.Types.{Item, Alternative, Component, Kind, a_null, an_enumerated, a_sequence_of, a_set_of}
 use Rattle.asn_base.specs.Types.{a_choice, Resolved}
 use Rattle.asn_base.specs.Schemas.{components}
+
+-- the text was added
+abbrev pub Adds : {Z : Type 0} → String Z → String Z → List ℕ → Type 0
+Adds old new added = string_bytes new ≡ string_bytes old ++ added
 
 -- ---- what stands in braces, apostrophes or quotes
 
@@ -110,13 +115,13 @@ abbrev mutual
   print s t (relative_oid ns) = braced (spaced [] ns)
   print s t (fields vs) = braced (print_fields s (components (kind_at s t)) [] vs)
   print s t (list vs) = elim (element_in (kind_at s t)) [
-      | None ↦ []
-      | Some u ↦ braced (print_elements s u [] vs)
-    ]
+    | None ↦ []
+    | Some u ↦ braced (print_elements s u [] vs)
+  ]
   print s t (alternative i v) = elim (slice_get (alternatives_in (kind_at s t)) i) [
-      | None ↦ []
-      | Some a ↦ a.name ++ (codes " : " ++ print s a.type v)
-    ]
+    | None ↦ []
+    | Some a ↦ a.name ++ (codes " : " ++ print s a.type v)
+  ]
 
   -- the components that are present, each with its name, and what stands before the first
   pub print_fields : List Resolved → List Component → List ℕ → Row → List ℕ

@@ -2,15 +2,16 @@
 
 ghost use Rattle.asn_base.specs.Abstract.{bits_of, bits_of_octet};
 ghost use Rattle.std.specs.Fmt.{signed_decimal};
-ghost use Rattle.std.specs.Prelude.{◌≡◌, ◌≤◌, ◌<◌, ◌++◌, IfOk, codes, string_bytes, take};
-ghost use Rattle.value_text.specs.Print.{bit_digits, braced, comma_behind, hex_digit, hex_digits, hex_text, spaced, truth_text};
+ghost use Rattle.std.specs.Prelude.{◌≡◌, ◌≤◌, ◌<◌, ◌++◌, [], IfOk, codes, take};
+ghost use Rattle.value_text.specs.Print.{Adds, bit_digits, braced, comma_behind, hex_digit};
+ghost use Rattle.value_text.specs.Print.{hex_digits, hex_text, spaced, truth_text};
 
 use asn_base::value::BitString;
 use std::alloc::AllocError;
 
 /// The text is added.
 pub fn append(out: &mut String, text: &str) -> Result<(), AllocError>
-    ensures { IfOk result (λ _. string_bytes out.new ≡ string_bytes out.old ++ text.now) }
+    ensures { IfOk result (λ _. Adds out.old out.new text.now) }
 {
     out.push_str(text)?;
     Ok(())
@@ -18,7 +19,7 @@ pub fn append(out: &mut String, text: &str) -> Result<(), AllocError>
 
 /// A comma and a space, but before the first member.
 pub fn append_comma(out: &mut String, first: bool) -> Result<(), AllocError>
-    ensures { IfOk result (λ _. string_bytes out.new ≡ string_bytes out.old ++ comma_behind first) }
+    ensures { IfOk result (λ _. Adds out.old out.new (comma_behind first)) }
 {
     append(out, if first { "" } else { ", " })?;
     Ok(())
@@ -26,7 +27,7 @@ pub fn append_comma(out: &mut String, first: bool) -> Result<(), AllocError>
 
 /// TRUE or FALSE.
 pub fn append_truth(out: &mut String, truth: bool) -> Result<(), AllocError>
-    ensures { IfOk result (λ _. string_bytes out.new ≡ string_bytes out.old ++ truth_text truth) }
+    ensures { IfOk result (λ _. Adds out.old out.new (truth_text truth)) }
 {
     append(out, if truth { "TRUE" } else { "FALSE" })?;
     Ok(())
@@ -34,7 +35,7 @@ pub fn append_truth(out: &mut String, truth: bool) -> Result<(), AllocError>
 
 /// A number in decimal.
 pub fn append_number(out: &mut String, number: i128) -> Result<(), AllocError>
-    ensures { IfOk result (λ _. string_bytes out.new ≡ string_bytes out.old ++ signed_decimal number) }
+    ensures { IfOk result (λ _. Adds out.old out.new (signed_decimal number)) }
 {
     let mut buffer = itoa::Buffer::new();
     append(out, buffer.format(number))?;
@@ -43,7 +44,7 @@ pub fn append_number(out: &mut String, number: i128) -> Result<(), AllocError>
 
 /// A digit 0 or 1 for each bit.
 fn append_bits(out: &mut String, bits: &[bool]) -> Result<(), AllocError>
-    ensures { IfOk result (λ _. string_bytes out.new ≡ string_bytes out.old ++ bit_digits bits.now) }
+    ensures { IfOk result (λ _. Adds out.old out.new (bit_digits bits.now)) }
 {
     for i in 0..bits.len() {
         append(out, if bits[i] { "1" } else { "0" })?;
@@ -54,7 +55,7 @@ fn append_bits(out: &mut String, bits: &[bool]) -> Result<(), AllocError>
 /// The first bits of an octet, so many.
 fn append_octet_bits(out: &mut String, octet: u8, count: usize) -> Result<(), AllocError>
     requires { count ≤ 8 }
-    ensures { IfOk result (λ _. string_bytes out.new ≡ string_bytes out.old ++ bit_digits (take count (bits_of_octet octet))) }
+    ensures { IfOk result (λ _. Adds out.old out.new (bit_digits (take count (bits_of_octet octet)))) }
 {
     let bits = [
         octet / 128 == 1,
@@ -72,7 +73,7 @@ fn append_octet_bits(out: &mut String, octet: u8, count: usize) -> Result<(), Al
 
 /// The bits in apostrophes.
 pub fn append_bit_string(out: &mut String, bits: &BitString) -> Result<(), AllocError>
-    ensures { IfOk result (λ _. string_bytes out.new ≡ string_bytes out.old ++ (codes "'" ++ (bit_digits (bits_of bits.now) ++ codes "'B"))) }
+    ensures { IfOk result (λ _. Adds out.old out.new (codes "'" ++ (bit_digits (bits_of bits.now) ++ codes "'B"))) }
 {
     append(out, "'")?;
     append_bits_of(out, bits)?;
@@ -82,7 +83,7 @@ pub fn append_bit_string(out: &mut String, bits: &BitString) -> Result<(), Alloc
 
 /// The bits, those of the last octet without the unused ones.
 fn append_bits_of(out: &mut String, bits: &BitString) -> Result<(), AllocError>
-    ensures { IfOk result (λ _. string_bytes out.new ≡ string_bytes out.old ++ bit_digits (bits_of bits.now)) }
+    ensures { IfOk result (λ _. Adds out.old out.new (bit_digits (bits_of bits.now))) }
 {
     let octets = bits.octets.as_slice();
     for i in 0..octets.len() {
@@ -112,7 +113,7 @@ fn hex_character(digit: u8) -> char
 
 /// Two hexadecimal digits for each octet.
 fn append_hex_digits(out: &mut String, octets: &[u8]) -> Result<(), AllocError>
-    ensures { IfOk result (λ _. string_bytes out.new ≡ string_bytes out.old ++ hex_digits octets.now) }
+    ensures { IfOk result (λ _. Adds out.old out.new (hex_digits octets.now)) }
 {
     for i in 0..octets.len() {
         out.push(hex_character(octets[i] / 16))?;
@@ -123,7 +124,7 @@ fn append_hex_digits(out: &mut String, octets: &[u8]) -> Result<(), AllocError>
 
 /// Octets as hexadecimal digits in apostrophes.
 pub fn append_octets(out: &mut String, octets: &[u8]) -> Result<(), AllocError>
-    ensures { IfOk result (λ _. string_bytes out.new ≡ string_bytes out.old ++ hex_text octets.now) }
+    ensures { IfOk result (λ _. Adds out.old out.new (hex_text octets.now)) }
 {
     append(out, "'")?;
     append_hex_digits(out, octets)?;
@@ -133,7 +134,7 @@ pub fn append_octets(out: &mut String, octets: &[u8]) -> Result<(), AllocError>
 
 /// Numbers in decimal with a space between.
 fn append_spaced(out: &mut String, numbers: &[u64]) -> Result<(), AllocError>
-    ensures { IfOk result (λ _. string_bytes out.new ≡ string_bytes out.old ++ spaced (codes "") numbers.now) }
+    ensures { IfOk result (λ _. Adds out.old out.new (spaced [] numbers.now)) }
 {
     for i in 0..numbers.len() {
         append(out, if i == 0 { "" } else { " " })?;
@@ -145,7 +146,7 @@ fn append_spaced(out: &mut String, numbers: &[u64]) -> Result<(), AllocError>
 
 /// The numbers of an object identifier in braces.
 pub fn append_arcs(out: &mut String, arcs: &[u64]) -> Result<(), AllocError>
-    ensures { IfOk result (λ _. string_bytes out.new ≡ string_bytes out.old ++ braced (spaced (codes "") arcs.now)) }
+    ensures { IfOk result (λ _. Adds out.old out.new (braced (spaced [] arcs.now))) }
 {
     append(out, "{")?;
     append_spaced(out, arcs)?;

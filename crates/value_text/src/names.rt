@@ -20,7 +20,8 @@ pub fn components(core: &Core) -> &[Component]
 
 /// The name of the first item with the number.
 fn name_among(items: &[Item], number: i128) -> Option<&str>
-    ensures { MatchOption result (name_with (map item_of items.now) number ≡ None) (λ n. name_with (map item_of items.now) number ≡ Some n.now) }
+    ensures { let name = name_with (map item_of items.now) number in
+        MatchOption result (name ≡ None) (λ n. name ≡ Some n.now) }
 {
     for i in 0..items.len() {
         if items[i].number == number {
@@ -32,7 +33,8 @@ fn name_among(items: &[Item], number: i128) -> Option<&str>
 
 /// The identifier of the item with the number.
 pub fn item_name(core: &Core, number: i128) -> Option<&str>
-    ensures { MatchOption result (name_with (items_in (kind_of core.now)) number ≡ None) (λ n. name_with (items_in (kind_of core.now)) number ≡ Some n.now) }
+    ensures { let name = name_with (items_in (kind_of core.now)) number in
+        MatchOption result (name ≡ None) (λ n. name ≡ Some n.now) }
 {
     match core {
         Core::Enumerated(items) => match name_among(items.root.as_slice(), number) {
@@ -45,7 +47,8 @@ pub fn item_name(core: &Core, number: i128) -> Option<&str>
 
 /// The alternative of a CHOICE with the number.
 pub fn alternative_at(core: &Core, number: usize) -> Option<&Alternative>
-    ensures { MatchOption result (slice_get (alternatives_in (kind_of core.now)) number ≡ None) (λ a. slice_get (alternatives_in (kind_of core.now)) number ≡ Some (alternative_of a.now)) }
+    ensures { let found = slice_get (alternatives_in (kind_of core.now)) number in
+        MatchOption result (found ≡ None) (λ a. found ≡ Some (alternative_of a.now)) }
 {
     match core {
         Core::Choice(alternatives) => {

@@ -4,11 +4,14 @@ ghost use Rattle.asn_base.specs.Abstract.{abstract, row_of_list, row_of_options}
 ghost use Rattle.asn_base.specs.Seen.{component_of};
 ghost use Rattle.asn_base.specs.Typed.{IsValue};
 ghost use Rattle.std.specs.List.{AllByRecursion};
-ghost use Rattle.std.specs.Prelude.{◌≡◌, ◌<◌, ◌++◌, IfOk, IsErrOf, codes, length, map, option_map, string_bytes};
-ghost use Rattle.value_text.specs.Print.{braced, print, print_elements, print_fields};
+ghost use Rattle.std.specs.Prelude.{◌≡◌, ◌<◌, [], IfOk, length, map, option_map, string_bytes};
+ghost use Rattle.value_text.specs.Print.{Adds, braced, print, print_elements, print_fields};
 
 use crate::fault::Fault;
-use crate::leaf::{append, append_arcs, append_bit_string, append_comma, append_number, append_octets, append_truth};
+use crate::leaf::{
+    append, append_arcs, append_bit_string, append_comma, append_number, append_octets,
+    append_truth,
+};
 use crate::names::{alternative_at, components, item_name};
 use crate::string::append_string;
 use asn_base::law::abstract_values;
@@ -25,7 +28,7 @@ fn print_value(
     out: &mut String,
 ) -> Result<(), AllocError>
     requires there { id.index < length schema.now }
-    ensures { IfOk result (λ _. string_bytes out.new ≡ string_bytes out.old ++ print schema.now id.index (abstract value.now)) }
+    ensures { IfOk result (λ _. Adds out.old out.new (print schema.now id.index (abstract value.now))) }
 {
     abstract_values();
     let core = &schema.get(id).core;
@@ -44,7 +47,12 @@ fn print_value(
         Value::RelativeOid(arcs) => append_arcs(out, arcs.as_slice()),
         Value::Fields(values) => print_fields(schema, components(core), values.as_slice(), out),
         Value::List(values) => match core {
-            Core::SequenceOf(_, element) => print_elements(schema, *element, values.as_slice(), out),
+            Core::SequenceOf(_, element) => print_elements(
+                schema,
+                *element,
+                values.as_slice(),
+                out,
+            ),
             Core::SetOf(_, element) => print_elements(schema, *element, values.as_slice(), out),
             _ => Ok(()),
         },
@@ -68,7 +76,9 @@ fn print_fields(
     out: &mut String,
 ) -> Result<(), AllocError>
     requires there { AllByRecursion (λ c. c.type < length schema.now) (map component_of components.now) }
-    ensures { IfOk result (λ _. string_bytes out.new ≡ string_bytes out.old ++ braced (print_fields schema.now (map component_of components.now) (codes "") (row_of_options (map (option_map abstract) values.now)))) }
+    ensures { let cs = map component_of components.now in
+        let row = row_of_options (map (option_map abstract) values.now) in
+        IfOk result (λ _. Adds out.old out.new (braced (print_fields schema.now cs [] row))) }
 {
     append(out, "{")?;
     let mut first = true;
@@ -97,7 +107,8 @@ fn print_elements(
     out: &mut String,
 ) -> Result<(), AllocError>
     requires there { element.index < length schema.now }
-    ensures { IfOk result (λ _. string_bytes out.new ≡ string_bytes out.old ++ braced (print_elements schema.now element.index (codes "") (row_of_list (map abstract values.now)))) }
+    ensures { let row = row_of_list (map abstract values.now) in
+        IfOk result (λ _. Adds out.old out.new (braced (print_elements schema.now element.index [] row))) }
 {
     append(out, "{")?;
     for i in 0..values.len() {
@@ -109,7 +120,12 @@ fn print_elements(
 }
 
 /// The text of any value.
-pub fn text_of(alloc: Global, schema: &Schema, id: TypeId, value: &Value) -> Result<String, AllocError>
+pub fn text_of(
+    alloc: Global,
+    schema: &Schema,
+    id: TypeId,
+    value: &Value,
+) -> Result<String, AllocError>
     requires there { id.index < length schema.now }
     ensures { IfOk result (λ s. string_bytes s ≡ print schema.now id.index (abstract value.now)) }
 {

@@ -1,8 +1,8 @@
 //! Texts (X.680, 12.14 and 41).
 
 ghost use Rattle.std.specs.List.{list_any};
-ghost use Rattle.std.specs.Prelude.{◌≡◌, ◌++◌, IfOk, string_bytes};
-ghost use Rattle.value_text.specs.Print.{doubled, is_line_end, quoted, string_text};
+ghost use Rattle.std.specs.Prelude.{◌≡◌, IfOk};
+ghost use Rattle.value_text.specs.Print.{Adds, doubled, is_line_end, quoted, string_text};
 
 use crate::leaf::{append, append_octets};
 use std::alloc::AllocError;
@@ -21,7 +21,7 @@ fn has_line_end(octets: &[u8]) -> bool
 
 /// The text with each quote twice.
 fn append_doubled(out: &mut String, text: &str) -> Result<(), AllocError>
-    ensures { IfOk result (λ _. string_bytes out.new ≡ string_bytes out.old ++ doubled text.now) }
+    ensures { IfOk result (λ _. Adds out.old out.new (doubled text.now)) }
 {
     for c in text.chars() {
         if c == '"' {
@@ -34,7 +34,7 @@ fn append_doubled(out: &mut String, text: &str) -> Result<(), AllocError>
 
 /// The text in quotes.
 fn append_quoted(out: &mut String, text: &str) -> Result<(), AllocError>
-    ensures { IfOk result (λ _. string_bytes out.new ≡ string_bytes out.old ++ quoted text.now) }
+    ensures { IfOk result (λ _. Adds out.old out.new (quoted text.now)) }
 {
     append(out, "\"")?;
     append_doubled(out, text)?;
@@ -44,7 +44,7 @@ fn append_quoted(out: &mut String, text: &str) -> Result<(), AllocError>
 
 /// The text in quotes, or its octets as hexadecimal digits where a line ends in it.
 pub fn append_string(out: &mut String, text: &str) -> Result<(), AllocError>
-    ensures { IfOk result (λ _. string_bytes out.new ≡ string_bytes out.old ++ string_text text.now) }
+    ensures { IfOk result (λ _. Adds out.old out.new (string_text text.now)) }
 {
     if has_line_end(text.as_bytes()) {
         append_octets(out, text.as_bytes())?;

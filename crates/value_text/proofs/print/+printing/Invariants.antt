@@ -18,15 +18,15 @@ decreases-print_elements l = 2 * row_nodes (row_of_list (map abstract l.values.n
 abbrev pub invariant-print_elements-loop-i : goal.invariant-print_elements-loop-i
 invariant-print_elements-loop-i l =
     string_bytes l.out
-        ++ print_elements l.schema l.element.index (comma_behind (l.i == 0)) (row_of_list (map abstract (drop l.i l.values)))
+    ++ print_elements l.schema l.element.index (comma_behind (l.i == 0)) (row_of_list (map abstract (drop l.i l.values)))
     ≡ string_bytes l.fn.out
-        ++ (codes "{" ++ print_elements l.schema l.element.index [] (row_of_list (map abstract l.values)))
+    ++ (codes "{" ++ print_elements l.schema l.element.index [] (row_of_list (map abstract l.values)))
 
 abbrev pub invariant-print_fields-loop-i : goal.invariant-print_fields-loop-i
 invariant-print_fields-loop-i l =
     string_bytes l.out
-        ++ print_fields l.schema (map component_of (drop l.i l.components)) (comma_behind l.first)
-            (row_of_options (map (option_map abstract) (drop l.i l.values)))
+    ++ print_fields l.schema (map component_of (drop l.i l.components)) (comma_behind l.first)
+    (row_of_options (map (option_map abstract) (drop l.i l.values)))
     ≡ string_bytes l.fn.out
-        ++ (codes "{" ++ print_fields l.schema (map component_of l.components) []
-            (row_of_options (map (option_map abstract) l.values)))
+    ++ (codes "{" ++ print_fields l.schema (map component_of l.components) []
+    (row_of_options (map (option_map abstract) l.values)))
