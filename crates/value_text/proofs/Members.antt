@@ -3,11 +3,11 @@ use Rattle.std.proofs.Common.{arith, ◌≡◌, ℕ, zero, suc, ◌+◌, ◌*◌
 use Rattle.std.specs.List.{AllByRecursion}
 use Rattle.asn_base.specs.declared.schema.Component.{Component as Component'}
 use Rattle.asn_base.specs.declared.value.Value.{Value}
-use Rattle.asn_base.specs.Abstract.{abstract, row_of_list, row_of_options}
-use Rattle.asn_base.specs.Typed.{nodes, row_nodes}
+use Rattle.asn_base.specs.Abstract.{AbstractValue, abstract, row_of_list, row_of_options}
+use Rattle.asn_base.specs.Typed.{IsValue, ValueIn, nodes, row_nodes, value_in}
 use Rattle.asn_base.specs.Seen.{component_of}
 use Rattle.asn_base.specs.Types.{Resolved, Item}
-use Rattle.std.specs.Prelude.{ℤ, if◌then◌else◌}
+use Rattle.std.specs.Prelude.{ℤ, if◌then◌else◌, slice_get}
 use Rattle.std.specs.Ordering.{int_eq}
 use Rattle.value_text.specs.Print.{print, print_fields, name_with}
 use Rattle.value_text.specs.Print.{comma_behind}
@@ -24,6 +24,18 @@ at_place {X = X} f P xs i x e a = (subst (λ l. AllByRecursion P (map f l)) e (a
 
 pub type_there : (cs : List Component') (n i : ℕ) (c : Component') → AllByRecursion (λ c. c.type < n) (map component_of cs) → i < length cs → c ≡ get_or cs i c → c.ty.index < n
 type_there cs n i c a l e = at_place component_of (λ c. c.type < n) cs i c (drop_at cs i c c l e) a
+
+found_below : {X : Type 0} (xs : List X) (i : ℕ) (x : X) → slice_get xs i ≡ Some x → i < length xs
+found_below [] i x e = absurd cc
+found_below (y ∷ xs) zero x e = omega arith
+found_below (y ∷ xs) (suc i) x e = let h = found_below xs i x e in omega (arith, h)
+
+in_schema : {s : List Resolved} {n t : ℕ} {v : AbstractValue} → ValueIn s n t v → t < length s
+in_schema {s} {n} {t} {v} (value_in {tags} {k} is of) = found_below s t _ is.found
+
+-- the type of a value is one of the schema
+pub value_there : (s : List Resolved) (t : ℕ) (v : AbstractValue) → IsValue s t v → t < length s
+value_there s t v h = in_schema h.shaped
 
 -- ---- a member has fewer nodes than all
 

@@ -4,8 +4,8 @@
 mod fault;
 mod leaf;
 mod names;
-mod print;
 mod string;
+mod value;
 
 pub use fault::Fault;
-pub use print::text_of;
+pub use value::print;

@@ -1,7 +1,7 @@
 use Rattle.std.proofs.Common.{◌++◌, ◌<◌, ◌≤◌, length, ap, ◌∙◌, string_bytes}
 use Rattle.value_text.proofs.Members.{below, type_there, member_nodes, element_nodes, present_step, absent_step, behind_step}
-use Rattle.value_text.proofs.print.+printing.Goals as goal
-use Rattle.value_text.proofs.print.+printing.Goals.{print_fields-then-i-components+in-Some+in_ok-append_comma+in_ok-append-2+in_ok-append-3+in_ok-print_value, print_fields-then-i-components+in_default, print_fields-else-i-components}
+use Rattle.value_text.proofs.value.+printing.Goals as goal
+use Rattle.value_text.proofs.value.+printing.Goals.{print_fields-then-i-components+in-Some+in_ok-append_comma+in_ok-append-2+in_ok-append-3+in_ok-print_value, print_fields-then-i-components+in_default, print_fields-else-i-components}
 
 pub print_fields-loop-i-preserved : goal.print_fields-loop-i-preserved
 print_fields-loop-i-preserved t c =

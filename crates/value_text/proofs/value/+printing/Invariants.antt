@@ -4,7 +4,7 @@ use Rattle.asn_base.specs.Seen.{component_of}
 use Rattle.asn_base.specs.Typed.{nodes, row_nodes}
 use Rattle.std.specs.Prelude.{◌==◌}
 use Rattle.value_text.specs.Print.{comma_behind, print_elements, print_fields}
-use Rattle.value_text.proofs.print.+printing.Given as goal
+use Rattle.value_text.proofs.value.+printing.Given as goal
 
 abbrev pub decreases-print_value : goal.decreases-print_value
 decreases-print_value l = 2 * nodes (abstract l.value.now)

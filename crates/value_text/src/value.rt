@@ -4,7 +4,7 @@ ghost use Rattle.asn_base.specs.Abstract.{abstract, row_of_list, row_of_options}
 ghost use Rattle.asn_base.specs.Seen.{component_of};
 ghost use Rattle.asn_base.specs.Typed.{IsValue};
 ghost use Rattle.std.specs.List.{AllByRecursion};
-ghost use Rattle.std.specs.Prelude.{◌≡◌, ◌<◌, [], IfOk, length, map, option_map, string_bytes};
+ghost use Rattle.std.specs.Prelude.{◌≡◌, ◌<◌, [], IfOk, IsErrOf, length, map, option_map, string_bytes};
 ghost use Rattle.value_text.specs.Print.{Adds, braced, print, print_elements, print_fields};
 
 use crate::fault::Fault;
@@ -14,6 +14,7 @@ use crate::leaf::{
 };
 use crate::names::{alternative_at, components, item_name};
 use crate::string::append_string;
+use asn_base::decide::is_value;
 use asn_base::law::abstract_values;
 use asn_base::schema::{Component, Core, Schema, TypeId};
 use asn_base::value::Value;
@@ -119,17 +120,36 @@ fn print_elements(
     Ok(())
 }
 
-/// The text of any value.
-pub fn text_of(
-    alloc: Global,
-    schema: &Schema,
-    id: TypeId,
-    value: &Value,
-) -> Result<String, AllocError>
+/// The text of the value, its limits and its type apart: no memory is taken but for the text.
+fn text_of(alloc: Global, schema: &Schema, id: TypeId, value: &Value) -> Result<String, AllocError>
     requires there { id.index < length schema.now }
     ensures { IfOk result (λ s. string_bytes s ≡ print schema.now id.index (abstract value.now)) }
 {
     let mut out = String::new(alloc);
     print_value(schema, id, value, &mut out)?;
     Ok(out)
+}
+
+/// A value of type `id` in value notation (X.680, 18 to 29, 32, 33 and 41).
+///
+/// `TRUE`, `FALSE` and `NULL`; numbers in decimal; an item of an enumeration by its identifier; bits as `'01'B` and
+/// octets as `'01AF'H`; a text in `"` with each quote twice, or as the `'..'H` of its octets where LF, VT, FF or CR stands
+/// in it; `{1 2 840}`; `{a 1, b TRUE}` with the components that are present in order of definition, `{}` where none is;
+/// `{1, 2}`; `a : 1`. A comma is followed by one space. No memory is taken but for the text.
+///
+/// - `NotOfType`: just where it is no value of the type.
+/// - `Memory`: it is one, and more memory was asked for and refused.
+#[tactic(auto, using(crate::proofs::Members::value_there))]
+pub fn print(alloc: Global, schema: &Schema, id: TypeId, value: &Value) -> Result<String, Fault>
+    // What is printed is a value of the type.
+    ensures value { IfOk result (λ s. IsValue schema.now id.index (abstract value.now)) }
+    ensures text { IfOk result (λ s. string_bytes s ≡ print schema.now id.index (abstract value.now)) }
+    // It is refused as no value only where it is none, and for want of memory only where it is one.
+    ensures not_of_type { IsErrOf result Fault.NotOfType → IsValue schema.now id.index (abstract value.now) → ⊥ }
+    ensures memory { IsErrOf result Fault.Memory → IsValue schema.now id.index (abstract value.now) }
+{
+    if !is_value(value, schema, id) {
+        return Err(Fault::NotOfType);
+    }
+    Ok(text_of(alloc, schema, id, value)?)
 }
