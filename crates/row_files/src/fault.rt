@@ -1,5 +1,8 @@
 //! Why a file has no rows.
 
+ghost use Rattle.std.specs.Prelude.{◌≡◌};
+ghost use Rattle.row_files.specs.declared.fault.RowFault.TheVariants as faults;
+
 use std::alloc::{AllocError, AllocFailed};
 use thiserror::Error;
 
@@ -27,12 +30,16 @@ pub enum RowFault {
 }
 
 impl From<AllocError> for RowFault {
+    ghost from_gives = { λ _ e. e ≡ faults.Memory };
+
     fn from(_e: AllocError) -> RowFault {
         RowFault::Memory
     }
 }
 
 impl<T: Drop> From<AllocFailed<T>> for RowFault {
+    ghost from_gives = { λ _ e. e ≡ faults.Memory };
+
     fn from(_e: AllocFailed<T>) -> RowFault {
         RowFault::Memory
     }

@@ -1,5 +1,9 @@
 //! The octets that a text stands for.
 
+ghost use Rattle.std.specs.Prelude.{◌≡◌, IfErr, bytes_eq, string_bytes};
+ghost use Rattle.std.specs.List.{list_any};
+ghost use Rattle.row_files.specs.Rows.{IsOfText};
+
 use crate::fault::RowFault;
 use crate::marks::Written;
 use crate::row::RowText;
@@ -14,7 +18,9 @@ pub struct Form {
 }
 
 /// Whether a word is among others.
-pub fn is_among(words: &[String], word: &str) -> bool {
+pub fn is_among(words: &[String], word: &str) -> bool
+    ensures { result ≡ list_any (λ w. bytes_eq (string_bytes w) word.now) words.now }
+{
     words.iter().any(|other| other.as_str() == word)
 }
 
@@ -49,7 +55,9 @@ fn put_times(out: &mut String, piece: &str, times: usize) -> Result<(), AllocErr
 }
 
 /// What lines of numbers and pieces stand for.
-fn repeated(alloc: Global, text: &str, number: usize) -> Result<String, RowFault> {
+fn repeated(alloc: Global, text: &str, number: usize) -> Result<String, RowFault>
+    ensures { IfErr result IsOfText }
+{
     let mut out = String::new(alloc);
     for line in text.lines() {
         let (times, piece) = line.split_once(' ').unwrap_or((line, ""));
@@ -62,7 +70,9 @@ fn repeated(alloc: Global, text: &str, number: usize) -> Result<String, RowFault
 }
 
 /// The octets that hexadecimal digits tell.
-fn octets_of_hex(alloc: Global, text: &str, number: usize) -> Result<Vec<u8>, RowFault> {
+fn octets_of_hex(alloc: Global, text: &str, number: usize) -> Result<Vec<u8>, RowFault>
+    ensures { IfErr result IsOfText }
+{
     let mut digits = Vec::new(alloc);
     for octet in text.as_bytes() {
         if !octet.is_ascii_whitespace() {
@@ -73,7 +83,9 @@ fn octets_of_hex(alloc: Global, text: &str, number: usize) -> Result<Vec<u8>, Ro
 }
 
 /// The octets of a text.
-fn octets_of(alloc: Global, form: Form, text: &str, number: usize) -> Result<Vec<u8>, RowFault> {
+fn octets_of(alloc: Global, form: Form, text: &str, number: usize) -> Result<Vec<u8>, RowFault>
+    ensures { IfErr result IsOfText }
+{
     let mut whole = String::from_str(alloc, text)?;
     if form.repeat {
         whole = repeated(alloc, text, number)?;
@@ -90,7 +102,9 @@ pub fn put_texts(
     texts: &mut Vec<RowText>,
     form: Form,
     written: &Written,
-) -> Result<(), RowFault> {
+) -> Result<(), RowFault>
+    ensures { IfErr result IsOfText }
+{
     let lines = written.lines.as_str();
     if !form.lines {
         let text = lines.strip_suffix('\n').unwrap_or(lines);
@@ -111,7 +125,9 @@ fn put_text(
     written: &Written,
     text: &str,
     number: usize,
-) -> Result<(), RowFault> {
+) -> Result<(), RowFault>
+    ensures { IfErr result IsOfText }
+{
     texts.push(RowText {
         name: written.name.clone()?,
         line: number,

@@ -1,5 +1,8 @@
 //! The lines of a file, sorted by their marks.
 
+ghost use Rattle.std.specs.Prelude.{IfErr};
+ghost use Rattle.row_files.specs.Rows.{IsOfText};
+
 use crate::fault::RowFault;
 use std::alloc::Global;
 
@@ -54,7 +57,9 @@ fn is_comment(line: &str) -> bool {
 }
 
 /// The row that begins with these words.
-fn block_of(alloc: Global, words: &str, number: usize) -> Result<Block, RowFault> {
+fn block_of(alloc: Global, words: &str, number: usize) -> Result<Block, RowFault>
+    ensures { IfErr result IsOfText }
+{
     let mut found = Vec::new(alloc);
     for word in words.split_ascii_whitespace() {
         found.push(String::from_str(alloc, word)?)?;
@@ -75,7 +80,9 @@ fn begin_text(
     blocks: &mut Vec<Block>,
     name: &str,
     number: usize,
-) -> Result<(), RowFault> {
+) -> Result<(), RowFault>
+    ensures { IfErr result IsOfText }
+{
     let Some(block) = blocks.last_mut() else {
         return Err(RowFault::NoRow(number));
     };
@@ -88,7 +95,9 @@ fn begin_text(
 }
 
 /// Puts a line behind those of the last text.
-fn put_line(blocks: &mut Vec<Block>, line: &str) -> Result<(), RowFault> {
+fn put_line(blocks: &mut Vec<Block>, line: &str) -> Result<(), RowFault>
+    ensures { IfErr result IsOfText }
+{
     if let Some(block) = blocks.last_mut()
         && let Some(text) = block.texts.last_mut()
     {
@@ -105,7 +114,9 @@ fn read_line(
     place: Place,
     line: &str,
     number: usize,
-) -> Result<Place, RowFault> {
+) -> Result<Place, RowFault>
+    ensures { IfErr result IsOfText }
+{
     match (line_of(line), place) {
         (Line::Row(words), _) => {
             blocks.push(block_of(alloc, words, number)?)?;
@@ -127,7 +138,9 @@ fn read_line(
 }
 
 /// The rows of a file, as they are written.
-pub fn blocks_of(alloc: Global, file: &str) -> Result<Vec<Block>, RowFault> {
+pub fn blocks_of(alloc: Global, file: &str) -> Result<Vec<Block>, RowFault>
+    ensures { IfErr result IsOfText }
+{
     let mut blocks = Vec::new(alloc);
     let mut place = Place::Outside;
     let mut number = 0usize;

@@ -1,5 +1,9 @@
 //! The rows of a file.
 
+ghost use Rattle.std.specs.Prelude.{◌≡◌, IfOk, IfErr, IsUtf8, bytes_eq, map, string_bytes};
+ghost use Rattle.std.specs.List.{list_any};
+ghost use Rattle.row_files.specs.Rows.{first_word, IsOfText, IsOfFile};
+
 use crate::fault::RowFault;
 use crate::forms::{form_of, is_among, put_texts};
 use crate::marks::{Block, blocks_of};
@@ -27,20 +31,26 @@ pub struct RowText {
 
 impl Row {
     /// What is asked: the first word.
-    pub fn command(&self) -> &str {
-        match self.words.first() {
-            Some(word) => word.as_str(),
-            None => "",
+    pub fn command(&self) -> &str
+        ensures { result.now ≡ first_word (map string_bytes self.now.words.items) }
+    {
+        match self.words.as_slice() {
+            [word, ..] => word.as_str(),
+            [] => "",
         }
     }
 
     /// Whether this word is among the row's.
-    pub fn has(&self, word: &str) -> bool {
+    pub fn has(&self, word: &str) -> bool
+        ensures { result ≡ list_any (λ w. bytes_eq (string_bytes w) word.now) self.now.words.items }
+    {
         is_among(&self.words, word)
     }
 }
 
-fn row_of(alloc: Global, block: Block) -> Result<Row, RowFault> {
+fn row_of(alloc: Global, block: Block) -> Result<Row, RowFault>
+    ensures { IfErr result IsOfText }
+{
     let form = form_of(&block.words);
     let mut texts = Vec::new(alloc);
     for written in &block.texts {
@@ -56,8 +66,12 @@ fn row_of(alloc: Global, block: Block) -> Result<Row, RowFault> {
 /// The rows of a file, in order.
 ///
 /// # Errors
-/// The first line that is wrong, as `RowFault` says.
-pub fn rows(alloc: Global, file: &[u8]) -> Result<Vec<Row>, RowFault> {
+/// `NotUtf8` just where the file is not UTF-8, whatever else is wrong in it; else the first line that is wrong, as
+/// `RowFault` says.
+pub fn rows(alloc: Global, file: &[u8]) -> Result<Vec<Row>, RowFault>
+    ensures text { IfOk result (λ _. IsUtf8 file.now) }
+    ensures fault { IfErr result (IsOfFile file.now) }
+{
     let file = str::from_utf8(file).map_err(|_| RowFault::NotUtf8)?;
     let mut rows = Vec::new(alloc);
     for block in blocks_of(alloc, file)? {

@@ -1,5 +1,7 @@
 //! Where things are written.
 
+ghost use Rattle.std.specs.Prelude.{Some, ◌++◌, codes, string_bytes};
+
 use std::fmt;
 
 /// Something where it is written: `at` is the place of its first octet in the module's text, counted from 0.
@@ -20,6 +22,8 @@ pub struct Spot {
 
 /// As `Module.name`.
 impl fmt::Display for Spot {
+    ghost output = { λ s. Some (string_bytes s.module ++ codes "." ++ string_bytes s.name) };
+
     fn fmt<W: fmt::Write>(&self, f: &mut fmt::Formatter<W>) -> fmt::Result {
         write!(f, "{}.{}", self.module, self.name)
     }
