@@ -1,3 +1,4 @@
 pub mod Given
 pub mod Failing
 pub mod Parts
+pub mod Reads

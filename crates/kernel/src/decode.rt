@@ -34,7 +34,8 @@ pub fn name_of(alloc: Global, text: &[u8], token: Token) -> Result<String, Alloc
 pub fn name_at(alloc: Global, text: &[u8], token: Token) -> Result<At<String>, AllocError>
     requires token { IsTokenOf text.now token }
     requires name { (token.kind ≡ kinds.Identifier) ⊎ (token.kind ≡ kinds.TypeReference) }
-    ensures { IfOk result (λ n. (string_bytes n.it ≡ slice_range text.now token.span.start token.span.end) × (n.at ≡ token.span.start)) }
+    ensures { IfOk result (λ n. (string_bytes n.it ≡ slice_range text.now token.span.start token.span.end)
+        × (n.at ≡ token.span.start)) }
 {
     Ok(At {
         at: token.span.start,
@@ -71,7 +72,8 @@ pub fn small_number(text: &[u8], token: Token, left: usize) -> Result<u128, Read
     requires number { token.kind ≡ kinds.Number }
     ensures { MatchResult result
         (λ n. (n ≡ number_value text.now token.span.start token.span.end) × (small n ≡ true))
-        (λ e. (e ≡ ReadError.Limit Limit.Integer left) × (small (number_value text.now token.span.start token.span.end) ≡ false)) }
+        (λ e. (e ≡ ReadError.Limit Limit.Integer left)
+        × (small (number_value text.now token.span.start token.span.end) ≡ false)) }
 {
     let number = number_of(text, token);
     if number < LIMIT {

@@ -4,6 +4,7 @@ ghost use Rattle.std.specs.Prelude.{◌≡◌};
 ghost use Rattle.kernel.specs.declared.fault.ReadError.TheVariants as errors;
 
 use std::alloc::{AllocError, AllocFailed};
+use text::Token;
 
 /// A limit that is passed.
 #[derive(Clone, Copy, Debug)]
@@ -26,6 +27,9 @@ pub enum ReadError {
     /// With the first of these tokens a limit is passed.
     Limit(Limit, usize),
 }
+
+/// What a reader answers: a tree and the tokens behind it, or why there is none.
+pub type Read<'t, T> = Result<(T, &'t [Token]), ReadError>;
 
 impl From<AllocError> for ReadError {
     ghost from_gives = { λ _ e. e ≡ errors.Memory };

@@ -8,7 +8,7 @@ pub mod marks;
 pub mod part;
 pub mod parts;
 
-pub use fault::{Limit, ReadError};
+pub use fault::{Limit, Read, ReadError};
 pub use lists::{Added, Addition, Extensible, ExtensibleList, Listed, RootlessList};
 pub use part::{Begun, By, Part, Production, reads_by};
 pub use parts::{InBraces, InParens, Optional, WithName};

@@ -1,18 +1,18 @@
 //! Lists of parts with commas between them, with an extension marker among them or not.
 
 ghost use Rattle.std.specs.Prelude.{map, length, IfOk};
-ghost use Rattle.grammar.specs.Lexeme.{lexemes};
 ghost use Rattle.grammar.specs.Reading.{with_front, behind_commas_at, listed_at, additions_at, more_at, extensible_at, with_root, version_at};
 ghost use Rattle.grammar.specs.Places.{small};
-ghost use Rattle.kernel.specs.Given.{Gives, AreTokens};
+ghost use Rattle.kernel.specs.Given.{AreTokens};
 ghost use Rattle.kernel.specs.Parts.{extensible_of};
+ghost use Rattle.kernel.specs.Reads.{ReadsAs, SkipsAs};
 
 use crate::decode::small_number;
-use crate::fault::ReadError;
+use crate::fault::{Read, ReadError};
 use crate::marks::{close_version, colon, comma, marker};
 use crate::part::{Begun, Part};
 use std::alloc::Global;
-use text::{Mark, Token, TokenKind};
+use text::{Token, kind, mark};
 
 /// Reads the parts behind the next commas, and puts them behind those that are read.
 fn behind_commas<'t, P: Part<'t>>(
@@ -21,10 +21,12 @@ fn behind_commas<'t, P: Part<'t>>(
     part: &P,
     items: Vec<P::Tree>,
     tokens: &'t [Token],
-) -> Result<(Vec<P::Tree>, &'t [Token]), ReadError>
+) -> Read<'t, Vec<P::Tree>>
     requires ready { P.is_ready part.now text.now }
     requires tokens { AreTokens text.now tokens.now }
-    ensures read { Gives (λ x. (map P.view x.0.items, lexemes text.now x.1.now)) result (with_front (map P.view items.items) (behind_commas_at (P.reader part.now) (length (lexemes text.now tokens.now)) (lexemes text.now tokens.now))) }
+    ensures read { ReadsAs (λ v. map P.view v.items)
+        (λ ts. with_front (map P.view items.items) (behind_commas_at (P.reader part.now) (length ts) ts))
+        text.now tokens.now result }
     ensures rest { IfOk result (λ x. AreTokens text.now x.1.now) }
 {
     let mut items = items;
@@ -44,10 +46,10 @@ fn one_or_more<'t, P: Part<'t>>(
     text: &[u8],
     part: &P,
     tokens: &'t [Token],
-) -> Result<(Vec<P::Tree>, &'t [Token]), ReadError>
+) -> Read<'t, Vec<P::Tree>>
     requires ready { P.is_ready part.now text.now }
     requires tokens { AreTokens text.now tokens.now }
-    ensures read { Gives (λ x. (map P.view x.0.items, lexemes text.now x.1.now)) result (listed_at (P.reader part.now) (lexemes text.now tokens.now)) }
+    ensures read { ReadsAs (λ v. map P.view v.items) (listed_at (P.reader part.now)) text.now tokens.now result }
     ensures rest { IfOk result (λ x. AreTokens text.now x.1.now) }
 {
     let (first, rest) = part.read(alloc, text, tokens)?;
@@ -79,12 +81,7 @@ impl<'t, P: Part<'t>> Part<'t> for Listed<P> {
 
     ghost is_short = { λ s x r. listed_short (P.reader s.part) (P.is_short s.part x r) };
 
-    fn read(
-        &self,
-        alloc: Global,
-        text: &[u8],
-        tokens: &'t [Token],
-    ) -> Result<(Vec<P::Tree>, &'t [Token]), ReadError> {
+    fn read(&self, alloc: Global, text: &[u8], tokens: &'t [Token]) -> Read<'t, Vec<P::Tree>> {
         one_or_more(alloc, text, &self.part, tokens)
     }
 }
@@ -105,10 +102,12 @@ fn additions<'t, P: Part<'t>, Q: Part<'t>>(
     addition: &Q,
     root: Vec<P::Tree>,
     tokens: &'t [Token],
-) -> Result<(Extensible<P::Tree, Q::Tree>, &'t [Token]), ReadError>
+) -> Read<'t, Extensible<P::Tree, Q::Tree>>
     requires ready { Q.is_ready addition.now text.now }
     requires tokens { AreTokens text.now tokens.now }
-    ensures read { Gives (λ x. (extensible_of P.view Q.view x.0, lexemes text.now x.1.now)) result (with_root (map P.view root.items) (additions_at (Q.reader addition.now) (lexemes text.now tokens.now))) }
+    ensures read { ReadsAs (extensible_of P.view Q.view)
+        (λ ts. with_root (map P.view root.items) (additions_at (Q.reader addition.now) ts))
+        text.now tokens.now result }
     ensures rest { IfOk result (λ x. AreTokens text.now x.1.now) }
 {
     let (additions, rest) = behind_commas(alloc, text, addition, Vec::new(alloc), tokens)?;
@@ -129,11 +128,13 @@ fn more<'t, P: Part<'t>, Q: Part<'t>>(
     addition: &Q,
     root: Vec<P::Tree>,
     tokens: &'t [Token],
-) -> Result<(Extensible<P::Tree, Q::Tree>, &'t [Token]), ReadError>
+) -> Read<'t, Extensible<P::Tree, Q::Tree>>
     requires ready { P.is_ready part.now text.now }
     requires added { Q.is_ready addition.now text.now }
     requires tokens { AreTokens text.now tokens.now }
-    ensures read { Gives (λ x. (extensible_of P.view Q.view x.0, lexemes text.now x.1.now)) result (with_root (map P.view root.items) (more_at (P.reader part.now) (Q.reader addition.now) (length (lexemes text.now tokens.now)) (lexemes text.now tokens.now))) }
+    ensures read { ReadsAs (extensible_of P.view Q.view)
+        (λ ts. with_root (map P.view root.items) (more_at (P.reader part.now) (Q.reader addition.now) (length ts) ts))
+        text.now tokens.now result }
     ensures rest { IfOk result (λ x. AreTokens text.now x.1.now) }
 {
     let mut root = root;
@@ -163,11 +164,12 @@ fn root_first<'t, P: Part<'t>, Q: Part<'t>>(
     part: &P,
     addition: &Q,
     tokens: &'t [Token],
-) -> Result<(Extensible<P::Tree, Q::Tree>, &'t [Token]), ReadError>
+) -> Read<'t, Extensible<P::Tree, Q::Tree>>
     requires ready { P.is_ready part.now text.now }
     requires added { Q.is_ready addition.now text.now }
     requires tokens { AreTokens text.now tokens.now }
-    ensures read { Gives (λ x. (extensible_of P.view Q.view x.0, lexemes text.now x.1.now)) result (extensible_at (P.reader part.now) (Q.reader addition.now) (lexemes text.now tokens.now)) }
+    ensures read { ReadsAs (extensible_of P.view Q.view) (extensible_at (P.reader part.now) (Q.reader addition.now))
+        text.now tokens.now result }
     ensures rest { IfOk result (λ x. AreTokens text.now x.1.now) }
 {
     let (first, rest) = part.read(alloc, text, tokens)?;
@@ -199,14 +201,15 @@ impl<'t, P: Part<'t>, Q: Part<'t>> Part<'t> for ExtensibleList<P, Q> {
 
     ghost is_ready = { λ s x. P.is_ready s.part x × Q.is_ready s.addition x };
 
-    ghost is_short = { λ s x r. extensible_short (P.reader s.part) (Q.reader s.addition) (P.is_short s.part x r.0) (Q.is_short s.addition x r.1) };
+    ghost is_short = { λ s x r. extensible_short (P.reader s.part) (Q.reader s.addition)
+        (P.is_short s.part x r.0) (Q.is_short s.addition x r.1) };
 
     fn read(
         &self,
         alloc: Global,
         text: &[u8],
         tokens: &'t [Token],
-    ) -> Result<(Extensible<P::Tree, Q::Tree>, &'t [Token]), ReadError> {
+    ) -> Read<'t, Extensible<P::Tree, Q::Tree>> {
         root_first(alloc, text, &self.part, &self.addition, tokens)
     }
 }
@@ -234,7 +237,8 @@ impl<'t, P: Part<'t>, Q: Part<'t>> Part<'t> for RootlessList<P, Q> {
 
     ghost is_ready = { λ s x. P.is_ready s.part x × Q.is_ready s.addition x };
 
-    ghost is_short = { λ s x r. rootless_short (P.reader s.part) (Q.reader s.addition) (P.is_short s.part x r.0) (Q.is_short s.addition x r.1) };
+    ghost is_short = { λ s x r. rootless_short (P.reader s.part) (Q.reader s.addition)
+        (P.is_short s.part x r.0) (Q.is_short s.addition x r.1) };
 
     #[tactic(auto, using(crate::proofs::Extensions::marker_first, crate::proofs::Extensions::no_marker))]
     fn read(
@@ -242,7 +246,7 @@ impl<'t, P: Part<'t>, Q: Part<'t>> Part<'t> for RootlessList<P, Q> {
         alloc: Global,
         text: &[u8],
         tokens: &'t [Token],
-    ) -> Result<(Extensible<P::Tree, Q::Tree>, &'t [Token]), ReadError> {
+    ) -> Read<'t, Extensible<P::Tree, Q::Tree>> {
         match marker(text, tokens) {
             Some(behind) => additions(
                 alloc,
@@ -283,17 +287,11 @@ pub enum Addition<T> {
 #[tactic(auto, unfolding(grammar::specs::Reading::version_at))]
 fn version<'t>(text: &[u8], tokens: &'t [Token]) -> Result<&'t [Token], ReadError>
     requires tokens { AreTokens text.now tokens.now }
-    ensures read { Gives (λ x. (tt, lexemes text.now x.now)) result (version_at small (lexemes text.now tokens.now)) }
+    ensures read { SkipsAs (version_at small) text.now tokens.now result }
     ensures rest { IfOk result (λ x. AreTokens text.now x.now) }
 {
     match tokens {
-        [
-            number @ Token {
-                kind: TokenKind::Number,
-                ..
-            },
-            rest @ ..,
-        ] => {
+        [number @ kind!(Number), rest @ ..] => {
             small_number(text, *number, tokens.len())?;
             colon(text, rest)
         },
@@ -327,20 +325,9 @@ impl<'t, P: Part<'t>> Part<'t> for Added<P> {
     ghost is_short = { λ s x r. addition_short (P.reader s.part) (P.is_short s.part x r) small };
 
     #[tactic(auto, unfolding(grammar::specs::Reading::addition_at, grammar::specs::Reading::version_parts_at))]
-    fn read(
-        &self,
-        alloc: Global,
-        text: &[u8],
-        tokens: &'t [Token],
-    ) -> Result<(Addition<P::Tree>, &'t [Token]), ReadError> {
+    fn read(&self, alloc: Global, text: &[u8], tokens: &'t [Token]) -> Read<'t, Addition<P::Tree>> {
         match tokens {
-            [
-                Token {
-                    kind: TokenKind::Mark(Mark::OpenVersion),
-                    ..
-                },
-                rest @ ..,
-            ] => {
+            [mark!(OpenVersion), rest @ ..] => {
                 let rest = version(text, rest)?;
                 let (parts, rest) = one_or_more(alloc, text, &self.part, rest)?;
                 Ok((Addition::Bracket(parts), close_version(text, rest)?))

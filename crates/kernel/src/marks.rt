@@ -3,26 +3,21 @@
 ghost use Rattle.std.specs.Prelude.{◌≡◌, ◌<◌, None, Some, IfOk, MatchOption, length};
 ghost use Rattle.grammar.specs.Lexeme.{lexemes};
 ghost use Rattle.grammar.specs.Reading.{closed_at, next_comma, open_at, close_at, next_marker, colon_at, close_version_at};
-ghost use Rattle.kernel.specs.Given.{Gives, AreTokens};
+ghost use Rattle.kernel.specs.Given.{AreTokens};
+ghost use Rattle.kernel.specs.Reads.{SkipsAs};
 
 use crate::fault::ReadError;
-use text::{Mark, Token, TokenKind};
+use text::{Token, mark};
 
 /// The tokens behind an open parenthesis.
 #[tactic(auto, unfolding(grammar::specs::Reading::open_at))]
 pub fn open<'a>(text: &[u8], tokens: &'a [Token]) -> Result<&'a [Token], ReadError>
     requires tokens { AreTokens text.now tokens.now }
-    ensures read { Gives (λ x. (tt, lexemes text.now x.now)) result (open_at (lexemes text.now tokens.now)) }
+    ensures read { SkipsAs open_at text.now tokens.now result }
     ensures rest { IfOk result (λ x. AreTokens text.now x.now) }
 {
     match tokens {
-        [
-            Token {
-                kind: TokenKind::Mark(Mark::OpenParenthesis),
-                ..
-            },
-            rest @ ..,
-        ] => Ok(rest),
+        [mark!(OpenParenthesis), rest @ ..] => Ok(rest),
         _ => Err(ReadError::Unexpected(tokens.len())),
     }
 }
@@ -31,17 +26,11 @@ pub fn open<'a>(text: &[u8], tokens: &'a [Token]) -> Result<&'a [Token], ReadErr
 #[tactic(auto, unfolding(grammar::specs::Reading::close_at))]
 pub fn close<'a>(text: &[u8], tokens: &'a [Token]) -> Result<&'a [Token], ReadError>
     requires tokens { AreTokens text.now tokens.now }
-    ensures read { Gives (λ x. (tt, lexemes text.now x.now)) result (close_at (lexemes text.now tokens.now)) }
+    ensures read { SkipsAs close_at text.now tokens.now result }
     ensures rest { IfOk result (λ x. AreTokens text.now x.now) }
 {
     match tokens {
-        [
-            Token {
-                kind: TokenKind::Mark(Mark::CloseParenthesis),
-                ..
-            },
-            rest @ ..,
-        ] => Ok(rest),
+        [mark!(CloseParenthesis), rest @ ..] => Ok(rest),
         _ => Err(ReadError::Unexpected(tokens.len())),
     }
 }
@@ -50,17 +39,11 @@ pub fn close<'a>(text: &[u8], tokens: &'a [Token]) -> Result<&'a [Token], ReadEr
 #[tactic(auto, unfolding(grammar::specs::Reading::closed_at))]
 pub fn closed<'a>(text: &[u8], tokens: &'a [Token]) -> Result<&'a [Token], ReadError>
     requires tokens { AreTokens text.now tokens.now }
-    ensures read { Gives (λ x. (tt, lexemes text.now x.now)) result (closed_at (lexemes text.now tokens.now)) }
+    ensures read { SkipsAs closed_at text.now tokens.now result }
     ensures rest { IfOk result (λ x. AreTokens text.now x.now) }
 {
     match tokens {
-        [
-            Token {
-                kind: TokenKind::Mark(Mark::CloseBrace),
-                ..
-            },
-            rest @ ..,
-        ] => Ok(rest),
+        [mark!(CloseBrace), rest @ ..] => Ok(rest),
         _ => Err(ReadError::Unexpected(tokens.len())),
     }
 }
@@ -70,16 +53,11 @@ pub fn closed<'a>(text: &[u8], tokens: &'a [Token]) -> Result<&'a [Token], ReadE
 pub fn comma<'a>(text: &[u8], tokens: &'a [Token]) -> Option<&'a [Token]>
     requires tokens { AreTokens text.now tokens.now }
     ensures { MatchOption result (next_comma (lexemes text.now tokens.now) ≡ None)
-        (λ x. (next_comma (lexemes text.now tokens.now) ≡ Some (lexemes text.now x.now)) × AreTokens text.now x.now × (length x.now < length tokens.now)) }
+        (λ x. (next_comma (lexemes text.now tokens.now) ≡ Some (lexemes text.now x.now))
+        × AreTokens text.now x.now × (length x.now < length tokens.now)) }
 {
     match tokens {
-        [
-            Token {
-                kind: TokenKind::Mark(Mark::Comma),
-                ..
-            },
-            rest @ ..,
-        ] => Some(rest),
+        [mark!(Comma), rest @ ..] => Some(rest),
         _ => None,
     }
 }
@@ -92,13 +70,7 @@ pub fn marker<'a>(text: &[u8], tokens: &'a [Token]) -> Option<&'a [Token]>
         (λ x. (next_marker (lexemes text.now tokens.now) ≡ Some (lexemes text.now x.now)) × AreTokens text.now x.now) }
 {
     match tokens {
-        [
-            Token {
-                kind: TokenKind::Mark(Mark::Ellipsis),
-                ..
-            },
-            rest @ ..,
-        ] => Some(rest),
+        [mark!(Ellipsis), rest @ ..] => Some(rest),
         _ => None,
     }
 }
@@ -107,17 +79,11 @@ pub fn marker<'a>(text: &[u8], tokens: &'a [Token]) -> Option<&'a [Token]>
 #[tactic(auto, unfolding(grammar::specs::Reading::colon_at))]
 pub fn colon<'a>(text: &[u8], tokens: &'a [Token]) -> Result<&'a [Token], ReadError>
     requires tokens { AreTokens text.now tokens.now }
-    ensures read { Gives (λ x. (tt, lexemes text.now x.now)) result (colon_at (lexemes text.now tokens.now)) }
+    ensures read { SkipsAs colon_at text.now tokens.now result }
     ensures rest { IfOk result (λ x. AreTokens text.now x.now) }
 {
     match tokens {
-        [
-            Token {
-                kind: TokenKind::Mark(Mark::Colon),
-                ..
-            },
-            rest @ ..,
-        ] => Ok(rest),
+        [mark!(Colon), rest @ ..] => Ok(rest),
         _ => Err(ReadError::Unexpected(tokens.len())),
     }
 }
@@ -126,17 +92,11 @@ pub fn colon<'a>(text: &[u8], tokens: &'a [Token]) -> Result<&'a [Token], ReadEr
 #[tactic(auto, unfolding(grammar::specs::Reading::close_version_at))]
 pub fn close_version<'a>(text: &[u8], tokens: &'a [Token]) -> Result<&'a [Token], ReadError>
     requires tokens { AreTokens text.now tokens.now }
-    ensures read { Gives (λ x. (tt, lexemes text.now x.now)) result (close_version_at (lexemes text.now tokens.now)) }
+    ensures read { SkipsAs close_version_at text.now tokens.now result }
     ensures rest { IfOk result (λ x. AreTokens text.now x.now) }
 {
     match tokens {
-        [
-            Token {
-                kind: TokenKind::Mark(Mark::CloseVersion),
-                ..
-            },
-            rest @ ..,
-        ] => Ok(rest),
+        [mark!(CloseVersion), rest @ ..] => Ok(rest),
         _ => Err(ReadError::Unexpected(tokens.len())),
     }
 }

@@ -5,9 +5,10 @@ ghost use Rattle.grammar.specs.Lexeme.{Lexeme, lexemes};
 ghost use Rattle.grammar.specs.Manies.{is_begun_by};
 ghost use Rattle.grammar.specs.Reading.{Reader};
 ghost use Rattle.grammar.specs.Short.{Short};
-ghost use Rattle.kernel.specs.Given.{Gives, AreTokens};
+ghost use Rattle.kernel.specs.Given.{AreTokens};
+ghost use Rattle.kernel.specs.Reads.{ReadsAs};
 
-use crate::fault::ReadError;
+use crate::fault::Read;
 use std::alloc::Global;
 use std::marker::PhantomData;
 use text::Token;
@@ -40,15 +41,10 @@ pub trait Part<'t> {
     ghost is_short: { (s : Self) (x : List ℕ) → is_ready s x → Short (reader s) };
 
     /// Reads the production at the first of these tokens.
-    fn read(
-        &self,
-        alloc: Global,
-        text: &[u8],
-        tokens: &'t [Token],
-    ) -> Result<(Self::Tree, &'t [Token]), ReadError>
+    fn read(&self, alloc: Global, text: &[u8], tokens: &'t [Token]) -> Read<'t, Self::Tree>
         requires ready { is_ready self.now text.now }
         requires tokens { AreTokens text.now tokens.now }
-        ensures read { Gives (λ x. (view x.0, lexemes text.now x.1.now)) result (reader self.now (lexemes text.now tokens.now)) }
+        ensures read { ReadsAs view (reader self.now) text.now tokens.now result }
         ensures rest { IfOk result (λ x. AreTokens text.now x.1.now) };
 }
 
@@ -63,14 +59,14 @@ pub trait Begun<'t>: Part<'t> {
 
 /// A reader by a function: how a production reads itself again.
 #[derive(Drop)]
-pub struct By<'t, G: Production, F: Fn(&'t [Token]) -> Result<(G::Tree, &'t [Token]), ReadError>> {
+pub struct By<'t, G: Production, F: Fn(&'t [Token]) -> Read<'t, G::Tree>> {
     f: F,
     depth: usize,
     of: PhantomData<(&'t u8, G)>,
 }
 
 /// The function reads the production, where so many more things may be open.
-pub fn reads_by<'t, G: Production, F: Fn(&'t [Token]) -> Result<(G::Tree, &'t [Token]), ReadError>>(
+pub fn reads_by<'t, G: Production, F: Fn(&'t [Token]) -> Read<'t, G::Tree>>(
     _of: PhantomData<G>,
     f: F,
     depth: usize,
@@ -85,12 +81,11 @@ pub fn reads_by<'t, G: Production, F: Fn(&'t [Token]) -> Result<(G::Tree, &'t [T
     }
 }
 
-impl<'t, G: Production, F: Fn(&'t [Token]) -> Result<(G::Tree, &'t [Token]), ReadError>> Part<'t>
-    for By<'t, G, F> {
+impl<'t, G: Production, F: Fn(&'t [Token]) -> Read<'t, G::Tree>> Part<'t> for By<'t, G, F> {
     ghost use Rattle.std.specs.Prelude.{IfOk};
-    ghost use Rattle.grammar.specs.Lexeme.{lexemes};
     ghost use Rattle.grammar.specs.Short.{Short};
-    ghost use Rattle.kernel.specs.Given.{Gives, AreTokens};
+    ghost use Rattle.kernel.specs.Given.{AreTokens};
+    ghost use Rattle.kernel.specs.Reads.{ReadsAs};
 
     type Tree = G::Tree;
 
@@ -100,16 +95,14 @@ impl<'t, G: Production, F: Fn(&'t [Token]) -> Result<(G::Tree, &'t [Token]), Rea
 
     ghost reader = { λ s. G.reader s.depth };
 
-    ghost is_ready = { λ s x. ((ts : _) → AreTokens x ts.now → F.pre s.f ts) × ((ts : _) (r : _) → AreTokens x ts.now → F.post s.f ts r → Gives (λ y. (G.view y.0, lexemes x y.1.now)) r (G.reader s.depth (lexemes x ts.now)) × IfOk r (λ y. AreTokens x y.1.now)) × Short (G.reader s.depth) };
+    ghost is_ready = { λ s x. ((ts : _) → AreTokens x ts.now → F.pre s.f ts)
+        × ((ts : _) (r : _) → AreTokens x ts.now → F.post s.f ts r
+        → ReadsAs G.view (G.reader s.depth) x ts.now r × IfOk r (λ y. AreTokens x y.1.now))
+        × Short (G.reader s.depth) };
 
     ghost is_short = { λ s x r. r.2 };
 
-    fn read(
-        &self,
-        _alloc: Global,
-        _text: &[u8],
-        tokens: &'t [Token],
-    ) -> Result<(G::Tree, &'t [Token]), ReadError> {
+    fn read(&self, _alloc: Global, _text: &[u8], tokens: &'t [Token]) -> Read<'t, G::Tree> {
         (self.f)(tokens)
     }
 }
@@ -127,12 +120,7 @@ impl<'t, 'p, P: Part<'t>> Part<'t> for &'p P {
 
     ghost is_short = { λ s x r. P.is_short s.now x r };
 
-    fn read(
-        &self,
-        alloc: Global,
-        text: &[u8],
-        tokens: &'t [Token],
-    ) -> Result<(P::Tree, &'t [Token]), ReadError> {
+    fn read(&self, alloc: Global, text: &[u8], tokens: &'t [Token]) -> Read<'t, P::Tree> {
         (**self).read(alloc, text, tokens)
     }
 }

@@ -9,11 +9,11 @@ ghost use Rattle.grammar.specs.Reading.{is_open};
 ghost use Rattle.kernel.specs.Given.{AreTokens};
 
 use crate::decode::name_at;
-use crate::fault::{Limit, ReadError};
+use crate::fault::{Limit, Read, ReadError};
 use crate::marks::{close, closed, open};
 use crate::part::{Begun, Part};
 use std::alloc::Global;
-use text::{Mark, Token, TokenKind};
+use text::{Token, kind, mark};
 use trees::Named;
 
 /// Whether a parenthesis opens here.
@@ -22,13 +22,7 @@ fn is_opened(text: &[u8], tokens: &[Token]) -> bool
     ensures { result ≡ is_begun_by is_open (lexemes text.now tokens.now) }
 {
     match tokens {
-        [
-            Token {
-                kind: TokenKind::Mark(Mark::OpenParenthesis),
-                ..
-            },
-            ..
-        ] => true,
+        [mark!(OpenParenthesis), ..] => true,
         _ => false,
     }
 }
@@ -56,12 +50,7 @@ impl<'t, P: Part<'t>> Part<'t> for InParens<P> {
     ghost is_short = { λ s x r. parens_short (P.reader s.part) (P.is_short s.part x r) };
 
     #[tactic(auto, unfolding(grammar::specs::Reading::parens_at))]
-    fn read(
-        &self,
-        alloc: Global,
-        text: &[u8],
-        tokens: &'t [Token],
-    ) -> Result<(P::Tree, &'t [Token]), ReadError> {
+    fn read(&self, alloc: Global, text: &[u8], tokens: &'t [Token]) -> Read<'t, P::Tree> {
         let rest = open(text, tokens)?;
         let (tree, rest) = self.part.read(alloc, text, rest)?;
         Ok((tree, close(text, rest)?))
@@ -83,16 +72,7 @@ fn is_brace(text: &[u8], tokens: &[Token]) -> bool
     requires tokens { AreTokens text.now tokens.now }
     ensures { result ≡ is_begun_by is_lbrace (lexemes text.now tokens.now) }
 {
-    matches!(
-        tokens,
-        [
-            Token {
-                kind: TokenKind::Mark(Mark::OpenBrace),
-                ..
-            },
-            ..
-        ]
-    )
+    matches!(tokens, [mark!(OpenBrace), ..])
 }
 
 /// A part in braces, where so many more things may be open.
@@ -119,20 +99,9 @@ impl<'t, P: Part<'t>> Part<'t> for InBraces<P> {
     ghost is_short = { λ s x r. braces_short (P.reader s.part) (P.is_short s.part x r) s.depth };
 
     #[tactic(auto, unfolding(grammar::specs::Reading::braces_at, grammar::specs::Reading::inside_at))]
-    fn read(
-        &self,
-        alloc: Global,
-        text: &[u8],
-        tokens: &'t [Token],
-    ) -> Result<(P::Tree, &'t [Token]), ReadError> {
+    fn read(&self, alloc: Global, text: &[u8], tokens: &'t [Token]) -> Read<'t, P::Tree> {
         match tokens {
-            [
-                Token {
-                    kind: TokenKind::Mark(Mark::OpenBrace),
-                    ..
-                },
-                rest @ ..,
-            ] => {
+            [mark!(OpenBrace), rest @ ..] => {
                 if self.depth == 0 {
                     return Err(ReadError::Limit(Limit::Nesting, tokens.len()));
                 }
@@ -159,16 +128,7 @@ fn is_named(text: &[u8], tokens: &[Token]) -> bool
     requires tokens { AreTokens text.now tokens.now }
     ensures { result ≡ is_begun_by is_ident (lexemes text.now tokens.now) }
 {
-    matches!(
-        tokens,
-        [
-            Token {
-                kind: TokenKind::Identifier,
-                ..
-            },
-            ..
-        ]
-    )
+    matches!(tokens, [kind!(Identifier), ..])
 }
 
 /// A part behind a name.
@@ -196,20 +156,9 @@ impl<'t, P: Part<'t>> Part<'t> for WithName<P> {
     ghost is_short = { λ s x r. named_short (P.reader s.part) (P.is_short s.part x r) };
 
     #[tactic(auto, unfolding(grammar::specs::Reading::named_at))]
-    fn read(
-        &self,
-        alloc: Global,
-        text: &[u8],
-        tokens: &'t [Token],
-    ) -> Result<(Named<P::Tree>, &'t [Token]), ReadError> {
+    fn read(&self, alloc: Global, text: &[u8], tokens: &'t [Token]) -> Read<'t, Named<P::Tree>> {
         match tokens {
-            [
-                name @ Token {
-                    kind: TokenKind::Identifier,
-                    ..
-                },
-                rest @ ..,
-            ] => {
+            [name @ kind!(Identifier), rest @ ..] => {
                 let (value, rest) = self.part.read(alloc, text, rest)?;
                 let name = name_at(alloc, text, *name)?;
                 Ok((Named { name, value }, rest))
@@ -253,12 +202,7 @@ impl<'t, P: Begun<'t>> Part<'t> for Optional<P> {
     ghost is_short = { λ s x r. optional_short (P.Part.reader s.part) (P.Part.is_short s.part x r) P.begins };
 
     #[tactic(auto, using(crate::proofs::Presence::is_here, crate::proofs::Presence::is_absent))]
-    fn read(
-        &self,
-        alloc: Global,
-        text: &[u8],
-        tokens: &'t [Token],
-    ) -> Result<(Option<P::Tree>, &'t [Token]), ReadError> {
+    fn read(&self, alloc: Global, text: &[u8], tokens: &'t [Token]) -> Read<'t, Option<P::Tree>> {
         if self.part.is_here(text, tokens) {
             let (tree, rest) = self.part.read(alloc, text, tokens)?;
             Ok((Some(tree), rest))

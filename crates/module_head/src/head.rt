@@ -3,17 +3,16 @@
 ghost use Rattle.std.specs.Prelude.{IfOk};
 ghost use Rattle.grammar.specs.Places.{small};
 ghost use Rattle.grammar.specs.Single.{definitions_at, assign_at, begin_at};
-ghost use Rattle.notation.specs.Reads.{ReadsAs, SkipsAs};
+ghost use Rattle.kernel.specs.Reads.{ReadsAs, SkipsAs};
 ghost use Rattle.kernel.specs.Given.{AreTokens};
 ghost use Rattle.trees.specs.Values.{name_at};
 ghost use Rattle.module_head.specs.HeadReading.{begun_at, heading_at, head_at, head_tree_of};
 
 use crate::heading::{export_list, tag_default};
 use crate::importing::{import_list, module_ref};
-use kernel::ReadError;
+use kernel::{Read, ReadError};
 use std::alloc::Global;
-use text::reserved::Word;
-use text::{Mark, Token, TokenKind};
+use text::{Token, mark, word};
 use trees::{At, Import, TagDefault};
 
 /// What stands before a module's assignments (X.680, clause 13.1).
@@ -34,13 +33,7 @@ fn definitions<'a>(text: &[u8], tokens: &'a [Token]) -> Result<&'a [Token], Read
     ensures rest { IfOk result (λ x. AreTokens text.now x.now) }
 {
     match tokens {
-        [
-            Token {
-                kind: TokenKind::Reserved(Word::Definitions),
-                ..
-            },
-            rest @ ..,
-        ] => Ok(rest),
+        [word!(Definitions), rest @ ..] => Ok(rest),
         _ => Err(ReadError::Unexpected(tokens.len())),
     }
 }
@@ -53,13 +46,7 @@ pub fn assign<'a>(text: &[u8], tokens: &'a [Token]) -> Result<&'a [Token], ReadE
     ensures rest { IfOk result (λ x. AreTokens text.now x.now) }
 {
     match tokens {
-        [
-            Token {
-                kind: TokenKind::Mark(Mark::Assign),
-                ..
-            },
-            rest @ ..,
-        ] => Ok(rest),
+        [mark!(Assign), rest @ ..] => Ok(rest),
         _ => Err(ReadError::Unexpected(tokens.len())),
     }
 }
@@ -72,20 +59,14 @@ fn begin<'a>(text: &[u8], tokens: &'a [Token]) -> Result<&'a [Token], ReadError>
     ensures rest { IfOk result (λ x. AreTokens text.now x.now) }
 {
     match tokens {
-        [
-            Token {
-                kind: TokenKind::Reserved(Word::Begin),
-                ..
-            },
-            rest @ ..,
-        ] => Ok(rest),
+        [word!(Begin), rest @ ..] => Ok(rest),
         _ => Err(ReadError::Unexpected(tokens.len())),
     }
 }
 
 /// Reads what stands behind `DEFINITIONS`, as far as `BEGIN`.
 #[tactic(auto, unfolding(crate::specs::HeadReading::begun_at))]
-fn begun<'a>(text: &[u8], tokens: &'a [Token]) -> Result<(TagDefault, &'a [Token]), ReadError>
+fn begun<'a>(text: &[u8], tokens: &'a [Token]) -> Read<'a, TagDefault>
     requires tokens { AreTokens text.now tokens.now }
     ensures read { ReadsAs (λ x. x) begun_at text.now tokens.now result }
     ensures rest { IfOk result (λ x. AreTokens text.now x.1.now) }
@@ -101,7 +82,7 @@ fn heading<'a>(
     alloc: Global,
     text: &[u8],
     tokens: &'a [Token],
-) -> Result<((At<String>, TagDefault), &'a [Token]), ReadError>
+) -> Read<'a, (At<String>, TagDefault)>
     requires tokens { AreTokens text.now tokens.now }
     ensures read { ReadsAs (λ x. (name_at x.0, x.1)) (heading_at small) text.now tokens.now result }
     ensures rest { IfOk result (λ x. AreTokens text.now x.1.now) }
@@ -114,11 +95,7 @@ fn heading<'a>(
 
 /// Reads a module's head, as far as its first assignment.
 #[tactic(auto, unfolding(crate::specs::HeadReading::head_at, crate::specs::HeadReading::exporting_at))]
-pub fn head<'a>(
-    alloc: Global,
-    text: &[u8],
-    tokens: &'a [Token],
-) -> Result<(ModuleHead, &'a [Token]), ReadError>
+pub fn head<'a>(alloc: Global, text: &[u8], tokens: &'a [Token]) -> Read<'a, ModuleHead>
     requires tokens { AreTokens text.now tokens.now }
     ensures read { ReadsAs head_tree_of (head_at small) text.now tokens.now result }
     ensures rest { IfOk result (λ x. AreTokens text.now x.1.now) }

@@ -2,7 +2,7 @@
 
 ghost use Rattle.std.specs.Prelude.{map, option_map, IfOk};
 ghost use Rattle.grammar.specs.Reading.{listed_at};
-ghost use Rattle.notation.specs.Reads.{ReadsAs, SkipsAs};
+ghost use Rattle.kernel.specs.Reads.{ReadsAs, SkipsAs};
 ghost use Rattle.kernel.specs.Given.{AreTokens};
 ghost use Rattle.grammar.specs.Single.{tags_at};
 ghost use Rattle.trees.specs.Values.{name_at};
@@ -10,10 +10,9 @@ ghost use Rattle.module_head.specs.HeadingReading.{tag_word_at, default_words_at
 ghost use Rattle.module_head.specs.HeadReading.{tag_default_at, export_list_at};
 
 use kernel::decode::name_at;
-use kernel::{Listed, Part, ReadError};
+use kernel::{Listed, Part, Read, ReadError};
 use std::alloc::Global;
-use text::reserved::Word;
-use text::{Mark, Token, TokenKind};
+use text::{Token, kind, mark, word};
 use trees::{At, TagDefault};
 
 /// The tokens behind `TAGS`.
@@ -24,56 +23,29 @@ fn tags<'a>(text: &[u8], tokens: &'a [Token]) -> Result<&'a [Token], ReadError>
     ensures rest { IfOk result (λ x. AreTokens text.now x.now) }
 {
     match tokens {
-        [
-            Token {
-                kind: TokenKind::Reserved(Word::Tags),
-                ..
-            },
-            rest @ ..,
-        ] => Ok(rest),
+        [word!(Tags), rest @ ..] => Ok(rest),
         _ => Err(ReadError::Unexpected(tokens.len())),
     }
 }
 
 /// Reads the word before `TAGS`.
 #[tactic(auto, unfolding(crate::specs::HeadingReading::tag_word_at))]
-fn tag_word<'a>(text: &[u8], tokens: &'a [Token]) -> Result<(TagDefault, &'a [Token]), ReadError>
+fn tag_word<'a>(text: &[u8], tokens: &'a [Token]) -> Read<'a, TagDefault>
     requires tokens { AreTokens text.now tokens.now }
     ensures read { ReadsAs (λ x. x) tag_word_at text.now tokens.now result }
     ensures rest { IfOk result (λ x. AreTokens text.now x.1.now) }
 {
     match tokens {
-        [
-            Token {
-                kind: TokenKind::Reserved(Word::Explicit),
-                ..
-            },
-            rest @ ..,
-        ] => Ok((TagDefault::Explicit, rest)),
-        [
-            Token {
-                kind: TokenKind::Reserved(Word::Implicit),
-                ..
-            },
-            rest @ ..,
-        ] => Ok((TagDefault::Implicit, rest)),
-        [
-            Token {
-                kind: TokenKind::Reserved(Word::Automatic),
-                ..
-            },
-            rest @ ..,
-        ] => Ok((TagDefault::Automatic, rest)),
+        [word!(Explicit), rest @ ..] => Ok((TagDefault::Explicit, rest)),
+        [word!(Implicit), rest @ ..] => Ok((TagDefault::Implicit, rest)),
+        [word!(Automatic), rest @ ..] => Ok((TagDefault::Automatic, rest)),
         _ => Err(ReadError::Unexpected(tokens.len())),
     }
 }
 
 /// Reads a default for tags (X.680, clause 13.2).
 #[tactic(auto, unfolding(crate::specs::HeadingReading::default_words_at))]
-fn default_words<'a>(
-    text: &[u8],
-    tokens: &'a [Token],
-) -> Result<(TagDefault, &'a [Token]), ReadError>
+fn default_words<'a>(text: &[u8], tokens: &'a [Token]) -> Read<'a, TagDefault>
     requires tokens { AreTokens text.now tokens.now }
     ensures read { ReadsAs (λ x. x) default_words_at text.now tokens.now result }
     ensures rest { IfOk result (λ x. AreTokens text.now x.1.now) }
@@ -84,22 +56,13 @@ fn default_words<'a>(
 
 /// Reads what tags in a module are if nothing else is written: explicit, where no default stands there.
 #[tactic(auto, unfolding(crate::specs::HeadReading::tag_default_at))]
-pub fn tag_default<'a>(
-    text: &[u8],
-    tokens: &'a [Token],
-) -> Result<(TagDefault, &'a [Token]), ReadError>
+pub fn tag_default<'a>(text: &[u8], tokens: &'a [Token]) -> Read<'a, TagDefault>
     requires tokens { AreTokens text.now tokens.now }
     ensures read { ReadsAs (λ x. x) tag_default_at text.now tokens.now result }
     ensures rest { IfOk result (λ x. AreTokens text.now x.1.now) }
 {
     match tokens {
-        [
-            Token {
-                kind: TokenKind::Reserved(Word::Explicit | Word::Implicit | Word::Automatic),
-                ..
-            },
-            ..
-        ] => default_words(text, tokens),
+        [word!(Explicit | Implicit | Automatic), ..] => default_words(text, tokens),
         _ => Ok((TagDefault::Explicit, tokens)),
     }
 }
@@ -112,13 +75,7 @@ pub fn semicolon<'a>(text: &[u8], tokens: &'a [Token]) -> Result<&'a [Token], Re
     ensures rest { IfOk result (λ x. AreTokens text.now x.now) }
 {
     match tokens {
-        [
-            Token {
-                kind: TokenKind::Mark(Mark::Semicolon),
-                ..
-            },
-            rest @ ..,
-        ] => Ok(rest),
+        [mark!(Semicolon), rest @ ..] => Ok(rest),
         _ => Err(ReadError::Unexpected(tokens.len())),
     }
 }
@@ -144,20 +101,12 @@ impl<'t> Part<'t> for OneSymbol {
     ghost is_short = { λ s x r. r };
 
     #[tactic(auto, unfolding(crate::specs::HeadingReading::symbol_at))]
-    fn read(
-        &self,
-        alloc: Global,
-        text: &[u8],
-        tokens: &'t [Token],
-    ) -> Result<(At<String>, &'t [Token]), ReadError> {
+    fn read(&self, alloc: Global, text: &[u8], tokens: &'t [Token]) -> Read<'t, At<String>> {
         match tokens {
-            [
-                name @ Token {
-                    kind: TokenKind::TypeReference | TokenKind::Identifier,
-                    ..
-                },
-                rest @ ..,
-            ] => Ok((name_at(alloc, text, *name)?, rest)),
+            [name @ kind!(TypeReference | Identifier), rest @ ..] => Ok((
+                name_at(alloc, text, *name)?,
+                rest,
+            )),
             _ => Err(ReadError::Unexpected(tokens.len())),
         }
     }
@@ -165,11 +114,7 @@ impl<'t> Part<'t> for OneSymbol {
 
 /// Reads names with commas between them.
 #[tactic(auto, using(crate::proofs::Headings::symbol_short))]
-pub fn symbols<'a>(
-    alloc: Global,
-    text: &[u8],
-    tokens: &'a [Token],
-) -> Result<(Vec<At<String>>, &'a [Token]), ReadError>
+pub fn symbols<'a>(alloc: Global, text: &[u8], tokens: &'a [Token]) -> Read<'a, Vec<At<String>>>
     requires tokens { AreTokens text.now tokens.now }
     ensures read { ReadsAs (λ x. map name_at x.items) (listed_at symbol_at) text.now tokens.now result }
     ensures rest { IfOk result (λ x. AreTokens text.now x.1.now) }
@@ -183,9 +128,10 @@ fn some_exports<'a>(
     alloc: Global,
     text: &[u8],
     tokens: &'a [Token],
-) -> Result<(Option<Vec<At<String>>>, &'a [Token]), ReadError>
+) -> Read<'a, Option<Vec<At<String>>>>
     requires tokens { AreTokens text.now tokens.now }
-    ensures read { ReadsAs (option_map (λ xs. map name_at xs.items)) some_exports_at text.now tokens.now result }
+    ensures read { ReadsAs (option_map (λ xs. map name_at xs.items)) some_exports_at
+        text.now tokens.now result }
     ensures rest { IfOk result (λ x. AreTokens text.now x.1.now) }
 {
     let (names, rest) = symbols(alloc, text, tokens)?;
@@ -198,26 +144,14 @@ fn exported<'a>(
     alloc: Global,
     text: &[u8],
     tokens: &'a [Token],
-) -> Result<(Option<Vec<At<String>>>, &'a [Token]), ReadError>
+) -> Read<'a, Option<Vec<At<String>>>>
     requires tokens { AreTokens text.now tokens.now }
     ensures read { ReadsAs (option_map (λ xs. map name_at xs.items)) exported_at text.now tokens.now result }
     ensures rest { IfOk result (λ x. AreTokens text.now x.1.now) }
 {
     match tokens {
-        [
-            Token {
-                kind: TokenKind::Reserved(Word::All),
-                ..
-            },
-            rest @ ..,
-        ] => Ok((None, semicolon(text, rest)?)),
-        [
-            Token {
-                kind: TokenKind::TypeReference | TokenKind::Identifier,
-                ..
-            },
-            ..
-        ] => some_exports(alloc, text, tokens),
+        [word!(All), rest @ ..] => Ok((None, semicolon(text, rest)?)),
+        [kind!(TypeReference | Identifier), ..] => some_exports(alloc, text, tokens),
         _ => Ok((Some(Vec::new(alloc)), semicolon(text, tokens)?)),
     }
 }
@@ -228,19 +162,14 @@ pub fn export_list<'a>(
     alloc: Global,
     text: &[u8],
     tokens: &'a [Token],
-) -> Result<(Option<Vec<At<String>>>, &'a [Token]), ReadError>
+) -> Read<'a, Option<Vec<At<String>>>>
     requires tokens { AreTokens text.now tokens.now }
-    ensures read { ReadsAs (option_map (λ xs. map name_at xs.items)) export_list_at text.now tokens.now result }
+    ensures read { ReadsAs (option_map (λ xs. map name_at xs.items)) export_list_at
+        text.now tokens.now result }
     ensures rest { IfOk result (λ x. AreTokens text.now x.1.now) }
 {
     match tokens {
-        [
-            Token {
-                kind: TokenKind::Reserved(Word::Exports),
-                ..
-            },
-            rest @ ..,
-        ] => exported(alloc, text, rest),
+        [word!(Exports), rest @ ..] => exported(alloc, text, rest),
         _ => Ok((None, tokens)),
     }
 }

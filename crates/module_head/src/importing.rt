@@ -5,7 +5,7 @@ ghost use Rattle.text.specs.declared.token.TokenKind.TheVariants as kinds;
 ghost use Rattle.grammar.specs.Lexeme.{lexemes};
 ghost use Rattle.grammar.specs.Manies.{is_begun_by};
 ghost use Rattle.grammar.specs.Places.{small};
-ghost use Rattle.notation.specs.Reads.{ReadsAs, SkipsAs, name_in};
+ghost use Rattle.kernel.specs.Reads.{ReadsAs, SkipsAs, name_in};
 ghost use Rattle.kernel.specs.Given.{IsTokenOf, AreTokens};
 ghost use Rattle.grammar.specs.Rules.{number_at};
 ghost use Rattle.trees.specs.Values.{name_at};
@@ -14,29 +14,22 @@ ghost use Rattle.module_head.specs.ImportReading.{begins_arc, begins_symbol, arc
 ghost use Rattle.module_head.specs.HeadReading.{import_list_at};
 
 use crate::heading::{semicolon, symbols};
-use kernel::ReadError;
 use kernel::decode::{name_at, small_number};
 use kernel::marks::{close, closed, open};
+use kernel::{Read, ReadError};
 use std::alloc::Global;
-use text::reserved::Word;
-use text::{Mark, Token, TokenKind};
+use text::{Token, kind, mark, word};
 use trees::{At, Import};
 
 /// Reads a number.
 #[tactic(auto, unfolding(grammar::specs::Rules::number_at))]
-fn number<'a>(text: &[u8], tokens: &'a [Token]) -> Result<(u128, &'a [Token]), ReadError>
+fn number<'a>(text: &[u8], tokens: &'a [Token]) -> Read<'a, u128>
     requires tokens { AreTokens text.now tokens.now }
     ensures read { ReadsAs (λ x. x) (number_at small) text.now tokens.now result }
     ensures rest { IfOk result (λ x. AreTokens text.now x.1.now) }
 {
     match tokens {
-        [
-            number @ Token {
-                kind: TokenKind::Number,
-                ..
-            },
-            rest @ ..,
-        ] => {
+        [number @ kind!(Number), rest @ ..] => {
             let value = small_number(text, *number, tokens.len())?;
             Ok((value, rest))
         }
@@ -65,13 +58,7 @@ fn behind_arc<'a>(text: &[u8], tokens: &'a [Token]) -> Result<&'a [Token], ReadE
     ensures rest { IfOk result (λ x. AreTokens text.now x.now) }
 {
     match tokens {
-        [
-            Token {
-                kind: TokenKind::Mark(Mark::OpenParenthesis),
-                ..
-            },
-            ..
-        ] => arc_number(text, tokens),
+        [mark!(OpenParenthesis), ..] => arc_number(text, tokens),
         _ => Ok(tokens),
     }
 }
@@ -84,23 +71,11 @@ fn arc<'a>(text: &[u8], tokens: &'a [Token]) -> Result<&'a [Token], ReadError>
     ensures rest { IfOk result (λ x. AreTokens text.now x.now) }
 {
     match tokens {
-        [
-            number @ Token {
-                kind: TokenKind::Number,
-                ..
-            },
-            rest @ ..,
-        ] => {
+        [number @ kind!(Number), rest @ ..] => {
             small_number(text, *number, tokens.len())?;
             Ok(rest)
         }
-        [
-            Token {
-                kind: TokenKind::Identifier,
-                ..
-            },
-            rest @ ..,
-        ] => behind_arc(text, rest),
+        [kind!(Identifier), rest @ ..] => behind_arc(text, rest),
         _ => Err(ReadError::Unexpected(tokens.len())),
     }
 }
@@ -109,32 +84,14 @@ fn arc<'a>(text: &[u8], tokens: &'a [Token]) -> Result<&'a [Token], ReadError>
 fn is_arc(text: &[u8], tokens: &[Token]) -> bool
     ensures { result ≡ is_begun_by begins_arc (lexemes text.now tokens.now) }
 {
-    matches!(
-        tokens,
-        [
-            Token {
-                kind: TokenKind::Number | TokenKind::Identifier,
-                ..
-            },
-            ..
-        ]
-    )
+    matches!(tokens, [kind!(Number | Identifier), ..])
 }
 
 /// Whether the next token begins a name.
 fn is_symbol(text: &[u8], tokens: &[Token]) -> bool
     ensures { result ≡ is_begun_by begins_symbol (lexemes text.now tokens.now) }
 {
-    matches!(
-        tokens,
-        [
-            Token {
-                kind: TokenKind::TypeReference | TokenKind::Identifier,
-                ..
-            },
-            ..
-        ]
-    )
+    matches!(tokens, [kind!(TypeReference | Identifier), ..])
 }
 
 /// Reads arcs, as many as there are.
@@ -170,13 +127,7 @@ fn oid<'a>(text: &[u8], tokens: &'a [Token]) -> Result<&'a [Token], ReadError>
     ensures rest { IfOk result (λ x. AreTokens text.now x.now) }
 {
     match tokens {
-        [
-            Token {
-                kind: TokenKind::Mark(Mark::OpenBrace),
-                ..
-            },
-            rest @ ..,
-        ] => {
+        [mark!(OpenBrace), rest @ ..] => {
             let rest = arcs(text, rest)?;
             closed(text, rest)
         }
@@ -191,7 +142,7 @@ fn behind_module<'a>(
     text: &[u8],
     module_name: Token,
     tokens: &'a [Token],
-) -> Result<(At<String>, &'a [Token]), ReadError>
+) -> Read<'a, At<String>>
     requires tokens { AreTokens text.now tokens.now }
     requires before { IsTokenOf text.now module_name }
     requires name { module_name.kind ≡ kinds.TypeReference }
@@ -200,13 +151,7 @@ fn behind_module<'a>(
     ensures rest { IfOk result (λ x. AreTokens text.now x.1.now) }
 {
     match tokens {
-        [
-            Token {
-                kind: TokenKind::Mark(Mark::OpenBrace),
-                ..
-            },
-            ..
-        ] => {
+        [mark!(OpenBrace), ..] => {
             let rest = oid(text, tokens)?;
             Ok((name_at(alloc, text, module_name)?, rest))
         }
@@ -216,57 +161,33 @@ fn behind_module<'a>(
 
 /// Reads a module's name, and an object identifier if one stands behind it (X.680, clause 13.1).
 #[tactic(auto, unfolding(crate::specs::ImportReading::module_ref_at))]
-pub fn module_ref<'a>(
-    alloc: Global,
-    text: &[u8],
-    tokens: &'a [Token],
-) -> Result<(At<String>, &'a [Token]), ReadError>
+pub fn module_ref<'a>(alloc: Global, text: &[u8], tokens: &'a [Token]) -> Read<'a, At<String>>
     requires tokens { AreTokens text.now tokens.now }
     ensures read { ReadsAs name_at (module_ref_at small) text.now tokens.now result }
     ensures rest { IfOk result (λ x. AreTokens text.now x.1.now) }
 {
     match tokens {
-        [
-            name @ Token {
-                kind: TokenKind::TypeReference,
-                ..
-            },
-            rest @ ..,
-        ] => behind_module(alloc, text, *name, rest),
+        [name @ kind!(TypeReference), rest @ ..] => behind_module(alloc, text, *name, rest),
         _ => Err(ReadError::Unexpected(tokens.len())),
     }
 }
 
 /// Reads `FROM` and a module's name.
 #[tactic(auto, unfolding(crate::specs::ImportReading::from_module_at))]
-fn from_module<'a>(
-    alloc: Global,
-    text: &[u8],
-    tokens: &'a [Token],
-) -> Result<(At<String>, &'a [Token]), ReadError>
+fn from_module<'a>(alloc: Global, text: &[u8], tokens: &'a [Token]) -> Read<'a, At<String>>
     requires tokens { AreTokens text.now tokens.now }
     ensures read { ReadsAs name_at (from_module_at small) text.now tokens.now result }
     ensures rest { IfOk result (λ x. AreTokens text.now x.1.now) }
 {
     match tokens {
-        [
-            Token {
-                kind: TokenKind::Reserved(Word::From),
-                ..
-            },
-            rest @ ..,
-        ] => module_ref(alloc, text, rest),
+        [word!(From), rest @ ..] => module_ref(alloc, text, rest),
         _ => Err(ReadError::Unexpected(tokens.len())),
     }
 }
 
 /// Reads names and the module that they are from.
 #[tactic(auto, unfolding(crate::specs::ImportReading::import_from_at))]
-fn import_from<'a>(
-    alloc: Global,
-    text: &[u8],
-    tokens: &'a [Token],
-) -> Result<(Import, &'a [Token]), ReadError>
+fn import_from<'a>(alloc: Global, text: &[u8], tokens: &'a [Token]) -> Read<'a, Import>
     requires tokens { AreTokens text.now tokens.now }
     ensures read { ReadsAs import_of (import_from_at small) text.now tokens.now result }
     ensures rest { IfOk result (λ x. AreTokens text.now x.1.now) }
@@ -277,11 +198,7 @@ fn import_from<'a>(
 }
 
 /// Reads imports from modules, as many as there are.
-fn many<'a>(
-    alloc: Global,
-    text: &[u8],
-    tokens: &'a [Token],
-) -> Result<(Vec<Import>, &'a [Token]), ReadError>
+fn many<'a>(alloc: Global, text: &[u8], tokens: &'a [Token]) -> Read<'a, Vec<Import>>
     requires tokens { AreTokens text.now tokens.now }
     ensures read { ReadsAs (λ x. map import_of x.items) (imports_from_at small) text.now tokens.now result }
     ensures rest { IfOk result (λ x. AreTokens text.now x.1.now) }
@@ -298,11 +215,7 @@ fn many<'a>(
 
 /// Reads what stands behind `IMPORTS`.
 #[tactic(auto, unfolding(crate::specs::ImportReading::imported_at))]
-fn imported<'a>(
-    alloc: Global,
-    text: &[u8],
-    tokens: &'a [Token],
-) -> Result<(Vec<Import>, &'a [Token]), ReadError>
+fn imported<'a>(alloc: Global, text: &[u8], tokens: &'a [Token]) -> Read<'a, Vec<Import>>
     requires tokens { AreTokens text.now tokens.now }
     ensures read { ReadsAs (λ x. map import_of x.items) (imported_at small) text.now tokens.now result }
     ensures rest { IfOk result (λ x. AreTokens text.now x.1.now) }
@@ -313,23 +226,13 @@ fn imported<'a>(
 
 /// Reads what is imported (X.680, clause 13.12), which is nothing where no imports stand there.
 #[tactic(auto, unfolding(crate::specs::HeadReading::import_list_at, crate::specs::ImportReading::imports_at))]
-pub fn import_list<'a>(
-    alloc: Global,
-    text: &[u8],
-    tokens: &'a [Token],
-) -> Result<(Vec<Import>, &'a [Token]), ReadError>
+pub fn import_list<'a>(alloc: Global, text: &[u8], tokens: &'a [Token]) -> Read<'a, Vec<Import>>
     requires tokens { AreTokens text.now tokens.now }
     ensures read { ReadsAs (λ x. map import_of x.items) (import_list_at small) text.now tokens.now result }
     ensures rest { IfOk result (λ x. AreTokens text.now x.1.now) }
 {
     match tokens {
-        [
-            Token {
-                kind: TokenKind::Reserved(Word::Imports),
-                ..
-            },
-            rest @ ..,
-        ] => imported(alloc, text, rest),
+        [word!(Imports), rest @ ..] => imported(alloc, text, rest),
         _ => Ok((Vec::new(alloc), tokens)),
     }
 }

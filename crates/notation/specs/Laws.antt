@@ -50,7 +50,10 @@ pub record ValueLaws : Type 0 where
   pub solid : (fits : ℕ → Bool) (n : ℕ) → IsSolid (value fits n)
 
 -- the fault of a place where nothing goes on stands
-pub first_stands : {A : Type 0} (g : Limited A) (ts : List Lexeme) (start : ℕ) (a : Limits) (i : ℕ) (f : SyntaxFault) → f ≡ unexpected ts i → Ends g a ts start i → Stands g ts start a f
+pub first_stands : {A : Type 0} (g : Limited A) (ts : List Lexeme) (start : ℕ) (a : Limits) (i : ℕ) (f : SyntaxFault)
+    → f ≡ unexpected ts i
+    → Ends g a ts start i
+    → Stands g ts start a f
 first_stands g ts start a i f e h = go f (is_refused_at (slice_get ts i)) refl e
   where
     go : (f : SyntaxFault) (b : Bool) → is_refused_at (slice_get ts i) ≡ b → f ≡ unexpected ts i → Stands g ts start a f
@@ -58,11 +61,13 @@ first_stands g ts start a i f e h = go f (is_refused_at (slice_get ts i)) refl e
     go f false q e = subst (Stands g ts start a) (sym (e ⋆ ap (λ (b : Bool). if b then faults.OutOfProfile i else faults.Unexpected i) q)) (h, q)
 
 -- one fault at most stands, want of memory apart
-module _ {A : Type 0} (g : Limited A) (a : Limits) (read : Reader A) (reads : Reads g a read) (ts : List Lexeme) (start : ℕ) (place : start ≤ length ts) where
-  true_false : (b : Bool) → b ≡ false → b ≡ true → ⊥
-  true_false b p q = absurd (let e = sym p ⋆ q in cc)
-
-  refused_at : (i j : ℕ) (b c : Bool) → i ≡ j → is_refused_at (slice_get ts i) ≡ b → is_refused_at (slice_get ts j) ≡ c → b ≡ c
+module _ {A : Type 0} (g : Limited A) (a : Limits) (read : Reader A) (reads : Reads g a read) (ts : List Lexeme)
+    (start : ℕ) (place : start ≤ length ts) where
+  refused_at : (i j : ℕ) (b c : Bool)
+      → i ≡ j
+      → is_refused_at (slice_get ts i) ≡ b
+      → is_refused_at (slice_get ts j) ≡ c
+      → b ≡ c
   refused_at i j b c e p q = sym p ⋆ ap (λ (i : ℕ). is_refused_at (slice_get ts i)) e ⋆ q
 
   limit_is : (l m : Limit') → limit_of l ≡ limit_of m → l ≡ m
@@ -71,7 +76,12 @@ module _ {A : Type 0} (g : Limited A) (a : Limits) (read : Reader A) (reads : Re
   limit_is limits.TagNumber limits.TagNumber e = refl
   limit_is l m e = absurd cc
 
-  pub one_stands : (f f' : SyntaxFault) → (f ≡ faults.Memory → ⊥) → (f' ≡ faults.Memory → ⊥) → Stands g ts start a f → Stands g ts start a f' → f ≡ f'
+  pub one_stands : (f f' : SyntaxFault)
+      → (f ≡ faults.Memory → ⊥)
+      → (f' ≡ faults.Memory → ⊥)
+      → Stands g ts start a f
+      → Stands g ts start a f'
+      → f ≡ f'
   one_stands faults.Memory f' n n' s s' = absurd (n refl)
   one_stands f faults.Memory n n' s s' = absurd (n' refl)
   one_stands (faults.Unexpected i) (faults.Unexpected j) n n' s s' = ap (λ (i : ℕ). faults.Unexpected i) (one_stop g a ts start i j s.0.stops s'.0.stops)

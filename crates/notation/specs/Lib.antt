@@ -6,4 +6,3 @@ pub mod Reading
 pub mod ConstraintReading
 pub mod Answer
 pub mod Laws
-pub mod Reads

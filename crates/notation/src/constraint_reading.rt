@@ -4,7 +4,7 @@ ghost use Rattle.std.specs.Prelude.{◌≡◌, map, option_map, IfOk};
 ghost use Rattle.text.specs.declared.token.TokenKind.TheVariants as kinds;
 ghost use Rattle.grammar.specs.Places.{small};
 ghost use Rattle.trees.specs.Constraints.{end_of, range_of, ranges_of, chars_of, form_of, constraint_of};
-ghost use Rattle.notation.specs.Reads.{ReadsAs, text_in};
+ghost use Rattle.kernel.specs.Reads.{ReadsAs, text_in};
 ghost use Rattle.kernel.specs.Given.{IsTokenOf, AreTokens};
 ghost use Rattle.notation.specs.ConstraintReading.{last_chars_at, more_chars_at, from_at, minus_at, end_at, upper_at, behind_min_at, behind_end_at, marker_at, ranges_at, size_at, inside_at, constraint_at};
 
@@ -13,10 +13,9 @@ use crate::numbers::{negative, positive};
 use crate::unions::by_or;
 use kernel::decode::chars_of;
 use kernel::marks::{close, open};
-use kernel::{Part, ReadError};
+use kernel::{Part, Read, ReadError};
 use std::alloc::{AllocError, Global};
-use text::reserved::Word;
-use text::{Mark, Token, TokenKind};
+use text::{Mark, Token, TokenKind, kind, mark, word};
 use trees::{
     At, CharsSyntax, ConstraintForm, ConstraintSyntax, EndSyntax, RangeSyntax, RangesSyntax,
 };
@@ -40,7 +39,7 @@ fn last_chars<'a>(
     text: &[u8],
     first: Token,
     tokens: &'a [Token],
-) -> Result<(CharsSyntax, &'a [Token]), ReadError>
+) -> Read<'a, CharsSyntax>
     requires tokens { AreTokens text.now tokens.now }
     requires before { IsTokenOf text.now first }
     requires chars { first.kind ≡ kinds.CharacterString }
@@ -48,13 +47,7 @@ fn last_chars<'a>(
     ensures rest { IfOk result (λ x. AreTokens text.now x.1.now) }
 {
     match tokens {
-        [
-            last @ Token {
-                kind: TokenKind::CharacterString,
-                ..
-            },
-            rest @ ..,
-        ] => {
+        [last @ kind!(CharacterString), rest @ ..] => {
             let first = quoted(alloc, text, first)?;
             let last = Some(quoted(alloc, text, *last)?);
             Ok((CharsSyntax { first, last }, rest))
@@ -70,7 +63,7 @@ fn more_chars<'a>(
     text: &[u8],
     first: Token,
     tokens: &'a [Token],
-) -> Result<(CharsSyntax, &'a [Token]), ReadError>
+) -> Read<'a, CharsSyntax>
     requires tokens { AreTokens text.now tokens.now }
     requires before { IsTokenOf text.now first }
     requires chars { first.kind ≡ kinds.CharacterString }
@@ -78,13 +71,7 @@ fn more_chars<'a>(
     ensures rest { IfOk result (λ x. AreTokens text.now x.1.now) }
 {
     match tokens {
-        [
-            Token {
-                kind: TokenKind::Mark(Mark::Range),
-                ..
-            },
-            rest @ ..,
-        ] => last_chars(alloc, text, first, rest),
+        [mark!(Range), rest @ ..] => last_chars(alloc, text, first, rest),
         _ => {
             let first = quoted(alloc, text, first)?;
             Ok((CharsSyntax { first, last: None }, tokens))
@@ -114,20 +101,9 @@ impl<'t> Part<'t> for OneText {
     ghost is_short = { λ s x r. r };
 
     #[tactic(auto, unfolding(crate::specs::ConstraintReading::chars_at))]
-    fn read(
-        &self,
-        alloc: Global,
-        text: &[u8],
-        tokens: &'t [Token],
-    ) -> Result<(CharsSyntax, &'t [Token]), ReadError> {
+    fn read(&self, alloc: Global, text: &[u8], tokens: &'t [Token]) -> Read<'t, CharsSyntax> {
         match tokens {
-            [
-                first @ Token {
-                    kind: TokenKind::CharacterString,
-                    ..
-                },
-                rest @ ..,
-            ] => more_chars(alloc, text, *first, rest),
+            [first @ kind!(CharacterString), rest @ ..] => more_chars(alloc, text, *first, rest),
             _ => Err(ReadError::Unexpected(tokens.len())),
         }
     }
@@ -135,23 +111,13 @@ impl<'t> Part<'t> for OneText {
 
 /// Reads `FROM` and the characters behind it.
 #[tactic(auto, unfolding(crate::specs::ConstraintReading::from_at, grammar::specs::Reading::parens_at), using(crate::proofs::ConstraintParts::chars_short))]
-fn from<'a>(
-    alloc: Global,
-    text: &[u8],
-    tokens: &'a [Token],
-) -> Result<(Vec<CharsSyntax>, &'a [Token]), ReadError>
+fn from<'a>(alloc: Global, text: &[u8], tokens: &'a [Token]) -> Read<'a, Vec<CharsSyntax>>
     requires tokens { AreTokens text.now tokens.now }
     ensures read { ReadsAs (λ x. map chars_of x.items) from_at text.now tokens.now result }
     ensures rest { IfOk result (λ x. AreTokens text.now x.1.now) }
 {
     match tokens {
-        [
-            Token {
-                kind: TokenKind::Reserved(Word::From),
-                ..
-            },
-            rest @ ..,
-        ] => {
+        [word!(From), rest @ ..] => {
             let rest = open(text, rest)?;
             let (parts, rest) = by_or(alloc, text, &OneText, rest)?;
             Ok((parts, close(text, rest)?))
@@ -162,23 +128,13 @@ fn from<'a>(
 
 /// Reads the number behind a minus, which stands at a place.
 #[tactic(auto, unfolding(crate::specs::ConstraintReading::minus_at))]
-fn negative_end<'a>(
-    text: &[u8],
-    at: usize,
-    tokens: &'a [Token],
-) -> Result<(EndSyntax, &'a [Token]), ReadError>
+fn negative_end<'a>(text: &[u8], at: usize, tokens: &'a [Token]) -> Read<'a, EndSyntax>
     requires tokens { AreTokens text.now tokens.now }
     ensures read { ReadsAs end_of minus_at text.now tokens.now result }
     ensures rest { IfOk result (λ x. AreTokens text.now x.1.now) }
 {
     match tokens {
-        [
-            number @ Token {
-                kind: TokenKind::Number,
-                ..
-            },
-            rest @ ..,
-        ] => {
+        [number @ kind!(Number), rest @ ..] => {
             let it = negative(text, *number);
             Ok((EndSyntax::Number(At { at, it }), rest))
         }
@@ -188,11 +144,7 @@ fn negative_end<'a>(
 
 /// Reads an end of a range, or a value alone.
 #[tactic(auto, unfolding(crate::specs::ConstraintReading::end_at))]
-fn end<'a>(
-    alloc: Global,
-    text: &[u8],
-    tokens: &'a [Token],
-) -> Result<(EndSyntax, &'a [Token]), ReadError>
+fn end<'a>(alloc: Global, text: &[u8], tokens: &'a [Token]) -> Read<'a, EndSyntax>
     requires tokens { AreTokens text.now tokens.now }
     ensures read { ReadsAs end_of (end_at small) text.now tokens.now result }
     ensures rest { IfOk result (λ x. AreTokens text.now x.1.now) }
@@ -221,23 +173,13 @@ fn end<'a>(
 
 /// Reads what stands behind `..`.
 #[tactic(auto, unfolding(crate::specs::ConstraintReading::upper_at, crate::specs::ConstraintReading::some_end_at))]
-fn upper<'a>(
-    alloc: Global,
-    text: &[u8],
-    tokens: &'a [Token],
-) -> Result<(Option<EndSyntax>, &'a [Token]), ReadError>
+fn upper<'a>(alloc: Global, text: &[u8], tokens: &'a [Token]) -> Read<'a, Option<EndSyntax>>
     requires tokens { AreTokens text.now tokens.now }
     ensures read { ReadsAs (option_map end_of) (upper_at small) text.now tokens.now result }
     ensures rest { IfOk result (λ x. AreTokens text.now x.1.now) }
 {
     match tokens {
-        [
-            Token {
-                kind: TokenKind::Reserved(Word::Max),
-                ..
-            },
-            rest @ ..,
-        ] => Ok((None, rest)),
+        [word!(Max), rest @ ..] => Ok((None, rest)),
         _ => {
             let (end, rest) = end(alloc, text, tokens)?;
             Ok((Some(end), rest))
@@ -247,23 +189,13 @@ fn upper<'a>(
 
 /// Reads what stands behind `MIN`.
 #[tactic(auto, unfolding(crate::specs::ConstraintReading::behind_min_at))]
-fn behind_min<'a>(
-    alloc: Global,
-    text: &[u8],
-    tokens: &'a [Token],
-) -> Result<(RangeSyntax, &'a [Token]), ReadError>
+fn behind_min<'a>(alloc: Global, text: &[u8], tokens: &'a [Token]) -> Read<'a, RangeSyntax>
     requires tokens { AreTokens text.now tokens.now }
     ensures read { ReadsAs range_of (behind_min_at small) text.now tokens.now result }
     ensures rest { IfOk result (λ x. AreTokens text.now x.1.now) }
 {
     match tokens {
-        [
-            Token {
-                kind: TokenKind::Mark(Mark::Range),
-                ..
-            },
-            rest @ ..,
-        ] => {
+        [mark!(Range), rest @ ..] => {
             let (last, rest) = upper(alloc, text, rest)?;
             Ok((RangeSyntax::Between(None, last), rest))
         }
@@ -278,19 +210,13 @@ fn behind_end<'a>(
     text: &[u8],
     first: EndSyntax,
     tokens: &'a [Token],
-) -> Result<(RangeSyntax, &'a [Token]), ReadError>
+) -> Read<'a, RangeSyntax>
     requires tokens { AreTokens text.now tokens.now }
     ensures read { ReadsAs range_of (behind_end_at small (end_of first)) text.now tokens.now result }
     ensures rest { IfOk result (λ x. AreTokens text.now x.1.now) }
 {
     match tokens {
-        [
-            Token {
-                kind: TokenKind::Mark(Mark::Range),
-                ..
-            },
-            rest @ ..,
-        ] => {
+        [mark!(Range), rest @ ..] => {
             let (last, rest) = upper(alloc, text, rest)?;
             Ok((RangeSyntax::Between(Some(first), last), rest))
         }
@@ -320,20 +246,9 @@ impl<'t> Part<'t> for OneRange {
     ghost is_short = { λ s x r. r };
 
     #[tactic(auto, unfolding(crate::specs::ConstraintReading::range_at, crate::specs::ConstraintReading::single_at))]
-    fn read(
-        &self,
-        alloc: Global,
-        text: &[u8],
-        tokens: &'t [Token],
-    ) -> Result<(RangeSyntax, &'t [Token]), ReadError> {
+    fn read(&self, alloc: Global, text: &[u8], tokens: &'t [Token]) -> Read<'t, RangeSyntax> {
         match tokens {
-            [
-                Token {
-                    kind: TokenKind::Reserved(Word::Min),
-                    ..
-                },
-                rest @ ..,
-            ] => behind_min(alloc, text, rest),
+            [word!(Min), rest @ ..] => behind_min(alloc, text, rest),
             _ => {
                 let (first, rest) = end(alloc, text, tokens)?;
                 behind_end(alloc, text, first, rest)
@@ -344,41 +259,21 @@ impl<'t> Part<'t> for OneRange {
 
 /// Reads an extension marker behind a comma, if a comma stands here: `, ...`.
 #[tactic(auto, unfolding(crate::specs::ConstraintReading::marker_at, crate::specs::ConstraintReading::ellipsis_at))]
-fn marker<'a>(text: &[u8], tokens: &'a [Token]) -> Result<(bool, &'a [Token]), ReadError>
+fn marker<'a>(text: &[u8], tokens: &'a [Token]) -> Read<'a, bool>
     requires tokens { AreTokens text.now tokens.now }
     ensures read { ReadsAs (λ x. x) marker_at text.now tokens.now result }
     ensures rest { IfOk result (λ x. AreTokens text.now x.1.now) }
 {
     match tokens {
-        [
-            Token {
-                kind: TokenKind::Mark(Mark::Comma),
-                ..
-            },
-            Token {
-                kind: TokenKind::Mark(Mark::Ellipsis),
-                ..
-            },
-            rest @ ..,
-        ] => Ok((true, rest)),
-        [
-            Token {
-                kind: TokenKind::Mark(Mark::Comma),
-                ..
-            },
-            rest @ ..,
-        ] => Err(ReadError::Unexpected(rest.len())),
+        [mark!(Comma), mark!(Ellipsis), rest @ ..] => Ok((true, rest)),
+        [mark!(Comma), rest @ ..] => Err(ReadError::Unexpected(rest.len())),
         _ => Ok((false, tokens)),
     }
 }
 
 /// Reads values and ranges with `|` or `UNION` between them, and the marker behind them.
 #[tactic(auto, unfolding(crate::specs::ConstraintReading::ranges_at), using(crate::proofs::ConstraintParts::range_short))]
-fn ranges<'a>(
-    alloc: Global,
-    text: &[u8],
-    tokens: &'a [Token],
-) -> Result<(RangesSyntax, &'a [Token]), ReadError>
+fn ranges<'a>(alloc: Global, text: &[u8], tokens: &'a [Token]) -> Read<'a, RangesSyntax>
     requires tokens { AreTokens text.now tokens.now }
     ensures read { ReadsAs ranges_of (ranges_at small) text.now tokens.now result }
     ensures rest { IfOk result (λ x. AreTokens text.now x.1.now) }
@@ -390,23 +285,13 @@ fn ranges<'a>(
 
 /// Reads `SIZE` and the sizes behind it: the size before `OF`, or what stands in the parentheses of a constraint.
 #[tactic(auto, unfolding(crate::specs::ConstraintReading::size_at, grammar::specs::Reading::parens_at))]
-pub fn size<'a>(
-    alloc: Global,
-    text: &[u8],
-    tokens: &'a [Token],
-) -> Result<(ConstraintSyntax, &'a [Token]), ReadError>
+pub fn size<'a>(alloc: Global, text: &[u8], tokens: &'a [Token]) -> Read<'a, ConstraintSyntax>
     requires tokens { AreTokens text.now tokens.now }
     ensures read { ReadsAs constraint_of (size_at small) text.now tokens.now result }
     ensures rest { IfOk result (λ x. AreTokens text.now x.1.now) }
 {
     match tokens {
-        [
-            word @ Token {
-                kind: TokenKind::Reserved(Word::Size),
-                ..
-            },
-            rest @ ..,
-        ] => {
+        [word @ word!(Size), rest @ ..] => {
             let rest = open(text, rest)?;
             let (sizes, rest) = ranges(alloc, text, rest)?;
             let form = ConstraintForm::Size(sizes);
@@ -419,33 +304,17 @@ pub fn size<'a>(
 
 /// Reads what stands in the parentheses of a constraint.
 #[tactic(auto, unfolding(crate::specs::ConstraintReading::inside_at, crate::specs::ConstraintReading::from_in_at, crate::specs::ConstraintReading::values_in_at))]
-fn inside<'a>(
-    alloc: Global,
-    text: &[u8],
-    tokens: &'a [Token],
-) -> Result<(ConstraintForm, &'a [Token]), ReadError>
+fn inside<'a>(alloc: Global, text: &[u8], tokens: &'a [Token]) -> Read<'a, ConstraintForm>
     requires tokens { AreTokens text.now tokens.now }
     ensures read { ReadsAs form_of (inside_at small) text.now tokens.now result }
     ensures rest { IfOk result (λ x. AreTokens text.now x.1.now) }
 {
     match tokens {
-        [
-            Token {
-                kind: TokenKind::Reserved(Word::Size),
-                ..
-            },
-            ..
-        ] => {
+        [word!(Size), ..] => {
             let (size, rest) = size(alloc, text, tokens)?;
             Ok((size.form, rest))
         }
-        [
-            Token {
-                kind: TokenKind::Reserved(Word::From),
-                ..
-            },
-            ..
-        ] => {
+        [word!(From), ..] => {
             let (chars, rest) = from(alloc, text, tokens)?;
             Ok((ConstraintForm::From(chars), rest))
         }
@@ -458,23 +327,13 @@ fn inside<'a>(
 
 /// Reads a constraint.
 #[tactic(auto, unfolding(crate::specs::ConstraintReading::constraint_at, grammar::specs::Reading::parens_at, grammar::specs::Reading::open_at))]
-pub fn constraint<'a>(
-    alloc: Global,
-    text: &[u8],
-    tokens: &'a [Token],
-) -> Result<(ConstraintSyntax, &'a [Token]), ReadError>
+pub fn constraint<'a>(alloc: Global, text: &[u8], tokens: &'a [Token]) -> Read<'a, ConstraintSyntax>
     requires tokens { AreTokens text.now tokens.now }
     ensures read { ReadsAs constraint_of (constraint_at small) text.now tokens.now result }
     ensures rest { IfOk result (λ x. AreTokens text.now x.1.now) }
 {
     match tokens {
-        [
-            first @ Token {
-                kind: TokenKind::Mark(Mark::OpenParenthesis),
-                ..
-            },
-            rest @ ..,
-        ] => {
+        [first @ mark!(OpenParenthesis), rest @ ..] => {
             let (form, rest) = inside(alloc, text, rest)?;
             let at = first.span.start;
             let constraint = ConstraintSyntax { at, form };

@@ -2,14 +2,14 @@
 
 ghost use Rattle.std.specs.Prelude.{◌≡◌, None, IfOk};
 ghost use Rattle.text.specs.declared.token.TokenKind.TheVariants as kinds;
-ghost use Rattle.notation.specs.Reads.{ReadsAs, name_in};
+ghost use Rattle.kernel.specs.Reads.{ReadsAs, name_in};
 ghost use Rattle.kernel.specs.Given.{IsTokenOf, AreTokens};
 ghost use Rattle.notation.specs.Reading.{named_by, ref_dot_at};
 
-use kernel::ReadError;
 use kernel::decode::name_of;
+use kernel::{Read, ReadError};
 use std::alloc::{AllocError, Global};
-use text::{Mark, Token, TokenKind};
+use text::{Token, kind, mark};
 use trees::Reference;
 
 /// The name of a value, with no module's name before it.
@@ -33,7 +33,7 @@ pub fn qualified<'a>(
     text: &[u8],
     module_name: Token,
     tokens: &'a [Token],
-) -> Result<(Reference, &'a [Token]), ReadError>
+) -> Read<'a, Reference>
     requires tokens { AreTokens text.now tokens.now }
     requires before { IsTokenOf text.now module_name }
     requires name { module_name.kind ≡ kinds.TypeReference }
@@ -41,17 +41,7 @@ pub fn qualified<'a>(
     ensures rest { IfOk result (λ x. AreTokens text.now x.1.now) }
 {
     match tokens {
-        [
-            Token {
-                kind: TokenKind::Mark(Mark::Dot),
-                ..
-            },
-            value_name @ Token {
-                kind: TokenKind::Identifier,
-                ..
-            },
-            rest @ ..,
-        ] => {
+        [mark!(Dot), value_name @ kind!(Identifier), rest @ ..] => {
             let name = Reference {
                 at: module_name.span.start,
                 module: Some(name_of(alloc, text, module_name)?),
@@ -59,13 +49,7 @@ pub fn qualified<'a>(
             };
             Ok((name, rest))
         }
-        [
-            Token {
-                kind: TokenKind::Mark(Mark::Dot),
-                ..
-            },
-            rest @ ..,
-        ] => Err(ReadError::Unexpected(rest.len())),
+        [mark!(Dot), rest @ ..] => Err(ReadError::Unexpected(rest.len())),
         _ => Err(ReadError::Unexpected(tokens.len())),
     }
 }

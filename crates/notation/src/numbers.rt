@@ -3,7 +3,7 @@
 ghost use Rattle.std.specs.Prelude.{◌≡◌, MatchResult, pos, neg_ℤ, true, false};
 ghost use Rattle.text.specs.declared.token.TokenKind.TheVariants as kinds;
 ghost use Rattle.grammar.specs.Places.{small};
-ghost use Rattle.notation.specs.Reads.{number_in};
+ghost use Rattle.kernel.specs.Reads.{number_in};
 ghost use Rattle.kernel.specs.Given.{IsTokenOf};
 
 use kernel::decode::{number_of, small_number};

@@ -6,7 +6,7 @@ ghost use Rattle.grammar.specs.Lexeme.{lexemes, Number};
 ghost use Rattle.grammar.specs.Reading.{with_front};
 ghost use Rattle.grammar.specs.Places.{small};
 ghost use Rattle.trees.specs.Values.{tree_of};
-ghost use Rattle.notation.specs.Reads.{ReadsAs, name_in, number_in};
+ghost use Rattle.kernel.specs.Reads.{ReadsAs, name_in, number_in};
 ghost use Rattle.kernel.specs.Given.{IsTokenOf, AreTokens};
 ghost use Rattle.notation.specs.Reading.{negative_at, next_number, numbers_at, two_numbers_at, by_name_at, braced_at, alternative_at, step_at, value_at};
 
@@ -14,11 +14,11 @@ use crate::names::{bare, qualified};
 use crate::numbers::{negative, positive};
 use kernel::decode::{chars_of, digits_of, name_of, small_number};
 use kernel::marks::closed;
-use kernel::{Limit, Listed, Part, Production, ReadError, WithName, reads_by};
+use kernel::{Limit, Listed, Part, Production, Read, ReadError, WithName, reads_by};
 use std::alloc::Global;
 use std::marker::PhantomData;
 use text::reserved::Word;
-use text::{Mark, Token, TokenKind};
+use text::{Mark, Token, TokenKind, kind, mark};
 use trees::{ValueForm, ValueSyntax};
 
 /// The values, as a production that reads itself again.
@@ -40,23 +40,13 @@ impl Production for Values {
 
 /// Reads the number behind a minus, which stands at a place.
 #[tactic(auto, unfolding(crate::specs::Reading::negative_at))]
-fn negative_value<'a>(
-    text: &[u8],
-    at: usize,
-    tokens: &'a [Token],
-) -> Result<(ValueSyntax, &'a [Token]), ReadError>
+fn negative_value<'a>(text: &[u8], at: usize, tokens: &'a [Token]) -> Read<'a, ValueSyntax>
     requires tokens { AreTokens text.now tokens.now }
     ensures read { ReadsAs tree_of negative_at text.now tokens.now result }
     ensures rest { IfOk result (λ x. AreTokens text.now x.1.now) }
 {
     match tokens {
-        [
-            number @ Token {
-                kind: TokenKind::Number,
-                ..
-            },
-            rest @ ..,
-        ] => {
+        [number @ kind!(Number), rest @ ..] => {
             let form = ValueForm::Number(negative(text, *number));
             Ok((ValueSyntax { at, form }, rest))
         }
@@ -73,7 +63,7 @@ fn alternative<'a>(
     name: Token,
     tokens: &'a [Token],
     depth: usize,
-) -> Result<(ValueSyntax, &'a [Token]), ReadError>
+) -> Read<'a, ValueSyntax>
     requires tokens { AreTokens text.now tokens.now }
     requires before { IsTokenOf text.now name }
     requires name { name.kind ≡ kinds.Identifier }
@@ -83,13 +73,7 @@ fn alternative<'a>(
 {
     let at = name.span.start;
     match tokens {
-        [
-            Token {
-                kind: TokenKind::Mark(Mark::Colon),
-                ..
-            },
-            rest @ ..,
-        ] => {
+        [mark!(Colon), rest @ ..] => {
             if depth == 0 {
                 return Err(ReadError::Limit(Limit::Nesting, tokens.len()));
             }
@@ -113,7 +97,7 @@ pub fn value<'a>(
     text: &[u8],
     tokens: &'a [Token],
     depth: usize,
-) -> Result<(ValueSyntax, &'a [Token]), ReadError>
+) -> Read<'a, ValueSyntax>
     requires tokens { AreTokens text.now tokens.now }
     ensures read { ReadsAs tree_of (value_at small depth) text.now tokens.now result }
     ensures rest { IfOk result (λ x. AreTokens text.now x.1.now) }
@@ -123,14 +107,10 @@ pub fn value<'a>(
 
 #[tactic(auto, unfolding(crate::specs::Reading::step_at))]
 #[cycle(value)]
-fn step<'a>(
-    alloc: Global,
-    text: &[u8],
-    tokens: &'a [Token],
-    depth: usize,
-) -> Result<(ValueSyntax, &'a [Token]), ReadError>
+fn step<'a>(alloc: Global, text: &[u8], tokens: &'a [Token], depth: usize) -> Read<'a, ValueSyntax>
     requires tokens { AreTokens text.now tokens.now }
-    ensures read { ReadsAs tree_of (step_at small depth (value_at small (depth - 1))) text.now tokens.now result }
+    ensures read { ReadsAs tree_of (step_at small depth (value_at small (depth - 1)))
+        text.now tokens.now result }
     ensures rest { IfOk result (λ x. AreTokens text.now x.1.now) }
 {
     let [first, rest @ ..] = tokens else {
@@ -172,65 +152,29 @@ fn braced<'a>(
     at: usize,
     tokens: &'a [Token],
     depth: usize,
-) -> Result<(ValueSyntax, &'a [Token]), ReadError>
+) -> Read<'a, ValueSyntax>
     requires tokens { AreTokens text.now tokens.now }
     ensures read { ReadsAs tree_of (braced_at small (value_at small depth)) text.now tokens.now result }
     ensures rest { IfOk result (λ x. AreTokens text.now x.1.now) }
 {
     match tokens {
-        [
-            Token {
-                kind: TokenKind::Mark(Mark::CloseBrace),
-                ..
-            },
-            rest @ ..,
-        ] => {
+        [mark!(CloseBrace), rest @ ..] => {
             let form = ValueForm::Empty;
             Ok((ValueSyntax { at, form }, rest))
         }
-        [
-            first @ Token {
-                kind: TokenKind::Number,
-                ..
-            },
-            second @ Token {
-                kind: TokenKind::Number,
-                ..
-            },
-            rest @ ..,
-        ] => {
+        [first @ kind!(Number), second @ kind!(Number), rest @ ..] => {
             let first = small_number(text, *first, tokens.len())?;
             let second = small_number(text, *second, tokens.len() - 1)?;
             two_numbers(alloc, text, at, first, second, rest)
         }
-        [
-            number @ Token {
-                kind: TokenKind::Number,
-                ..
-            },
-            ..
-        ] => {
+        [number @ kind!(Number), ..] => {
             small_number(text, *number, tokens.len())?;
             listed(alloc, text, at, true, tokens, depth)
         }
-        [
-            Token {
-                kind: TokenKind::Identifier,
-                ..
-            },
-            Token {
-                kind: TokenKind::Mark(Mark::Comma | Mark::Colon | Mark::CloseBrace),
-                ..
-            },
-            ..
-        ] => listed(alloc, text, at, true, tokens, depth),
-        [
-            Token {
-                kind: TokenKind::Identifier,
-                ..
-            },
-            ..
-        ] => listed(alloc, text, at, false, tokens, depth),
+        [kind!(Identifier), mark!(Comma | Colon | CloseBrace), ..] => listed(
+            alloc, text, at, true, tokens, depth,
+        ),
+        [kind!(Identifier), ..] => listed(alloc, text, at, false, tokens, depth),
         _ => listed(alloc, text, at, true, tokens, depth),
     }
 }
@@ -245,7 +189,7 @@ fn listed<'a>(
     plain: bool,
     tokens: &'a [Token],
     depth: usize,
-) -> Result<(ValueSyntax, &'a [Token]), ReadError>
+) -> Read<'a, ValueSyntax>
     requires tokens { AreTokens text.now tokens.now }
     ensures read { ReadsAs tree_of (by_name_at plain (value_at small depth)) text.now tokens.now result }
     ensures rest { IfOk result (λ x. AreTokens text.now x.1.now) }
@@ -283,13 +227,7 @@ fn next_number<'a>(text: &[u8], tokens: &'a [Token]) -> Option<(Token, &'a [Toke
         × AreTokens text.now x.1.now × (length x.1.now < length tokens.now)) }
 {
     match tokens {
-        [
-            number @ Token {
-                kind: TokenKind::Number,
-                ..
-            },
-            rest @ ..,
-        ] => Some((*number, rest)),
+        [number @ kind!(Number), rest @ ..] => Some((*number, rest)),
         _ => None,
     }
 }
@@ -303,7 +241,7 @@ fn two_numbers<'a>(
     first: u128,
     second: u128,
     tokens: &'a [Token],
-) -> Result<(ValueSyntax, &'a [Token]), ReadError>
+) -> Read<'a, ValueSyntax>
     requires tokens { AreTokens text.now tokens.now }
     ensures read { ReadsAs tree_of (two_numbers_at small first second) text.now tokens.now result }
     ensures rest { IfOk result (λ x. AreTokens text.now x.1.now) }
@@ -320,7 +258,7 @@ fn numbers<'a>(
     first: u128,
     second: u128,
     tokens: &'a [Token],
-) -> Result<(Vec<u128>, &'a [Token]), ReadError>
+) -> Read<'a, Vec<u128>>
     requires tokens { AreTokens text.now tokens.now }
     ensures read { ReadsAs (λ x. x.items) (λ ts. with_front (first ∷ second ∷ []) (numbers_at small ts))
         text.now tokens.now result }

@@ -2,14 +2,13 @@
 
 ghost use Rattle.std.specs.Prelude.{◌≡◌, ◌<◌, Some, None, MatchOption, length, map, IfOk};
 ghost use Rattle.grammar.specs.Lexeme.{lexemes};
-ghost use Rattle.notation.specs.Reads.{ReadsAs};
+ghost use Rattle.kernel.specs.Reads.{ReadsAs};
 ghost use Rattle.kernel.specs.Given.{AreTokens};
 ghost use Rattle.notation.specs.ConstraintReading.{next_or, by_or_at};
 
-use kernel::{Part, ReadError};
+use kernel::{Part, Read};
 use std::alloc::Global;
-use text::reserved::Word;
-use text::{Mark, Token, TokenKind};
+use text::{Token, mark, word};
 
 /// The tokens behind `|` or `UNION`, if one of them is next.
 #[tactic(auto, unfolding(crate::specs::ConstraintReading::next_or))]
@@ -20,13 +19,7 @@ fn or<'a>(text: &[u8], tokens: &'a [Token]) -> Option<&'a [Token]>
         × AreTokens text.now x.now × (length x.now < length tokens.now)) }
 {
     match tokens {
-        [
-            Token {
-                kind: TokenKind::Mark(Mark::Bar) | TokenKind::Reserved(Word::Union),
-                ..
-            },
-            rest @ ..,
-        ] => Some(rest),
+        [mark!(Bar) | word!(Union), rest @ ..] => Some(rest),
         _ => None,
     }
 }
@@ -37,10 +30,11 @@ pub fn by_or<'t, P: Part<'t>>(
     text: &[u8],
     part: &P,
     tokens: &'t [Token],
-) -> Result<(Vec<P::Tree>, &'t [Token]), ReadError>
+) -> Read<'t, Vec<P::Tree>>
     requires ready { P.is_ready part.now text.now }
     requires tokens { AreTokens text.now tokens.now }
-    ensures read { ReadsAs (λ x. map P.view x.items) (by_or_at (P.reader part.now)) text.now tokens.now result }
+    ensures read { ReadsAs (λ x. map P.view x.items) (by_or_at (P.reader part.now))
+        text.now tokens.now result }
     ensures rest { IfOk result (λ x. AreTokens text.now x.1.now) }
 {
     let mut parts = Vec::new(alloc);

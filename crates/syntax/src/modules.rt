@@ -5,20 +5,19 @@ ghost use Rattle.text.specs.declared.token.TokenKind.TheVariants as kinds;
 ghost use Rattle.grammar.specs.Lexeme.{lexemes};
 ghost use Rattle.grammar.specs.Manies.{is_begun_by};
 ghost use Rattle.grammar.specs.Places.{small};
-ghost use Rattle.notation.specs.Reads.{ReadsAs, SkipsAs, name_in};
+ghost use Rattle.kernel.specs.Reads.{ReadsAs, SkipsAs, name_in};
 ghost use Rattle.kernel.specs.Given.{IsTokenOf, AreTokens};
 ghost use Rattle.trees.specs.Modules.{assignment_of, module_tree_of};
 ghost use Rattle.grammar.specs.Single.{end_at};
 ghost use Rattle.syntax.specs.Reading.{type_assigned_at, value_assigned_at, begins_assignment, assignment_at, many_assignments_at, assignments_at};
 ghost use Rattle.syntax.specs.ModuleReading.{module_at};
 
-use kernel::ReadError;
 use kernel::decode::name_at;
+use kernel::{Read, ReadError};
 use module_head::head::{assign, head};
 use notation::reading::value;
 use std::alloc::Global;
-use text::reserved::Word;
-use text::{Token, TokenKind};
+use text::{Token, kind, word};
 use trees::{Assignment, Module, TypeAssignment, ValueAssignment};
 use type_syntax::types::type_syntax;
 
@@ -30,13 +29,7 @@ fn end<'a>(text: &[u8], tokens: &'a [Token]) -> Result<&'a [Token], ReadError>
     ensures rest { IfOk result (λ x. AreTokens text.now x.now) }
 {
     match tokens {
-        [
-            Token {
-                kind: TokenKind::Reserved(Word::End),
-                ..
-            },
-            rest @ ..,
-        ] => Ok(rest),
+        [word!(End), rest @ ..] => Ok(rest),
         _ => Err(ReadError::Unexpected(tokens.len())),
     }
 }
@@ -48,7 +41,7 @@ fn type_assignment<'a>(
     name: Token,
     tokens: &'a [Token],
     depth: usize,
-) -> Result<(Assignment, &'a [Token]), ReadError>
+) -> Read<'a, Assignment>
     requires tokens { AreTokens text.now tokens.now }
     requires before { IsTokenOf text.now name }
     requires name { name.kind ≡ kinds.TypeReference }
@@ -69,7 +62,7 @@ fn value_assignment<'a>(
     name: Token,
     tokens: &'a [Token],
     depth: usize,
-) -> Result<(Assignment, &'a [Token]), ReadError>
+) -> Read<'a, Assignment>
     requires tokens { AreTokens text.now tokens.now }
     requires before { IsTokenOf text.now name }
     requires name { name.kind ≡ kinds.Identifier }
@@ -98,26 +91,18 @@ fn assignment<'a>(
     text: &[u8],
     tokens: &'a [Token],
     depth: usize,
-) -> Result<(Assignment, &'a [Token]), ReadError>
+) -> Read<'a, Assignment>
     requires tokens { AreTokens text.now tokens.now }
     ensures read { ReadsAs assignment_of (assignment_at small depth) text.now tokens.now result }
     ensures rest { IfOk result (λ x. AreTokens text.now x.1.now) }
 {
     match tokens {
-        [
-            name @ Token {
-                kind: TokenKind::TypeReference,
-                ..
-            },
-            rest @ ..,
-        ] => { type_assignment(alloc, text, *name, rest, depth) }
-        [
-            name @ Token {
-                kind: TokenKind::Identifier,
-                ..
-            },
-            rest @ ..,
-        ] => { value_assignment(alloc, text, *name, rest, depth) }
+        [name @ kind!(TypeReference), rest @ ..] => {
+            type_assignment(alloc, text, *name, rest, depth)
+        }
+        [name @ kind!(Identifier), rest @ ..] => {
+            value_assignment(alloc, text, *name, rest, depth)
+        }
         _ => Err(ReadError::Unexpected(tokens.len())),
     }
 }
@@ -126,16 +111,7 @@ fn assignment<'a>(
 fn begins(text: &[u8], tokens: &[Token]) -> bool
     ensures { result ≡ is_begun_by begins_assignment (lexemes text.now tokens.now) }
 {
-    matches!(
-        tokens,
-        [
-            Token {
-                kind: TokenKind::TypeReference | TokenKind::Identifier,
-                ..
-            },
-            ..
-        ]
-    )
+    matches!(tokens, [kind!(TypeReference | Identifier), ..])
 }
 
 /// Reads assignments, as many as there are.
@@ -144,7 +120,7 @@ fn many<'a>(
     text: &[u8],
     tokens: &'a [Token],
     depth: usize,
-) -> Result<(Vec<Assignment>, &'a [Token]), ReadError>
+) -> Read<'a, Vec<Assignment>>
     requires tokens { AreTokens text.now tokens.now }
     ensures read { ReadsAs (λ x. map assignment_of x.items) (many_assignments_at small depth)
         text.now tokens.now result }
@@ -168,9 +144,10 @@ fn assignments<'a>(
     text: &[u8],
     tokens: &'a [Token],
     depth: usize,
-) -> Result<(Vec<Assignment>, &'a [Token]), ReadError>
+) -> Read<'a, Vec<Assignment>>
     requires tokens { AreTokens text.now tokens.now }
-    ensures read { ReadsAs (λ x. map assignment_of x.items) (assignments_at small depth) text.now tokens.now result }
+    ensures read { ReadsAs (λ x. map assignment_of x.items) (assignments_at small depth)
+        text.now tokens.now result }
     ensures rest { IfOk result (λ x. AreTokens text.now x.1.now) }
 {
     let (assignments, rest) = many(alloc, text, tokens, depth)?;
@@ -179,12 +156,7 @@ fn assignments<'a>(
 
 /// Reads a module, where so many things may be open at one place.
 #[tactic(auto, unfolding(crate::specs::ModuleReading::module_at))]
-pub fn module<'a>(
-    alloc: Global,
-    text: &[u8],
-    tokens: &'a [Token],
-    depth: usize,
-) -> Result<(Module, &'a [Token]), ReadError>
+pub fn module<'a>(alloc: Global, text: &[u8], tokens: &'a [Token], depth: usize) -> Read<'a, Module>
     requires tokens { AreTokens text.now tokens.now }
     ensures read { ReadsAs module_tree_of (module_at small depth) text.now tokens.now result }
     ensures rest { IfOk result (λ x. AreTokens text.now x.1.now) }

@@ -6,33 +6,24 @@ ghost use Rattle.grammar.specs.Manies.{is_begun_by};
 ghost use Rattle.grammar.specs.Places.{small};
 ghost use Rattle.grammar.specs.Reading.{many_at};
 ghost use Rattle.kernel.specs.Given.{Gives, AreTokens};
+ghost use Rattle.kernel.specs.Reads.{ReadsAs};
 ghost use Rattle.trees.specs.Constraints.{constraint_of};
 ghost use Rattle.notation.specs.ConstraintReading.{constraint_at};
 ghost use Rattle.grammar.specs.Reading.{is_open, parens_at};
 ghost use Rattle.type_parts.specs.PlainReading.{constraints_at, some_size_at, size_in_parens_at, list_size_at};
 
-use kernel::ReadError;
+use kernel::Read;
 use kernel::marks::{close, open};
 use notation::constraint_reading::{constraint, size};
 use std::alloc::Global;
-use text::reserved::Word;
-use text::{Mark, Token, TokenKind};
+use text::{Token, mark, word};
 use trees::ConstraintSyntax;
 
 /// Whether a constraint is next.
 fn begins(text: &[u8], tokens: &[Token]) -> bool
     ensures { result ≡ is_begun_by is_open (lexemes text.now tokens.now) }
 {
-    matches!(
-        tokens,
-        [
-            Token {
-                kind: TokenKind::Mark(Mark::OpenParenthesis),
-                ..
-            },
-            ..
-        ]
-    )
+    matches!(tokens, [mark!(OpenParenthesis), ..])
 }
 
 /// Reads constraints, as many as there are.
@@ -40,7 +31,7 @@ fn constraints<'a>(
     alloc: Global,
     text: &[u8],
     tokens: &'a [Token],
-) -> Result<(Vec<ConstraintSyntax>, &'a [Token]), ReadError>
+) -> Read<'a, Vec<ConstraintSyntax>>
     requires tokens { AreTokens text.now tokens.now }
     ensures read { Gives (λ x. (map constraint_of x.0.items, lexemes text.now x.1.now)) result
         (many_at is_open (constraint_at small) (length (lexemes text.now tokens.now)) (lexemes text.now tokens.now)) }
@@ -63,10 +54,10 @@ pub fn behind_type<'a>(
     alloc: Global,
     text: &[u8],
     tokens: &'a [Token],
-) -> Result<(Vec<ConstraintSyntax>, &'a [Token]), ReadError>
+) -> Read<'a, Vec<ConstraintSyntax>>
     requires tokens { AreTokens text.now tokens.now }
-    ensures read { Gives (λ x. (map constraint_of x.0.items, lexemes text.now x.1.now)) result
-        (constraints_at small (lexemes text.now tokens.now)) }
+    ensures read { ReadsAs (λ x. map constraint_of x.items) (constraints_at small)
+        text.now tokens.now result }
     ensures rest { IfOk result (λ x. AreTokens text.now x.1.now) }
 {
     constraints(alloc, text, tokens)
@@ -78,10 +69,9 @@ fn some_size<'a>(
     alloc: Global,
     text: &[u8],
     tokens: &'a [Token],
-) -> Result<(Option<ConstraintSyntax>, &'a [Token]), ReadError>
+) -> Read<'a, Option<ConstraintSyntax>>
     requires tokens { AreTokens text.now tokens.now }
-    ensures read { Gives (λ x. (option_map constraint_of x.0, lexemes text.now x.1.now)) result
-        (some_size_at small (lexemes text.now tokens.now)) }
+    ensures read { ReadsAs (option_map constraint_of) (some_size_at small) text.now tokens.now result }
     ensures rest { IfOk result (λ x. AreTokens text.now x.1.now) }
 {
     let (size, rest) = size(alloc, text, tokens)?;
@@ -94,10 +84,9 @@ fn size_in_parens<'a>(
     alloc: Global,
     text: &[u8],
     tokens: &'a [Token],
-) -> Result<(Option<ConstraintSyntax>, &'a [Token]), ReadError>
+) -> Read<'a, Option<ConstraintSyntax>>
     requires tokens { AreTokens text.now tokens.now }
-    ensures read { Gives (λ x. (option_map constraint_of x.0, lexemes text.now x.1.now)) result
-        (size_in_parens_at small (lexemes text.now tokens.now)) }
+    ensures read { ReadsAs (option_map constraint_of) (size_in_parens_at small) text.now tokens.now result }
     ensures rest { IfOk result (λ x. AreTokens text.now x.1.now) }
 {
     let rest = open(text, tokens)?;
@@ -111,27 +100,14 @@ pub fn list_size<'a>(
     alloc: Global,
     text: &[u8],
     tokens: &'a [Token],
-) -> Result<(Option<ConstraintSyntax>, &'a [Token]), ReadError>
+) -> Read<'a, Option<ConstraintSyntax>>
     requires tokens { AreTokens text.now tokens.now }
-    ensures read { Gives (λ x. (option_map constraint_of x.0, lexemes text.now x.1.now)) result
-        (list_size_at small (lexemes text.now tokens.now)) }
+    ensures read { ReadsAs (option_map constraint_of) (list_size_at small) text.now tokens.now result }
     ensures rest { IfOk result (λ x. AreTokens text.now x.1.now) }
 {
     match tokens {
-        [
-            Token {
-                kind: TokenKind::Reserved(Word::Size),
-                ..
-            },
-            ..
-        ] => some_size(alloc, text, tokens),
-        [
-            Token {
-                kind: TokenKind::Mark(Mark::OpenParenthesis),
-                ..
-            },
-            ..
-        ] => size_in_parens(alloc, text, tokens),
+        [word!(Size), ..] => some_size(alloc, text, tokens),
+        [mark!(OpenParenthesis), ..] => size_in_parens(alloc, text, tokens),
         _ => Ok((None, tokens)),
     }
 }

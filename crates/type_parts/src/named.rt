@@ -1,14 +1,14 @@
 //! Reading named numbers, named bits and the items of an enumeration.
 
 ghost use Rattle.std.specs.Prelude.{IfOk};
-ghost use Rattle.grammar.specs.Lexeme.{lexemes};
 ghost use Rattle.grammar.specs.Places.{small};
-ghost use Rattle.kernel.specs.Given.{Gives, AreTokens};
+ghost use Rattle.kernel.specs.Given.{AreTokens};
+ghost use Rattle.kernel.specs.Reads.{ReadsAs};
 ghost use Rattle.trees.specs.Types.{plain_of};
 ghost use Rattle.type_parts.specs.PlainReading.{integer_at, bits_at, enumerated_at};
 
 use crate::numbers::{Number, Signed};
-use kernel::{ExtensibleList, InBraces, InParens, Listed, Optional, Part, ReadError, WithName};
+use kernel::{ExtensibleList, InBraces, InParens, Listed, Optional, Part, Read, WithName};
 use std::alloc::Global;
 use text::Token;
 use trees::{EnumeratedItem, EnumeratedSyntax, NamedBit, NamedNumber, Simple};
@@ -37,12 +37,7 @@ impl<'t> Part<'t> for NumberPart {
 
     ghost is_short = { λ _ _ _. named_number_short small };
 
-    fn read(
-        &self,
-        alloc: Global,
-        text: &[u8],
-        tokens: &'t [Token],
-    ) -> Result<(NamedNumber, &'t [Token]), ReadError> {
+    fn read(&self, alloc: Global, text: &[u8], tokens: &'t [Token]) -> Read<'t, NamedNumber> {
         let part = WithName {
             part: InParens { part: Signed },
         };
@@ -81,12 +76,7 @@ impl<'t> Part<'t> for BitPart {
 
     ghost is_short = { λ _ _ _. named_bit_short small };
 
-    fn read(
-        &self,
-        alloc: Global,
-        text: &[u8],
-        tokens: &'t [Token],
-    ) -> Result<(NamedBit, &'t [Token]), ReadError> {
+    fn read(&self, alloc: Global, text: &[u8], tokens: &'t [Token]) -> Read<'t, NamedBit> {
         let part = WithName {
             part: InParens { part: Number },
         };
@@ -125,12 +115,7 @@ impl<'t> Part<'t> for ItemPart {
 
     ghost is_short = { λ _ _ _. item_short small };
 
-    fn read(
-        &self,
-        alloc: Global,
-        text: &[u8],
-        tokens: &'t [Token],
-    ) -> Result<(EnumeratedItem, &'t [Token]), ReadError> {
+    fn read(&self, alloc: Global, text: &[u8], tokens: &'t [Token]) -> Read<'t, EnumeratedItem> {
         let part = WithName {
             part: Optional {
                 part: InParens { part: Signed },
@@ -154,10 +139,9 @@ pub fn integer<'t>(
     text: &[u8],
     tokens: &'t [Token],
     depth: usize,
-) -> Result<(Simple, &'t [Token]), ReadError>
+) -> Read<'t, Simple>
     requires tokens { AreTokens text.now tokens.now }
-    ensures read { Gives (λ x. (plain_of x.0, lexemes text.now x.1.now)) result
-        (integer_at small depth (lexemes text.now tokens.now)) }
+    ensures read { ReadsAs plain_of (integer_at small depth) text.now tokens.now result }
     ensures rest { IfOk result (λ x. AreTokens text.now x.1.now) }
 {
     let part = Listed { part: NumberPart };
@@ -173,15 +157,9 @@ pub fn integer<'t>(
 
 /// Reads what stands behind `BIT STRING` (X.680, clause 22.1).
 #[tactic(auto, unfolding(crate::specs::PlainReading::bits_at))]
-pub fn bits<'t>(
-    alloc: Global,
-    text: &[u8],
-    tokens: &'t [Token],
-    depth: usize,
-) -> Result<(Simple, &'t [Token]), ReadError>
+pub fn bits<'t>(alloc: Global, text: &[u8], tokens: &'t [Token], depth: usize) -> Read<'t, Simple>
     requires tokens { AreTokens text.now tokens.now }
-    ensures read { Gives (λ x. (plain_of x.0, lexemes text.now x.1.now)) result
-        (bits_at small depth (lexemes text.now tokens.now)) }
+    ensures read { ReadsAs plain_of (bits_at small depth) text.now tokens.now result }
     ensures rest { IfOk result (λ x. AreTokens text.now x.1.now) }
 {
     let part = Listed { part: BitPart };
@@ -202,10 +180,9 @@ pub fn enumerated<'t>(
     text: &[u8],
     tokens: &'t [Token],
     depth: usize,
-) -> Result<(Simple, &'t [Token]), ReadError>
+) -> Read<'t, Simple>
     requires tokens { AreTokens text.now tokens.now }
-    ensures read { Gives (λ x. (plain_of x.0, lexemes text.now x.1.now)) result
-        (enumerated_at small depth (lexemes text.now tokens.now)) }
+    ensures read { ReadsAs plain_of (enumerated_at small depth) text.now tokens.now result }
     ensures rest { IfOk result (λ x. AreTokens text.now x.1.now) }
 {
     let part = ExtensibleList {

@@ -1,10 +1,10 @@
 //! Reading numbers.
 
 use kernel::decode::small_number;
-use kernel::{Part, ReadError};
+use kernel::{Part, Read, ReadError};
 use notation::numbers::{negative, positive};
 use std::alloc::Global;
-use text::{Mark, Token, TokenKind};
+use text::{Token, kind, mark};
 
 /// A number.
 #[derive(Drop)]
@@ -29,20 +29,9 @@ impl<'t> Part<'t> for Number {
     ghost is_short = { λ _ _ _. number_short small };
 
     #[tactic(auto, unfolding(grammar::specs::Rules::number_at))]
-    fn read(
-        &self,
-        _alloc: Global,
-        text: &[u8],
-        tokens: &'t [Token],
-    ) -> Result<(u128, &'t [Token]), ReadError> {
+    fn read(&self, _alloc: Global, text: &[u8], tokens: &'t [Token]) -> Read<'t, u128> {
         match tokens {
-            [
-                number @ Token {
-                    kind: TokenKind::Number,
-                    ..
-                },
-                rest @ ..,
-            ] => {
+            [number @ kind!(Number), rest @ ..] => {
                 let value = small_number(text, *number, tokens.len())?;
                 Ok((value, rest))
             }
@@ -74,41 +63,17 @@ impl<'t> Part<'t> for Signed {
     ghost is_short = { λ _ _ _. signed_short small };
 
     #[tactic(auto, unfolding(crate::specs::PlainReading::signed_at, crate::specs::PlainReading::negative_at))]
-    fn read(
-        &self,
-        _alloc: Global,
-        text: &[u8],
-        tokens: &'t [Token],
-    ) -> Result<(i128, &'t [Token]), ReadError> {
+    fn read(&self, _alloc: Global, text: &[u8], tokens: &'t [Token]) -> Read<'t, i128> {
         match tokens {
-            [
-                number @ Token {
-                    kind: TokenKind::Number,
-                    ..
-                },
-                rest @ ..,
-            ] => {
+            [number @ kind!(Number), rest @ ..] => {
                 let value = positive(text, *number, tokens.len())?;
                 Ok((value, rest))
             }
-            [
-                Token {
-                    kind: TokenKind::Mark(Mark::Minus),
-                    ..
-                },
-                number @ Token {
-                    kind: TokenKind::Number,
-                    ..
-                },
-                rest @ ..,
-            ] => Ok((negative(text, *number), rest)),
-            [
-                Token {
-                    kind: TokenKind::Mark(Mark::Minus),
-                    ..
-                },
-                rest @ ..,
-            ] => Err(ReadError::Unexpected(rest.len())),
+            [mark!(Minus), number @ kind!(Number), rest @ ..] => Ok((
+                negative(text, *number),
+                rest,
+            )),
+            [mark!(Minus), rest @ ..] => Err(ReadError::Unexpected(rest.len())),
             _ => Err(ReadError::Unexpected(tokens.len())),
         }
     }

@@ -1,36 +1,30 @@
 //! Reading types that hold no type.
 
 ghost use Rattle.std.specs.Prelude.{◌≡◌, option_map, IfOk};
-ghost use Rattle.grammar.specs.Lexeme.{lexemes};
 ghost use Rattle.grammar.specs.Places.{small};
-ghost use Rattle.kernel.specs.Given.{Gives, AreTokens};
+ghost use Rattle.kernel.specs.Given.{AreTokens};
+ghost use Rattle.kernel.specs.Reads.{ReadsAs, SkipsAs};
 ghost use Rattle.trees.specs.Types.{plain_of};
 ghost use Rattle.type_parts.specs.PlainGrammar.{type_of_word};
 ghost use Rattle.type_parts.specs.PlainReading.{string_at, identifier_at, one_word_at, object_at, octets_at, bit_string_at, simple_at};
 
 use crate::named::{bits, enumerated, integer};
 use asn_base::strings::StringKind;
-use kernel::ReadError;
+use kernel::{Read, ReadError};
 use std::alloc::Global;
 use text::reserved::Word;
-use text::{Token, TokenKind};
+use text::{Token, TokenKind, word};
 use trees::Simple;
 
 /// The tokens behind `STRING`.
 #[tactic(auto, unfolding(crate::specs::PlainReading::string_at))]
 fn string<'a>(text: &[u8], tokens: &'a [Token]) -> Result<&'a [Token], ReadError>
     requires tokens { AreTokens text.now tokens.now }
-    ensures read { Gives (λ x. (tt, lexemes text.now x.now)) result (string_at (lexemes text.now tokens.now)) }
+    ensures read { SkipsAs string_at text.now tokens.now result }
     ensures rest { IfOk result (λ x. AreTokens text.now x.now) }
 {
     match tokens {
-        [
-            Token {
-                kind: TokenKind::Reserved(Word::String),
-                ..
-            },
-            rest @ ..,
-        ] => Ok(rest),
+        [word!(String), rest @ ..] => Ok(rest),
         _ => Err(ReadError::Unexpected(tokens.len())),
     }
 }
@@ -39,17 +33,11 @@ fn string<'a>(text: &[u8], tokens: &'a [Token]) -> Result<&'a [Token], ReadError
 #[tactic(auto, unfolding(crate::specs::PlainReading::identifier_at))]
 fn identifier<'a>(text: &[u8], tokens: &'a [Token]) -> Result<&'a [Token], ReadError>
     requires tokens { AreTokens text.now tokens.now }
-    ensures read { Gives (λ x. (tt, lexemes text.now x.now)) result (identifier_at (lexemes text.now tokens.now)) }
+    ensures read { SkipsAs identifier_at text.now tokens.now result }
     ensures rest { IfOk result (λ x. AreTokens text.now x.now) }
 {
     match tokens {
-        [
-            Token {
-                kind: TokenKind::Reserved(Word::Identifier),
-                ..
-            },
-            rest @ ..,
-        ] => Ok(rest),
+        [word!(Identifier), rest @ ..] => Ok(rest),
         _ => Err(ReadError::Unexpected(tokens.len())),
     }
 }
@@ -73,10 +61,9 @@ fn type_of(word: Word) -> Option<Simple>
 
 /// Reads a type that is one word.
 #[tactic(auto, unfolding(crate::specs::PlainReading::one_word_at))]
-fn one_word<'a>(text: &[u8], tokens: &'a [Token]) -> Result<(Simple, &'a [Token]), ReadError>
+fn one_word<'a>(text: &[u8], tokens: &'a [Token]) -> Read<'a, Simple>
     requires tokens { AreTokens text.now tokens.now }
-    ensures read { Gives (λ x. (plain_of x.0, lexemes text.now x.1.now)) result
-        (one_word_at (lexemes text.now tokens.now)) }
+    ensures read { ReadsAs plain_of one_word_at text.now tokens.now result }
     ensures rest { IfOk result (λ x. AreTokens text.now x.1.now) }
 {
     match tokens {
@@ -96,10 +83,9 @@ fn one_word<'a>(text: &[u8], tokens: &'a [Token]) -> Result<(Simple, &'a [Token]
 
 /// Reads what stands behind `OBJECT`.
 #[tactic(auto, unfolding(crate::specs::PlainReading::object_at))]
-fn object<'a>(text: &[u8], tokens: &'a [Token]) -> Result<(Simple, &'a [Token]), ReadError>
+fn object<'a>(text: &[u8], tokens: &'a [Token]) -> Read<'a, Simple>
     requires tokens { AreTokens text.now tokens.now }
-    ensures read { Gives (λ x. (plain_of x.0, lexemes text.now x.1.now)) result
-        (object_at (lexemes text.now tokens.now)) }
+    ensures read { ReadsAs plain_of object_at text.now tokens.now result }
     ensures rest { IfOk result (λ x. AreTokens text.now x.1.now) }
 {
     let rest = identifier(text, tokens)?;
@@ -108,10 +94,9 @@ fn object<'a>(text: &[u8], tokens: &'a [Token]) -> Result<(Simple, &'a [Token]),
 
 /// Reads what stands behind `OCTET`.
 #[tactic(auto, unfolding(crate::specs::PlainReading::octets_at))]
-fn octets<'a>(text: &[u8], tokens: &'a [Token]) -> Result<(Simple, &'a [Token]), ReadError>
+fn octets<'a>(text: &[u8], tokens: &'a [Token]) -> Read<'a, Simple>
     requires tokens { AreTokens text.now tokens.now }
-    ensures read { Gives (λ x. (plain_of x.0, lexemes text.now x.1.now)) result
-        (octets_at (lexemes text.now tokens.now)) }
+    ensures read { ReadsAs plain_of octets_at text.now tokens.now result }
     ensures rest { IfOk result (λ x. AreTokens text.now x.1.now) }
 {
     let rest = string(text, tokens)?;
@@ -120,15 +105,9 @@ fn octets<'a>(text: &[u8], tokens: &'a [Token]) -> Result<(Simple, &'a [Token]),
 
 /// Reads what stands behind `BIT` (X.680, clause 22.1).
 #[tactic(auto, unfolding(crate::specs::PlainReading::bit_string_at))]
-fn bit_string<'a>(
-    alloc: Global,
-    text: &[u8],
-    tokens: &'a [Token],
-    depth: usize,
-) -> Result<(Simple, &'a [Token]), ReadError>
+fn bit_string<'a>(alloc: Global, text: &[u8], tokens: &'a [Token], depth: usize) -> Read<'a, Simple>
     requires tokens { AreTokens text.now tokens.now }
-    ensures read { Gives (λ x. (plain_of x.0, lexemes text.now x.1.now)) result
-        (bit_string_at small depth (lexemes text.now tokens.now)) }
+    ensures read { ReadsAs plain_of (bit_string_at small depth) text.now tokens.now result }
     ensures rest { IfOk result (λ x. AreTokens text.now x.1.now) }
 {
     let rest = string(text, tokens)?;
@@ -137,15 +116,9 @@ fn bit_string<'a>(
 
 /// Reads a type that holds no type, where so many more things may be open (X.680, clause 17.1).
 #[tactic(auto, unfolding(crate::specs::PlainReading::simple_at, crate::specs::PlainReading::one_word_at))]
-pub fn simple<'a>(
-    alloc: Global,
-    text: &[u8],
-    tokens: &'a [Token],
-    depth: usize,
-) -> Result<(Simple, &'a [Token]), ReadError>
+pub fn simple<'a>(alloc: Global, text: &[u8], tokens: &'a [Token], depth: usize) -> Read<'a, Simple>
     requires tokens { AreTokens text.now tokens.now }
-    ensures read { Gives (λ x. (plain_of x.0, lexemes text.now x.1.now)) result
-        (simple_at small depth (lexemes text.now tokens.now)) }
+    ensures read { ReadsAs plain_of (simple_at small depth) text.now tokens.now result }
     ensures rest { IfOk result (λ x. AreTokens text.now x.1.now) }
 {
     let [first, rest @ ..] = tokens else {

@@ -1,16 +1,15 @@
 //! Reading a tag and the word behind it.
 
 ghost use Rattle.std.specs.Prelude.{◌<◌, IfOk};
-ghost use Rattle.grammar.specs.Lexeme.{lexemes};
 ghost use Rattle.grammar.specs.Places.{small};
-ghost use Rattle.kernel.specs.Given.{Gives, AreTokens};
+ghost use Rattle.kernel.specs.Given.{AreTokens};
+ghost use Rattle.kernel.specs.Reads.{ReadsAs, SkipsAs};
 ghost use Rattle.type_parts.specs.PlainReading.{keyword_at, bracket_at, low_number_at, low_end_at, application_at, private_at, context_at, tag_at};
 
 use asn_base::tag::{Class, Tag};
 use kernel::decode::number_of;
-use kernel::{Limit, ReadError};
-use text::reserved::Word;
-use text::{Mark, Token, TokenKind};
+use kernel::{Limit, Read, ReadError};
+use text::{Token, kind, mark, word};
 use trees::Keyword;
 
 /// The numbers of tags are less than this.
@@ -20,37 +19,25 @@ const LIMIT: u128 = 1 << 31;
 #[tactic(auto, unfolding(crate::specs::PlainReading::bracket_at))]
 fn bracket<'a>(text: &[u8], tokens: &'a [Token]) -> Result<&'a [Token], ReadError>
     requires tokens { AreTokens text.now tokens.now }
-    ensures read { Gives (λ x. (tt, lexemes text.now x.now)) result (bracket_at (lexemes text.now tokens.now)) }
+    ensures read { SkipsAs bracket_at text.now tokens.now result }
     ensures rest { IfOk result (λ x. AreTokens text.now x.now) }
 {
     match tokens {
-        [
-            Token {
-                kind: TokenKind::Mark(Mark::CloseBracket),
-                ..
-            },
-            rest @ ..,
-        ] => Ok(rest),
+        [mark!(CloseBracket), rest @ ..] => Ok(rest),
         _ => Err(ReadError::Unexpected(tokens.len())),
     }
 }
 
 /// Reads the number of a tag.
 #[tactic(auto, unfolding(crate::specs::PlainReading::low_number_at))]
-fn number<'a>(text: &[u8], tokens: &'a [Token]) -> Result<(u32, &'a [Token]), ReadError>
+fn number<'a>(text: &[u8], tokens: &'a [Token]) -> Read<'a, u32>
     requires tokens { AreTokens text.now tokens.now }
-    ensures read { Gives (λ x. (x.0, lexemes text.now x.1.now)) result (low_number_at (lexemes text.now tokens.now)) }
+    ensures read { ReadsAs (λ x. x) low_number_at text.now tokens.now result }
     ensures small { IfOk result (λ x. x.0 < 2147483648) }
     ensures rest { IfOk result (λ x. AreTokens text.now x.1.now) }
 {
     match tokens {
-        [
-            number @ Token {
-                kind: TokenKind::Number,
-                ..
-            },
-            rest @ ..,
-        ] => {
+        [number @ kind!(Number), rest @ ..] => {
             let value = number_of(text, *number);
             if value < LIMIT {
                 Ok((value as u32, rest))
@@ -64,9 +51,9 @@ fn number<'a>(text: &[u8], tokens: &'a [Token]) -> Result<(u32, &'a [Token]), Re
 
 /// Reads the number of a tag and the closing bracket.
 #[tactic(auto, unfolding(crate::specs::PlainReading::low_end_at))]
-fn end<'a>(text: &[u8], tokens: &'a [Token]) -> Result<(u32, &'a [Token]), ReadError>
+fn end<'a>(text: &[u8], tokens: &'a [Token]) -> Read<'a, u32>
     requires tokens { AreTokens text.now tokens.now }
-    ensures read { Gives (λ x. (x.0, lexemes text.now x.1.now)) result (low_end_at (lexemes text.now tokens.now)) }
+    ensures read { ReadsAs (λ x. x) low_end_at text.now tokens.now result }
     ensures small { IfOk result (λ x. x.0 < 2147483648) }
     ensures rest { IfOk result (λ x. AreTokens text.now x.1.now) }
 {
@@ -75,10 +62,9 @@ fn end<'a>(text: &[u8], tokens: &'a [Token]) -> Result<(u32, &'a [Token]), ReadE
 }
 
 /// Reads a tag of the application class, behind its word.
-fn application<'a>(text: &[u8], tokens: &'a [Token]) -> Result<(Tag, &'a [Token]), ReadError>
+fn application<'a>(text: &[u8], tokens: &'a [Token]) -> Read<'a, Tag>
     requires tokens { AreTokens text.now tokens.now }
-    ensures read { Gives (λ x. (x.0, lexemes text.now x.1.now)) result
-        (application_at small (lexemes text.now tokens.now)) }
+    ensures read { ReadsAs (λ x. x) (application_at small) text.now tokens.now result }
     ensures rest { IfOk result (λ x. AreTokens text.now x.1.now) }
 {
     let (number, rest) = end(text, tokens)?;
@@ -92,10 +78,9 @@ fn application<'a>(text: &[u8], tokens: &'a [Token]) -> Result<(Tag, &'a [Token]
 }
 
 /// Reads a tag of the private class, behind its word.
-fn private<'a>(text: &[u8], tokens: &'a [Token]) -> Result<(Tag, &'a [Token]), ReadError>
+fn private<'a>(text: &[u8], tokens: &'a [Token]) -> Read<'a, Tag>
     requires tokens { AreTokens text.now tokens.now }
-    ensures read { Gives (λ x. (x.0, lexemes text.now x.1.now)) result
-        (private_at small (lexemes text.now tokens.now)) }
+    ensures read { ReadsAs (λ x. x) (private_at small) text.now tokens.now result }
     ensures rest { IfOk result (λ x. AreTokens text.now x.1.now) }
 {
     let (number, rest) = end(text, tokens)?;
@@ -109,10 +94,9 @@ fn private<'a>(text: &[u8], tokens: &'a [Token]) -> Result<(Tag, &'a [Token]), R
 }
 
 /// Reads a tag of the context class.
-fn context<'a>(text: &[u8], tokens: &'a [Token]) -> Result<(Tag, &'a [Token]), ReadError>
+fn context<'a>(text: &[u8], tokens: &'a [Token]) -> Read<'a, Tag>
     requires tokens { AreTokens text.now tokens.now }
-    ensures read { Gives (λ x. (x.0, lexemes text.now x.1.now)) result
-        (context_at small (lexemes text.now tokens.now)) }
+    ensures read { ReadsAs (λ x. x) (context_at small) text.now tokens.now result }
     ensures rest { IfOk result (λ x. AreTokens text.now x.1.now) }
 {
     let (number, rest) = end(text, tokens)?;
@@ -127,52 +111,28 @@ fn context<'a>(text: &[u8], tokens: &'a [Token]) -> Result<(Tag, &'a [Token]), R
 
 /// Reads a tag behind its open bracket (X.680, clause 31.2.1).
 #[tactic(auto, unfolding(crate::specs::PlainReading::tag_at))]
-pub fn tag<'a>(text: &[u8], tokens: &'a [Token]) -> Result<(Tag, &'a [Token]), ReadError>
+pub fn tag<'a>(text: &[u8], tokens: &'a [Token]) -> Read<'a, Tag>
     requires tokens { AreTokens text.now tokens.now }
-    ensures read { Gives (λ x. (x.0, lexemes text.now x.1.now)) result (tag_at small (lexemes text.now tokens.now)) }
+    ensures read { ReadsAs (λ x. x) (tag_at small) text.now tokens.now result }
     ensures rest { IfOk result (λ x. AreTokens text.now x.1.now) }
 {
     match tokens {
-        [
-            Token {
-                kind: TokenKind::Reserved(Word::Application),
-                ..
-            },
-            rest @ ..,
-        ] => application(text, rest),
-        [
-            Token {
-                kind: TokenKind::Reserved(Word::Private),
-                ..
-            },
-            rest @ ..,
-        ] => private(text, rest),
+        [word!(Application), rest @ ..] => application(text, rest),
+        [word!(Private), rest @ ..] => private(text, rest),
         _ => context(text, tokens),
     }
 }
 
 /// Reads the word behind a tag, if there is one.
 #[tactic(auto, unfolding(crate::specs::PlainReading::keyword_at))]
-pub fn keyword<'a>(text: &[u8], tokens: &'a [Token]) -> Result<(Keyword, &'a [Token]), ReadError>
+pub fn keyword<'a>(text: &[u8], tokens: &'a [Token]) -> Read<'a, Keyword>
     requires tokens { AreTokens text.now tokens.now }
-    ensures read { Gives (λ x. (x.0, lexemes text.now x.1.now)) result (keyword_at (lexemes text.now tokens.now)) }
+    ensures read { ReadsAs (λ x. x) keyword_at text.now tokens.now result }
     ensures rest { IfOk result (λ x. AreTokens text.now x.1.now) }
 {
     match tokens {
-        [
-            Token {
-                kind: TokenKind::Reserved(Word::Implicit),
-                ..
-            },
-            rest @ ..,
-        ] => Ok((Keyword::Implicit, rest)),
-        [
-            Token {
-                kind: TokenKind::Reserved(Word::Explicit),
-                ..
-            },
-            rest @ ..,
-        ] => Ok((Keyword::Explicit, rest)),
+        [word!(Implicit), rest @ ..] => Ok((Keyword::Implicit, rest)),
+        [word!(Explicit), rest @ ..] => Ok((Keyword::Explicit, rest)),
         _ => Ok((Keyword::Absent, tokens)),
     }
 }

@@ -6,13 +6,14 @@ ghost use Rattle.grammar.specs.Manies.{is_begun_by};
 ghost use Rattle.grammar.specs.Places.{small};
 ghost use Rattle.grammar.specs.Reading.{inside_at, extensible_at, rootless_at, addition_at};
 ghost use Rattle.kernel.specs.Given.{Gives, AreTokens};
+ghost use Rattle.kernel.specs.Reads.{ReadsAs};
 ghost use Rattle.kernel.specs.Parts.{extensible_of, addition_of};
 ghost use Rattle.type_syntax.specs.TypeReading.{is_listing, listing_at};
 
 use kernel::marks::closed;
-use kernel::{Added, Addition, Extensible, ExtensibleList, Part, ReadError, RootlessList};
+use kernel::{Added, Addition, Extensible, ExtensibleList, Part, Read, RootlessList};
 use std::alloc::Global;
-use text::{Mark, Token, TokenKind};
+use text::{Token, kind, mark};
 
 /// Parts, one at least before an extension marker, with version brackets behind it.
 fn rooted<'t, P: Part<'t>>(
@@ -20,11 +21,12 @@ fn rooted<'t, P: Part<'t>>(
     text: &[u8],
     part: &P,
     tokens: &'t [Token],
-) -> Result<(Extensible<P::Tree, Addition<P::Tree>>, &'t [Token]), ReadError>
+) -> Read<'t, Extensible<P::Tree, Addition<P::Tree>>>
     requires ready { P.is_ready part.now text.now }
     requires tokens { AreTokens text.now tokens.now }
-    ensures read { Gives (λ x. (extensible_of P.view (addition_of P.view) x.0, lexemes text.now x.1.now)) result
-        (extensible_at (P.reader part.now) (addition_at small (P.reader part.now)) (lexemes text.now tokens.now)) }
+    ensures read { ReadsAs (extensible_of P.view (addition_of P.view))
+        (extensible_at (P.reader part.now) (addition_at small (P.reader part.now)))
+        text.now tokens.now result }
     ensures rest { IfOk result (λ x. AreTokens text.now x.1.now) }
 {
     let addition = Added { part };
@@ -37,11 +39,12 @@ fn rootless<'t, P: Part<'t>>(
     text: &[u8],
     part: &P,
     tokens: &'t [Token],
-) -> Result<(Extensible<P::Tree, Addition<P::Tree>>, &'t [Token]), ReadError>
+) -> Read<'t, Extensible<P::Tree, Addition<P::Tree>>>
     requires ready { P.is_ready part.now text.now }
     requires tokens { AreTokens text.now tokens.now }
-    ensures read { Gives (λ x. (extensible_of P.view (addition_of P.view) x.0, lexemes text.now x.1.now)) result
-        (rootless_at (P.reader part.now) (addition_at small (P.reader part.now)) (lexemes text.now tokens.now)) }
+    ensures read { ReadsAs (extensible_of P.view (addition_of P.view))
+        (rootless_at (P.reader part.now) (addition_at small (P.reader part.now)))
+        text.now tokens.now result }
     ensures rest { IfOk result (λ x. AreTokens text.now x.1.now) }
 {
     let addition = Added { part };
@@ -52,16 +55,7 @@ fn rootless<'t, P: Part<'t>>(
 fn begins(text: &[u8], tokens: &[Token]) -> bool
     ensures { result ≡ is_begun_by is_listing (lexemes text.now tokens.now) }
 {
-    matches!(
-        tokens,
-        [
-            Token {
-                kind: TokenKind::Identifier | TokenKind::Mark(Mark::Ellipsis),
-                ..
-            },
-            ..
-        ]
-    )
+    matches!(tokens, [kind!(Identifier) | mark!(Ellipsis), ..])
 }
 
 /// Reads alternatives as far as the closing brace, with an extension marker among them or not.
@@ -71,7 +65,7 @@ pub fn alternatives<'t, P: Part<'t>>(
     text: &[u8],
     part: &P,
     tokens: &'t [Token],
-) -> Result<(Extensible<P::Tree, Addition<P::Tree>>, &'t [Token]), ReadError>
+) -> Read<'t, Extensible<P::Tree, Addition<P::Tree>>>
     requires ready { P.is_ready part.now text.now }
     requires tokens { AreTokens text.now tokens.now }
     ensures read { Gives (λ x. (extensible_of P.view (addition_of P.view) x.0, lexemes text.now x.1.now)) result
@@ -90,7 +84,7 @@ fn listing<'t, P: Part<'t>>(
     text: &[u8],
     part: &P,
     tokens: &'t [Token],
-) -> Result<(Option<Extensible<P::Tree, Addition<P::Tree>>>, &'t [Token]), ReadError>
+) -> Read<'t, Option<Extensible<P::Tree, Addition<P::Tree>>>>
     requires ready { P.is_ready part.now text.now }
     requires tokens { AreTokens text.now tokens.now }
     ensures read { Gives
@@ -114,7 +108,7 @@ pub fn members<'t, P: Part<'t>>(
     text: &[u8],
     part: &P,
     tokens: &'t [Token],
-) -> Result<(Option<Extensible<P::Tree, Addition<P::Tree>>>, &'t [Token]), ReadError>
+) -> Read<'t, Option<Extensible<P::Tree, Addition<P::Tree>>>>
     requires ready { P.is_ready part.now text.now }
     requires tokens { AreTokens text.now tokens.now }
     ensures read { Gives

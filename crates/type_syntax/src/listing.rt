@@ -17,6 +17,9 @@ pub struct Component {
     pub presence: PresenceSyntax,
 }
 
+/// Members as they are read: those of the root, and those behind an extension marker, if it is there.
+pub type Listing = Extensible<Named<Component>, Addition<Named<Component>>>;
+
 /// A member where it stands.
 fn member(part: Named<Component>, standing: Standing) -> Member<TypeSyntax>
     ensures { type_member_of result ≡ a_member standing (named_component part) }
@@ -71,10 +74,7 @@ fn put_additions(
 }
 
 /// All members, those of the root first, each with where it stands.
-pub fn all_members(
-    alloc: Global,
-    list: Extensible<Named<Component>, Addition<Named<Component>>>,
-) -> Result<Vec<Member<TypeSyntax>>, AllocError>
+pub fn all_members(alloc: Global, list: Listing) -> Result<Vec<Member<TypeSyntax>>, AllocError>
     ensures { IfOk result (λ v. map type_member_of v.items ≡ all_members_of (listing_tree list)) }
 {
     let root = put_parts(Vec::new(alloc), list.root, Standing::Root)?;

@@ -5,6 +5,7 @@ ghost use Rattle.grammar.specs.Lexeme.{lexemes};
 ghost use Rattle.grammar.specs.Places.{small};
 ghost use Rattle.grammar.specs.Reading.{inside_at, braces_at, named_at};
 ghost use Rattle.kernel.specs.Given.{Gives, AreTokens};
+ghost use Rattle.kernel.specs.Reads.{ReadsAs};
 ghost use Rattle.notation.specs.Reading.{value_at};
 ghost use Rattle.trees.specs.Constraints.{constraint_of};
 ghost use Rattle.trees.specs.Types.{type_tree_of, a_type};
@@ -13,12 +14,11 @@ ghost use Rattle.type_syntax.specs.TypeReading.{component_at, bare_at, listing_a
 ghost use Rattle.type_syntax.specs.Listings.{component_of, listing_tree, form_tree};
 
 use crate::braces::{alternatives, members};
-use crate::listing::{Component, all_members};
-use kernel::{Addition, Extensible, Limit, Production, ReadError, WithName, reads_by};
+use crate::listing::{Component, Listing, all_members};
+use kernel::{Extensible, Limit, Production, Read, ReadError, WithName, reads_by};
 use std::alloc::{AllocError, Global};
 use std::marker::PhantomData;
-use text::reserved::Word;
-use text::{Mark, Token, TokenKind};
+use text::{Token, kind, mark, word};
 use trees::{
     ConstraintSyntax, ElementsKind, ListKind, Named, PresenceSyntax, TypeForm, TypeSyntax,
 };
@@ -125,7 +125,7 @@ fn size_alone(
 fn list_form(
     alloc: Global,
     kind: ListKind,
-    list: Extensible<Named<Component>, Addition<Named<Component>>>,
+    list: Listing,
 ) -> Result<TypeForm<TypeSyntax>, AllocError>
     ensures { IfOk result (λ f. form_tree f ≡ of_listing kind (listing_tree list)) }
 {
@@ -142,10 +142,9 @@ pub fn type_syntax<'a>(
     text: &[u8],
     tokens: &'a [Token],
     depth: usize,
-) -> Result<(TypeSyntax, &'a [Token]), ReadError>
+) -> Read<'a, TypeSyntax>
     requires tokens { AreTokens text.now tokens.now }
-    ensures read { Gives (λ x. (type_tree_of x.0, lexemes text.now x.1.now)) result
-        (type_at small depth (lexemes text.now tokens.now)) }
+    ensures read { ReadsAs type_tree_of (type_at small depth) text.now tokens.now result }
     ensures rest { IfOk result (λ x. AreTokens text.now x.1.now) }
 {
     step(alloc, text, tokens, depth)
@@ -154,39 +153,23 @@ pub fn type_syntax<'a>(
 /// Reads a type by its first token.
 #[tactic(auto, unfolding(crate::specs::TypeReading::type_step))]
 #[cycle(type_syntax)]
-fn step<'a>(
-    alloc: Global,
-    text: &[u8],
-    tokens: &'a [Token],
-    depth: usize,
-) -> Result<(TypeSyntax, &'a [Token]), ReadError>
+fn step<'a>(alloc: Global, text: &[u8], tokens: &'a [Token], depth: usize) -> Read<'a, TypeSyntax>
     requires tokens { AreTokens text.now tokens.now }
-    ensures read { Gives (λ x. (type_tree_of x.0, lexemes text.now x.1.now)) result
-        (type_step small depth (type_at small (depth - 1)) (value_at small (depth - 1)) (lexemes text.now tokens.now)) }
+    ensures read { ReadsAs type_tree_of (type_step small depth (type_at small (depth - 1)) (value_at small (depth - 1)))
+        text.now tokens.now result }
     ensures rest { IfOk result (λ x. AreTokens text.now x.1.now) }
 {
     match tokens {
-        [
-            Token {
-                kind: TokenKind::Mark(Mark::OpenBracket),
-                ..
-            },
-            ..
-        ] => tagged(alloc, text, tokens, depth),
-        [
-            first @ Token {
-                kind: TokenKind::Reserved(Word::Sequence),
-                ..
-            },
-            rest @ ..,
-        ] => behind(alloc, text, first.span.start, rest, depth, false),
-        [
-            first @ Token {
-                kind: TokenKind::Reserved(Word::Set),
-                ..
-            },
-            rest @ ..,
-        ] => behind(alloc, text, first.span.start, rest, depth, true),
+        [mark!(OpenBracket), ..] => tagged(alloc, text, tokens, depth),
+        [first @ word!(Sequence), rest @ ..] => behind(
+            alloc,
+            text,
+            first.span.start,
+            rest,
+            depth,
+            false,
+        ),
+        [first @ word!(Set), rest @ ..] => behind(alloc, text, first.span.start, rest, depth, true),
         _ => plain(alloc, text, tokens, depth),
     }
 }
@@ -194,25 +177,14 @@ fn step<'a>(
 /// Reads a tag and the type behind it.
 #[tactic(auto, unfolding(crate::specs::TypeReading::tagged_at))]
 #[cycle(type_syntax)]
-fn tagged<'a>(
-    alloc: Global,
-    text: &[u8],
-    tokens: &'a [Token],
-    depth: usize,
-) -> Result<(TypeSyntax, &'a [Token]), ReadError>
+fn tagged<'a>(alloc: Global, text: &[u8], tokens: &'a [Token], depth: usize) -> Read<'a, TypeSyntax>
     requires tokens { AreTokens text.now tokens.now }
-    ensures read { Gives (λ x. (type_tree_of x.0, lexemes text.now x.1.now)) result
-        (tagged_at small depth (type_at small (depth - 1)) (lexemes text.now tokens.now)) }
+    ensures read { ReadsAs type_tree_of (tagged_at small depth (type_at small (depth - 1)))
+        text.now tokens.now result }
     ensures rest { IfOk result (λ x. AreTokens text.now x.1.now) }
 {
     match tokens {
-        [
-            first @ Token {
-                kind: TokenKind::Mark(Mark::OpenBracket),
-                ..
-            },
-            rest @ ..,
-        ] => {
+        [first @ mark!(OpenBracket), rest @ ..] => {
             if depth == 0 {
                 return Err(ReadError::Limit(Limit::Nesting, tokens.len()));
             }
@@ -231,10 +203,10 @@ fn inside_tag<'a>(
     at: usize,
     tokens: &'a [Token],
     depth: usize,
-) -> Result<(TypeSyntax, &'a [Token]), ReadError>
+) -> Read<'a, TypeSyntax>
     requires tokens { AreTokens text.now tokens.now }
-    ensures read { Gives (λ x. (type_tree_of x.0, lexemes text.now x.1.now)) result
-        (inside_tag_at small (type_at small depth) (lexemes text.now tokens.now)) }
+    ensures read { ReadsAs type_tree_of (inside_tag_at small (type_at small depth))
+        text.now tokens.now result }
     ensures rest { IfOk result (λ x. AreTokens text.now x.1.now) }
 {
     let (tag, rest) = tag(text, tokens)?;
@@ -247,15 +219,10 @@ fn inside_tag<'a>(
 /// Reads what is no SEQUENCE and no SET, and the constraints behind it.
 #[tactic(auto, unfolding(crate::specs::TypeReading::plain_at, crate::specs::TypeReading::with_constraints_at))]
 #[cycle(type_syntax)]
-fn plain<'a>(
-    alloc: Global,
-    text: &[u8],
-    tokens: &'a [Token],
-    depth: usize,
-) -> Result<(TypeSyntax, &'a [Token]), ReadError>
+fn plain<'a>(alloc: Global, text: &[u8], tokens: &'a [Token], depth: usize) -> Read<'a, TypeSyntax>
     requires tokens { AreTokens text.now tokens.now }
-    ensures read { Gives (λ x. (type_tree_of x.0, lexemes text.now x.1.now)) result
-        (plain_at small depth (type_at small (depth - 1)) (lexemes text.now tokens.now)) }
+    ensures read { ReadsAs type_tree_of (plain_at small depth (type_at small (depth - 1)))
+        text.now tokens.now result }
     ensures rest { IfOk result (λ x. AreTokens text.now x.1.now) }
 {
     let (form, rest) = one_type(alloc, text, tokens, depth)?;
@@ -271,30 +238,18 @@ fn one_type<'a>(
     text: &[u8],
     tokens: &'a [Token],
     depth: usize,
-) -> Result<(TypeForm<TypeSyntax>, &'a [Token]), ReadError>
+) -> Read<'a, TypeForm<TypeSyntax>>
     requires tokens { AreTokens text.now tokens.now }
-    ensures read { Gives (λ x. (form_tree x.0, lexemes text.now x.1.now)) result
-        (one_type_at small depth (type_at small (depth - 1)) (lexemes text.now tokens.now)) }
+    ensures read { ReadsAs form_tree (one_type_at small depth (type_at small (depth - 1)))
+        text.now tokens.now result }
     ensures rest { IfOk result (λ x. AreTokens text.now x.1.now) }
 {
     match tokens {
-        [
-            first @ Token {
-                kind: TokenKind::TypeReference,
-                ..
-            },
-            rest @ ..,
-        ] => {
+        [first @ kind!(TypeReference), rest @ ..] => {
             let (name, rest) = reference(alloc, text, *first, rest)?;
             Ok((TypeForm::Reference(name), rest))
         }
-        [
-            Token {
-                kind: TokenKind::Reserved(Word::Choice),
-                ..
-            },
-            rest @ ..,
-        ] => choice(alloc, text, rest, depth),
+        [word!(Choice), rest @ ..] => choice(alloc, text, rest, depth),
         _ => {
             let (ty, rest) = simple(alloc, text, tokens, depth)?;
             Ok((TypeForm::Simple(ty), rest))
@@ -310,10 +265,10 @@ fn choice<'a>(
     text: &[u8],
     tokens: &'a [Token],
     depth: usize,
-) -> Result<(TypeForm<TypeSyntax>, &'a [Token]), ReadError>
+) -> Read<'a, TypeForm<TypeSyntax>>
     requires tokens { AreTokens text.now tokens.now }
-    ensures read { Gives (λ x. (form_tree x.0, lexemes text.now x.1.now)) result
-        (choice_at small depth (type_at small (depth - 1)) (lexemes text.now tokens.now)) }
+    ensures read { ReadsAs form_tree (choice_at small depth (type_at small (depth - 1)))
+        text.now tokens.now result }
     ensures rest { IfOk result (λ x. AreTokens text.now x.1.now) }
 {
     let (list, rest) = choice_braces(alloc, text, tokens, depth)?;
@@ -328,26 +283,14 @@ fn choice_braces<'a>(
     text: &[u8],
     tokens: &'a [Token],
     depth: usize,
-) -> Result<
-    (
-        Extensible<Named<Component>, Addition<Named<Component>>>,
-        &'a [Token],
-    ),
-    ReadError,
->
+) -> Read<'a, Listing>
     requires tokens { AreTokens text.now tokens.now }
-    ensures read { Gives (λ x. (listing_tree x.0, lexemes text.now x.1.now)) result
-        (braces_at depth (alternatives_at small (type_at small (depth - 1))) (lexemes text.now tokens.now)) }
+    ensures read { ReadsAs listing_tree (braces_at depth (alternatives_at small (type_at small (depth - 1))))
+        text.now tokens.now result }
     ensures rest { IfOk result (λ x. AreTokens text.now x.1.now) }
 {
     match tokens {
-        [
-            Token {
-                kind: TokenKind::Mark(Mark::OpenBrace),
-                ..
-            },
-            rest @ ..,
-        ] => {
+        [mark!(OpenBrace), rest @ ..] => {
             if depth == 0 {
                 return Err(ReadError::Limit(Limit::Nesting, tokens.len()));
             }
@@ -365,13 +308,7 @@ fn inside_choice<'a>(
     text: &[u8],
     tokens: &'a [Token],
     depth: usize,
-) -> Result<
-    (
-        Extensible<Named<Component>, Addition<Named<Component>>>,
-        &'a [Token],
-    ),
-    ReadError,
->
+) -> Read<'a, Listing>
     requires tokens { AreTokens text.now tokens.now }
     ensures read { Gives (λ x. (listing_tree x.0, lexemes text.now x.1.now)) result
         (inside_at (alternatives_at small (type_at small depth)) (lexemes text.now tokens.now)) }
@@ -394,15 +331,9 @@ fn inside_choice<'a>(
 /// Reads the type of an alternative.
 #[tactic(auto, unfolding(crate::specs::TypeReading::bare_at))]
 #[cycle(type_syntax)]
-fn bare<'a>(
-    alloc: Global,
-    text: &[u8],
-    tokens: &'a [Token],
-    depth: usize,
-) -> Result<(Component, &'a [Token]), ReadError>
+fn bare<'a>(alloc: Global, text: &[u8], tokens: &'a [Token], depth: usize) -> Read<'a, Component>
     requires tokens { AreTokens text.now tokens.now }
-    ensures read { Gives (λ x. (component_of x.0, lexemes text.now x.1.now)) result
-        (bare_at (type_at small depth) (lexemes text.now tokens.now)) }
+    ensures read { ReadsAs component_of (bare_at (type_at small depth)) text.now tokens.now result }
     ensures rest { IfOk result (λ x. AreTokens text.now x.1.now) }
 {
     let (syntax, rest) = type_syntax(alloc, text, tokens, depth)?;
@@ -420,21 +351,15 @@ fn behind<'a>(
     tokens: &'a [Token],
     depth: usize,
     set: bool,
-) -> Result<(TypeSyntax, &'a [Token]), ReadError>
+) -> Read<'a, TypeSyntax>
     requires tokens { AreTokens text.now tokens.now }
-    ensures read { Gives (λ x. (type_tree_of x.0, lexemes text.now x.1.now)) result
-        (behind_at small depth (type_at small (depth - 1)) (value_at small (depth - 1)) set
-        (lexemes text.now tokens.now)) }
+    ensures read { ReadsAs type_tree_of
+        (behind_at small depth (type_at small (depth - 1)) (value_at small (depth - 1)) set)
+        text.now tokens.now result }
     ensures rest { IfOk result (λ x. AreTokens text.now x.1.now) }
 {
     match tokens {
-        [
-            Token {
-                kind: TokenKind::Mark(Mark::OpenBrace),
-                ..
-            },
-            ..
-        ] => structure(alloc, text, at, tokens, depth, set),
+        [mark!(OpenBrace), ..] => structure(alloc, text, at, tokens, depth, set),
         _ => list(alloc, text, at, tokens, depth, set),
     }
 }
@@ -449,11 +374,11 @@ fn structure<'a>(
     tokens: &'a [Token],
     depth: usize,
     set: bool,
-) -> Result<(TypeSyntax, &'a [Token]), ReadError>
+) -> Read<'a, TypeSyntax>
     requires tokens { AreTokens text.now tokens.now }
-    ensures read { Gives (λ x. (type_tree_of x.0, lexemes text.now x.1.now)) result
-        (structure_at small depth (type_at small (depth - 1)) (value_at small (depth - 1)) set
-        (lexemes text.now tokens.now)) }
+    ensures read { ReadsAs type_tree_of
+        (structure_at small depth (type_at small (depth - 1)) (value_at small (depth - 1)) set)
+        text.now tokens.now result }
     ensures rest { IfOk result (λ x. AreTokens text.now x.1.now) }
 {
     let (list, rest) = body(alloc, text, tokens, depth)?;
@@ -466,21 +391,10 @@ fn structure<'a>(
 /// (X.680, clause 25.1).
 #[tactic(auto, unfolding(crate::specs::TypeReading::body_at))]
 #[cycle(type_syntax)]
-fn body<'a>(
-    alloc: Global,
-    text: &[u8],
-    tokens: &'a [Token],
-    depth: usize,
-) -> Result<
-    (
-        Extensible<Named<Component>, Addition<Named<Component>>>,
-        &'a [Token],
-    ),
-    ReadError,
->
+fn body<'a>(alloc: Global, text: &[u8], tokens: &'a [Token], depth: usize) -> Read<'a, Listing>
     requires tokens { AreTokens text.now tokens.now }
-    ensures read { Gives (λ x. (listing_tree x.0, lexemes text.now x.1.now)) result
-        (body_at small depth (type_at small (depth - 1)) (value_at small (depth - 1)) (lexemes text.now tokens.now)) }
+    ensures read { ReadsAs listing_tree (body_at small depth (type_at small (depth - 1)) (value_at small (depth - 1)))
+        text.now tokens.now result }
     ensures rest { IfOk result (λ x. AreTokens text.now x.1.now) }
 {
     let (list, rest) = list_braces(alloc, text, tokens, depth)?;
@@ -504,28 +418,15 @@ fn list_braces<'a>(
     text: &[u8],
     tokens: &'a [Token],
     depth: usize,
-) -> Result<
-    (
-        Option<Extensible<Named<Component>, Addition<Named<Component>>>>,
-        &'a [Token],
-    ),
-    ReadError,
->
+) -> Read<'a, Option<Listing>>
     requires tokens { AreTokens text.now tokens.now }
-    ensures read { Gives (λ x. (option_map listing_tree x.0, lexemes text.now x.1.now)) result
-        (braces_at depth
-        (listing_at small (named_at (component_at (type_at small (depth - 1)) (value_at small (depth - 1)))))
-        (lexemes text.now tokens.now)) }
+    ensures read { ReadsAs (option_map listing_tree)
+        (braces_at depth (listing_at small (named_at (component_at (type_at small (depth - 1)) (value_at small (depth - 1))))))
+        text.now tokens.now result }
     ensures rest { IfOk result (λ x. AreTokens text.now x.1.now) }
 {
     match tokens {
-        [
-            Token {
-                kind: TokenKind::Mark(Mark::OpenBrace),
-                ..
-            },
-            rest @ ..,
-        ] => {
+        [mark!(OpenBrace), rest @ ..] => {
             if depth == 0 {
                 return Err(ReadError::Limit(Limit::Nesting, tokens.len()));
             }
@@ -543,17 +444,11 @@ fn inside_list<'a>(
     text: &[u8],
     tokens: &'a [Token],
     depth: usize,
-) -> Result<
-    (
-        Option<Extensible<Named<Component>, Addition<Named<Component>>>>,
-        &'a [Token],
-    ),
-    ReadError,
->
+) -> Read<'a, Option<Listing>>
     requires tokens { AreTokens text.now tokens.now }
-    ensures read { Gives (λ x. (option_map listing_tree x.0, lexemes text.now x.1.now)) result
-        (inside_at (listing_at small (named_at (component_at (type_at small depth) (value_at small depth))))
-        (lexemes text.now tokens.now)) }
+    ensures read { ReadsAs (option_map listing_tree)
+        (inside_at (listing_at small (named_at (component_at (type_at small depth) (value_at small depth)))))
+        text.now tokens.now result }
     ensures rest { IfOk result (λ x. AreTokens text.now x.1.now) }
 {
     type_parts::law::parts_are_read();
@@ -561,8 +456,8 @@ fn inside_list<'a>(
         PhantomData::<Components>,
         |ts|
             requires { AreTokens text.now ts.now }
-            ensures read { Gives (λ x. (component_of x.0, lexemes text.entry.now x.1.now)) result
-                (component_at (type_at small depth) (value_at small depth) (lexemes text.entry.now ts.now)) }
+            ensures read { ReadsAs component_of (component_at (type_at small depth) (value_at small depth))
+                text.entry.now ts.now result }
             ensures rest { IfOk result (λ x. AreTokens text.entry.now x.1.now) }
         { component(alloc, text, ts, depth) },
         depth,
@@ -578,10 +473,10 @@ fn component<'a>(
     text: &[u8],
     tokens: &'a [Token],
     depth: usize,
-) -> Result<(Component, &'a [Token]), ReadError>
+) -> Read<'a, Component>
     requires tokens { AreTokens text.now tokens.now }
-    ensures read { Gives (λ x. (component_of x.0, lexemes text.now x.1.now)) result
-        (component_at (type_at small depth) (value_at small depth) (lexemes text.now tokens.now)) }
+    ensures read { ReadsAs component_of (component_at (type_at small depth) (value_at small depth))
+        text.now tokens.now result }
     ensures rest { IfOk result (λ x. AreTokens text.now x.1.now) }
 {
     let (syntax, rest) = type_syntax(alloc, text, tokens, depth)?;
@@ -599,10 +494,10 @@ fn list<'a>(
     tokens: &'a [Token],
     depth: usize,
     set: bool,
-) -> Result<(TypeSyntax, &'a [Token]), ReadError>
+) -> Read<'a, TypeSyntax>
     requires tokens { AreTokens text.now tokens.now }
-    ensures read { Gives (λ x. (type_tree_of x.0, lexemes text.now x.1.now)) result
-        (list_at small depth (type_at small (depth - 1)) set (lexemes text.now tokens.now)) }
+    ensures read { ReadsAs type_tree_of (list_at small depth (type_at small (depth - 1)) set)
+        text.now tokens.now result }
     ensures rest { IfOk result (λ x. AreTokens text.now x.1.now) }
 {
     let (size, rest) = list_size(alloc, text, tokens)?;
@@ -615,25 +510,14 @@ fn list<'a>(
 /// Reads `OF` and the type of the elements.
 #[tactic(auto, unfolding(crate::specs::TypeReading::of_at))]
 #[cycle(type_syntax)]
-fn of<'a>(
-    alloc: Global,
-    text: &[u8],
-    tokens: &'a [Token],
-    depth: usize,
-) -> Result<(TypeSyntax, &'a [Token]), ReadError>
+fn of<'a>(alloc: Global, text: &[u8], tokens: &'a [Token], depth: usize) -> Read<'a, TypeSyntax>
     requires tokens { AreTokens text.now tokens.now }
-    ensures read { Gives (λ x. (type_tree_of x.0, lexemes text.now x.1.now)) result
-        (of_at small depth (type_at small (depth - 1)) (lexemes text.now tokens.now)) }
+    ensures read { ReadsAs type_tree_of (of_at small depth (type_at small (depth - 1)))
+        text.now tokens.now result }
     ensures rest { IfOk result (λ x. AreTokens text.now x.1.now) }
 {
     match tokens {
-        [
-            Token {
-                kind: TokenKind::Reserved(Word::Of),
-                ..
-            },
-            rest @ ..,
-        ] => {
+        [word!(Of), rest @ ..] => {
             if depth == 0 {
                 return Err(ReadError::Limit(Limit::Nesting, tokens.len()));
             }
