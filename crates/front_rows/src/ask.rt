@@ -68,6 +68,7 @@ fn put_value_answer(
     }
 }
 
+/// Writes the constraint that a row asks for, or the size.
 fn put_constraint_answer(
     alloc: Global,
     out: &mut String,
@@ -81,31 +82,14 @@ fn put_constraint_answer(
     if place > tokens.len() {
         return out.push_str("no such place");
     }
-    match constraint_at(alloc, text, tokens, place) {
+    let found = if row.command() == "size" {
+        size_at(alloc, text, tokens, place)
+    } else {
+        constraint_at(alloc, text, tokens, place)
+    };
+    match found {
         Ok((constraint, end)) => {
             put_constraint(out, &constraint)?;
-            write!(out, ", to token {end}")
-        }
-        Err(fault) => put_fault(out, text, tokens, &fault),
-    }
-}
-
-fn put_size_answer(
-    alloc: Global,
-    out: &mut String,
-    row: &Row,
-    text: &[u8],
-    tokens: &[Token],
-) -> Result<(), AllocError>
-    requires { IsLexed text.now tokens.now }
-{
-    let place = number_behind(row, "at");
-    if place > tokens.len() {
-        return out.push_str("no such place");
-    }
-    match size_at(alloc, text, tokens, place) {
-        Ok((size, end)) => {
-            put_constraint(out, &size)?;
             write!(out, ", to token {end}")
         }
         Err(fault) => put_fault(out, text, tokens, &fault),
@@ -168,8 +152,7 @@ fn answer_part(alloc: Global, out: &mut String, row: &Row, text: &[u8]) -> Resul
     match row.command() {
         "tokens" => put_tokens(out, text, &tokens),
         "value" => put_value_answer(alloc, out, row, text, &tokens),
-        "constraint" => put_constraint_answer(alloc, out, row, text, &tokens),
-        "size" => put_size_answer(alloc, out, row, text, &tokens),
+        "constraint" | "size" => put_constraint_answer(alloc, out, row, text, &tokens),
         _ => out.push_str("no such command"),
     }
 }
