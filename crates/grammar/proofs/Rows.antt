@@ -88,7 +88,9 @@ no_nesting_passed : PassesLimit number (bounded 0) too_great 0 0 Nesting → ⊥
 no_nesting_passed p = stops_at_the_number.longest p.further p.longer p.to p.goes_on
 
 -- no limit is passed where the lexemes end
-passed_before_the_end : {A : Type 0} (g : Limited A) (a : Limits) (ts : List Lexeme) (start : ℕ) → PassesLimit g a ts start (length ts) Nesting → ⊥
+passed_before_the_end : {A : Type 0} (g : Limited A) (a : Limits) (ts : List Lexeme) (start : ℕ)
+    → PassesLimit g a ts start (length ts) Nesting
+    → ⊥
 passed_before_the_end g a ts start p = let lt = p.longer in let to = p.to in absurd (omega (arith, lt, to))
 
 -- "," alone is no whole of ", ,", so their end is the first fault; of "," it is none
@@ -155,7 +157,8 @@ one_listed : (listed (token Ident)).Is ((97 ∷ []) ∷ []) (a_name ∷ [])
 one_listed = ((97 ∷ [], []), refl, (a_name ∷ [], [], refl, refl, refl))
 
 -- a, ..., b is a name, the marker and one behind it
-marked_names : (extensible (token Ident) (token Ident)).Is ((97 ∷ []) ∷ [], Some ((98 ∷ []) ∷ [])) (a_name ∷ Mark Comma ∷ Mark Ellipsis ∷ Mark Comma ∷ b_name ∷ [])
+marked_names :
+    (extensible (token Ident) (token Ident)).Is ((97 ∷ []) ∷ [], Some ((98 ∷ []) ∷ [])) (a_name ∷ Mark Comma ∷ Mark Ellipsis ∷ Mark Comma ∷ b_name ∷ [])
 marked_names = (
   a_name ∷ [],
   Mark Comma ∷ Mark Ellipsis ∷ Mark Comma ∷ b_name ∷ [],
@@ -178,12 +181,14 @@ unfolding extensible_at ident_at
 marker_first = refl
 
 -- a, ..., b, ... is refused at the second marker
-second_marker : extensible_at ident_at ident_at (a_name ∷ Mark Comma ∷ Mark Ellipsis ∷ Mark Comma ∷ b_name ∷ Mark Comma ∷ Mark Ellipsis ∷ []) ≡ Err (Unexpected 1)
+second_marker :
+    extensible_at ident_at ident_at (a_name ∷ Mark Comma ∷ Mark Ellipsis ∷ Mark Comma ∷ b_name ∷ Mark Comma ∷ Mark Ellipsis ∷ []) ≡ Err (Unexpected 1)
 unfolding extensible_at more_at next_marker additions_at behind_commas_at ident_at
 second_marker = refl
 
 -- [[ 2: a ]] is a, and its number is not kept
-numbered_brackets : (addition small (token Ident)).Is (inr ((97 ∷ []) ∷ [])) (Mark OpenVersion ∷ Number 2 ∷ Mark Colon ∷ a_name ∷ Mark CloseVersion ∷ [])
+numbered_brackets :
+    (addition small (token Ident)).Is (inr ((97 ∷ []) ∷ [])) (Mark OpenVersion ∷ Number 2 ∷ Mark Colon ∷ a_name ∷ Mark CloseVersion ∷ [])
 numbered_brackets = inr (
   (Some (2, tt), ((97 ∷ []) ∷ [], tt)),
   refl,
@@ -191,7 +196,8 @@ numbered_brackets = inr (
 )
 
 -- [[ a, b ]] is both
-brackets_read : addition_at small ident_at (Mark OpenVersion ∷ a_name ∷ Mark Comma ∷ b_name ∷ Mark CloseVersion ∷ []) ≡ Ok (inr ((97 ∷ []) ∷ (98 ∷ []) ∷ []), [])
+brackets_read :
+    addition_at small ident_at (Mark OpenVersion ∷ a_name ∷ Mark Comma ∷ b_name ∷ Mark CloseVersion ∷ []) ≡ Ok (inr ((97 ∷ []) ∷ (98 ∷ []) ∷ []), [])
 unfolding addition_at version_parts_at version_at listed_at behind_commas_at close_version_at ident_at
 brackets_read = refl
 
@@ -201,6 +207,7 @@ unfolding addition_at version_parts_at version_at listed_at ident_at
 empty_brackets = refl
 
 -- a number of brackets that passes the limit is told
-great_brackets : addition_at small ident_at (Mark OpenVersion ∷ Number (2 ^ 127) ∷ Mark Colon ∷ a_name ∷ Mark CloseVersion ∷ []) ≡ Err (Beyond Integer 4)
+great_brackets :
+    addition_at small ident_at (Mark OpenVersion ∷ Number (2 ^ 127) ∷ Mark Colon ∷ a_name ∷ Mark CloseVersion ∷ []) ≡ Err (Beyond Integer 4)
 unfolding addition_at version_parts_at version_at
 great_brackets = refl

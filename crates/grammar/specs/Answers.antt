@@ -43,12 +43,19 @@ joined_within TagNumber a b w = λ n e. one_of (a.tag n) (b.tag n) e (w n)
 -- What a reader within the limits a keeps.
 pub record Reads {A : Type 0} (g : Limited A) (a : Limits) (read : Reader A) : Type 0 where
   pub grows : (b : Limits) → Grows (g b) (g (joined a b))
-  pub front : (b : Limits) (u us : List Lexeme) → (g (joined a b)).CanGoOn u → Passes (λ l. Within l (joined a b) a) us (read (u ++ us))
-  pub whole : (b : Limits) (x : A) (u : List Lexeme) → (g (joined a b)).Is x u → Stands (λ l. Within l (joined a b) a) (read (u ++ [])) x []
+  pub front : (b : Limits) (u us : List Lexeme)
+      → (g (joined a b)).CanGoOn u
+      → Passes (λ l. Within l (joined a b) a) us (read (u ++ us))
+  pub whole : (b : Limits) (x : A) (u : List Lexeme)
+      → (g (joined a b)).Is x u
+      → Stands (λ l. Within l (joined a b) a) (read (u ++ [])) x []
   pub part : (x : A) (u : List Lexeme) → (g a).Is x u → (g a).CanGoOn u
   pub sound : (ts : List Lexeme) → Sound nowhere (g a) ts (read ts)
   pub passed : (l : Limit) → (b : Limits) × ((ts : List Lexeme) → Sound (past l) (g (raised l a b)) ts (read ts))
-  pub closed : (x : A) (u us : List Lexeme) → (g a).Is x u → Closed (free g) u us → Stands (λ l. Within l a a) (read (u ++ us)) x us
+  pub closed : (x : A) (u us : List Lexeme)
+      → (g a).Is x u
+      → Closed (free g) u us
+      → Stands (λ l. Within l a a) (read (u ++ us)) x us
 
 pub within_all : (l : Limit) (a : Limits) → Within l a a
 within_all Nesting a = omega arith
@@ -84,11 +91,17 @@ same_place (suc i) zero h k = absurd (k (omega arith))
 same_place (suc i) (suc j) h k = ap suc (same_place i j (λ lt. h (omega (arith, lt))) (λ lt. k (omega (arith, lt))))
 
 -- the longest front is one
-pub one_stop : {A : Type 0} (g : Limited A) (a : Limits) (ts : List Lexeme) (start i j : ℕ) → Stops g a ts start i → Stops g a ts start j → i ≡ j
+pub one_stop : {A : Type 0} (g : Limited A) (a : Limits) (ts : List Lexeme) (start i j : ℕ)
+    → Stops g a ts start i
+    → Stops g a ts start j
+    → i ≡ j
 one_stop g a ts start i j s s' = same_place i j (λ lt. s.longest j lt s'.to s'.before) (λ lt. s'.longest i lt s.to s.before)
 
 -- where nothing goes on under any limits, none is passed
-pub not_both : {A : Type 0} (g : Limited A) (a : Limits) (ts : List Lexeme) (start i j : ℕ) (l : Limit) → Ends g a ts start i → PassesLimit g a ts start j l → ⊥
+pub not_both : {A : Type 0} (g : Limited A) (a : Limits) (ts : List Lexeme) (start i j : ℕ) (l : Limit)
+    → Ends g a ts start i
+    → PassesLimit g a ts start j l
+    → ⊥
 not_both g a ts start i j l e p =
     let same = one_stop g a ts start i j e.stops p.stops in
     let lt = p.longer in
@@ -119,12 +132,17 @@ module _ {A : Type 0} (g : Limited A) (a : Limits) (read : Reader A) (reads : Re
 
   module _ (ts : List Lexeme) (start : ℕ) (place : start ≤ length ts) where
     -- u is what stands between two places
-    front_at : (u rest : List Lexeme) → drop start ts ≡ u ++ rest → (start ≤ length ts - length rest) × (length ts - length rest ≤ length ts) × (u ≡ between ts start (length ts - length rest))
+    front_at : (u rest : List Lexeme)
+        → drop start ts ≡ u ++ rest
+        →
+        (start ≤ length ts - length rest) × (length ts - length rest ≤ length ts) × (u ≡ between ts start (length ts - length rest))
     front_at u rest e =
         let n : (length ts - length rest) - start ≡ length u = omega (arith, ap length e, length-append u rest, length-drop start ts) in
         (omega (arith, ap length e, length-append u rest, length-drop start ts), omega arith, sym (ap (λ (l : List Lexeme). take ((length ts - length rest) - start) l) e ⋆ take_at u rest ((length ts - length rest) - start) (sym n)))
 
-    next_at : (u r : List Lexeme) (t : Lexeme) → drop start ts ≡ u ++ t ∷ r → u ++ t ∷ [] ≡ between ts start ((length ts - length (t ∷ r)) + 1)
+    next_at : (u r : List Lexeme) (t : Lexeme)
+        → drop start ts ≡ u ++ t ∷ r
+        → u ++ t ∷ [] ≡ between ts start ((length ts - length (t ∷ r)) + 1)
     next_at u r t e =
         let n : ((length ts - length (t ∷ r)) + 1) - start ≡ length (u ++ t ∷ []) = omega (arith, ap length e, length-append u (t ∷ r), length-append u (t ∷ []), length-drop start ts) in
         sym (ap (λ (l : List Lexeme). take (((length ts - length (t ∷ r)) + 1) - start) l) (e ⋆ sym (append_assoc u (t ∷ []) r)) ⋆ take_at (u ++ t ∷ []) r (((length ts - length (t ∷ r)) + 1) - start) (sym n))
@@ -140,10 +158,14 @@ module _ {A : Type 0} (g : Limited A) (a : Limits) (read : Reader A) (reads : Re
     behind_long j from to = omega (arith, length-drop (j - start) (drop start ts), length-drop start ts)
 
     -- the reading comes as far as a front goes on
-    come : (b : Limits) (j : ℕ) → (g b).CanGoOn (between ts start j) → Passes (λ l. Within l b a) (behind j) (read (drop start ts))
+    come : (b : Limits) (j : ℕ)
+        → (g b).CanGoOn (between ts start j)
+        → Passes (λ l. Within l b a) (behind j) (read (drop start ts))
     come b j h = subst (λ (l : List Lexeme). Passes (λ l. Within l b a) (behind j) (read l)) (take-append-drop (j - start) (drop start ts)) (front b (between ts start j) (behind j) h)
 
-    pub found_at : (x : A × List Lexeme) → read (drop start ts) ≡ Ok x → IsRead (g a) (free g) ts start x.0 (length ts - length x.1)
+    pub found_at : (x : A × List Lexeme)
+        → read (drop start ts) ≡ Ok x
+        → IsRead (g a) (free g) ts start x.0 (length ts - length x.1)
     found_at x e =
         let s : Sound nowhere (g a) (drop start ts) (Ok x) = subst (Sound nowhere (g a) (drop start ts)) e (reads.sound (drop start ts)) in
         let f = front_at s.0 x.1 s.1 in
@@ -159,7 +181,12 @@ module _ {A : Type 0} (g : Limited A) (a : Limits) (read : Reader A) (reads : Re
               absurd (omega (arith, p, behind_long (end + 1) (omega (arith, from)) (omega (arith, lt)), fits, lt));
         }
 
-    stopped : (f : Fault) (u rest : List Lexeme) → drop start ts ≡ u ++ rest → left_of f ≡ length rest → (g a).CanGoOn u → read (drop start ts) ≡ Err f → Stops g a ts start (length ts - left_of f)
+    stopped : (f : Fault) (u rest : List Lexeme)
+        → drop start ts ≡ u ++ rest
+        → left_of f ≡ length rest
+        → (g a).CanGoOn u
+        → read (drop start ts) ≡ Err f
+        → Stops g a ts start (length ts - left_of f)
     stopped f u rest e d h q =
         let p = front_at u rest e in
         let fits = rest_fits u rest e in
@@ -178,7 +205,14 @@ module _ {A : Type 0} (g : Limited A) (a : Limits) (read : Reader A) (reads : Re
         let s : Sound nowhere (g a) (drop start ts) (Err f) = subst (Sound nowhere (g a) (drop start ts)) q (reads.sound (drop start ts)) in
         stopped f s.0 s.1 s.2 (s.3 ⋆ plain f (length s.1)) s.4 q
 
-    none_at : (k : ℕ) (u rest : List Lexeme) → drop start ts ≡ u ++ rest → k ≡ length rest → read (u ++ rest) ≡ Err (Unexpected k) → length ts - k ≡ length ts → (x : A) → (free g).Is x (between ts start (length ts - k)) → ⊥
+    none_at : (k : ℕ) (u rest : List Lexeme)
+        → drop start ts ≡ u ++ rest
+        → k ≡ length rest
+        → read (u ++ rest) ≡ Err (Unexpected k)
+        → length ts - k ≡ length ts
+        → (x : A)
+        → (free g).Is x (between ts start (length ts - k))
+        → ⊥
     none_at k u [] e d q le x w =
         let f = front_at u [] e in
         no_whole k u x q (subst (λ (l : List Lexeme). (free g).Is x l) (ap (λ (k : ℕ). between ts start (length ts - k)) d ⋆ sym f.2) w)
@@ -205,7 +239,9 @@ module _ {A : Type 0} (g : Limited A) (a : Limits) (read : Reader A) (reads : Re
         let d = s.3 ⋆ plain f (length s.1) in
         omega (arith, d, rest_fits s.0 s.1 s.2)
 
-    pub limit_at : (l : Limit) (k : ℕ) → read (drop start ts) ≡ Err (Beyond l k) → PassesLimit g a ts start (length ts - k) l
+    pub limit_at : (l : Limit) (k : ℕ)
+        → read (drop start ts) ≡ Err (Beyond l k)
+        → PassesLimit g a ts start (length ts - k) l
     limit_at l k q =
         let b = (reads.passed l).0 in
         let s : Sound (past l) (g (raised l a b)) (drop start ts) (Err (Beyond l k)) = subst (Sound (past l) (g (raised l a b)) (drop start ts)) q ((reads.passed l).1 (drop start ts)) in
@@ -228,7 +264,10 @@ module _ {A : Type 0} (g : Limited A) (a : Limits) (read : Reader A) (reads : Re
         rest_fits s.0 x.1 s.1
 
     -- behind what is read nothing goes on
-    pub ended_at : (x : A × List Lexeme) → read (drop start ts) ≡ Ok x → 1 ≤ length x.1 → Ends g a ts start (length ts - length x.1)
+    pub ended_at : (x : A × List Lexeme)
+        → read (drop start ts) ≡ Ok x
+        → 1 ≤ length x.1
+        → Ends g a ts start (length ts - length x.1)
     ended_at x e some =
         let s : Sound nowhere (g a) (drop start ts) (Ok x) = subst (Sound nowhere (g a) (drop start ts)) e (reads.sound (drop start ts)) in
         let f = front_at s.0 x.1 s.1 in
@@ -245,14 +284,20 @@ module _ {A : Type 0} (g : Limited A) (a : Limits) (read : Reader A) (reads : Re
         }
 
     -- what is there is read
-    closed_at : (u us : List Lexeme) (end : ℕ) → drop start ts ≡ u ++ us → end ≡ length ts - length us → (end < length ts → (free g).CanGoOn (between ts start (end + 1)) → ⊥) → Closed (free g) u us
+    closed_at : (u us : List Lexeme) (end : ℕ)
+        → drop start ts ≡ u ++ us
+        → end ≡ length ts - length us
+        → (end < length ts → (free g).CanGoOn (between ts start (end + 1)) → ⊥)
+        → Closed (free g) u us
     closed_at u us end e d ends t r g' h =
         let shape : drop start ts ≡ u ++ t ∷ r = e ⋆ ap (λ (l : List Lexeme). u ++ l) g' in
         let long : length (t ∷ r) ≤ length ts = omega (arith, ap length shape, length-append u (t ∷ r), length-drop start ts) in
         let k : end ≡ length ts - length (t ∷ r) = d ⋆ ap (λ (l : List Lexeme). length ts - length l) g' in
         ends (omega arith) (subst (λ (i : ℕ). (free g).CanGoOn (between ts start (i + 1))) (sym k) (subst (free g).CanGoOn (next_at u r t shape) h))
 
-    pub only_at : (x : A) (end : ℕ) → IsRead (g a) (free g) ts start x end → (us : List Lexeme) × (read (drop start ts) ≡ Ok (x, us)) × (length ts - length us ≡ end)
+    pub only_at : (x : A) (end : ℕ)
+        → IsRead (g a) (free g) ts start x end
+        → (us : List Lexeme) × (read (drop start ts) ≡ Ok (x, us)) × (length ts - length us ≡ end)
     only_at x end i =
         let n = end - start in
         let us = drop n (drop start ts) in
@@ -268,12 +313,23 @@ module _ {A : Type 0} (g : Limited A) (a : Limits) (read : Reader A) (reads : Re
     -- ---- a limit that is passed is told
 
     -- what can go on within the limits is no longer than the longest such front
-    no_longer : (i j : ℕ) → Stops g a ts start i → (u rest : List Lexeme) → drop start ts ≡ u ++ rest → (g a).CanGoOn u → i < j → length rest ≤ length ts - j → j ≤ length ts → ⊥
+    no_longer : (i j : ℕ)
+        → Stops g a ts start i
+        → (u rest : List Lexeme)
+        → drop start ts ≡ u ++ rest
+        → (g a).CanGoOn u
+        → i < j
+        → length rest ≤ length ts - j
+        → j ≤ length ts
+        → ⊥
     no_longer i j s u rest e h lt le to =
         let f = front_at u rest e in
         s.longest (length ts - length rest) (omega (arith, lt, le, to)) f.1 (subst (g a).CanGoOn f.2 h)
 
-    told_by : (l : Limit) (i : ℕ) (p : PassesLimit g a ts start i l) (r : Read A) → Sound nowhere (g a) (drop start ts) r → Passes (λ m. Within m (raised l a p.others) a) (behind p.further) r → (k : ℕ) × (r ≡ Err (Beyond l k))
+    told_by : (l : Limit) (i : ℕ) (p : PassesLimit g a ts start i l) (r : Read A)
+        → Sound nowhere (g a) (drop start ts) r
+        → Passes (λ m. Within m (raised l a p.others) a) (behind p.further) r
+        → (k : ℕ) × (r ≡ Err (Beyond l k))
     told_by l i p (Ok x) s c =
         let stops = p.stops in
         let from = stops.from in

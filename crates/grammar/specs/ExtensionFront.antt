@@ -10,20 +10,27 @@ use Rattle.grammar.specs.Lists.{IsSolid, head_is, with_comma}
 use Rattle.grammar.specs.Rules.{either, no_left, no_right}
 use Rattle.grammar.specs.Extension.{commas, tail}
 
-module _ {A B : Type 0} (within : Limit → Type 0) (a : Grammar A) (b : Grammar B) (starts ends starts-b ends-b : Lexeme → Bool) (ra : Reader A) (rb : Reader B) (fa : Finds within a starts ends ra) (fb : Finds within b starts-b ends-b rb)
-    (solid : IsSolid a) (apart : ends (Mark Comma) ≡ false) (apart-b : ends-b (Mark Comma) ≡ false) (no_mark : starts (Mark Ellipsis) ≡ false) where
+module _ {A B : Type 0} (within : Limit → Type 0) (a : Grammar A) (b : Grammar B)
+    (starts ends starts-b ends-b : Lexeme → Bool) (ra : Reader A) (rb : Reader B) (fa : Finds within a starts ends ra)
+    (fb : Finds within b starts-b ends-b rb) (solid : IsSolid a) (apart : ends (Mark Comma) ≡ false)
+    (apart-b : ends-b (Mark Comma) ≡ false) (no_mark : starts (Mark Ellipsis) ≡ false) where
   le_same : (us : List Lexeme) → length us ≤ length us
   le_same us = omega arith
 
   one_less : (t : Lexeme) (us : List Lexeme) → length us ≤ length (t ∷ us)
   one_less t us = omega arith
 
-  plain_passes : (us : List Lexeme) (r : Read A) (more : Reader (Extensible A B)) → ((vs : List Lexeme) → Passes within vs (more vs)) → Passes within us r → Passes within us (r >>= λ x. put x.0 (more x.1))
+  plain_passes : (us : List Lexeme) (r : Read A) (more : Reader (Extensible A B))
+      → ((vs : List Lexeme) → Passes within vs (more vs))
+      → Passes within us r
+      → Passes within us (r >>= λ x. put x.0 (more x.1))
   plain_passes us (Ok x) more all h = passes_on within us x.1 _ h (passes_made within x.1 (more x.1) (λ e. (x.0 ∷ e.0, e.1)) (all x.1))
   plain_passes us (Err (Unexpected n)) more all h = h
   plain_passes us (Err (Beyond l n)) more all h = h
 
-  or_shrink : (us : List Lexeme) (more : Reader (Extensible A B)) → ((vs : List Lexeme) → Passes within vs (more vs)) → Passes within us (or_marker ra rb more (next_marker us) us)
+  or_shrink : (us : List Lexeme) (more : Reader (Extensible A B))
+      → ((vs : List Lexeme) → Passes within vs (more vs))
+      → Passes within us (or_marker ra rb more (next_marker us) us)
   unfolding next_marker additions_at
   or_shrink [] more all = plain_passes [] (ra []) more all (fa.front [] [] fa.nil)
   or_shrink (Mark Ellipsis ∷ us) more all = passes_on within (Mark Ellipsis ∷ us) us _ (one_less (Mark Ellipsis) us) (passes_made within us (behind_commas_at rb (length us) us) (λ ys. ([], Some ys)) (commas_shrink within b starts-b ends-b rb fb (length us) us))
@@ -37,7 +44,11 @@ module _ {A B : Type 0} (within : Limit → Type 0) (a : Grammar A) (b : Grammar
   more_shrink (suc k) (t ∷ us) = le_same (t ∷ us)
 
   -- behind one more comma, for which there is fuel
-  at_comma : (k : ℕ) (rest us ts : List Lexeme) → length ts ≤ k → ts ≡ Mark Comma ∷ rest → ((j : ℕ) → length rest ≤ j → Passes within us (or_marker ra rb (more_at ra rb j) (next_marker rest) rest)) → Passes within us (more_at ra rb k ts)
+  at_comma : (k : ℕ) (rest us ts : List Lexeme)
+      → length ts ≤ k
+      → ts ≡ Mark Comma ∷ rest
+      → ((j : ℕ) → length rest ≤ j → Passes within us (or_marker ra rb (more_at ra rb j) (next_marker rest) rest))
+      → Passes within us (more_at ra rb k ts)
   unfolding more_at
   at_comma zero rest us ts le e go = absurd (omega (arith, ap length e))
   at_comma (suc k) rest us ts le e go = subst (λ (l : List Lexeme). Passes within us (more_at ra rb (suc k) l)) (sym e) (go k (omega (arith, ap length e)))
@@ -48,16 +59,23 @@ module _ {A B : Type 0} (within : Limit → Type 0) (a : Grammar A) (b : Grammar
   no_marker t r e = refl
 
   -- where a part begins, the part is read
-  at_part : (P : Read (Extensible A B) → Type 0) (t : Lexeme) (r : List Lexeme) (more : Reader (Extensible A B)) → starts t ≡ true → P (ra (t ∷ r) >>= λ x. put x.0 (more x.1)) → P (or_marker ra rb more (next_marker (t ∷ r)) (t ∷ r))
+  at_part : (P : Read (Extensible A B) → Type 0) (t : Lexeme) (r : List Lexeme) (more : Reader (Extensible A B))
+      → starts t ≡ true
+      → P (ra (t ∷ r) >>= λ x. put x.0 (more x.1))
+      → P (or_marker ra rb more (next_marker (t ∷ r)) (t ∷ r))
   at_part P t r more e h = subst (λ (o : Option (List Lexeme)). P (or_marker ra rb more o (t ∷ r))) (sym (no_marker t r e)) h
 
   -- a front of a part
-  part_front : (j : ℕ) (w us : List Lexeme) → a.CanGoOn w → Passes within us (or_marker ra rb (more_at ra rb j) (next_marker (w ++ us)) (w ++ us))
+  part_front : (j : ℕ) (w us : List Lexeme)
+      → a.CanGoOn w
+      → Passes within us (or_marker ra rb (more_at ra rb j) (next_marker (w ++ us)) (w ++ us))
   part_front j [] us h = or_shrink us (more_at ra rb j) (more_shrink j)
   part_front j (t ∷ w) us h = at_part (Passes within us) t (w ++ us) (more_at ra rb j) (fa.first t w h) (plain_passes us (ra (t ∷ (w ++ us))) (more_at ra rb j) (more_shrink j) (fa.front (t ∷ w) us h))
 
   -- a front of the marker and what is behind it
-  marked_front : (j : ℕ) (w us : List Lexeme) → (marked b).CanGoOn w → Passes within us (or_marker ra rb (more_at ra rb j) (next_marker (w ++ us)) (w ++ us))
+  marked_front : (j : ℕ) (w us : List Lexeme)
+      → (marked b).CanGoOn w
+      → Passes within us (or_marker ra rb (more_at ra rb j) (next_marker (w ++ us)) (w ++ us))
   unfolding next_marker additions_at
   marked_front j w us h = elim (behind_front (Mark Ellipsis) (commas b) w ([], [], [], refl, refl, inl (inl refl)) h) [
     | inl e ↦ subst (λ (l : List Lexeme). Passes within us (or_marker ra rb (more_at ra rb j) (next_marker (l ++ us)) (l ++ us))) (sym e) (or_shrink us (more_at ra rb j) (more_shrink j))
@@ -69,17 +87,26 @@ module _ {A B : Type 0} (within : Limit → Type 0) (a : Grammar A) (b : Grammar
   abbrev Last : List Lexeme → Type 0
   Last w = (w ≡ []) ⊎ ((v : List Lexeme) × (w ≡ Mark Comma ∷ v) × (a.CanGoOn v ⊎ (marked b).CanGoOn v))
 
-  last_front : (k : ℕ) (w us : List Lexeme) → length (w ++ us) ≤ k → Last w → Passes within us (more_at ra rb k (w ++ us))
+  last_front : (k : ℕ) (w us : List Lexeme)
+      → length (w ++ us) ≤ k
+      → Last w
+      → Passes within us (more_at ra rb k (w ++ us))
   last_front k w us le (inl e) = subst (λ (l : List Lexeme). Passes within us (more_at ra rb k (l ++ us))) (sym e) (more_shrink k us)
   last_front k w us le (inr (v, e, inl h)) = at_comma k (v ++ us) us (w ++ us) le (ap (λ (l : List Lexeme). l ++ us) e) (λ j lj. part_front j v us h)
   last_front k w us le (inr (v, e, inr h)) = at_comma k (v ++ us) us (w ++ us) le (ap (λ (l : List Lexeme). l ++ us) e) (λ j lj. marked_front j v us h)
 
-  stands_more : (x : A) (us vs : List Lexeme) (r : Read A) (more : Reader (Extensible A B)) → Stands within r x vs → Passes within us (more vs) → Passes within us (r >>= λ x. put x.0 (more x.1))
+  stands_more : (x : A) (us vs : List Lexeme) (r : Read A) (more : Reader (Extensible A B))
+      → Stands within r x vs
+      → Passes within us (more vs)
+      → Passes within us (r >>= λ x. put x.0 (more x.1))
   stands_more x us vs r more (inl e) h = subst (λ (q : Read A). Passes within us (q >>= λ x. put x.0 (more x.1))) (sym e) (passes_made within us (more vs) (λ e. (x ∷ e.0, e.1)) h)
   stands_more x us vs r more (inr w) h = subst (λ (q : Read A). Passes within us (q >>= λ x. put x.0 (more x.1))) (sym w.2) (inr w.1)
 
   -- what stands behind a part begins with a comma, or is nothing
-  begins : (xs : List A) (q w : List Lexeme) → IsMany (behind (Mark Comma) a) xs q → Last w → (q ++ w ≡ []) ⊎ ((v : List Lexeme) × (q ++ w ≡ Mark Comma ∷ v))
+  begins : (xs : List A) (q w : List Lexeme)
+      → IsMany (behind (Mark Comma) a) xs q
+      → Last w
+      → (q ++ w ≡ []) ⊎ ((v : List Lexeme) × (q ++ w ≡ Mark Comma ∷ v))
   begins [] q w h (inl e) = inl (ap (λ (l : List Lexeme). l ++ w) h ⋆ e)
   begins [] q w h (inr (v, e, k)) = inr (v, ap (λ (l : List Lexeme). l ++ w) h ⋆ e)
   begins (x ∷ xs) q w (p, q', e, hp, hq) l =
@@ -90,7 +117,11 @@ module _ {A B : Type 0} (within : Limit → Type 0) (a : Grammar A) (b : Grammar
   follows_comma ts w e = subst (Follows ends) (sym e) apart
 
   -- a whole part is read, and then the rest
-  one_front : (j : ℕ) (x : A) (p rest us : List Lexeme) → a.Is x p → (rest ≡ []) ⊎ ((v : List Lexeme) × (rest ≡ Mark Comma ∷ v)) → Passes within us (more_at ra rb j (rest ++ us)) → Passes within us (or_marker ra rb (more_at ra rb j) (next_marker (p ++ (rest ++ us))) (p ++ (rest ++ us)))
+  one_front : (j : ℕ) (x : A) (p rest us : List Lexeme)
+      → a.Is x p
+      → (rest ≡ []) ⊎ ((v : List Lexeme) × (rest ≡ Mark Comma ∷ v))
+      → Passes within us (more_at ra rb j (rest ++ us))
+      → Passes within us (or_marker ra rb (more_at ra rb j) (next_marker (p ++ (rest ++ us))) (p ++ (rest ++ us)))
   one_front j x [] rest us h c m = absurd (solid.no_empty x h)
   one_front j x (t ∷ p) rest us h (inl e) m =
       subst (λ (l : List Lexeme). Passes within us (or_marker ra rb (more_at ra rb j) (next_marker ((t ∷ p) ++ (l ++ us))) ((t ∷ p) ++ (l ++ us)))) (sym e) (part_front j (t ∷ p) us (fa.part x (t ∷ p) h))
@@ -98,7 +129,11 @@ module _ {A B : Type 0} (within : Limit → Type 0) (a : Grammar A) (b : Grammar
       at_part (Passes within us) t (p ++ (rest ++ us)) (more_at ra rb j) (fa.first t p (fa.part x (t ∷ p) h))
       (stands_more x us (rest ++ us) (ra ((t ∷ p) ++ (rest ++ us))) (more_at ra rb j) (fa.whole x (t ∷ p) (rest ++ us) h (follows_comma (rest ++ us) (v ++ us) (ap (λ (l : List Lexeme). l ++ us) e))) m)
 
-  all_front : (k : ℕ) (xs : List A) (u w us : List Lexeme) → length ((u ++ w) ++ us) ≤ k → IsMany (behind (Mark Comma) a) xs u → Last w → Passes within us (more_at ra rb k ((u ++ w) ++ us))
+  all_front : (k : ℕ) (xs : List A) (u w us : List Lexeme)
+      → length ((u ++ w) ++ us) ≤ k
+      → IsMany (behind (Mark Comma) a) xs u
+      → Last w
+      → Passes within us (more_at ra rb k ((u ++ w) ++ us))
   all_front k [] u w us le h l = subst (λ (v : List Lexeme). Passes within us (more_at ra rb k (v ++ us))) (sym (ap (λ (v : List Lexeme). v ++ w) h)) (last_front k w us (omega (arith, le, ap length h, length-append u w, length-append (u ++ w) us, length-append w us)) l)
   all_front k (x ∷ xs) u w us le (p, q, e, hp, hq) l =
       let c = behind_is (Mark Comma) a x p hp in
@@ -122,7 +157,9 @@ module _ {A B : Type 0} (within : Limit → Type 0) (a : Grammar A) (b : Grammar
   ]
 
   -- no front is refused before its end
-  tail_front : (u us : List Lexeme) → (tail a b).CanGoOn u → Passes within us (more_at ra rb (length (u ++ us)) (u ++ us))
+  tail_front : (u us : List Lexeme)
+      → (tail a b).CanGoOn u
+      → Passes within us (more_at ra rb (length (u ++ us)) (u ++ us))
   tail_front u us (inl (xs, v, w, e, hv, hw)) = subst (λ (l : List Lexeme). Passes within us (more_at ra rb (length (l ++ us)) (l ++ us))) (sym e) (all_front (length ((v ++ w) ++ us)) xs v w us (le_same ((v ++ w) ++ us)) hv (last_of w hw))
   tail_front u us (inr (xs, v, w, e, hv, hw)) = subst (λ (l : List Lexeme). Passes within us (more_at ra rb (length (l ++ us)) (l ++ us))) (sym e) (all_front (length ((v ++ w) ++ us)) xs v w us (le_same ((v ++ w) ++ us)) hv (last_marked w hw))
 
@@ -154,45 +191,76 @@ module _ {A B : Type 0} (within : Limit → Type 0) (a : Grammar A) (b : Grammar
   more_none (suc k) (t ∷ us) f = refl
 
   -- behind one more comma, for which there is fuel
-  whole_at_comma : (k : ℕ) (y : Extensible A B) (rest us ts : List Lexeme) → length ts ≤ k → ts ≡ Mark Comma ∷ rest → ((j : ℕ) → length rest ≤ j → Stands within (or_marker ra rb (more_at ra rb j) (next_marker rest) rest) y us) → Stands within (more_at ra rb k ts) y us
+  whole_at_comma : (k : ℕ) (y : Extensible A B) (rest us ts : List Lexeme)
+      → length ts ≤ k
+      → ts ≡ Mark Comma ∷ rest
+      → ((j : ℕ) → length rest ≤ j → Stands within (or_marker ra rb (more_at ra rb j) (next_marker rest) rest) y us)
+      → Stands within (more_at ra rb k ts) y us
   unfolding more_at
   whole_at_comma zero y rest us ts le e go = absurd (omega (arith, ap length e))
   whole_at_comma (suc k) y rest us ts le e go = subst (λ (l : List Lexeme). Stands within (more_at ra rb (suc k) l) y us) (sym e) (go k (omega (arith, ap length e)))
 
-  stands_both : (x : A) (y : Extensible A B) (us vs : List Lexeme) (r : Read A) (more : Reader (Extensible A B)) → Stands within r x vs → Stands within (more vs) y us → Stands within (r >>= λ x. put x.0 (more x.1)) (x ∷ y.0, y.1) us
+  stands_both : (x : A) (y : Extensible A B) (us vs : List Lexeme) (r : Read A) (more : Reader (Extensible A B))
+      → Stands within r x vs
+      → Stands within (more vs) y us
+      → Stands within (r >>= λ x. put x.0 (more x.1)) (x ∷ y.0, y.1) us
   stands_both x y us vs r more (inl e) (inl h) = inl (ap (λ (q : Read A). q >>= λ x. put x.0 (more x.1)) e ⋆ ap (put x) h)
   stands_both x y us vs r more (inl e) (inr h) = inr (h.0, h.1, ap (λ (q : Read A). q >>= λ x. put x.0 (more x.1)) e ⋆ ap (put x) h.2)
   stands_both x y us vs r more (inr w) h = inr (w.0, w.1, ap (λ (q : Read A). q >>= λ x. put x.0 (more x.1)) w.2)
 
   -- the marker and the additions
-  marked_whole : (j : ℕ) (ys : List B) (w us : List Lexeme) → (marked b).Is ys w → Follows end_of us → Stands within (or_marker ra rb (more_at ra rb j) (next_marker (w ++ us)) (w ++ us)) ([], Some ys) us
+  marked_whole : (j : ℕ) (ys : List B) (w us : List Lexeme)
+      → (marked b).Is ys w
+      → Follows end_of us
+      → Stands within (or_marker ra rb (more_at ra rb j) (next_marker (w ++ us)) (w ++ us)) ([], Some ys) us
   unfolding next_marker additions_at
   marked_whole j ys w us h f =
       let m = behind_is (Mark Ellipsis) (commas b) ys w h in
       subst (λ (l : List Lexeme). Stands within (or_marker ra rb (more_at ra rb j) (next_marker (l ++ us)) (l ++ us)) ([], Some ys) us) (sym m.1)
       (stands_made within us (behind_commas_at rb (length (m.0 ++ us)) (m.0 ++ us)) ys (λ ys. ([], Some ys)) (commas_whole within b starts-b ends-b rb fb apart-b (length (m.0 ++ us)) ys m.0 us (le_same (m.0 ++ us)) m.2 (ends_follow_b us f) (no_commas us f)))
 
-  last_whole : (k : ℕ) (o : Option (List B)) (w us : List Lexeme) → length (w ++ us) ≤ k → (optional (behind (Mark Comma) (marked b))).Is o w → Follows end_of us → Stands within (more_at ra rb k (w ++ us)) ([], o) us
+  last_whole : (k : ℕ) (o : Option (List B)) (w us : List Lexeme)
+      → length (w ++ us) ≤ k
+      → (optional (behind (Mark Comma) (marked b))).Is o w
+      → Follows end_of us
+      → Stands within (more_at ra rb k (w ++ us)) ([], o) us
   last_whole k None w us le h f = subst (λ (l : List Lexeme). Stands within (more_at ra rb k (l ++ us)) ([], None) us) (sym h) (inl (more_none k us f))
   last_whole k (Some ys) w us le h f =
       let m = behind_is (Mark Comma) (marked b) ys w h in
       whole_at_comma k ([], Some ys) (m.0 ++ us) us (w ++ us) le (ap (λ (l : List Lexeme). l ++ us) m.1) (λ j lj. marked_whole j ys m.0 us m.2 f)
 
   -- a part does not end before what stands behind it
-  last_follows : (o : Option (List B)) (w us : List Lexeme) → (optional (behind (Mark Comma) (marked b))).Is o w → Follows end_of us → Follows ends (w ++ us)
+  last_follows : (o : Option (List B)) (w us : List Lexeme)
+      → (optional (behind (Mark Comma) (marked b))).Is o w
+      → Follows end_of us
+      → Follows ends (w ++ us)
   last_follows None w us h f = subst (λ (l : List Lexeme). Follows ends (l ++ us)) (sym h) (ends_follow us f)
   last_follows (Some ys) w us h f = let m = behind_is (Mark Comma) (marked b) ys w h in follows_comma (w ++ us) (m.0 ++ us) (ap (λ (l : List Lexeme). l ++ us) m.1)
 
-  tail_follows : (xs : List A) (o : Option (List B)) (v w us : List Lexeme) → IsMany (behind (Mark Comma) a) xs v → (optional (behind (Mark Comma) (marked b))).Is o w → Follows end_of us → Follows ends (v ++ (w ++ us))
+  tail_follows : (xs : List A) (o : Option (List B)) (v w us : List Lexeme)
+      → IsMany (behind (Mark Comma) a) xs v
+      → (optional (behind (Mark Comma) (marked b))).Is o w
+      → Follows end_of us
+      → Follows ends (v ++ (w ++ us))
   tail_follows xs o v w us h ho f = follows_many within a starts ends ra fa apart xs v (w ++ us) h (last_follows o w us ho f)
 
-  one_whole : (j : ℕ) (x : A) (y : Extensible A B) (p rest us : List Lexeme) → a.Is x p → Follows ends (rest ++ us) → Stands within (more_at ra rb j (rest ++ us)) y us → Stands within (or_marker ra rb (more_at ra rb j) (next_marker (p ++ (rest ++ us))) (p ++ (rest ++ us))) (x ∷ y.0, y.1) us
+  one_whole : (j : ℕ) (x : A) (y : Extensible A B) (p rest us : List Lexeme)
+      → a.Is x p
+      → Follows ends (rest ++ us)
+      → Stands within (more_at ra rb j (rest ++ us)) y us
+      →
+      Stands within (or_marker ra rb (more_at ra rb j) (next_marker (p ++ (rest ++ us))) (p ++ (rest ++ us))) (x ∷ y.0, y.1) us
   one_whole j x y [] rest us h f m = absurd (solid.no_empty x h)
   one_whole j x y (t ∷ p) rest us h f m =
       at_part (λ (r : Read (Extensible A B)). Stands within r (x ∷ y.0, y.1) us) t (p ++ (rest ++ us)) (more_at ra rb j) (fa.first t p (fa.part x (t ∷ p) h))
       (stands_both x y us (rest ++ us) (ra ((t ∷ p) ++ (rest ++ us))) (more_at ra rb j) (fa.whole x (t ∷ p) (rest ++ us) h f) m)
 
-  all_whole : (k : ℕ) (xs : List A) (o : Option (List B)) (v w us : List Lexeme) → length ((v ++ w) ++ us) ≤ k → IsMany (behind (Mark Comma) a) xs v → (optional (behind (Mark Comma) (marked b))).Is o w → Follows end_of us → Stands within (more_at ra rb k ((v ++ w) ++ us)) (xs, o) us
+  all_whole : (k : ℕ) (xs : List A) (o : Option (List B)) (v w us : List Lexeme)
+      → length ((v ++ w) ++ us) ≤ k
+      → IsMany (behind (Mark Comma) a) xs v
+      → (optional (behind (Mark Comma) (marked b))).Is o w
+      → Follows end_of us
+      → Stands within (more_at ra rb k ((v ++ w) ++ us)) (xs, o) us
   all_whole k [] o v w us le h ho f = subst (λ (l : List Lexeme). Stands within (more_at ra rb k (l ++ us)) ([], o) us) (sym (ap (λ (l : List Lexeme). l ++ w) h)) (last_whole k o w us (omega (arith, le, ap length h, length-append v w, length-append (v ++ w) us, length-append w us)) ho f)
   all_whole k (x ∷ xs) o v w us le (p, q, e, hp, hq) ho f =
       let c = behind_is (Mark Comma) a x p hp in
@@ -202,7 +270,10 @@ module _ {A B : Type 0} (within : Limit → Type 0) (a : Grammar A) (b : Grammar
       whole_at_comma k (x ∷ xs, o) (c.0 ++ ((q ++ w) ++ us)) us ((v ++ w) ++ us) le shape
       (λ j lj. one_whole j x (xs, o) c.0 (q ++ w) us c.2 (subst (Follows ends) (sym (append_assoc q w us)) (tail_follows xs o q w us hq ho f)) (all_whole j xs o q w us (omega (arith, lj, length-append c.0 ((q ++ w) ++ us))) hq ho f))
 
-  tail_whole : (y : Extensible A B) (u us : List Lexeme) → (tail a b).Is y u → Follows end_of us → Stands within (more_at ra rb (length (u ++ us)) (u ++ us)) y us
+  tail_whole : (y : Extensible A B) (u us : List Lexeme)
+      → (tail a b).Is y u
+      → Follows end_of us
+      → Stands within (more_at ra rb (length (u ++ us)) (u ++ us)) y us
   tail_whole y u us (v, w, e, hv, hw) f = subst (λ (l : List Lexeme). Stands within (more_at ra rb (length (l ++ us)) (l ++ us)) y us) (sym e) (all_whole (length ((v ++ w) ++ us)) y.0 y.1 v w us (le_same ((v ++ w) ++ us)) hv hw f)
 
   tail_first : (t : Lexeme) (u : List Lexeme) → (tail a b).CanGoOn (t ∷ u) → is_comma t ≡ true
@@ -211,7 +282,10 @@ module _ {A B : Type 0} (within : Limit → Type 0) (a : Grammar A) (b : Grammar
     | inr (v, e) ↦ subst (λ (t : Lexeme). is_comma t ≡ true) (sym (head_is t (Mark Comma) u v e)) refl
   ]
     where
-      shaped : (u v : List Lexeme) → u ≡ v → (v ≡ []) ⊎ ((w : List Lexeme) × (v ≡ Mark Comma ∷ w)) → (u ≡ []) ⊎ ((w : List Lexeme) × (u ≡ Mark Comma ∷ w))
+      shaped : (u v : List Lexeme)
+          → u ≡ v
+          → (v ≡ []) ⊎ ((w : List Lexeme) × (v ≡ Mark Comma ∷ w))
+          → (u ≡ []) ⊎ ((w : List Lexeme) × (u ≡ Mark Comma ∷ w))
       shaped u v e (inl q) = inl (e ⋆ q)
       shaped u v e (inr (w, q)) = inr (w, e ⋆ q)
 
@@ -222,7 +296,9 @@ module _ {A B : Type 0} (within : Limit → Type 0) (a : Grammar A) (b : Grammar
   tail_part : (y : Extensible A B) (u : List Lexeme) → (tail a b).Is y u → (tail a b).CanGoOn u
   tail_part y u (v, w, e, hv, hw) = inr (y.0, v, w, e, hv, last_part y.1 w hw)
     where
-      last_part : (o : Option (List B)) (w : List Lexeme) → (optional (behind (Mark Comma) (marked b))).Is o w → (optional (behind (Mark Comma) (marked b))).CanGoOn w
+      last_part : (o : Option (List B)) (w : List Lexeme)
+          → (optional (behind (Mark Comma) (marked b))).Is o w
+          → (optional (behind (Mark Comma) (marked b))).CanGoOn w
       last_part None w h = inl h
       last_part (Some ys) w h =
           let m = behind_is (Mark Comma) (marked b) ys w h in

@@ -11,7 +11,9 @@ pub record Grows {A : Type 0} (a b : Grammar A) : Type 0 where
 pub same_grows : {A : Type 0} (a : Grammar A) → Grows a a
 same_grows a = record { is = λ x u h. h; on = λ u h. h }
 
-pub number_grows : (fits fits' : ℕ → Bool) → ((n : ℕ) → fits n ≡ true → fits' n ≡ true) → Grows (number_of fits) (number_of fits')
+pub number_grows : (fits fits' : ℕ → Bool)
+    → ((n : ℕ) → fits n ≡ true → fits' n ≡ true)
+    → Grows (number_of fits) (number_of fits')
 number_grows fits fits' grows = record { is = λ n u h. (grows n h.0, h.1); on = on }
   where
     on : (u : List Lexeme) → (number_of fits).CanGoOn u → (number_of fits').CanGoOn u
@@ -39,7 +41,11 @@ either_grows {A} a a' b b' ga gb = record { is = is; on = on }
     on u (inl h) = inl (ga.on u h)
     on u (inr h) = inr (gb.on u h)
 
-many_are : {A : Type 0} (a a' : Grammar A) → Grows a a' → (xs : List A) (u : List Lexeme) → IsMany a xs u → IsMany a' xs u
+many_are : {A : Type 0} (a a' : Grammar A)
+    → Grows a a'
+    → (xs : List A) (u : List Lexeme)
+    → IsMany a xs u
+    → IsMany a' xs u
 many_are a a' g [] u h = h
 many_are a a' g (x ∷ xs) u (v, w, e, hv, hw) = (v, w, e, g.is x v hv, many_are a a' g xs w hw)
 
@@ -84,18 +90,30 @@ opens_grows (suc n) a a' g = g
 pub marked_grows : {B : Type 0} (b b' : Grammar B) → Grows b b' → Grows (marked b) (marked b')
 marked_grows b b' g = behind_grows (Mark Ellipsis) (many (behind (Mark Comma) b)) (many (behind (Mark Comma) b')) (many_grows (behind (Mark Comma) b) (behind (Mark Comma) b') (behind_grows (Mark Comma) b b' g))
 
-pub extensible_grows : {A B : Type 0} (a a' : Grammar A) (b b' : Grammar B) → Grows a a' → Grows b b' → Grows (extensible a b) (extensible a' b')
+pub extensible_grows : {A B : Type 0} (a a' : Grammar A) (b b' : Grammar B)
+    → Grows a a'
+    → Grows b b'
+    → Grows (extensible a b) (extensible a' b')
 extensible_grows a a' b b' ga gb =
     seq_grows (listed a) (listed a') (optional (behind (Mark Comma) (marked b))) (optional (behind (Mark Comma) (marked b'))) (listed_grows a a' ga)
     (optional_grows (behind (Mark Comma) (marked b)) (behind (Mark Comma) (marked b')) (behind_grows (Mark Comma) (marked b) (marked b') (marked_grows b b' gb)))
 
-pub rootless_grows : {A B : Type 0} (a a' : Grammar A) (b b' : Grammar B) → Grows a a' → Grows b b' → Grows (rootless a b) (rootless a' b')
+pub rootless_grows : {A B : Type 0} (a a' : Grammar A) (b b' : Grammar B)
+    → Grows a a'
+    → Grows b b'
+    → Grows (rootless a b) (rootless a' b')
 rootless_grows {A} a a' b b' ga gb = either_grows (marked b ⇒ (λ ys. ([], Some ys))) (marked b' ⇒ (λ ys. ([], Some ys))) (extensible a b) (extensible a' b') (made_grows (marked b) (marked b') (λ ys. ([], Some ys)) (marked_grows b b' gb)) (extensible_grows a a' b b' ga gb)
 
-pub version_grows : (fits fits' : ℕ → Bool) → ((n : ℕ) → fits n ≡ true → fits' n ≡ true) → Grows (version fits) (version fits')
+pub version_grows : (fits fits' : ℕ → Bool)
+    → ((n : ℕ) → fits n ≡ true → fits' n ≡ true)
+    → Grows (version fits) (version fits')
 version_grows fits fits' grows = optional_grows (number_of fits ∙ mark Colon) (number_of fits' ∙ mark Colon) (seq_grows (number_of fits) (number_of fits') (mark Colon) (mark Colon) (number_grows fits fits' grows) (same_grows (mark Colon)))
 
-pub addition_grows : {A : Type 0} (fits fits' : ℕ → Bool) → ((n : ℕ) → fits n ≡ true → fits' n ≡ true) → (a a' : Grammar A) → Grows a a' → Grows (addition fits a) (addition fits' a')
+pub addition_grows : {A : Type 0} (fits fits' : ℕ → Bool)
+    → ((n : ℕ) → fits n ≡ true → fits' n ≡ true)
+    → (a a' : Grammar A)
+    → Grows a a'
+    → Grows (addition fits a) (addition fits' a')
 addition_grows fits fits' grows a a' g =
     either_grows (a ⇒ inl) (a' ⇒ inl) (behind (Mark OpenVersion) (version fits ∙ (listed a ∙ mark CloseVersion)) ⇒ (λ p. inr p.1.0)) (behind (Mark OpenVersion) (version fits' ∙ (listed a' ∙ mark CloseVersion)) ⇒ (λ p. inr p.1.0))
     (made_grows a a' inl g)

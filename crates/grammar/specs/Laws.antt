@@ -89,40 +89,61 @@ abbrev pub after_read : {A B C : Type 0} → (A × B → C) → Read A → Reade
 after_read f r rb = r >>= λ x. rb x.1 >>= λ y. Ok (f (x.0, y.0), y.1)
 
 module _ (over : Limit → ℕ) {A B C : Type 0} (a : Grammar A) (b : Grammar B) (f : A × B → C) where
-  second_sound : (ts rest : List Lexeme) (x : A) (u : List Lexeme) → ts ≡ u ++ rest → a.Is x u → (r : Read B) → Sound over b rest r → Sound over ((a ∙ b) ⇒ f) ts (r >>= λ y. Ok (f (x, y.0), y.1))
+  second_sound : (ts rest : List Lexeme) (x : A) (u : List Lexeme)
+      → ts ≡ u ++ rest
+      → a.Is x u
+      → (r : Read B)
+      → Sound over b rest r
+      → Sound over ((a ∙ b) ⇒ f) ts (r >>= λ y. Ok (f (x, y.0), y.1))
   second_sound ts rest x u e h (Ok y) s =
       (u ++ s.0, e ⋆ ap (λ (l : List Lexeme). u ++ l) s.1 ⋆ sym (append_assoc u s.0 y.1), ((x, y.0), refl, (u, s.0, refl, h, s.2)))
   second_sound ts rest x u e h (Err g) s =
       (u ++ s.0, s.1, e ⋆ ap (λ (l : List Lexeme). u ++ l) s.2 ⋆ sym (append_assoc u s.0 s.1), s.3, inr (x, u, s.0, refl, h, s.4))
 
-  pub seq_sound : (ts : List Lexeme) (ra : Read A) (rb : Reader B) → Sound over a ts ra → ((us : List Lexeme) → Sound over b us (rb us)) → Sound over ((a ∙ b) ⇒ f) ts (after_read f ra rb)
+  pub seq_sound : (ts : List Lexeme) (ra : Read A) (rb : Reader B)
+      → Sound over a ts ra
+      → ((us : List Lexeme) → Sound over b us (rb us))
+      → Sound over ((a ∙ b) ⇒ f) ts (after_read f ra rb)
   seq_sound ts (Ok x) rb sa sb = second_sound ts x.1 x.0 sa.0 sa.1 sa.2 (rb x.1) (sb x.1)
   seq_sound ts (Err g) rb sa sb = (sa.0, sa.1, sa.2, sa.3, inl sa.4)
 
 -- a result that has come to tokens that us ends with
-pub passes_on : {A : Type 0} (within : Limit → Type 0) (us vs : List Lexeme) (r : Read A) → length vs ≤ length us → Passes within vs r → Passes within us r
+pub passes_on : {A : Type 0} (within : Limit → Type 0) (us vs : List Lexeme) (r : Read A)
+    → length vs ≤ length us
+    → Passes within vs r
+    → Passes within us r
 passes_on within us vs (Ok x) le h = omega arith
 passes_on within us vs (Err (Unexpected n)) le h = omega arith
 passes_on within us vs (Err (Beyond l n)) le (inl h) = inl (omega arith)
 passes_on within us vs (Err (Beyond l n)) le (inr h) = inr h
 
-pub passes_made : {A B : Type 0} (within : Limit → Type 0) (us : List Lexeme) (r : Read A) (f : A → B) → Passes within us r → Passes within us (r >>= λ y. Ok (f y.0, y.1))
+pub passes_made : {A B : Type 0} (within : Limit → Type 0) (us : List Lexeme) (r : Read A) (f : A → B)
+    → Passes within us r
+    → Passes within us (r >>= λ y. Ok (f y.0, y.1))
 passes_made within us (Ok x) f h = h
 passes_made within us (Err (Unexpected n)) f h = h
 passes_made within us (Err (Beyond l n)) f h = h
 
-module _ {A B C : Type 0} (within : Limit → Type 0) (a : Grammar A) (b : Grammar B) (f : A × B → C) (starts-a ends-a starts-b ends-b ends : Lexeme → Bool) (ra : Reader A) (rb : Reader B) (fa : Finds within a starts-a ends-a ra) (fb : Finds within b starts-b ends-b rb) where
+module _ {A B C : Type 0} (within : Limit → Type 0) (a : Grammar A) (b : Grammar B) (f : A × B → C)
+    (starts-a ends-a starts-b ends-b ends : Lexeme → Bool) (ra : Reader A) (rb : Reader B)
+    (fa : Finds within a starts-a ends-a ra) (fb : Finds within b starts-b ends-b rb) where
   first_passes : (us : List Lexeme) (r : Read A) → Passes within us r → Passes within us (after_read f r rb)
   first_passes us (Ok x) h = passes_on within us x.1 _ h (passes_made within x.1 (rb x.1) (λ y. f (x.0, y)) (fb.front [] x.1 fb.nil))
   first_passes us (Err (Unexpected n)) h = h
   first_passes us (Err (Beyond l n)) h = h
 
-  stands_then : (x : A) (us vs : List Lexeme) (r : Read A) → Stands within r x vs → Passes within us (rb vs) → Passes within us (after_read f r rb)
+  stands_then : (x : A) (us vs : List Lexeme) (r : Read A)
+      → Stands within r x vs
+      → Passes within us (rb vs)
+      → Passes within us (after_read f r rb)
   stands_then x us vs r (inl e) h =
       subst (λ (q : Read A). Passes within us (after_read f q rb)) (sym e) (passes_made within us (rb vs) (λ y. f (x, y)) h)
   stands_then x us vs r (inr w) h = subst (λ (q : Read A). Passes within us (after_read f q rb)) (sym w.2) (inr w.1)
 
-  pub seq_front : ((t : Lexeme) → starts-b t ≡ true → ends-a t ≡ false) → (u us : List Lexeme) → (a ∙ b).CanGoOn u → Passes within us (then_read f ra rb (u ++ us))
+  pub seq_front : ((t : Lexeme) → starts-b t ≡ true → ends-a t ≡ false)
+      → (u us : List Lexeme)
+      → (a ∙ b).CanGoOn u
+      → Passes within us (then_read f ra rb (u ++ us))
   seq_front apart u us (inl h) = first_passes us (ra (u ++ us)) (fa.front u us h)
   seq_front apart u us (inr (x, v, [], e, ha, hb)) =
       first_passes us (ra (u ++ us)) (fa.front u us (subst a.CanGoOn (sym (e ⋆ append-nil v)) (fa.part x v ha)))
@@ -130,12 +151,21 @@ module _ {A B C : Type 0} (within : Limit → Type 0) (a : Grammar A) (b : Gramm
       let go = stands_then x us (t ∷ (w ++ us)) (ra (v ++ t ∷ (w ++ us))) (fa.whole x v (t ∷ (w ++ us)) ha (apart t (fb.first t w hb))) (fb.front (t ∷ w) us hb) in
       subst (λ (l : List Lexeme). Passes within us (then_read f ra rb l)) (sym (ap (λ (l : List Lexeme). l ++ us) e ⋆ append_assoc v (t ∷ w) us)) go
 
-  second_stands : (x : A) (y : B) (us vs : List Lexeme) (r : Read A) (s : Read B) → rb vs ≡ s → Stands within r x vs → Stands within s y us → Stands within (after_read f r rb) (f (x, y)) us
+  second_stands : (x : A) (y : B) (us vs : List Lexeme) (r : Read A) (s : Read B)
+      → rb vs ≡ s
+      → Stands within r x vs
+      → Stands within s y us
+      → Stands within (after_read f r rb) (f (x, y)) us
   second_stands x y us vs r s q (inl e) (inl h) = inl (ap (λ (r : Read A). after_read f r rb) e ⋆ ap (λ (s : Read B). s >>= λ y. Ok (f (x, y.0), y.1)) (q ⋆ h))
   second_stands x y us vs r s q (inl e) (inr h) = inr (h.0, h.1, ap (λ (r : Read A). after_read f r rb) e ⋆ ap (λ (s : Read B). s >>= λ y. Ok (f (x, y.0), y.1)) (q ⋆ h.2))
   second_stands x y us vs r s q (inr w) h = inr (w.0, w.1, ap (λ (r : Read A). after_read f r rb) w.2)
 
-  pub seq_whole : ((y : B) (v us : List Lexeme) → b.Is y v → Follows ends us → Follows ends-a (v ++ us)) → ((us : List Lexeme) → Follows ends us → Follows ends-b us) → (z : C) (u us : List Lexeme) → ((a ∙ b) ⇒ f).Is z u → Follows ends us → Stands within (then_read f ra rb (u ++ us)) z us
+  pub seq_whole : ((y : B) (v us : List Lexeme) → b.Is y v → Follows ends us → Follows ends-a (v ++ us))
+      → ((us : List Lexeme) → Follows ends us → Follows ends-b us)
+      → (z : C) (u us : List Lexeme)
+      → ((a ∙ b) ⇒ f).Is z u
+      → Follows ends us
+      → Stands within (then_read f ra rb (u ++ us)) z us
   seq_whole after last z u us (xy, e, (v, w, p, ha, hb)) follows =
       let go = second_stands xy.0 xy.1 us (w ++ us) (ra (v ++ (w ++ us))) (rb (w ++ us)) refl (fa.whole xy.0 v (w ++ us) ha (after xy.1 w us hb follows)) (fb.whole xy.1 w us hb (last us follows)) in
       subst (λ (l : List Lexeme). Stands within (then_read f ra rb l) z us) (sym (ap (λ (l : List Lexeme). l ++ us) p ⋆ append_assoc v w us)) (subst (λ (c : C). Stands within (then_read f ra rb (v ++ (w ++ us))) c us) (sym e) go)
@@ -149,24 +179,38 @@ is_comma t = false
 
 -- ---- behind a mark
 
-pub behind_is : {A : Type 0} (t : Lexeme) (a : Grammar A) (x : A) (u : List Lexeme) → (behind t a).Is x u → (v : List Lexeme) × (u ≡ t ∷ v) × a.Is x v
+pub behind_is : {A : Type 0} (t : Lexeme) (a : Grammar A) (x : A) (u : List Lexeme)
+    → (behind t a).Is x u
+    → (v : List Lexeme) × (u ≡ t ∷ v) × a.Is x v
 behind_is t a x u (p, e, (m, v, q, hm, hv)) = (v, q ⋆ ap (λ (l : List Lexeme). l ++ v) hm, subst (λ (y : _). a.Is y v) (sym e) hv)
 
-pub is_behind : {A : Type 0} (t : Lexeme) (a : Grammar A) (x : A) (v : List Lexeme) → a.Is x v → (behind t a).Is x (t ∷ v)
+pub is_behind : {A : Type 0} (t : Lexeme) (a : Grammar A) (x : A) (v : List Lexeme)
+    → a.Is x v
+    → (behind t a).Is x (t ∷ v)
 is_behind t a x v h = ((tt, x), refl, (t ∷ [], v, refl, refl, h))
 
-pub behind_front : {A : Type 0} (t : Lexeme) (a : Grammar A) (u : List Lexeme) → a.CanGoOn [] → (behind t a).CanGoOn u → (u ≡ []) ⊎ ((v : List Lexeme) × (u ≡ t ∷ v) × a.CanGoOn v)
+pub behind_front : {A : Type 0} (t : Lexeme) (a : Grammar A) (u : List Lexeme)
+    → a.CanGoOn []
+    → (behind t a).CanGoOn u
+    → (u ≡ []) ⊎ ((v : List Lexeme) × (u ≡ t ∷ v) × a.CanGoOn v)
 behind_front t a u nil (inl (inl e)) = inl e
 behind_front t a u nil (inl (inr (x, e))) = inr ([], e, nil)
 behind_front t a u nil (inr (x, m, v, q, hm, hv)) = inr (v, q ⋆ ap (λ (l : List Lexeme). l ++ v) hm, hv)
 
-pub front_behind : {A : Type 0} (t : Lexeme) (a : Grammar A) (v : List Lexeme) → a.CanGoOn v → (behind t a).CanGoOn (t ∷ v)
+pub front_behind : {A : Type 0} (t : Lexeme) (a : Grammar A) (v : List Lexeme)
+    → a.CanGoOn v
+    → (behind t a).CanGoOn (t ∷ v)
 front_behind t a v h = inr (tt, t ∷ [], v, refl, refl, h)
 
 -- ---- any number behind commas
 
 module _ (over : Limit → ℕ) {A : Type 0} (a : Grammar A) (read : Reader A) where
-  more_sound : (ts rest : List Lexeme) (x : A) (u : List Lexeme) → ts ≡ u ++ rest → a.Is x u → (r : Read (List A)) → Sound over (many (behind (Mark Comma) a)) rest r → Sound over (many (behind (Mark Comma) a)) ((Mark Comma) ∷ ts) (r >>= λ xs. Ok (x ∷ xs.0, xs.1))
+  more_sound : (ts rest : List Lexeme) (x : A) (u : List Lexeme)
+      → ts ≡ u ++ rest
+      → a.Is x u
+      → (r : Read (List A))
+      → Sound over (many (behind (Mark Comma) a)) rest r
+      → Sound over (many (behind (Mark Comma) a)) ((Mark Comma) ∷ ts) (r >>= λ xs. Ok (x ∷ xs.0, xs.1))
   more_sound ts rest x u e h (Ok xs) s =
       (((Mark Comma) ∷ u) ++ s.0, ap (λ (l : List Lexeme). (Mark Comma) ∷ l) (e ⋆ ap (λ (l : List Lexeme). u ++ l) s.1 ⋆ sym (append_assoc u s.0 xs.1)), ((Mark Comma) ∷ u, s.0, refl, is_behind (Mark Comma) a x u h, s.2))
   more_sound ts rest x u e h (Err g) (v, back, q, n, (xs, v1, v2, p, hxs, hv2)) = (
@@ -177,19 +221,29 @@ module _ (over : Limit → ℕ) {A : Type 0} (a : Grammar A) (read : Reader A) w
     (x ∷ xs, ((Mark Comma) ∷ u) ++ v1, v2, ap (λ (l : List Lexeme). ((Mark Comma) ∷ u) ++ l) p ⋆ sym (append_assoc ((Mark Comma) ∷ u) v1 v2), ((Mark Comma) ∷ u, v1, refl, is_behind (Mark Comma) a x u h, hxs), hv2),
   )
 
-  one_sound : (rest : List Lexeme) (r : Read A) (more : Reader (List A)) → Sound over a rest r → ((us : List Lexeme) → Sound over (many (behind (Mark Comma) a)) us (more us)) → Sound over (many (behind (Mark Comma) a)) ((Mark Comma) ∷ rest) (r >>= λ x. more x.1 >>= λ xs. Ok (x.0 ∷ xs.0, xs.1))
+  one_sound : (rest : List Lexeme) (r : Read A) (more : Reader (List A))
+      → Sound over a rest r
+      → ((us : List Lexeme) → Sound over (many (behind (Mark Comma) a)) us (more us))
+      →
+      Sound over (many (behind (Mark Comma) a)) ((Mark Comma) ∷ rest) (r >>= λ x. more x.1 >>= λ xs. Ok (x.0 ∷ xs.0, xs.1))
   one_sound rest (Ok x) more s sm = more_sound rest x.1 x.0 s.0 s.1 s.2 (more x.1) (sm x.1)
   one_sound rest (Err g) more s sm = ((Mark Comma) ∷ s.0, s.1, ap (λ (l : List Lexeme). (Mark Comma) ∷ l) s.2, s.3, ([], [], (Mark Comma) ∷ s.0, refl, refl, front_behind (Mark Comma) a s.0 s.4))
 
-  pub commas_sound : ((us : List Lexeme) → Sound over a us (read us)) → (k : ℕ) (ts : List Lexeme) → Sound over (many (behind (Mark Comma) a)) ts (behind_commas_at read k ts)
+  pub commas_sound : ((us : List Lexeme) → Sound over a us (read us))
+      → (k : ℕ) (ts : List Lexeme)
+      → Sound over (many (behind (Mark Comma) a)) ts (behind_commas_at read k ts)
   unfolding behind_commas_at
   commas_sound s zero ts = ([], refl, refl)
   commas_sound s (suc k) [] = ([], refl, refl)
   commas_sound s (suc k) ((Mark Comma) ∷ ts) = one_sound ts (read ts) (behind_commas_at read k) (s ts) (commas_sound s k)
   commas_sound s (suc k) (t ∷ ts) = ([], refl, refl)
 
-module _ {A : Type 0} (within : Limit → Type 0) (a : Grammar A) (starts ends : Lexeme → Bool) (read : Reader A) (fa : Finds within a starts ends read) where
-  one_passes : (us : List Lexeme) (r : Read A) (more : Reader (List A)) → ((vs : List Lexeme) → Passes within vs (more vs)) → Passes within us r → Passes within us (r >>= λ x. more x.1 >>= λ xs. Ok (x.0 ∷ xs.0, xs.1))
+module _ {A : Type 0} (within : Limit → Type 0) (a : Grammar A) (starts ends : Lexeme → Bool) (read : Reader A)
+    (fa : Finds within a starts ends read) where
+  one_passes : (us : List Lexeme) (r : Read A) (more : Reader (List A))
+      → ((vs : List Lexeme) → Passes within vs (more vs))
+      → Passes within us r
+      → Passes within us (r >>= λ x. more x.1 >>= λ xs. Ok (x.0 ∷ xs.0, xs.1))
   one_passes us (Ok x) more all h = passes_on within us x.1 _ h (passes_made within x.1 (more x.1) (λ xs. x.0 ∷ xs) (all x.1))
   one_passes us (Err (Unexpected n)) more all h = h
   one_passes us (Err (Beyond l n)) more all h = h
@@ -203,13 +257,19 @@ module _ {A : Type 0} (within : Limit → Type 0) (a : Grammar A) (starts ends :
   commas_shrink (suc k) (t ∷ ts) = omega arith
 
   -- what was read so far stands, and the rest passes
-  stands_more : (x : A) (us vs : List Lexeme) (r : Read A) (more : Reader (List A)) → Stands within r x vs → Passes within us (more vs) → Passes within us (r >>= λ x. more x.1 >>= λ xs. Ok (x.0 ∷ xs.0, xs.1))
+  stands_more : (x : A) (us vs : List Lexeme) (r : Read A) (more : Reader (List A))
+      → Stands within r x vs
+      → Passes within us (more vs)
+      → Passes within us (r >>= λ x. more x.1 >>= λ xs. Ok (x.0 ∷ xs.0, xs.1))
   stands_more x us vs r more (inl e) h =
       subst (λ (q : Read A). Passes within us (q >>= λ x. more x.1 >>= λ xs. Ok (x.0 ∷ xs.0, xs.1))) (sym e) (passes_made within us (more vs) (λ xs. x ∷ xs) h)
   stands_more x us vs r more (inr w) h = subst (λ (q : Read A). Passes within us (q >>= λ x. more x.1 >>= λ xs. Ok (x.0 ∷ xs.0, xs.1))) (sym w.2) (inr w.1)
 
   -- a front behind commas is empty or begins with one
-  pub begins : (xs : List A) (u v : List Lexeme) → IsMany (behind (Mark Comma) a) xs u → (behind (Mark Comma) a).CanGoOn v → (u ++ v ≡ []) ⊎ ((w : List Lexeme) × (u ++ v ≡ (Mark Comma) ∷ w))
+  pub begins : (xs : List A) (u v : List Lexeme)
+      → IsMany (behind (Mark Comma) a) xs u
+      → (behind (Mark Comma) a).CanGoOn v
+      → (u ++ v ≡ []) ⊎ ((w : List Lexeme) × (u ++ v ≡ (Mark Comma) ∷ w))
   begins [] u v h g = elim (behind_front (Mark Comma) a v fa.nil g) [
     | inl e ↦ inl (ap (λ (l : List Lexeme). l ++ v) h ⋆ e)
     | inr (w, e, hw) ↦ inr (w, ap (λ (l : List Lexeme). l ++ v) h ⋆ e)
@@ -219,7 +279,12 @@ module _ {A : Type 0} (within : Limit → Type 0) (a : Grammar A) (starts ends :
       inr ((b.0 ++ q) ++ v, ap (λ (l : List Lexeme). l ++ v) (e ⋆ ap (λ (l : List Lexeme). l ++ q) b.1))
 
   -- one more comma, for which there is fuel
-  at_comma : (k : ℕ) (rest us ts : List Lexeme) → length ts ≤ k → ts ≡ (Mark Comma) ∷ rest → ((j : ℕ) → length rest ≤ j → Passes within us (read rest >>= λ x. behind_commas_at read j x.1 >>= λ xs. Ok (x.0 ∷ xs.0, xs.1))) → Passes within us (behind_commas_at read k ts)
+  at_comma : (k : ℕ) (rest us ts : List Lexeme)
+      → length ts ≤ k
+      → ts ≡ (Mark Comma) ∷ rest
+      →
+      ((j : ℕ) → length rest ≤ j → Passes within us (read rest >>= λ x. behind_commas_at read j x.1 >>= λ xs. Ok (x.0 ∷ xs.0, xs.1)))
+      → Passes within us (behind_commas_at read k ts)
   unfolding behind_commas_at
   at_comma zero rest us ts le e go = absurd (omega (arith, ap length e))
   at_comma (suc k) rest us ts le e go = subst (λ (l : List Lexeme). Passes within us (behind_commas_at read (suc k) l)) (sym e) (go k (omega (arith, ap length e)))
@@ -227,7 +292,12 @@ module _ {A : Type 0} (within : Limit → Type 0) (a : Grammar A) (starts ends :
   follows_comma : ends (Mark Comma) ≡ false → (ts w : List Lexeme) → ts ≡ (Mark Comma) ∷ w → Follows ends ts
   follows_comma apart ts w e = subst (Follows ends) (sym e) apart
 
-  pub commas_front : ends (Mark Comma) ≡ false → (k : ℕ) (xs : List A) (u v us : List Lexeme) → length ((u ++ v) ++ us) ≤ k → IsMany (behind (Mark Comma) a) xs u → (behind (Mark Comma) a).CanGoOn v → Passes within us (behind_commas_at read k ((u ++ v) ++ us))
+  pub commas_front : ends (Mark Comma) ≡ false
+      → (k : ℕ) (xs : List A) (u v us : List Lexeme)
+      → length ((u ++ v) ++ us) ≤ k
+      → IsMany (behind (Mark Comma) a) xs u
+      → (behind (Mark Comma) a).CanGoOn v
+      → Passes within us (behind_commas_at read k ((u ++ v) ++ us))
   commas_front apart k [] u v us le h g = elim (behind_front (Mark Comma) a v fa.nil g) [
     | inl e ↦ subst (λ (l : List Lexeme). Passes within us (behind_commas_at read k (l ++ us))) (sym (ap (λ (l : List Lexeme). l ++ v) h ⋆ e)) (commas_shrink k us)
     | inr (w, e, hw) ↦ at_comma k (w ++ us) us _ le (ap (λ (l : List Lexeme). l ++ us) (ap (λ (l : List Lexeme). l ++ v) h ⋆ e))
@@ -247,7 +317,12 @@ module _ {A : Type 0} (within : Limit → Type 0) (a : Grammar A) (starts ends :
       ])
 
   -- the same, for what is whole
-  whole_at_comma : (k : ℕ) (rest us ts : List Lexeme) (xs : List A) → length ts ≤ k → ts ≡ (Mark Comma) ∷ rest → ((j : ℕ) → length rest ≤ j → Stands within (read rest >>= λ x. behind_commas_at read j x.1 >>= λ xs. Ok (x.0 ∷ xs.0, xs.1)) xs us) → Stands within (behind_commas_at read k ts) xs us
+  whole_at_comma : (k : ℕ) (rest us ts : List Lexeme) (xs : List A)
+      → length ts ≤ k
+      → ts ≡ (Mark Comma) ∷ rest
+      →
+      ((j : ℕ) → length rest ≤ j → Stands within (read rest >>= λ x. behind_commas_at read j x.1 >>= λ xs. Ok (x.0 ∷ xs.0, xs.1)) xs us)
+      → Stands within (behind_commas_at read k ts) xs us
   unfolding behind_commas_at
   whole_at_comma zero rest us ts xs le e go = absurd (omega (arith, ap length e))
   whole_at_comma (suc k) rest us ts xs le e go = subst (λ (l : List Lexeme). Stands within (behind_commas_at read (suc k) l) xs us) (sym e) (go k (omega (arith, ap length e)))
@@ -259,18 +334,31 @@ module _ {A : Type 0} (within : Limit → Type 0) (a : Grammar A) (starts ends :
   no_comma (suc k) ((Mark Comma) ∷ us) f = absurd cc
   no_comma (suc k) (t ∷ us) f = refl
 
-  pub follows_many : ends (Mark Comma) ≡ false → (xs : List A) (u us : List Lexeme) → IsMany (behind (Mark Comma) a) xs u → Follows ends us → Follows ends (u ++ us)
+  pub follows_many : ends (Mark Comma) ≡ false
+      → (xs : List A) (u us : List Lexeme)
+      → IsMany (behind (Mark Comma) a) xs u
+      → Follows ends us
+      → Follows ends (u ++ us)
   follows_many apart [] u us h f = subst (λ (l : List Lexeme). Follows ends (l ++ us)) (sym h) f
   follows_many apart (x ∷ xs) u us (p, q, e, hp, hq) f =
       let b = behind_is (Mark Comma) a x p hp in
       follows_comma apart (u ++ us) ((b.0 ++ q) ++ us) (ap (λ (l : List Lexeme). l ++ us) (e ⋆ ap (λ (l : List Lexeme). l ++ q) b.1))
 
-  stands_both : (x : A) (xs : List A) (us vs : List Lexeme) (r : Read A) (more : Reader (List A)) → Stands within r x vs → Stands within (more vs) xs us → Stands within (r >>= λ x. more x.1 >>= λ xs. Ok (x.0 ∷ xs.0, xs.1)) (x ∷ xs) us
+  stands_both : (x : A) (xs : List A) (us vs : List Lexeme) (r : Read A) (more : Reader (List A))
+      → Stands within r x vs
+      → Stands within (more vs) xs us
+      → Stands within (r >>= λ x. more x.1 >>= λ xs. Ok (x.0 ∷ xs.0, xs.1)) (x ∷ xs) us
   stands_both x xs us vs r more (inl e) (inl h) = inl (ap (λ (r : Read A). r >>= λ x. more x.1 >>= λ xs. Ok (x.0 ∷ xs.0, xs.1)) e ⋆ ap (λ (s : Read (List A)). s >>= λ xs. Ok (x ∷ xs.0, xs.1)) h)
   stands_both x xs us vs r more (inl e) (inr h) = inr (h.0, h.1, ap (λ (r : Read A). r >>= λ x. more x.1 >>= λ xs. Ok (x.0 ∷ xs.0, xs.1)) e ⋆ ap (λ (s : Read (List A)). s >>= λ xs. Ok (x ∷ xs.0, xs.1)) h.2)
   stands_both x xs us vs r more (inr w) h = inr (w.0, w.1, ap (λ (r : Read A). r >>= λ x. more x.1 >>= λ xs. Ok (x.0 ∷ xs.0, xs.1)) w.2)
 
-  pub commas_whole : ends (Mark Comma) ≡ false → (k : ℕ) (xs : List A) (u us : List Lexeme) → length (u ++ us) ≤ k → IsMany (behind (Mark Comma) a) xs u → Follows ends us → Follows is_comma us → Stands within (behind_commas_at read k (u ++ us)) xs us
+  pub commas_whole : ends (Mark Comma) ≡ false
+      → (k : ℕ) (xs : List A) (u us : List Lexeme)
+      → length (u ++ us) ≤ k
+      → IsMany (behind (Mark Comma) a) xs u
+      → Follows ends us
+      → Follows is_comma us
+      → Stands within (behind_commas_at read k (u ++ us)) xs us
   commas_whole apart k [] u us le h f g = subst (λ (l : List Lexeme). Stands within (behind_commas_at read k (l ++ us)) [] us) (sym h) (inl (no_comma k us g))
   commas_whole apart k (x ∷ xs) u us le (p, q, e, hp, hq) f g =
       let b = behind_is (Mark Comma) a x p hp in
@@ -280,6 +368,8 @@ module _ {A : Type 0} (within : Limit → Type 0) (a : Grammar A) (starts ends :
       (fa.whole x b.0 (q ++ us) b.2 (follows_many apart xs q us hq f))
       (commas_whole apart j xs q us (omega (arith, length-append b.0 (q ++ us))) hq f g))
 
-pub stands_made : {A B : Type 0} (within : Limit → Type 0) (us : List Lexeme) (r : Read A) (x : A) (f : A → B) → Stands within r x us → Stands within (r >>= λ y. Ok (f y.0, y.1)) (f x) us
+pub stands_made : {A B : Type 0} (within : Limit → Type 0) (us : List Lexeme) (r : Read A) (x : A) (f : A → B)
+    → Stands within r x us
+    → Stands within (r >>= λ y. Ok (f y.0, y.1)) (f x) us
 stands_made within us r x f (inl e) = inl (ap (λ (r : Read _). r >>= λ y. Ok (f y.0, y.1)) e)
 stands_made within us r x f (inr w) = inr (w.0, w.1, ap (λ (r : Read _). r >>= λ y. Ok (f y.0, y.1)) w.2)

@@ -10,11 +10,15 @@ use Rattle.grammar.specs.Laws.{Sound, Follows, Passes, Stands, Finds, then_read,
 -- ---- what is read is so
 
 module _ (over : Limit → ℕ) where
-  pub left_sound : {A : Type 0} (a b : Grammar A) (ts : List Lexeme) (r : Read A) → Sound over a ts r → Sound over (a ∣ b) ts r
+  pub left_sound : {A : Type 0} (a b : Grammar A) (ts : List Lexeme) (r : Read A)
+      → Sound over a ts r
+      → Sound over (a ∣ b) ts r
   left_sound a b ts (Ok x) s = (s.0, s.1, inl s.2)
   left_sound a b ts (Err f) s = (s.0, s.1, s.2, s.3, inl s.4)
 
-  pub right_sound : {A : Type 0} (a b : Grammar A) (ts : List Lexeme) (r : Read A) → Sound over b ts r → Sound over (a ∣ b) ts r
+  pub right_sound : {A : Type 0} (a b : Grammar A) (ts : List Lexeme) (r : Read A)
+      → Sound over b ts r
+      → Sound over (a ∣ b) ts r
   right_sound a b ts (Ok x) s = (s.0, s.1, inr s.2)
   right_sound a b ts (Err f) s = (s.0, s.1, s.2, s.3, inr s.4)
 
@@ -28,21 +32,31 @@ module _ (over : Limit → ℕ) where
   closed_sound (Mark CloseBrace ∷ ts) = (Mark CloseBrace ∷ [], refl, refl)
   closed_sound (t ∷ ts) = stop_sound (mark CloseBrace) (t ∷ ts) (inl refl)
 
-  pub listed_sound : {A : Type 0} (a : Grammar A) (read : Reader A) → ((us : List Lexeme) → Sound over a us (read us)) → (ts : List Lexeme) → Sound over (listed a) ts (listed_at read ts)
+  pub listed_sound : {A : Type 0} (a : Grammar A) (read : Reader A)
+      → ((us : List Lexeme) → Sound over a us (read us))
+      → (ts : List Lexeme)
+      → Sound over (listed a) ts (listed_at read ts)
   unfolding listed_at
   listed_sound a read s ts = seq_sound over a (many (behind (Mark Comma) a)) (λ p. p.0 ∷ p.1) ts (read ts) (λ us. behind_commas_at read (length us) us) (s ts) (λ us. commas_sound over a read s (length us) us)
 
   -- what stands in braces
-  pub brace_sound : {A B : Type 0} (a : Grammar A) (f : A → B) (ts : List Lexeme) (r : Read B) → Sound over ((a ∙ mark CloseBrace) ⇒ (λ p. f p.0)) ts r → Sound over (braces a ⇒ f) ((Mark OpenBrace) ∷ ts) r
+  pub brace_sound : {A B : Type 0} (a : Grammar A) (f : A → B) (ts : List Lexeme) (r : Read B)
+      → Sound over ((a ∙ mark CloseBrace) ⇒ (λ p. f p.0)) ts r
+      → Sound over (braces a ⇒ f) ((Mark OpenBrace) ∷ ts) r
   brace_sound a f ts (Ok x) (u, e, (p, q, h)) = ((Mark OpenBrace) ∷ u, ap (λ (l : List Lexeme). (Mark OpenBrace) ∷ l) e, (p.0, q, ((tt, p), refl, ((Mark OpenBrace) ∷ [], u, refl, refl, h))))
   brace_sound a f ts (Err g) (u, rest, e, k, h) = ((Mark OpenBrace) ∷ u, rest, ap (λ (l : List Lexeme). (Mark OpenBrace) ∷ l) e, k, inr (tt, (Mark OpenBrace) ∷ [], u, refl, refl, h))
 
-  pub named_sound : {A : Type 0} (a : Grammar A) (read : Reader A) → ((us : List Lexeme) → Sound over a us (read us)) → (ts : List Lexeme) → Sound over (token Ident ∙ a) ts (named_at read ts)
+  pub named_sound : {A : Type 0} (a : Grammar A) (read : Reader A)
+      → ((us : List Lexeme) → Sound over a us (read us))
+      → (ts : List Lexeme)
+      → Sound over (token Ident ∙ a) ts (named_at read ts)
   unfolding named_at
   named_sound a read s [] = stop_sound (token Ident ∙ a) [] (inl (inl refl))
   named_sound {A} a read s (Ident x ∷ ts) = next (read ts) (s ts)
     where
-      next : (r : Read A) → Sound over a ts r → Sound over (token Ident ∙ a) (Ident x ∷ ts) (r >>= λ v. Ok ((x, v.0), v.1))
+      next : (r : Read A)
+          → Sound over a ts r
+          → Sound over (token Ident ∙ a) (Ident x ∷ ts) (r >>= λ v. Ok ((x, v.0), v.1))
       next (Ok t) (u, e, h) = (Ident x ∷ u, ap (λ (l : List Lexeme). Ident x ∷ l) e, (Ident x ∷ [], u, refl, refl, h))
       next (Err f) (u, rest, e, k, h) = (Ident x ∷ u, rest, ap (λ (l : List Lexeme). Ident x ∷ l) e, k, inr (x, Ident x ∷ [], u, refl, refl, h))
   named_sound a read s (t ∷ ts) = stop_sound (token Ident ∙ a) (t ∷ ts) (inl (inl refl))
@@ -56,7 +70,13 @@ pub record IsSolid {A : Type 0} (a : Grammar A) : Type 0 where
 pub head_is : (s t : Lexeme) (u v : List Lexeme) → s ∷ u ≡ t ∷ v → s ≡ t
 head_is s t u v e = cc
 
-pub seq_first : {A B : Type 0} (a : Grammar A) (b : Grammar B) (starts : Lexeme → Bool) → IsSolid a → ((x : A) (u : List Lexeme) → a.Is x u → a.CanGoOn u) → ((t : Lexeme) (u : List Lexeme) → a.CanGoOn (t ∷ u) → starts t ≡ true) → (t : Lexeme) (u : List Lexeme) → (a ∙ b).CanGoOn (t ∷ u) → starts t ≡ true
+pub seq_first : {A B : Type 0} (a : Grammar A) (b : Grammar B) (starts : Lexeme → Bool)
+    → IsSolid a
+    → ((x : A) (u : List Lexeme) → a.Is x u → a.CanGoOn u)
+    → ((t : Lexeme) (u : List Lexeme) → a.CanGoOn (t ∷ u) → starts t ≡ true)
+    → (t : Lexeme) (u : List Lexeme)
+    → (a ∙ b).CanGoOn (t ∷ u)
+    → starts t ≡ true
 seq_first a b starts solid part first t u (inl h) = first t u h
 seq_first a b starts solid part first t u (inr (x, [], w, e, ha, hb)) = absurd (solid.no_empty x ha)
 seq_first a b starts solid part first t u (inr (x, s ∷ v, w, e, ha, hb)) = subst (λ (t : Lexeme). starts t ≡ true) (sym (head_is t s u (v ++ w) e)) (first s v (part x (s ∷ v) ha))
@@ -75,7 +95,12 @@ pub record Next {A : Type 0} (a : Grammar A) (s : Lexeme) (P : Lexeme → Type 0
 pub second_is : (s t x y : Lexeme) (u v : List Lexeme) → s ∷ t ∷ u ≡ x ∷ y ∷ v → t ≡ y
 second_is s t x y u v e = cc
 
-pub seq_next : {A B : Type 0} (a : Grammar A) (b : Grammar B) (s : Lexeme) (P : Lexeme → Type 0) → IsSolid a → ((x : A) (u : List Lexeme) → a.Is x u → a.CanGoOn u) → Next a s P → ((x : A) (t : Lexeme) (u : List Lexeme) → a.Is x (s ∷ []) → b.CanGoOn (t ∷ u) → P t) → Next (a ∙ b) s P
+pub seq_next : {A B : Type 0} (a : Grammar A) (b : Grammar B) (s : Lexeme) (P : Lexeme → Type 0)
+    → IsSolid a
+    → ((x : A) (u : List Lexeme) → a.Is x u → a.CanGoOn u)
+    → Next a s P
+    → ((x : A) (t : Lexeme) (u : List Lexeme) → a.Is x (s ∷ []) → b.CanGoOn (t ∷ u) → P t)
+    → Next (a ∙ b) s P
 seq_next a b s P solid part na nb = record { next = go }
   where
     go : (t : Lexeme) (u : List Lexeme) → (a ∙ b).CanGoOn (s ∷ t ∷ u) → P t
@@ -89,7 +114,9 @@ seq_next a b s P solid part na nb = record { next = go }
         let q : s' ≡ s = sym (head_is s s' (t ∷ u) ((t' ∷ v) ++ w) e) in
         subst P (sym (second_is s t s' t' u (v ++ w) e)) (na.next t' v (subst (λ (y : Lexeme). a.CanGoOn (y ∷ t' ∷ v)) q (part x (s' ∷ t' ∷ v) ha)))
 
-pub made_next : {A B : Type 0} (a : Grammar A) (f : A → B) (s : Lexeme) (P : Lexeme → Type 0) → Next a s P → Next (a ⇒ f) s P
+pub made_next : {A B : Type 0} (a : Grammar A) (f : A → B) (s : Lexeme) (P : Lexeme → Type 0)
+    → Next a s P
+    → Next (a ⇒ f) s P
 made_next a f s P n = record { next = n.next }
 
 -- ---- lists
@@ -98,7 +125,10 @@ abbrev pub with_comma : (Lexeme → Bool) → Lexeme → Bool
 with_comma ends (Mark Comma) = true
 with_comma ends t = ends t
 
-split_ends : (ends : Lexeme → Bool) (us : List Lexeme) → ends (Mark Comma) ≡ false → Follows (with_comma ends) us → Follows ends us × Follows is_comma us
+split_ends : (ends : Lexeme → Bool) (us : List Lexeme)
+    → ends (Mark Comma) ≡ false
+    → Follows (with_comma ends) us
+    → Follows ends us × Follows is_comma us
 split_ends ends [] apart f = (tt, tt)
 split_ends ends ((Mark Comma) ∷ us) apart f = absurd cc
 split_ends ends (t ∷ us) apart f = (f, refl)
@@ -107,7 +137,8 @@ comma_apart : (ends : Lexeme → Bool) → ends (Mark Comma) ≡ false → (t : 
 comma_apart ends apart (Mark Comma) e = apart
 comma_apart ends apart t e = absurd cc
 
-module _ {A : Type 0} (within : Limit → Type 0) (a : Grammar A) (starts ends : Lexeme → Bool) (read : Reader A) (fa : Finds within a starts ends read) (apart : ends (Mark Comma) ≡ false) where
+module _ {A : Type 0} (within : Limit → Type 0) (a : Grammar A) (starts ends : Lexeme → Bool) (read : Reader A)
+    (fa : Finds within a starts ends read) (apart : ends (Mark Comma) ≡ false) where
   comma_first : (t : Lexeme) (u : List Lexeme) → (many (behind (Mark Comma) a)).CanGoOn (t ∷ u) → is_comma t ≡ true
   comma_first t u (xs, v, w, e, hv, hw) = elim (begins within a starts ends read fa xs v w hv hw) [
     | inl n ↦ absurd (nothing_is t u (e ⋆ n))
@@ -117,7 +148,8 @@ module _ {A : Type 0} (within : Limit → Type 0) (a : Grammar A) (starts ends :
       nothing_is : (t : Lexeme) (u : List Lexeme) → t ∷ u ≡ [] → ⊥
       nothing_is t u e = cc
 
-  pub finds_many : Finds within (many (behind (Mark Comma) a)) is_comma (with_comma ends) (λ us. behind_commas_at read (length us) us)
+  pub finds_many :
+      Finds within (many (behind (Mark Comma) a)) is_comma (with_comma ends) (λ us. behind_commas_at read (length us) us)
   finds_many = record {
     nil = ([], [], [], refl, refl, inl (inl refl));
     part = λ xs u h. (xs, u, [], sym (append-nil u), h, inl (inl refl));
@@ -163,15 +195,22 @@ finds_closed within = record { nil = inl refl; part = λ x u h. inr (tt, h); fir
     front u us (inl e) = subst (λ (l : List Lexeme). Passes within us (closed_at (l ++ us))) (sym e) (shrinks us)
     front u us (inr (x, e)) = let h : length us ≤ length us = omega arith in subst (λ (l : List Lexeme). Passes within us (closed_at (l ++ us))) (sym e) h
 
-rbrace_apart : (ends : Lexeme → Bool) → ends (Mark CloseBrace) ≡ false → (t : Lexeme) → is_rbrace t ≡ true → with_comma ends t ≡ false
+rbrace_apart : (ends : Lexeme → Bool)
+    → ends (Mark CloseBrace) ≡ false
+    → (t : Lexeme)
+    → is_rbrace t ≡ true
+    → with_comma ends t ≡ false
 rbrace_apart ends apart (Mark CloseBrace) e = apart
 rbrace_apart ends apart t e = absurd cc
 
-module _ {A C : Type 0} (within : Limit → Type 0) (a : Grammar A) (starts ends : Lexeme → Bool) (read : Reader A) (fa : Finds within a starts ends read) (apart : ends (Mark Comma) ≡ false) (apart_end : ends (Mark CloseBrace) ≡ false) (solid : IsSolid a) (f : List A × Unit {0} → C) where
+module _ {A C : Type 0} (within : Limit → Type 0) (a : Grammar A) (starts ends : Lexeme → Bool) (read : Reader A)
+    (fa : Finds within a starts ends read) (apart : ends (Mark Comma) ≡ false)
+    (apart_end : ends (Mark CloseBrace) ≡ false) (solid : IsSolid a) (f : List A × Unit {0} → C) where
   listed_solid : IsSolid (listed a)
   listed_solid = seq_solid a (many (behind (Mark Comma) a)) (λ p. p.0 ∷ p.1) solid
 
-  pub finds_body : Finds within ((listed a ∙ mark CloseBrace) ⇒ f) starts no_lexeme (then_read f (listed_at read) closed_at)
+  pub finds_body :
+      Finds within ((listed a ∙ mark CloseBrace) ⇒ f) starts no_lexeme (then_read f (listed_at read) closed_at)
   finds_body =
       let fl = finds_listed within a starts ends read fa apart solid in
       record {
@@ -184,7 +223,10 @@ module _ {A C : Type 0} (within : Limit → Type 0) (a : Grammar A) (starts ends
       }
 
   -- what may stand behind the first token in the braces
-  pub body_next : (s : Lexeme) (P : Lexeme → Type 0) → Next a s P → ((x : A) → a.Is x (s ∷ []) → (P (Mark Comma)) × (P (Mark CloseBrace))) → Next (listed a ∙ mark CloseBrace) s P
+  pub body_next : (s : Lexeme) (P : Lexeme → Type 0)
+      → Next a s P
+      → ((x : A) → a.Is x (s ∷ []) → (P (Mark Comma)) × (P (Mark CloseBrace)))
+      → Next (listed a ∙ mark CloseBrace) s P
   body_next s P na one =
       seq_next (listed a) (mark CloseBrace) s P listed_solid (finds_listed within a starts ends read fa apart solid).part
       (made_next (a ∙ many (behind (Mark Comma) a)) (λ p. p.0 ∷ p.1) s P (seq_next a (many (behind (Mark Comma) a)) s P solid fa.part na (λ x t u h g. subst P (sym (is_comma_is t (comma_first within a starts ends read fa apart t u g))) (one x h).0)))
@@ -213,8 +255,11 @@ is_ident t = false
 abbrev put_name : {A : Type 0} → List ℕ → Read A → Read (List ℕ × A)
 put_name x r = r >>= λ v. Ok ((x, v.0), v.1)
 
-module _ {A : Type 0} (within : Limit → Type 0) (v : Grammar A) (starts ends : Lexeme → Bool) (read : Reader A) (fv : Finds within v starts ends read) where
-  read_named : (x : List ℕ) (us : List Lexeme) (r : Read A) → Passes within us r → Passes {A = List ℕ × A} within us (r >>= λ v. Ok ((x, v.0), v.1))
+module _ {A : Type 0} (within : Limit → Type 0) (v : Grammar A) (starts ends : Lexeme → Bool) (read : Reader A)
+    (fv : Finds within v starts ends read) where
+  read_named : (x : List ℕ) (us : List Lexeme) (r : Read A)
+      → Passes within us r
+      → Passes {A = List ℕ × A} within us (r >>= λ v. Ok ((x, v.0), v.1))
   read_named x us r h = passes_made within us r (λ t. (x, t)) h
 
   named_shrinks : (us : List Lexeme) → Passes within us (named_at read us)
@@ -230,11 +275,16 @@ module _ {A : Type 0} (within : Limit → Type 0) (v : Grammar A) (starts ends :
   named_front u us (inr (x, p, q, e, hp, hq)) =
       subst (λ (l : List Lexeme). Passes within us (named_at read (l ++ us))) (sym (e ⋆ ap (λ (l : List Lexeme). l ++ q) hp)) (read_named x us (read (q ++ us)) (fv.front q us hq))
 
-  named_stands : (x : List ℕ) (y : A) (us : List Lexeme) (r : Read A) → Stands within r y us → Stands {A = List ℕ × A} within (r >>= λ v. Ok ((x, v.0), v.1)) (x, y) us
+  named_stands : (x : List ℕ) (y : A) (us : List Lexeme) (r : Read A)
+      → Stands within r y us
+      → Stands {A = List ℕ × A} within (r >>= λ v. Ok ((x, v.0), v.1)) (x, y) us
   named_stands x y us r (inl e) = inl (ap (put_name x) e)
   named_stands x y us r (inr w) = inr (w.0, w.1, ap (put_name x) w.2)
 
-  named_whole : (m : List ℕ × A) (u us : List Lexeme) → (token Ident ∙ v).Is m u → Follows ends us → Stands within (named_at read (u ++ us)) m us
+  named_whole : (m : List ℕ × A) (u us : List Lexeme)
+      → (token Ident ∙ v).Is m u
+      → Follows ends us
+      → Stands within (named_at read (u ++ us)) m us
   unfolding named_at
   named_whole m u us (p, q, e, hp, hq) f =
       subst (λ (l : List Lexeme). Stands within (named_at read (l ++ us)) m us) (sym (e ⋆ ap (λ (l : List Lexeme). l ++ q) hp)) (named_stands m.0 m.1 us (read (q ++ us)) (fv.whole m.1 q us hq f))
@@ -255,10 +305,15 @@ module _ {A : Type 0} (within : Limit → Type 0) (v : Grammar A) (starts ends :
 
 -- ---- what stands behind an open brace
 
-pub braces_is : {A : Type 0} (a : Grammar A) (z : A) (u : List Lexeme) → (braces a).Is z u → (v : List Lexeme) × (u ≡ Mark OpenBrace ∷ v) × ((a ∙ mark CloseBrace) ⇒ (λ p. p.0)).Is z v
+pub braces_is : {A : Type 0} (a : Grammar A) (z : A) (u : List Lexeme)
+    → (braces a).Is z u
+    → (v : List Lexeme) × (u ≡ Mark OpenBrace ∷ v) × ((a ∙ mark CloseBrace) ⇒ (λ p. p.0)).Is z v
 braces_is a z u (p, e, (m, v, q, hm, hv)) = (v, q ⋆ ap (λ (l : List Lexeme). l ++ v) hm, (p.1, e, hv))
 
-pub braces_front : {A : Type 0} (a : Grammar A) (u : List Lexeme) → a.CanGoOn [] → (braces a).CanGoOn u → (u ≡ []) ⊎ ((v : List Lexeme) × (u ≡ Mark OpenBrace ∷ v) × (a ∙ mark CloseBrace).CanGoOn v)
+pub braces_front : {A : Type 0} (a : Grammar A) (u : List Lexeme)
+    → a.CanGoOn []
+    → (braces a).CanGoOn u
+    → (u ≡ []) ⊎ ((v : List Lexeme) × (u ≡ Mark OpenBrace ∷ v) × (a ∙ mark CloseBrace).CanGoOn v)
 braces_front a u nil (inl (inl e)) = inl e
 braces_front a u nil (inl (inr (x, e))) = inr ([], e, inl nil)
 braces_front a u nil (inr (x, m, v, q, hm, hv)) = inr (v, q ⋆ ap (λ (l : List Lexeme). l ++ v) hm, hv)

@@ -10,8 +10,14 @@ abbrev pub Past : ℕ → Type 0 → Type 0
 Past zero P = Unit {0}
 Past (suc over) P = P
 
-beyond_sound : (over : Limit → ℕ) (k : ℕ) → over Integer ≡ k → (P : Type 0) → Past k P → {A : Type 0} (g : Grammar A) (n : ℕ) (u ts : List Lexeme)
-    → g.CanGoOn u → (P → g.CanGoOn (u ++ Number n ∷ [])) → Sound over g (u ++ Number n ∷ ts) (Err (Beyond Integer (length (Number n ∷ ts))))
+beyond_sound : (over : Limit → ℕ) (k : ℕ)
+    → over Integer ≡ k
+    → (P : Type 0)
+    → Past k P
+    → {A : Type 0} (g : Grammar A) (n : ℕ) (u ts : List Lexeme)
+    → g.CanGoOn u
+    → (P → g.CanGoOn (u ++ Number n ∷ []))
+    → Sound over g (u ++ Number n ∷ ts) (Err (Beyond Integer (length (Number n ∷ ts))))
 beyond_sound over zero e P past g n u ts before with_it = (u, Number n ∷ ts, refl, ap (λ (k : ℕ). more k (length (Number n ∷ ts))) (sym e), before)
 beyond_sound over (suc k) e P past g n u ts before with_it =
     (u ++ Number n ∷ [], ts, sym (append_assoc u (Number n ∷ []) ts), same ⋆ ap (λ (k : ℕ). more k (length ts)) (sym e), with_it past)
@@ -20,8 +26,13 @@ beyond_sound over (suc k) e P past g n u ts before with_it =
     same = omega arith
 
 -- a number behind a front
-pub fitting_sound : (over : Limit → ℕ) (fits fits' : ℕ → Bool) → Past (over Integer) ((n : ℕ) → fits' n ≡ true) → {A : Type 0} (g : Grammar A) (b : Bool) (n : ℕ) (u ts : List Lexeme) (r : Read A)
-    → g.CanGoOn u → (fits' n ≡ true → g.CanGoOn (u ++ Number n ∷ [])) → (b ≡ true → Sound over g (u ++ Number n ∷ ts) r) → Sound over g (u ++ Number n ∷ ts) (fitting b (Number n ∷ ts) r)
+pub fitting_sound : (over : Limit → ℕ) (fits fits' : ℕ → Bool)
+    → Past (over Integer) ((n : ℕ) → fits' n ≡ true)
+    → {A : Type 0} (g : Grammar A) (b : Bool) (n : ℕ) (u ts : List Lexeme) (r : Read A)
+    → g.CanGoOn u
+    → (fits' n ≡ true → g.CanGoOn (u ++ Number n ∷ []))
+    → (b ≡ true → Sound over g (u ++ Number n ∷ ts) r)
+    → Sound over g (u ++ Number n ∷ ts) (fitting b (Number n ∷ ts) r)
 fitting_sound over fits fits' past g true n u ts r before with_it h = h refl
 fitting_sound over fits fits' past g false n u ts r before with_it h =
     beyond_sound over (over Integer) refl ((n : ℕ) → fits' n ≡ true) past g n u ts before (λ all. with_it (all n))

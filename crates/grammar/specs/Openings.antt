@@ -1,5 +1,5 @@
 -- What is owed where something is opened, and small rules.
-use Rattle.std.proofs.Common.{◌≡◌, ℕ, zero, suc, ◌+◌, ◌≤◌, inl, inr, Bool, true, false, List, [], ◌∷◌, ◌++◌, length, Option, Some, Ok, Err, refl, sym, ap, subst, ◌∙◌ as ◌⋆◌, arith}
+use Rattle.std.proofs.Common.{◌≡◌, ℕ, zero, suc, ◌+◌, ◌≤◌, inl, inr, Bool, true, false, List, [], ◌∷◌, ◌++◌, length, Ok, Err, refl, sym, ap, subst, ◌∙◌ as ◌⋆◌, arith}
 use Rattle.text.specs.declared.token.Mark.TheVariants.{OpenBrace, CloseBrace}
 use Rattle.grammar.specs.Lexeme.{Lexeme, Ident, Mark}
 use Rattle.grammar.specs.Grammar.{Grammar, token, mark, only, ◌∙◌, ◌⇒◌, behind, braces, cut_off, opens}
@@ -13,43 +13,43 @@ use Rattle.grammar.specs.Rules.{Owes, OwesLoosely, Same, either, rule_token, rul
 
 -- ---- small rules
 
-pub loosely : {A : Type 0} {s f : Type 0} {over : Limit → ℕ} {within : Limit → Type 0} {g : Grammar A} {starts ends : Lexeme → Bool} {read : Reader A} → Owes s f over within g starts ends read → OwesLoosely s f over within g starts ends read
+pub loosely : {A : Type 0} {s f : Type 0} {over : Limit → ℕ} {within : Limit → Type 0} {g : Grammar A}
+    {starts ends : Lexeme → Bool} {read : Reader A}
+    → Owes s f over within g starts ends read
+    → OwesLoosely s f over within g starts ends read
 loosely k = record { sound = k.sound; finds = k.finds }
 
 -- by a reader that answers the same
-pub loose_read : {A : Type 0} {s f : Type 0} {over : Limit → ℕ} {within : Limit → Type 0} {g : Grammar A} {starts ends : Lexeme → Bool} {r : Reader A} (r' : Reader A) → ((ts : List Lexeme) → r ts ≡ r' ts) → OwesLoosely s f over within g starts ends r → OwesLoosely s f over within g starts ends r'
+pub loose_read : {A : Type 0} {s f : Type 0} {over : Limit → ℕ} {within : Limit → Type 0} {g : Grammar A}
+    {starts ends : Lexeme → Bool} {r : Reader A} (r' : Reader A)
+    → ((ts : List Lexeme) → r ts ≡ r' ts)
+    → OwesLoosely s f over within g starts ends r
+    → OwesLoosely s f over within g starts ends r'
 loose_read {A} {s} {f} {over} {within} {g} {starts} {ends} {r} r' e k = record { sound = λ q. same_sound over g r r' e (k.sound q); finds = λ q. same_finds within g starts ends r r' e (k.finds q) }
 
 -- a pair, the first of which may be empty
-pub rule_both : {A B : Type 0} {s f : Type 0} {over : Limit → ℕ} {within : Limit → Type 0} (a : Grammar A) (b : Grammar B) {starts ends : Lexeme → Bool} {read : Reader (A × B)} → Owes s f over within ((a ∙ b) ⇒ (λ p. p)) starts ends read → Owes s f over within (a ∙ b) starts ends read
+pub rule_both : {A B : Type 0} {s f : Type 0} {over : Limit → ℕ} {within : Limit → Type 0} (a : Grammar A)
+    (b : Grammar B) {starts ends : Lexeme → Bool} {read : Reader (A × B)}
+    → Owes s f over within ((a ∙ b) ⇒ (λ p. p)) starts ends read
+    → Owes s f over within (a ∙ b) starts ends read
 rule_both {A} {B} {s} {f} {over} {within} a b {starts} {ends} {read} k = record { sound = λ q. pair_sound over a b read (k.sound q); finds = λ q. pair_finds within a b starts ends read (k.finds q); solid = record { no_empty = λ p h. k.solid.no_empty p (p, refl, h) } }
 
 -- a part behind a name
-pub rule_named : {A : Type 0} {s f : Type 0} {over : Limit → ℕ} {within : Limit → Type 0} {a : Grammar A} {starts ends : Lexeme → Bool} {read : Reader A} → OwesLoosely s f over within a starts ends read → Owes s f over within (token Ident ∙ a) is_ident ends (named_at read)
+pub rule_named : {A : Type 0} {s f : Type 0} {over : Limit → ℕ} {within : Limit → Type 0} {a : Grammar A}
+    {starts ends : Lexeme → Bool} {read : Reader A}
+    → OwesLoosely s f over within a starts ends read
+    → Owes s f over within (token Ident ∙ a) is_ident ends (named_at read)
 rule_named {A} {s} {f} {over} {within} {a} {starts} {ends} {read} k = record { sound = λ q. named_sound over a read (k.sound q); finds = λ q. finds_named within a starts ends read (k.finds q); solid = pair_solid (token Ident) a (token_solid Ident) }
 
 -- a tree made of a tree made of two parts
-pub after_made : {A B C D : Type 0} (g : C → D) (f : A × B → C) (r : Read A) (rb : Reader B) → made g (after_read f r rb) ≡ after_read (λ p. g (f p)) r rb
+pub after_made : {A B C D : Type 0} (g : C → D) (f : A × B → C) (r : Read A) (rb : Reader B)
+    → made g (after_read f r rb) ≡ after_read (λ p. g (f p)) r rb
 after_made {A} {B} {C} {D} g f (Ok x) rb = go (rb x.1)
   where
     go : (q : Read B) → made g (made (λ y. f (x.0, y)) q) ≡ made (λ y. g (f (x.0, y))) q
     go (Ok y) = refl
     go (Err e) = refl
 after_made g f (Err e) rb = refl
-
--- a tree made of a tree
-pub made_made : {A B C : Type 0} (g : B → C) (f : A → B) (r : Read A) → made g (made f r) ≡ made (λ x. g (f x)) r
-made_made g f (Ok x) = refl
-made_made g f (Err e) = refl
-
--- what is read behind a part that may be empty and is not
-pub after_some : {A B C : Type 0} (f : Option A × B → C) (r : Read A) (rb : Reader B) → after_read f (made (λ x. Some x) r) rb ≡ after_read (λ p. f (Some p.0, p.1)) r rb
-after_some f (Ok x) rb = refl
-after_some f (Err e) rb = refl
-
-pub opened_made : {A B : Type 0} (n : ℕ) (ts : List Lexeme) (f : A → B) (r : Read A) → made f (opened n ts r) ≡ opened n ts (made f r)
-opened_made zero ts f r = refl
-opened_made (suc n) ts f r = refl
 
 -- ---- a part behind a lexeme that opens
 
@@ -66,18 +66,22 @@ abbrev pub opened_by : {A : Type 0} → (Lexeme → Bool) → ℕ → Reader A �
 opened_by test n read [] = stop []
 opened_by test n read (t ∷ ts) = barred (test t) n (t ∷ ts) (read ts)
 
-opened_same : {A : Type 0} (test : Lexeme → Bool) (n : ℕ) (read : Reader A) (ts : List Lexeme) → then_read (λ (p : Unit {0} × A). p.1) (one_at test) read ts ≡ opened_by test (suc n) read ts
+opened_same : {A : Type 0} (test : Lexeme → Bool) (n : ℕ) (read : Reader A) (ts : List Lexeme)
+    → then_read (λ (p : Unit {0} × A). p.1) (one_at test) read ts ≡ opened_by test (suc n) read ts
 opened_same test n read [] = refl
 opened_same {A} test n read (t ∷ ts) = go (test t)
   where
-    go : (b : Bool) → after_read (λ (p : Unit {0} × A). p.1) (taken b (t ∷ ts) ts) read ≡ barred b (suc n) (t ∷ ts) (read ts)
+    go : (b : Bool)
+        → after_read (λ (p : Unit {0} × A). p.1) (taken b (t ∷ ts) ts) read ≡ barred b (suc n) (t ∷ ts) (read ts)
     go true = read_again (read ts)
     go false = refl
 
 le_same : (us : List Lexeme) → length us ≤ length us
 le_same us = omega arith
 
-module _ {A : Type 0} (s f : Type 0) (over : Limit → ℕ) (within : Limit → Type 0) (l : Lexeme) (test : Lexeme → Bool) (holds : test l ≡ true) (one : (t : Lexeme) → test t ≡ true → t ≡ l) (b : Grammar A) (starts ends : Lexeme → Bool) (read : Reader A) where
+module _ {A : Type 0} (s f : Type 0) (over : Limit → ℕ) (within : Limit → Type 0) (l : Lexeme) (test : Lexeme → Bool)
+    (holds : test l ≡ true) (one : (t : Lexeme) → test t ≡ true → t ≡ l) (b : Grammar A) (starts ends : Lexeme → Bool)
+    (read : Reader A) where
   zero_passes : (us : List Lexeme) → Passes within us (opened_by test zero read us)
   zero_passes [] = le_same []
   zero_passes (t ∷ us) = go (test t)
@@ -86,7 +90,10 @@ module _ {A : Type 0} (s f : Type 0) (over : Limit → ℕ) (within : Limit → 
       go true = inl (le_same (t ∷ us))
       go false = le_same (t ∷ us)
 
-  more_passes : (n : ℕ) → Finds within b starts ends read → (us : List Lexeme) → Passes within us (opened_by test (suc n) read us)
+  more_passes : (n : ℕ)
+      → Finds within b starts ends read
+      → (us : List Lexeme)
+      → Passes within us (opened_by test (suc n) read us)
   more_passes n fb [] = le_same []
   more_passes n fb (t ∷ us) = go (test t)
     where
@@ -116,13 +123,21 @@ module _ {A : Type 0} (s f : Type 0) (over : Limit → ℕ) (within : Limit → 
       go false q = ([], t ∷ ts, refl, refl, inl (inl refl))
 
   -- a lexeme where no more may be open is a way out, where not all is within the limit
-  out_stands : (within Nesting → ⊥) → (x : A) (t : Lexeme) (ts us : List Lexeme) → test t ≡ true → Stands within (opened_by test zero read (t ∷ ts)) x us
+  out_stands : (within Nesting → ⊥)
+      → (x : A) (t : Lexeme) (ts us : List Lexeme)
+      → test t ≡ true
+      → Stands within (opened_by test zero read (t ∷ ts)) x us
   out_stands w x t ts us e = inr ((Nesting, length (t ∷ ts)), w, ap (λ (c : Bool). barred c zero (t ∷ ts) (read ts)) e)
 
-  out_passes : (within Nesting → ⊥) → (t : Lexeme) (ts us : List Lexeme) → test t ≡ true → Passes within us (opened_by test zero read (t ∷ ts))
+  out_passes : (within Nesting → ⊥)
+      → (t : Lexeme) (ts us : List Lexeme)
+      → test t ≡ true
+      → Passes within us (opened_by test zero read (t ∷ ts))
   out_passes w t ts us e = subst (λ (c : Bool). Passes within us (barred c zero (t ∷ ts) (read ts))) (sym e) (inr w)
 
-  one_finds : (within Nesting → ⊥) → ((x : A) (u : List Lexeme) → b.Is x u → b.CanGoOn u) → Finds within (behind l b) test ends (opened_by test zero read)
+  one_finds : (within Nesting → ⊥)
+      → ((x : A) (u : List Lexeme) → b.Is x u → b.CanGoOn u)
+      → Finds within (behind l b) test ends (opened_by test zero read)
   one_finds w part = record { nil = inl (inl refl); part = λ x u h. behind_part x u h; first = first; whole = whole; front = front }
     where
       behind_part : (x : A) (u : List Lexeme) → (behind l b).Is x u → (behind l b).CanGoOn u
@@ -133,7 +148,10 @@ module _ {A : Type 0} (s f : Type 0) (over : Limit → ℕ) (within : Limit → 
           let ft = token_finds (λ (x : Unit {0}). l) test (one_at test) (one_is l test holds one) within in
           seq_first (only l) b test (token_solid (λ (x : Unit {0}). l)) ft.part ft.first
 
-      whole : (x : A) (u us : List Lexeme) → (behind l b).Is x u → Follows ends us → Stands within (opened_by test zero read (u ++ us)) x us
+      whole : (x : A) (u us : List Lexeme)
+          → (behind l b).Is x u
+          → Follows ends us
+          → Stands within (opened_by test zero read (u ++ us)) x us
       whole x [] us h g = absurd ((seq_solid (only l) b (λ p. p.1) (token_solid (λ (x : Unit {0}). l))).no_empty x h)
       whole x (t ∷ u) us h g = out_stands w x t (u ++ us) us (first t u (behind_part x (t ∷ u) h))
 
@@ -142,8 +160,15 @@ module _ {A : Type 0} (s f : Type 0) (over : Limit → ℕ) (within : Limit → 
       front (t ∷ u) us h = out_passes w t (u ++ us) us (first t u h)
 
 -- n: how many more things may be open for the reader, and m for the grammar
-module _ {A : Type 0} {s f : Type 0} {over : Limit → ℕ} {within : Limit → Type 0} (l : Lexeme) (test : Lexeme → Bool) (holds : test l ≡ true) (one : (t : Lexeme) → test t ≡ true → t ≡ l) (b : Grammar A) {starts ends : Lexeme → Bool} {read : Reader A} where
-  pub rule_opens : (n m : ℕ) → (s → m ≡ over Nesting + n) → (f → within Nesting → m ≤ n) → (f → (x : A) (u : List Lexeme) → b.Is x u → b.CanGoOn u) → (IsOpenable n → Owes s f over within b starts ends read) → Owes s f over within (opens m (behind l b)) test ends (opened_by test n read)
+module _ {A : Type 0} {s f : Type 0} {over : Limit → ℕ} {within : Limit → Type 0} (l : Lexeme) (test : Lexeme → Bool)
+    (holds : test l ≡ true) (one : (t : Lexeme) → test t ≡ true → t ≡ l) (b : Grammar A) {starts ends : Lexeme → Bool}
+    {read : Reader A} where
+  pub rule_opens : (n m : ℕ)
+      → (s → m ≡ over Nesting + n)
+      → (f → within Nesting → m ≤ n)
+      → (f → (x : A) (u : List Lexeme) → b.Is x u → b.CanGoOn u)
+      → (IsOpenable n → Owes s f over within b starts ends read)
+      → Owes s f over within (opens m (behind l b)) test ends (opened_by test n read)
   rule_opens zero zero fit deep part k = record {
     sound = λ q. none_sound s f over within l test holds one b starts ends read (let e = fit q in omega (arith, e));
     finds = λ q. cut_off_finds within test ends (opened_by test zero read) (zero_passes s f over within l test holds one b starts ends read);
@@ -187,16 +212,23 @@ opens_same : {A : Type 0} (m : ℕ) (a b : Grammar A) → Same a b → Same (ope
 opens_same zero a b e = record { to = same_grows cut_off; back = same_grows cut_off }
 opens_same (suc m) a b e = e
 
-pub rule_braces : {A : Type 0} {s f : Type 0} {over : Limit → ℕ} {within : Limit → Type 0} (a : Grammar A) {starts ends : Lexeme → Bool} {read : Reader A} (n m : ℕ) → (s → m ≡ over Nesting + n) → (f → within Nesting → m ≤ n) → (f → (x : A) (u : List Lexeme) → (inside a).Is x u → (inside a).CanGoOn u)
-    → (IsOpenable n → Owes s f over within (inside a) starts ends read) → Owes s f over within (opens m (braces a)) is_lbrace ends (opened_by is_lbrace n read)
+pub rule_braces : {A : Type 0} {s f : Type 0} {over : Limit → ℕ} {within : Limit → Type 0} (a : Grammar A)
+    {starts ends : Lexeme → Bool} {read : Reader A} (n m : ℕ)
+    → (s → m ≡ over Nesting + n)
+    → (f → within Nesting → m ≤ n)
+    → (f → (x : A) (u : List Lexeme) → (inside a).Is x u → (inside a).CanGoOn u)
+    → (IsOpenable n → Owes s f over within (inside a) starts ends read)
+    → Owes s f over within (opens m (braces a)) is_lbrace ends (opened_by is_lbrace n read)
 rule_braces a n m fit deep part k =
     rule_same (opens m (braces a)) (opens_same m (behind (Mark OpenBrace) (inside a)) (braces a) (braces_same a)) (rule_opens (Mark OpenBrace) is_lbrace refl lbrace_one (inside a) n m fit deep part k)
 
-inside_same : {A : Type 0} (read : Reader A) (ts : List Lexeme) → then_read (λ (p : A × Unit {0}). p.0) read closed_at ts ≡ inside_at read ts
+inside_same : {A : Type 0} (read : Reader A) (ts : List Lexeme)
+    → then_read (λ (p : A × Unit {0}). p.0) read closed_at ts ≡ inside_at read ts
 unfolding inside_at
 inside_same read ts = refl
 
-braces_read : {A : Type 0} (n : ℕ) (read : Reader A) (ts : List Lexeme) → opened_by is_lbrace n (inside_at read) ts ≡ braces_at n read ts
+braces_read : {A : Type 0} (n : ℕ) (read : Reader A) (ts : List Lexeme)
+    → opened_by is_lbrace n (inside_at read) ts ≡ braces_at n read ts
 unfolding braces_at
 braces_read n read [] = refl
 braces_read n read (Mark OpenBrace ∷ ts) = refl
@@ -206,18 +238,35 @@ closed_one : (t : Lexeme) → is_closed t ≡ true → t ≡ Mark CloseBrace
 closed_one (Mark CloseBrace) e = refl
 closed_one t e = absurd cc
 
-close_apart : (ends : Lexeme → Bool) → ends (Mark CloseBrace) ≡ false → (t : Lexeme) → is_closed t ≡ true → ends t ≡ false
+close_apart : (ends : Lexeme → Bool)
+    → ends (Mark CloseBrace) ≡ false
+    → (t : Lexeme)
+    → is_closed t ≡ true
+    → ends t ≡ false
 close_apart ends e t h = subst (λ (t : Lexeme). ends t ≡ false) (sym (closed_one t h)) e
 
 -- what is not empty, as far as the closing brace
-pub rule_inside : {A : Type 0} {s f : Type 0} {over : Limit → ℕ} {within : Limit → Type 0} {a : Grammar A} {starts ends : Lexeme → Bool} {read : Reader A} → Owes s f over within a starts ends read → ends (Mark CloseBrace) ≡ false → Owes s f over within (inside a) starts no_lexeme (inside_at read)
+pub rule_inside : {A : Type 0} {s f : Type 0} {over : Limit → ℕ} {within : Limit → Type 0} {a : Grammar A}
+    {starts ends : Lexeme → Bool} {read : Reader A}
+    → Owes s f over within a starts ends read
+    → ends (Mark CloseBrace) ≡ false
+    → Owes s f over within (inside a) starts no_lexeme (inside_at read)
 rule_inside {A} {s} {f} {over} {within} {a} {starts} {ends} {read} k e = rule_read (inside_at read) (inside_same read) (rule_seq (λ p. p.0) k (rule_token closed_is) (close_apart ends e))
 
 -- what may be empty, as far as the closing brace
-pub rule_inside_loose : {A : Type 0} {s f : Type 0} {over : Limit → ℕ} {within : Limit → Type 0} {a : Grammar A} {starts ends : Lexeme → Bool} {read : Reader A} → OwesLoosely s f over within a starts ends read → ends (Mark CloseBrace) ≡ false → Owes s f over within (inside a) (either starts is_closed) no_lexeme (inside_at read)
+pub rule_inside_loose : {A : Type 0} {s f : Type 0} {over : Limit → ℕ} {within : Limit → Type 0} {a : Grammar A}
+    {starts ends : Lexeme → Bool} {read : Reader A}
+    → OwesLoosely s f over within a starts ends read
+    → ends (Mark CloseBrace) ≡ false
+    → Owes s f over within (inside a) (either starts is_closed) no_lexeme (inside_at read)
 rule_inside_loose {A} {s} {f} {over} {within} {a} {starts} {ends} {read} k e = rule_read (inside_at read) (inside_same read) (rule_lead (λ p. p.0) k (rule_token closed_is) (close_apart ends e))
 
 -- in braces: n more things may be open for the reader, and m for the grammar
-pub rule_in_braces : {A : Type 0} {s f : Type 0} {over : Limit → ℕ} {within : Limit → Type 0} (a : Grammar A) {starts : Lexeme → Bool} (read : Reader A) (n m : ℕ) → (s → m ≡ over Nesting + n) → (f → within Nesting → m ≤ n) → (f → (x : A) (u : List Lexeme) → (inside a).Is x u → (inside a).CanGoOn u)
-    → (IsOpenable n → Owes s f over within (inside a) starts no_lexeme (inside_at read)) → Owes s f over within (opens m (braces a)) is_lbrace no_lexeme (braces_at n read)
+pub rule_in_braces : {A : Type 0} {s f : Type 0} {over : Limit → ℕ} {within : Limit → Type 0} (a : Grammar A)
+    {starts : Lexeme → Bool} (read : Reader A) (n m : ℕ)
+    → (s → m ≡ over Nesting + n)
+    → (f → within Nesting → m ≤ n)
+    → (f → (x : A) (u : List Lexeme) → (inside a).Is x u → (inside a).CanGoOn u)
+    → (IsOpenable n → Owes s f over within (inside a) starts no_lexeme (inside_at read))
+    → Owes s f over within (opens m (braces a)) is_lbrace no_lexeme (braces_at n read)
 rule_in_braces {A} {s} {f} {over} {within} a {starts} read n m fit deep part k = rule_read (braces_at n read) (braces_read n read) (rule_braces a n m fit deep part k)

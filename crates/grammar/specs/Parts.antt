@@ -72,14 +72,19 @@ token_solid kind = record { no_empty = λ x e. absurd cc }
 
 -- ---- the tree made of a part
 
-pub made_sound : {A B : Type 0} (over : Limit → ℕ) (a : Grammar A) (f : A → B) (read : Reader A) → SoundReader over a read → SoundReader over (a ⇒ f) (λ ts. read ts >>= λ x. Ok (f x.0, x.1))
+pub made_sound : {A B : Type 0} (over : Limit → ℕ) (a : Grammar A) (f : A → B) (read : Reader A)
+    → SoundReader over a read
+    → SoundReader over (a ⇒ f) (λ ts. read ts >>= λ x. Ok (f x.0, x.1))
 made_sound {A} {B} over a f read s ts = go (read ts) (s ts)
   where
     go : (r : Read A) → Sound over a ts r → Sound over (a ⇒ f) ts (r >>= λ x. Ok (f x.0, x.1))
     go (Ok x) (u, e, h) = (u, e, (x.0, refl, h))
     go (Err g) h = h
 
-pub made_finds : {A B : Type 0} (within : Limit → Type 0) (a : Grammar A) (f : A → B) (starts ends : Lexeme → Bool) (read : Reader A) → Finds within a starts ends read → Finds within (a ⇒ f) starts ends (λ ts. read ts >>= λ x. Ok (f x.0, x.1))
+pub made_finds : {A B : Type 0} (within : Limit → Type 0) (a : Grammar A) (f : A → B) (starts ends : Lexeme → Bool)
+    (read : Reader A)
+    → Finds within a starts ends read
+    → Finds within (a ⇒ f) starts ends (λ ts. read ts >>= λ x. Ok (f x.0, x.1))
 made_finds {A} {B} within a f starts ends read fa = record {
   nil = fa.nil;
   part = λ y u h. fa.part h.0 u h.2;
@@ -88,7 +93,10 @@ made_finds {A} {B} within a f starts ends read fa = record {
   front = λ u us h. passes_made within us (read (u ++ us)) f (fa.front u us h);
 }
   where
-    whole : (y : B) (u us : List Lexeme) → (a ⇒ f).Is y u → Follows ends us → Stands within (read (u ++ us) >>= λ x. Ok (f x.0, x.1)) y us
+    whole : (y : B) (u us : List Lexeme)
+        → (a ⇒ f).Is y u
+        → Follows ends us
+        → Stands within (read (u ++ us) >>= λ x. Ok (f x.0, x.1)) y us
     whole y u us (x, e, h) g = subst (λ (y : B). Stands within (read (u ++ us) >>= λ x. Ok (f x.0, x.1)) y us) (sym e) (stands_made within us (read (u ++ us)) x f (fa.whole x u us h g))
 
 pub made_solid : {A B : Type 0} (a : Grammar A) (f : A → B) → IsSolid a → IsSolid (a ⇒ f)
@@ -97,8 +105,14 @@ made_solid a f s = record { no_empty = λ y h. s.no_empty h.0 h.2 }
 -- ---- one after the other
 
 -- a part that is not empty, and then one that is not
-pub seq_finds : {A B C : Type 0} (within : Limit → Type 0) (a : Grammar A) (b : Grammar B) (f : A × B → C) (starts-a ends-a starts-b ends-b : Lexeme → Bool) (ra : Reader A) (rb : Reader B)
-    → Finds within a starts-a ends-a ra → Finds within b starts-b ends-b rb → IsSolid a → IsSolid b → ((t : Lexeme) → starts-b t ≡ true → ends-a t ≡ false) → Finds within ((a ∙ b) ⇒ f) starts-a ends-b (then_read f ra rb)
+pub seq_finds : {A B C : Type 0} (within : Limit → Type 0) (a : Grammar A) (b : Grammar B) (f : A × B → C)
+    (starts-a ends-a starts-b ends-b : Lexeme → Bool) (ra : Reader A) (rb : Reader B)
+    → Finds within a starts-a ends-a ra
+    → Finds within b starts-b ends-b rb
+    → IsSolid a
+    → IsSolid b
+    → ((t : Lexeme) → starts-b t ≡ true → ends-a t ≡ false)
+    → Finds within ((a ∙ b) ⇒ f) starts-a ends-b (then_read f ra rb)
 seq_finds {A} {B} within a b f starts-a ends-a starts-b ends-b ra rb fa fb sa sb apart = record {
   nil = inl fa.nil;
   part = seq_part within a b f starts-a ends-a starts-b ends-b ends-b ra rb fa fb;
@@ -112,9 +126,15 @@ seq_finds {A} {B} within a b f starts-a ends-a starts-b ends-b ra rb fa fb sa sb
     after y (t ∷ v) us h g = apart t (fb.first t v (fb.part y (t ∷ v) h))
 
 -- a part that may be empty, and then one that is not
-pub open_finds : {A B C : Type 0} (within : Limit → Type 0) (a : Grammar A) (b : Grammar B) (f : A × B → C) (starts starts-a ends-a starts-b ends-b : Lexeme → Bool) (ra : Reader A) (rb : Reader B)
-    → Finds within a starts-a ends-a ra → Finds within b starts-b ends-b rb → IsSolid b → ((t : Lexeme) → starts-b t ≡ true → ends-a t ≡ false)
-    → ((t : Lexeme) → starts-a t ≡ true → starts t ≡ true) → ((t : Lexeme) → starts-b t ≡ true → starts t ≡ true) → Finds within ((a ∙ b) ⇒ f) starts ends-b (then_read f ra rb)
+pub open_finds : {A B C : Type 0} (within : Limit → Type 0) (a : Grammar A) (b : Grammar B) (f : A × B → C)
+    (starts starts-a ends-a starts-b ends-b : Lexeme → Bool) (ra : Reader A) (rb : Reader B)
+    → Finds within a starts-a ends-a ra
+    → Finds within b starts-b ends-b rb
+    → IsSolid b
+    → ((t : Lexeme) → starts-b t ≡ true → ends-a t ≡ false)
+    → ((t : Lexeme) → starts-a t ≡ true → starts t ≡ true)
+    → ((t : Lexeme) → starts-b t ≡ true → starts t ≡ true)
+    → Finds within ((a ∙ b) ⇒ f) starts ends-b (then_read f ra rb)
 open_finds {A} {B} within a b f starts starts-a ends-a starts-b ends-b ra rb fa fb sb apart ga gb = record {
   nil = inl fa.nil;
   part = seq_part within a b f starts-a ends-a starts-b ends-b ends-b ra rb fa fb;
@@ -140,14 +160,19 @@ open_solid {A} {B} {C} a b f s = record { no_empty = go }
     go z (p, q, (t ∷ v, w, e, ha, hb)) = absurd cc
 
 -- a pair is the tree of its parts
-pub pair_sound : {A B : Type 0} (over : Limit → ℕ) (a : Grammar A) (b : Grammar B) (read : Reader (A × B)) → SoundReader over ((a ∙ b) ⇒ (λ p. p)) read → SoundReader over (a ∙ b) read
+pub pair_sound : {A B : Type 0} (over : Limit → ℕ) (a : Grammar A) (b : Grammar B) (read : Reader (A × B))
+    → SoundReader over ((a ∙ b) ⇒ (λ p. p)) read
+    → SoundReader over (a ∙ b) read
 pair_sound {A} {B} over a b read s ts = go (read ts) (s ts)
   where
     go : (r : Read (A × B)) → Sound over ((a ∙ b) ⇒ (λ p. p)) ts r → Sound over (a ∙ b) ts r
     go (Ok x) (u, e, (p, q, h)) = (u, e, subst (λ (p : A × B). (a ∙ b).Is p u) (sym q) h)
     go (Err g) h = h
 
-pub pair_finds : {A B : Type 0} (within : Limit → Type 0) (a : Grammar A) (b : Grammar B) (starts ends : Lexeme → Bool) (read : Reader (A × B)) → Finds within ((a ∙ b) ⇒ (λ p. p)) starts ends read → Finds within (a ∙ b) starts ends read
+pub pair_finds : {A B : Type 0} (within : Limit → Type 0) (a : Grammar A) (b : Grammar B) (starts ends : Lexeme → Bool)
+    (read : Reader (A × B))
+    → Finds within ((a ∙ b) ⇒ (λ p. p)) starts ends read
+    → Finds within (a ∙ b) starts ends read
 pair_finds within a b starts ends read f = record {
   nil = f.nil;
   part = λ x u h. f.part x u (x, refl, h);
@@ -169,11 +194,17 @@ abbrev pub pick : {A : Type 0} → (Lexeme → Bool) → Reader A → Reader A �
 pick test ra rb [] = rb []
 pick test ra rb (t ∷ ts) = chosen_read (test t) (ra (t ∷ ts)) (rb (t ∷ ts))
 
-chosen_is : {A : Type 0} (P : Read A → Type 0) (b : Bool) (r s : Read A) → (b ≡ true → P r) → (b ≡ false → P s) → P (chosen_read b r s)
+chosen_is : {A : Type 0} (P : Read A → Type 0) (b : Bool) (r s : Read A)
+    → (b ≡ true → P r)
+    → (b ≡ false → P s)
+    → P (chosen_read b r s)
 chosen_is P true r s p q = p refl
 chosen_is P false r s p q = q refl
 
-pub pick_sound : {A : Type 0} (over : Limit → ℕ) (a b : Grammar A) (test : Lexeme → Bool) (ra rb : Reader A) → SoundReader over a ra → SoundReader over b rb → SoundReader over (a ∣ b) (pick test ra rb)
+pub pick_sound : {A : Type 0} (over : Limit → ℕ) (a b : Grammar A) (test : Lexeme → Bool) (ra rb : Reader A)
+    → SoundReader over a ra
+    → SoundReader over b rb
+    → SoundReader over (a ∣ b) (pick test ra rb)
 pick_sound over a b test ra rb sa sb [] = right_sound over a b [] (rb []) (sb [])
 pick_sound over a b test ra rb sa sb (t ∷ ts) =
     chosen_is (Sound over (a ∣ b) (t ∷ ts)) (test t) (ra (t ∷ ts)) (rb (t ∷ ts)) (λ e. left_sound over a b (t ∷ ts) (ra (t ∷ ts)) (sa (t ∷ ts))) (λ e. right_sound over a b (t ∷ ts) (rb (t ∷ ts)) (sb (t ∷ ts)))
@@ -181,47 +212,53 @@ pick_sound over a b test ra rb sa sb (t ∷ ts) =
 either_is : (x : Bool) → x ≡ true → x ≡ false → ⊥
 either_is x p q = let e = sym p ⋆ q in absurd cc
 
-module _ {A : Type 0} (within : Limit → Type 0) (a b : Grammar A) (starts-a starts-b starts ends-a ends-b ends : Lexeme → Bool) (ra rb : Reader A) (fa : Finds within a starts-a ends-a ra) (fb : Finds within b starts-b ends-b rb)
+module _ {A : Type 0} (within : Limit → Type 0) (a b : Grammar A)
+    (starts-a starts-b starts ends-a ends-b ends : Lexeme → Bool) (ra rb : Reader A)
+    (fa : Finds within a starts-a ends-a ra) (fb : Finds within b starts-b ends-b rb)
     (apart : (t : Lexeme) → starts-b t ≡ true → starts-a t ≡ false) (sa : IsSolid a) (sb : IsSolid b)
     (ga : (t : Lexeme) → starts-a t ≡ true → starts t ≡ true) (gb : (t : Lexeme) → starts-b t ≡ true → starts t ≡ true)
-    (ea : (t : Lexeme) → ends t ≡ false → ends-a t ≡ false) (eb : (t : Lexeme) → ends t ≡ false → ends-b t ≡ false) where
-  pick_passes : (us : List Lexeme) → Passes within us (pick starts-a ra rb us)
-  pick_passes [] = fb.front [] [] fb.nil
-  pick_passes (t ∷ ts) = chosen_is (Passes within (t ∷ ts)) (starts-a t) (ra (t ∷ ts)) (rb (t ∷ ts)) (λ e. fa.front [] (t ∷ ts) fa.nil) (λ e. fb.front [] (t ∷ ts) fb.nil)
+    (ea : (t : Lexeme) → ends t ≡ false → ends-a t ≡ false) (eb : (t : Lexeme) → ends t ≡ false → ends-b t ≡ false)
+  where
+    pick_passes : (us : List Lexeme) → Passes within us (pick starts-a ra rb us)
+    pick_passes [] = fb.front [] [] fb.nil
+    pick_passes (t ∷ ts) = chosen_is (Passes within (t ∷ ts)) (starts-a t) (ra (t ∷ ts)) (rb (t ∷ ts)) (λ e. fa.front [] (t ∷ ts) fa.nil) (λ e. fb.front [] (t ∷ ts) fb.nil)
 
-  left_ends : (us : List Lexeme) → Follows ends us → Follows ends-a us
-  left_ends [] f = tt
-  left_ends (t ∷ us) f = ea t f
+    left_ends : (us : List Lexeme) → Follows ends us → Follows ends-a us
+    left_ends [] f = tt
+    left_ends (t ∷ us) f = ea t f
 
-  right_ends : (us : List Lexeme) → Follows ends us → Follows ends-b us
-  right_ends [] f = tt
-  right_ends (t ∷ us) f = eb t f
+    right_ends : (us : List Lexeme) → Follows ends us → Follows ends-b us
+    right_ends [] f = tt
+    right_ends (t ∷ us) f = eb t f
 
-  pick_front : (u us : List Lexeme) → (a ∣ b).CanGoOn u → Passes within us (pick starts-a ra rb (u ++ us))
-  pick_front [] us h = pick_passes us
-  pick_front (t ∷ u) us (inl h) =
-      chosen_is (Passes within us) (starts-a t) (ra (t ∷ (u ++ us))) (rb (t ∷ (u ++ us))) (λ e. fa.front (t ∷ u) us h) (λ e. absurd (either_is (starts-a t) (fa.first t u h) e))
-  pick_front (t ∷ u) us (inr h) =
-      chosen_is (Passes within us) (starts-a t) (ra (t ∷ (u ++ us))) (rb (t ∷ (u ++ us))) (λ e. absurd (either_is (starts-a t) e (apart t (fb.first t u h)))) (λ e. fb.front (t ∷ u) us h)
+    pick_front : (u us : List Lexeme) → (a ∣ b).CanGoOn u → Passes within us (pick starts-a ra rb (u ++ us))
+    pick_front [] us h = pick_passes us
+    pick_front (t ∷ u) us (inl h) =
+        chosen_is (Passes within us) (starts-a t) (ra (t ∷ (u ++ us))) (rb (t ∷ (u ++ us))) (λ e. fa.front (t ∷ u) us h) (λ e. absurd (either_is (starts-a t) (fa.first t u h) e))
+    pick_front (t ∷ u) us (inr h) =
+        chosen_is (Passes within us) (starts-a t) (ra (t ∷ (u ++ us))) (rb (t ∷ (u ++ us))) (λ e. absurd (either_is (starts-a t) e (apart t (fb.first t u h)))) (λ e. fb.front (t ∷ u) us h)
 
-  pick_whole : (x : A) (u us : List Lexeme) → (a ∣ b).Is x u → Follows ends us → Stands within (pick starts-a ra rb (u ++ us)) x us
-  pick_whole x [] us (inl h) f = absurd (sa.no_empty x h)
-  pick_whole x [] us (inr h) f = absurd (sb.no_empty x h)
-  pick_whole x (t ∷ u) us (inl h) f =
-      chosen_is (λ (r : Read A). Stands within r x us) (starts-a t) (ra (t ∷ (u ++ us))) (rb (t ∷ (u ++ us))) (λ e. fa.whole x (t ∷ u) us h (left_ends us f)) (λ e. absurd (either_is (starts-a t) (fa.first t u (fa.part x (t ∷ u) h)) e))
-  pick_whole x (t ∷ u) us (inr h) f =
-      chosen_is (λ (r : Read A). Stands within r x us) (starts-a t) (ra (t ∷ (u ++ us))) (rb (t ∷ (u ++ us))) (λ e. absurd (either_is (starts-a t) e (apart t (fb.first t u (fb.part x (t ∷ u) h))))) (λ e. fb.whole x (t ∷ u) us h (right_ends us f))
+    pick_whole : (x : A) (u us : List Lexeme)
+        → (a ∣ b).Is x u
+        → Follows ends us
+        → Stands within (pick starts-a ra rb (u ++ us)) x us
+    pick_whole x [] us (inl h) f = absurd (sa.no_empty x h)
+    pick_whole x [] us (inr h) f = absurd (sb.no_empty x h)
+    pick_whole x (t ∷ u) us (inl h) f =
+        chosen_is (λ (r : Read A). Stands within r x us) (starts-a t) (ra (t ∷ (u ++ us))) (rb (t ∷ (u ++ us))) (λ e. fa.whole x (t ∷ u) us h (left_ends us f)) (λ e. absurd (either_is (starts-a t) (fa.first t u (fa.part x (t ∷ u) h)) e))
+    pick_whole x (t ∷ u) us (inr h) f =
+        chosen_is (λ (r : Read A). Stands within r x us) (starts-a t) (ra (t ∷ (u ++ us))) (rb (t ∷ (u ++ us))) (λ e. absurd (either_is (starts-a t) e (apart t (fb.first t u (fb.part x (t ∷ u) h))))) (λ e. fb.whole x (t ∷ u) us h (right_ends us f))
 
-  pub pick_finds : Finds within (a ∣ b) starts ends (pick starts-a ra rb)
-  pick_finds = record { nil = inl fa.nil; part = part; first = first; whole = pick_whole; front = pick_front }
-    where
-      part : (x : A) (u : List Lexeme) → (a ∣ b).Is x u → (a ∣ b).CanGoOn u
-      part x u (inl h) = inl (fa.part x u h)
-      part x u (inr h) = inr (fb.part x u h)
+    pub pick_finds : Finds within (a ∣ b) starts ends (pick starts-a ra rb)
+    pick_finds = record { nil = inl fa.nil; part = part; first = first; whole = pick_whole; front = pick_front }
+      where
+        part : (x : A) (u : List Lexeme) → (a ∣ b).Is x u → (a ∣ b).CanGoOn u
+        part x u (inl h) = inl (fa.part x u h)
+        part x u (inr h) = inr (fb.part x u h)
 
-      first : (t : Lexeme) (u : List Lexeme) → (a ∣ b).CanGoOn (t ∷ u) → starts t ≡ true
-      first t u (inl h) = ga t (fa.first t u h)
-      first t u (inr h) = gb t (fb.first t u h)
+        first : (t : Lexeme) (u : List Lexeme) → (a ∣ b).CanGoOn (t ∷ u) → starts t ≡ true
+        first t u (inl h) = ga t (fa.first t u h)
+        first t u (inr h) = gb t (fb.first t u h)
 
 pub either_solid : {A : Type 0} (a b : Grammar A) → IsSolid a → IsSolid b → IsSolid (a ∣ b)
 either_solid {A} a b sa sb = record { no_empty = go }
@@ -236,7 +273,9 @@ abbrev pub perhaps : {A : Type 0} → (Lexeme → Bool) → Reader A → Reader 
 perhaps test read [] = Ok (None, [])
 perhaps test read (t ∷ ts) = chosen_read (test t) (read (t ∷ ts) >>= λ x. Ok (Some x.0, x.1)) (Ok (None, t ∷ ts))
 
-pub optional_sound : {A : Type 0} (over : Limit → ℕ) (a : Grammar A) (test : Lexeme → Bool) (read : Reader A) → SoundReader over a read → SoundReader over (optional a) (perhaps test read)
+pub optional_sound : {A : Type 0} (over : Limit → ℕ) (a : Grammar A) (test : Lexeme → Bool) (read : Reader A)
+    → SoundReader over a read
+    → SoundReader over (optional a) (perhaps test read)
 optional_sound over a test read s [] = ([], refl, refl)
 optional_sound {A} over a test read s (t ∷ ts) = chosen_is (Sound over (optional a) (t ∷ ts)) (test t) (read (t ∷ ts) >>= λ x. Ok (Some x.0, x.1)) (Ok (None, t ∷ ts)) (λ e. go (read (t ∷ ts)) (s (t ∷ ts))) (λ e. ([], refl, refl))
   where
@@ -244,11 +283,9 @@ optional_sound {A} over a test read s (t ∷ ts) = chosen_is (Sound over (option
     go (Ok x) h = h
     go (Err f) (u, rest, e, k, h) = (u, rest, e, k, inr h)
 
-module _ {A : Type 0} (within : Limit → Type 0) (a : Grammar A) (starts ends ends' : Lexeme → Bool) (read : Reader A) (fa : Finds within a starts ends read) (sa : IsSolid a)
-    (es : (t : Lexeme) → ends' t ≡ false → starts t ≡ false) (ee : (t : Lexeme) → ends' t ≡ false → ends t ≡ false) where
-  some_read : Read A → Read (Option A)
-  some_read r = r >>= λ x. Ok (Some x.0, x.1)
-
+module _ {A : Type 0} (within : Limit → Type 0) (a : Grammar A) (starts ends ends' : Lexeme → Bool) (read : Reader A)
+    (fa : Finds within a starts ends read) (sa : IsSolid a) (es : (t : Lexeme) → ends' t ≡ false → starts t ≡ false)
+    (ee : (t : Lexeme) → ends' t ≡ false → ends t ≡ false) where
   perhaps_passes : (us : List Lexeme) → Passes within us (perhaps starts read us)
   perhaps_passes [] = omega arith
   perhaps_passes (t ∷ us) = chosen_is (Passes within (t ∷ us)) (starts t) (read (t ∷ us) >>= λ x. Ok (Some x.0, x.1)) (Ok (None, t ∷ us)) (λ e. passes_made within (t ∷ us) (read (t ∷ us)) (λ x. Some x) (fa.front [] (t ∷ us) fa.nil)) (λ e. le (t ∷ us))
@@ -270,7 +307,10 @@ module _ {A : Type 0} (within : Limit → Type 0) (a : Grammar A) (starts ends e
   part_ends [] f = tt
   part_ends (t ∷ us) f = ee t f
 
-  perhaps_whole : (o : Option A) (u us : List Lexeme) → (optional a).Is o u → Follows ends' us → Stands within (perhaps starts read (u ++ us)) o us
+  perhaps_whole : (o : Option A) (u us : List Lexeme)
+      → (optional a).Is o u
+      → Follows ends' us
+      → Stands within (perhaps starts read (u ++ us)) o us
   perhaps_whole None u us h f = subst (λ (l : List Lexeme). Stands within (perhaps starts read (l ++ us)) None us) (sym h) (none_whole us f)
   perhaps_whole (Some x) [] us h f = absurd (sa.no_empty x h)
   perhaps_whole (Some x) (t ∷ u) us h f =
@@ -289,7 +329,9 @@ module _ {A : Type 0} (within : Limit → Type 0) (a : Grammar A) (starts ends e
 
 -- ---- what can't be whole
 
-pub cut_off_finds : {A : Type 0} (within : Limit → Type 0) (starts ends : Lexeme → Bool) (read : Reader A) → ((us : List Lexeme) → Passes within us (read us)) → Finds within cut_off starts ends read
+pub cut_off_finds : {A : Type 0} (within : Limit → Type 0) (starts ends : Lexeme → Bool) (read : Reader A)
+    → ((us : List Lexeme) → Passes within us (read us))
+    → Finds within cut_off starts ends read
 cut_off_finds within starts ends read h = record {
   nil = refl;
   part = λ x u f. absurd f;
@@ -303,10 +345,16 @@ cut_off_solid = record { no_empty = λ x h. h }
 
 -- ---- another reader that answers the same
 
-pub same_sound : {A : Type 0} (over : Limit → ℕ) (g : Grammar A) (r r' : Reader A) → ((ts : List Lexeme) → r ts ≡ r' ts) → SoundReader over g r → SoundReader over g r'
+pub same_sound : {A : Type 0} (over : Limit → ℕ) (g : Grammar A) (r r' : Reader A)
+    → ((ts : List Lexeme) → r ts ≡ r' ts)
+    → SoundReader over g r
+    → SoundReader over g r'
 same_sound over g r r' e s ts = subst (Sound over g ts) (e ts) (s ts)
 
-pub same_finds : {A : Type 0} (within : Limit → Type 0) (g : Grammar A) (starts ends : Lexeme → Bool) (r r' : Reader A) → ((ts : List Lexeme) → r ts ≡ r' ts) → Finds within g starts ends r → Finds within g starts ends r'
+pub same_finds : {A : Type 0} (within : Limit → Type 0) (g : Grammar A) (starts ends : Lexeme → Bool) (r r' : Reader A)
+    → ((ts : List Lexeme) → r ts ≡ r' ts)
+    → Finds within g starts ends r
+    → Finds within g starts ends r'
 same_finds within g starts ends r r' e f = record {
   nil = f.nil;
   part = f.part;

@@ -128,7 +128,8 @@ abbrev pub put : {A B : Type 0} → A → Read (Extensible A B) → Read (Extens
 put x r = r >>= λ e. Ok ((x ∷ e.0.0, e.0.1), e.1)
 
 -- the marker, or a part and what more reads
-abbrev pub or_marker : {A B : Type 0} → Reader A → Reader B → Reader (Extensible A B) → Option (List Lexeme) → Reader (Extensible A B)
+abbrev pub or_marker : {A B : Type 0} → Reader A → Reader B → Reader (Extensible A B) → Option (List Lexeme)
+    → Reader (Extensible A B)
 or_marker ra rb more (Some rest) ts = additions_at rb rest
 or_marker ra rb more None ts = ra ts >>= λ x. put x.0 (more x.1)
 

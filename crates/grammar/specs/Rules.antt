@@ -24,14 +24,19 @@ pub record Owes {A : Type 0} (s f : Type 0) (over : Limit → ℕ) (within : Lim
   pub solid : IsSolid g
 
 -- both are asked
-abbrev pub Loose : {A : Type 0} → (Limit → ℕ) → (Limit → Type 0) → Grammar A → (Lexeme → Bool) → (Lexeme → Bool) → Reader A → Type 0
+abbrev pub Loose : {A : Type 0} → (Limit → ℕ) → (Limit → Type 0) → Grammar A → (Lexeme → Bool) → (Lexeme → Bool)
+    → Reader A → Type 0
 Loose over within g starts ends read = OwesLoosely (Unit {0}) (Unit {0}) over within g starts ends read
 
-abbrev pub Rules : {A : Type 0} → (Limit → ℕ) → (Limit → Type 0) → Grammar A → (Lexeme → Bool) → (Lexeme → Bool) → Reader A → Type 0
+abbrev pub Rules : {A : Type 0} → (Limit → ℕ) → (Limit → Type 0) → Grammar A → (Lexeme → Bool) → (Lexeme → Bool)
+    → Reader A → Type 0
 Rules over within g starts ends read = Owes (Unit {0}) (Unit {0}) over within g starts ends read
 
 -- what is owed where both are asked is owed where less is
-pub asked : {A : Type 0} {s f : Type 0} {over : Limit → ℕ} {within : Limit → Type 0} {g : Grammar A} {starts ends : Lexeme → Bool} {read : Reader A} → Rules over within g starts ends read → Owes s f over within g starts ends read
+pub asked : {A : Type 0} {s f : Type 0} {over : Limit → ℕ} {within : Limit → Type 0} {g : Grammar A}
+    {starts ends : Lexeme → Bool} {read : Reader A}
+    → Rules over within g starts ends read
+    → Owes s f over within g starts ends read
 asked k = record { sound = λ q. k.sound tt; finds = λ q. k.finds tt; solid = k.solid }
 
 -- one test or the other
@@ -64,14 +69,22 @@ pub record Same {A : Type 0} (a b : Grammar A) : Type 0 where
   pub back : Grows b a
 
 module _ {s f : Type 0} {over : Limit → ℕ} {within : Limit → Type 0} where
-  pub rule_token : {A : Type 0} {kind : A → Lexeme} {test : Lexeme → Bool} {read : Reader A} → IsKind kind test read → Owes s f over within (token kind) test no_lexeme read
+  pub rule_token : {A : Type 0} {kind : A → Lexeme} {test : Lexeme → Bool} {read : Reader A}
+      → IsKind kind test read
+      → Owes s f over within (token kind) test no_lexeme read
   rule_token {A} {kind} {test} {read} is = record { sound = λ q. token_sound kind test read is over; finds = λ q. token_finds kind test read is within; solid = token_solid kind }
 
-  pub rule_made : {A B : Type 0} {a : Grammar A} {starts ends : Lexeme → Bool} {read : Reader A} (g : A → B) → Owes s f over within a starts ends read → Owes s f over within (a ⇒ g) starts ends (λ ts. read ts >>= λ x. Ok (g x.0, x.1))
+  pub rule_made : {A B : Type 0} {a : Grammar A} {starts ends : Lexeme → Bool} {read : Reader A} (g : A → B)
+      → Owes s f over within a starts ends read
+      → Owes s f over within (a ⇒ g) starts ends (λ ts. read ts >>= λ x. Ok (g x.0, x.1))
   rule_made {A} {B} {a} {starts} {ends} {read} g r = record { sound = λ q. made_sound over a g read (r.sound q); finds = λ q. made_finds within a g starts ends read (r.finds q); solid = made_solid a g r.solid }
 
-  pub rule_seq : {A B C : Type 0} {a : Grammar A} {b : Grammar B} {starts-a ends-a starts-b ends-b : Lexeme → Bool} {ra : Reader A} {rb : Reader B} (g : A × B → C)
-      → Owes s f over within a starts-a ends-a ra → Owes s f over within b starts-b ends-b rb → ((t : Lexeme) → starts-b t ≡ true → ends-a t ≡ false) → Owes s f over within ((a ∙ b) ⇒ g) starts-a ends-b (then_read g ra rb)
+  pub rule_seq : {A B C : Type 0} {a : Grammar A} {b : Grammar B} {starts-a ends-a starts-b ends-b : Lexeme → Bool}
+      {ra : Reader A} {rb : Reader B} (g : A × B → C)
+      → Owes s f over within a starts-a ends-a ra
+      → Owes s f over within b starts-b ends-b rb
+      → ((t : Lexeme) → starts-b t ≡ true → ends-a t ≡ false)
+      → Owes s f over within ((a ∙ b) ⇒ g) starts-a ends-b (then_read g ra rb)
   rule_seq {A} {B} {C} {a} {b} {starts-a} {ends-a} {starts-b} {ends-b} {ra} {rb} g ka kb apart = record {
     sound = λ q ts. seq_sound over a b g ts (ra ts) rb (ka.sound q ts) (kb.sound q);
     finds = λ q. seq_finds within a b g starts-a ends-a starts-b ends-b ra rb (ka.finds q) (kb.finds q) ka.solid kb.solid apart;
@@ -79,12 +92,20 @@ module _ {s f : Type 0} {over : Limit → ℕ} {within : Limit → Type 0} where
   }
 
   -- behind a lexeme that nothing else goes on with
-  pub rule_behind : {A : Type 0} {l : Lexeme} {a : Grammar A} {test starts ends : Lexeme → Bool} {rs : Reader (Unit {0})} {ra : Reader A} → Owes s f over within (only l) test no_lexeme rs → Owes s f over within a starts ends ra → Owes s f over within (behind l a) test ends (then_read (λ p. p.1) rs ra)
+  pub rule_behind : {A : Type 0} {l : Lexeme} {a : Grammar A} {test starts ends : Lexeme → Bool}
+      {rs : Reader (Unit {0})} {ra : Reader A}
+      → Owes s f over within (only l) test no_lexeme rs
+      → Owes s f over within a starts ends ra
+      → Owes s f over within (behind l a) test ends (then_read (λ p. p.1) rs ra)
   rule_behind ks ka = rule_seq (λ p. p.1) ks ka (λ t e. refl)
 
   -- what may be empty behind what is not
-  pub rule_tail : {A B C : Type 0} {a : Grammar A} {b : Grammar B} {starts-a ends-a starts-b ends-b : Lexeme → Bool} {ra : Reader A} {rb : Reader B} (g : A × B → C)
-      → Owes s f over within a starts-a ends-a ra → OwesLoosely s f over within b starts-b ends-b rb → ((t : Lexeme) → starts-b t ≡ true → ends-a t ≡ false) → Owes s f over within ((a ∙ b) ⇒ g) starts-a (either ends-a ends-b) (then_read g ra rb)
+  pub rule_tail : {A B C : Type 0} {a : Grammar A} {b : Grammar B} {starts-a ends-a starts-b ends-b : Lexeme → Bool}
+      {ra : Reader A} {rb : Reader B} (g : A × B → C)
+      → Owes s f over within a starts-a ends-a ra
+      → OwesLoosely s f over within b starts-b ends-b rb
+      → ((t : Lexeme) → starts-b t ≡ true → ends-a t ≡ false)
+      → Owes s f over within ((a ∙ b) ⇒ g) starts-a (either ends-a ends-b) (then_read g ra rb)
   rule_tail {A} {B} {C} {a} {b} {starts-a} {ends-a} {starts-b} {ends-b} {ra} {rb} g ka kb apart = record {
     sound = λ q ts. seq_sound over a b g ts (ra ts) rb (ka.sound q ts) (kb.sound q);
     finds = λ q. all (ka.finds q) (kb.finds q);
@@ -95,12 +116,18 @@ module _ {s f : Type 0} {over : Limit → ℕ} {within : Limit → Type 0} where
       last [] h = tt
       last (t ∷ us) h = no_right (ends-a t) (ends-b t) h
 
-      after : Finds within b starts-b ends-b rb → (y : B) (v us : List Lexeme) → b.Is y v → Follows (either ends-a ends-b) us → Follows ends-a (v ++ us)
+      after : Finds within b starts-b ends-b rb
+          → (y : B) (v us : List Lexeme)
+          → b.Is y v
+          → Follows (either ends-a ends-b) us
+          → Follows ends-a (v ++ us)
       after fb y [] [] h e = tt
       after fb y [] (t ∷ us) h e = no_left (ends-a t) (ends-b t) e
       after fb y (t ∷ v) us h e = apart t (fb.first t v (fb.part y (t ∷ v) h))
 
-      all : Finds within a starts-a ends-a ra → Finds within b starts-b ends-b rb → Finds within ((a ∙ b) ⇒ g) starts-a (either ends-a ends-b) (then_read g ra rb)
+      all : Finds within a starts-a ends-a ra
+          → Finds within b starts-b ends-b rb
+          → Finds within ((a ∙ b) ⇒ g) starts-a (either ends-a ends-b) (then_read g ra rb)
       all fa fb = record {
         nil = inl fa.nil;
         part = seq_part within a b g starts-a ends-a starts-b ends-b (either ends-a ends-b) ra rb fa fb;
@@ -109,10 +136,16 @@ module _ {s f : Type 0} {over : Limit → ℕ} {within : Limit → Type 0} where
         front = seq_front within a b g starts-a ends-a starts-b ends-b (either ends-a ends-b) ra rb fa fb apart;
       }
 
-  pub rule_pair : {A B : Type 0} (a : Grammar A) (b : Grammar B) {starts ends : Lexeme → Bool} {read : Reader (A × B)} → IsSolid a → Owes s f over within ((a ∙ b) ⇒ (λ p. p)) starts ends read → Owes s f over within (a ∙ b) starts ends read
+  pub rule_pair : {A B : Type 0} (a : Grammar A) (b : Grammar B) {starts ends : Lexeme → Bool} {read : Reader (A × B)}
+      → IsSolid a
+      → Owes s f over within ((a ∙ b) ⇒ (λ p. p)) starts ends read
+      → Owes s f over within (a ∙ b) starts ends read
   rule_pair {A} {B} a b {starts} {ends} {read} solid k = record { sound = λ q. pair_sound over a b read (k.sound q); finds = λ q. pair_finds within a b starts ends read (k.finds q); solid = pair_solid a b solid }
 
-  pub rule_pick : {A : Type 0} {a b : Grammar A} {starts-a ends-a starts-b ends-b : Lexeme → Bool} {ra rb : Reader A} → Owes s f over within a starts-a ends-a ra → Owes s f over within b starts-b ends-b rb → ((t : Lexeme) → starts-b t ≡ true → starts-a t ≡ false)
+  pub rule_pick : {A : Type 0} {a b : Grammar A} {starts-a ends-a starts-b ends-b : Lexeme → Bool} {ra rb : Reader A}
+      → Owes s f over within a starts-a ends-a ra
+      → Owes s f over within b starts-b ends-b rb
+      → ((t : Lexeme) → starts-b t ≡ true → starts-a t ≡ false)
       → Owes s f over within (a ∣ b) (either starts-a starts-b) (either ends-a ends-b) (pick starts-a ra rb)
   rule_pick {A} {a} {b} {starts-a} {ends-a} {starts-b} {ends-b} {ra} {rb} ka kb apart = record {
     sound = λ q. pick_sound over a b starts-a ra rb (ka.sound q) (kb.sound q);
@@ -121,25 +154,36 @@ module _ {s f : Type 0} {over : Limit → ℕ} {within : Limit → Type 0} where
     solid = either_solid a b ka.solid kb.solid;
   }
 
-  pub loose_optional : {A : Type 0} {a : Grammar A} {starts ends : Lexeme → Bool} {read : Reader A} → Owes s f over within a starts ends read → OwesLoosely s f over within (optional a) starts (either starts ends) (perhaps starts read)
+  pub loose_optional : {A : Type 0} {a : Grammar A} {starts ends : Lexeme → Bool} {read : Reader A}
+      → Owes s f over within a starts ends read
+      → OwesLoosely s f over within (optional a) starts (either starts ends) (perhaps starts read)
   loose_optional {A} {a} {starts} {ends} {read} k = record {
     sound = λ q. optional_sound over a starts read (k.sound q);
     finds = λ q. optional_finds within a starts ends (either starts ends) read (k.finds q) k.solid (λ t. no_left (starts t) (ends t)) (λ t. no_right (starts t) (ends t));
   }
 
-  pub loose_many : {A : Type 0} {a : Grammar A} {starts ends : Lexeme → Bool} {read : Reader A} → Owes s f over within a starts ends read → ((t : Lexeme) → starts t ≡ true → ends t ≡ false) → OwesLoosely s f over within (many a) starts (either starts ends) (λ us. many_at starts read (length us) us)
+  pub loose_many : {A : Type 0} {a : Grammar A} {starts ends : Lexeme → Bool} {read : Reader A}
+      → Owes s f over within a starts ends read
+      → ((t : Lexeme) → starts t ≡ true → ends t ≡ false)
+      → OwesLoosely s f over within (many a) starts (either starts ends) (λ us. many_at starts read (length us) us)
   loose_many {A} {a} {starts} {ends} {read} k apart = record {
     sound = λ q ts. many_sound over a starts read (k.sound q) (length ts) ts;
     finds = λ q. many_finds within a starts ends (either starts ends) read (k.finds q) k.solid apart (λ t. no_left (starts t) (ends t)) (λ t. no_right (starts t) (ends t));
   }
 
   -- the tree made of what may be empty
-  pub loose_made : {A B : Type 0} {a : Grammar A} {starts ends : Lexeme → Bool} {read : Reader A} (g : A → B) → OwesLoosely s f over within a starts ends read → OwesLoosely s f over within (a ⇒ g) starts ends (λ ts. read ts >>= λ x. Ok (g x.0, x.1))
+  pub loose_made : {A B : Type 0} {a : Grammar A} {starts ends : Lexeme → Bool} {read : Reader A} (g : A → B)
+      → OwesLoosely s f over within a starts ends read
+      → OwesLoosely s f over within (a ⇒ g) starts ends (λ ts. read ts >>= λ x. Ok (g x.0, x.1))
   loose_made {A} {B} {a} {starts} {ends} {read} g r = record { sound = λ q. made_sound over a g read (r.sound q); finds = λ q. made_finds within a g starts ends read (r.finds q) }
 
   -- what may be empty before what is not
-  pub rule_lead : {A B C : Type 0} {a : Grammar A} {b : Grammar B} {starts-a ends-a starts-b ends-b : Lexeme → Bool} {ra : Reader A} {rb : Reader B} (g : A × B → C)
-      → OwesLoosely s f over within a starts-a ends-a ra → Owes s f over within b starts-b ends-b rb → ((t : Lexeme) → starts-b t ≡ true → ends-a t ≡ false) → Owes s f over within ((a ∙ b) ⇒ g) (either starts-a starts-b) ends-b (then_read g ra rb)
+  pub rule_lead : {A B C : Type 0} {a : Grammar A} {b : Grammar B} {starts-a ends-a starts-b ends-b : Lexeme → Bool}
+      {ra : Reader A} {rb : Reader B} (g : A × B → C)
+      → OwesLoosely s f over within a starts-a ends-a ra
+      → Owes s f over within b starts-b ends-b rb
+      → ((t : Lexeme) → starts-b t ≡ true → ends-a t ≡ false)
+      → Owes s f over within ((a ∙ b) ⇒ g) (either starts-a starts-b) ends-b (then_read g ra rb)
   rule_lead {A} {B} {C} {a} {b} {starts-a} {ends-a} {starts-b} {ends-b} {ra} {rb} g ka kb apart = record {
     sound = λ q ts. seq_sound over a b g ts (ra ts) rb (ka.sound q ts) (kb.sound q);
     finds = λ q. open_finds within a b g (either starts-a starts-b) starts-a ends-a starts-b ends-b ra rb (ka.finds q) (kb.finds q) kb.solid apart (λ t. bor_left (starts-a t) (starts-b t)) (λ t. bor_right (starts-a t) (starts-b t));
@@ -147,7 +191,10 @@ module _ {s f : Type 0} {over : Limit → ℕ} {within : Limit → Type 0} where
   }
 
   -- with commas between
-  pub rule_listed : {A : Type 0} {a : Grammar A} {starts ends : Lexeme → Bool} {read : Reader A} → Owes s f over within a starts ends read → ends (Mark Comma) ≡ false → Owes s f over within (listed a) starts (with_comma ends) (listed_at read)
+  pub rule_listed : {A : Type 0} {a : Grammar A} {starts ends : Lexeme → Bool} {read : Reader A}
+      → Owes s f over within a starts ends read
+      → ends (Mark Comma) ≡ false
+      → Owes s f over within (listed a) starts (with_comma ends) (listed_at read)
   rule_listed {A} {a} {starts} {ends} {read} k e = record {
     sound = λ q. listed_sound over a read (k.sound q);
     finds = λ q. finds_listed within a starts ends read (k.finds q) e k.solid;
@@ -155,11 +202,19 @@ module _ {s f : Type 0} {over : Limit → ℕ} {within : Limit → Type 0} where
   }
 
   -- by a reader that answers the same
-  pub rule_read : {A : Type 0} {a : Grammar A} {starts ends : Lexeme → Bool} {r : Reader A} (r' : Reader A) → ((ts : List Lexeme) → r ts ≡ r' ts) → Owes s f over within a starts ends r → Owes s f over within a starts ends r'
+  pub rule_read : {A : Type 0} {a : Grammar A} {starts ends : Lexeme → Bool} {r : Reader A} (r' : Reader A)
+      → ((ts : List Lexeme) → r ts ≡ r' ts)
+      → Owes s f over within a starts ends r
+      → Owes s f over within a starts ends r'
   rule_read {A} {a} {starts} {ends} {r} r' e k = record { sound = λ q. same_sound over a r r' e (k.sound q); finds = λ q. same_finds within a starts ends r r' e (k.finds q); solid = k.solid }
 
   -- with tests that tell no more
-  pub rule_tests : {A : Type 0} {a : Grammar A} {starts ends : Lexeme → Bool} {read : Reader A} (starts' ends' : Lexeme → Bool) → ((t : Lexeme) → starts t ≡ true → starts' t ≡ true) → ((t : Lexeme) → ends' t ≡ false → ends t ≡ false) → Owes s f over within a starts ends read → Owes s f over within a starts' ends' read
+  pub rule_tests : {A : Type 0} {a : Grammar A} {starts ends : Lexeme → Bool} {read : Reader A}
+      (starts' ends' : Lexeme → Bool)
+      → ((t : Lexeme) → starts t ≡ true → starts' t ≡ true)
+      → ((t : Lexeme) → ends' t ≡ false → ends t ≡ false)
+      → Owes s f over within a starts ends read
+      → Owes s f over within a starts' ends' read
   rule_tests {A} {a} {starts} {ends} {read} starts' ends' gs ge k = record { sound = k.sound; finds = λ q. all (k.finds q); solid = k.solid }
     where
       go : (us : List Lexeme) → Follows ends' us → Follows ends us
@@ -176,7 +231,10 @@ module _ {s f : Type 0} {over : Limit → ℕ} {within : Limit → Type 0} where
       }
 
   -- of a grammar that says the same
-  pub rule_same : {A : Type 0} {a : Grammar A} (b : Grammar A) {starts ends : Lexeme → Bool} {read : Reader A} → Same a b → Owes s f over within a starts ends read → Owes s f over within b starts ends read
+  pub rule_same : {A : Type 0} {a : Grammar A} (b : Grammar A) {starts ends : Lexeme → Bool} {read : Reader A}
+      → Same a b
+      → Owes s f over within a starts ends read
+      → Owes s f over within b starts ends read
   rule_same {A} {a} b {starts} {ends} {read} same k = record { sound = λ q ts. go ts (read ts) (k.sound q ts); finds = λ q. all (k.finds q); solid = record { no_empty = λ x h. k.solid.no_empty x (same.back.is x [] h) } }
     where
       go : (ts : List Lexeme) (r : Read A) → Sound over a ts r → Sound over b ts r
@@ -203,7 +261,9 @@ number_at fits (Number n ∷ rest) = fitting (fits n) (Number n ∷ rest) (Ok (n
 number_at fits ts = stop ts
 
 -- fits is the reader's test on numbers, fits' the grammar's
-module _ (over : Limit → ℕ) (within : Limit → Type 0) (fits fits' : ℕ → Bool) (grows : (n : ℕ) → fits n ≡ true → fits' n ≡ true) (past : Past (over Integer) ((n : ℕ) → fits' n ≡ true)) (room : (n : ℕ) → fits' n ≡ true → within Integer → fits n ≡ true) where
+module _ (over : Limit → ℕ) (within : Limit → Type 0) (fits fits' : ℕ → Bool)
+    (grows : (n : ℕ) → fits n ≡ true → fits' n ≡ true) (past : Past (over Integer) ((n : ℕ) → fits' n ≡ true))
+    (room : (n : ℕ) → fits' n ≡ true → within Integer → fits n ≡ true) where
   le_same : (us : List Lexeme) → length us ≤ length us
   le_same us = omega arith
 
@@ -241,7 +301,8 @@ module _ (over : Limit → ℕ) (within : Limit → Type 0) (fits fits' : ℕ �
   }
 
 -- the tree of a number that is read
-pub fitting_made : {A : Type 0} (f : ℕ → A) (b : Bool) (n : ℕ) (ts rest : List Lexeme) → (fitting b ts (Ok (n, rest)) >>= λ x. Ok (f x.0, x.1)) ≡ fitting b ts (Ok (f n, rest))
+pub fitting_made : {A : Type 0} (f : ℕ → A) (b : Bool) (n : ℕ) (ts rest : List Lexeme)
+    → (fitting b ts (Ok (n, rest)) >>= λ x. Ok (f x.0, x.1)) ≡ fitting b ts (Ok (f n, rest))
 fitting_made f true n ts rest = refl
 fitting_made f false n ts rest = refl
 
@@ -264,7 +325,10 @@ abbrev pub one_at : (Lexeme → Bool) → Reader (Unit {0})
 one_at test [] = stop []
 one_at test (t ∷ ts) = taken (test t) (t ∷ ts) ts
 
-pub one_is : (s : Lexeme) (test : Lexeme → Bool) → test s ≡ true → ((t : Lexeme) → test t ≡ true → t ≡ s) → IsKind (λ (x : Unit {0}). s) test (one_at test)
+pub one_is : (s : Lexeme) (test : Lexeme → Bool)
+    → test s ≡ true
+    → ((t : Lexeme) → test t ≡ true → t ≡ s)
+    → IsKind (λ (x : Unit {0}). s) test (one_at test)
 one_is s test holds one = record { yes = λ x. holds; one = λ t e. (tt, one t e); nil = refl; hit = λ x ts. ap (λ (b : Bool). taken b (s ∷ ts) ts) holds; miss = λ t ts e. ap (λ (b : Bool). taken b (t ∷ ts) ts) e }
 
 -- what a production and its reader owe each other under limits: a are the reader's, b the grammar's

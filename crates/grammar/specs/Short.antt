@@ -18,7 +18,10 @@ pub less : {A : Type 0} (m n : ℕ) (r : Read A) → m ≤ n → Leaves m r → 
 less m n (Ok x) le h = omega arith
 less m n (Err e) le h = tt
 
-pub bind_leaves : {A B : Type 0} (n : ℕ) (r : Read A) (f : A × List Lexeme → Read B) → Leaves n r → ((x : A × List Lexeme) → Leaves (length x.1) (f x)) → Leaves n (r >>= f)
+pub bind_leaves : {A B : Type 0} (n : ℕ) (r : Read A) (f : A × List Lexeme → Read B)
+    → Leaves n r
+    → ((x : A × List Lexeme) → Leaves (length x.1) (f x))
+    → Leaves n (r >>= f)
 bind_leaves n (Ok x) f h k = less (length x.1) n (f x) h (k x)
 bind_leaves n (Err e) f h k = tt
 
@@ -74,7 +77,9 @@ close_version_short [] = tt
 close_version_short (Mark CloseVersion ∷ ts) = one_less (Mark CloseVersion) ts
 close_version_short (t ∷ ts) = tt
 
-pub fitting_leaves : {A : Type 0} (n : ℕ) (b : Bool) (ts : List Lexeme) (r : Read A) → Leaves n r → Leaves n (fitting b ts r)
+pub fitting_leaves : {A : Type 0} (n : ℕ) (b : Bool) (ts : List Lexeme) (r : Read A)
+    → Leaves n r
+    → Leaves n (fitting b ts r)
 fitting_leaves n true ts r h = h
 fitting_leaves n false ts r h = tt
 
@@ -113,7 +118,8 @@ module _ {A : Type 0} (read : Reader A) (s : Short read) where
   optional_short begins [] = same 0
   optional_short begins (t ∷ ts) = go (begins t)
     where
-      go : (b : Bool) → Leaves (length (t ∷ ts)) (chosen_read b (read (t ∷ ts) >>= λ x. Ok (Some x.0, x.1)) (Ok (None, t ∷ ts)))
+      go : (b : Bool)
+          → Leaves (length (t ∷ ts)) (chosen_read b (read (t ∷ ts) >>= λ x. Ok (Some x.0, x.1)) (Ok (None, t ∷ ts)))
       go true = bind_leaves (length (t ∷ ts)) (read (t ∷ ts)) _ (s (t ∷ ts)) (λ x. same (length x.1))
       go false = same (length (t ∷ ts))
 
@@ -143,7 +149,11 @@ module _ {A B : Type 0} (ra : Reader A) (rb : Reader B) (s : Short ra) (sb : Sho
   unfolding additions_at
   additions_short ts = bind_leaves (length ts) (behind_commas_at rb (length ts) ts) _ (commas_short rb sb (length ts) ts) (λ ys. same (length ys.1))
 
-  behind_marker : (o : Option (List Lexeme)) (ts : List Lexeme) → next_marker ts ≡ o → (more : Reader (Extensible A B)) → Short more → Leaves (length ts) (or_marker ra rb more o ts)
+  behind_marker : (o : Option (List Lexeme)) (ts : List Lexeme)
+      → next_marker ts ≡ o
+      → (more : Reader (Extensible A B))
+      → Short more
+      → Leaves (length ts) (or_marker ra rb more o ts)
   behind_marker None ts e more h = bind_leaves (length ts) (ra ts) _ (s ts) (λ x. bind_leaves (length x.1) (more x.1) _ (h x.1) (λ m. same (length m.1)))
   behind_marker (Some rest) ts e more h = less (length rest) (length ts) (additions_at rb rest) (marker_less ts rest e) (additions_short rest)
 

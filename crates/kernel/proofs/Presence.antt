@@ -8,10 +8,14 @@ use Rattle.grammar.specs.Parts.{chosen_read, perhaps}
 abbrev some_read : {A : Type 0} → Read A → Read (Option A)
 some_read r = r >>= λ x. Ok (Some x.0, x.1)
 
-pub is_here : {A : Type 0} (begins : Lexeme → Bool) (read : Reader A) (ts : List Lexeme) → is_begun_by begins ts ≡ true → perhaps begins read ts ≡ (read ts >>= λ x. Ok (Some x.0, x.1))
+pub is_here : {A : Type 0} (begins : Lexeme → Bool) (read : Reader A) (ts : List Lexeme)
+    → is_begun_by begins ts ≡ true
+    → perhaps begins read ts ≡ (read ts >>= λ x. Ok (Some x.0, x.1))
 is_here begins read [] e = absurd cc
 is_here begins read (t ∷ ts) e = ap (λ (b : Bool). chosen_read b (some_read (read (t ∷ ts))) (Ok (None, t ∷ ts))) e
 
-pub is_absent : {A : Type 0} (begins : Lexeme → Bool) (read : Reader A) (ts : List Lexeme) → is_begun_by begins ts ≡ false → perhaps begins read ts ≡ Ok (None, ts)
+pub is_absent : {A : Type 0} (begins : Lexeme → Bool) (read : Reader A) (ts : List Lexeme)
+    → is_begun_by begins ts ≡ false
+    → perhaps begins read ts ≡ Ok (None, ts)
 is_absent begins read [] e = refl
 is_absent begins read (t ∷ ts) e = ap (λ (b : Bool). chosen_read b (some_read (read (t ∷ ts))) (Ok (None, t ∷ ts))) e

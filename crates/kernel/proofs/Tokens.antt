@@ -23,9 +23,6 @@ use Rattle.kernel.specs.Given.{IsTokenOf}
 digit_value_is : (c : ℕ) → is_ascii_digit c ≡ true → (48 ≤ c) × (c < 58) × (digit_value c ≡ c - 48)
 digit_value_is c e = (grind (arith, nat_tests), grind (arith, nat_tests), grind (arith, nat_tests))
 
-pub digit_ge : (c : ℕ) → is_ascii_digit c ≡ true → 48 ≤ c
-digit_ge c e = (digit_value_is c e).0
-
 pub value_more : (xs : List ℕ) (i : ℕ) → i < length xs → is_ascii_digit (get_or xs i 0) ≡ true
     → digits_value 10 (take (i + 1) xs) ≡ 10 * digits_value 10 (take i xs) + (get_or xs i 0 - 48)
 value_more xs i lt d =
@@ -41,7 +38,11 @@ goes_on x i e = not_false (is_ascii_digit (octet_at x i)) e
     not_false true e = refl
     not_false false e = absurd cc
 
-digit_between : (x : List ℕ) (i e k : ℕ) → is_ascii_digit (octet_at x i) ≡ true → IsFirst (stops_number x) (i + 1) e → k < e - i → is_ascii_digit (octet_at x (i + k)) ≡ true
+digit_between : (x : List ℕ) (i e k : ℕ)
+    → is_ascii_digit (octet_at x i) ≡ true
+    → IsFirst (stops_number x) (i + 1) e
+    → k < e - i
+    → is_ascii_digit (octet_at x (i + k)) ≡ true
 digit_between x i e k d f lt =
     elim (cases_lt 0 k) [
       | inl pos ↦ goes_on x (i + k) (f.before (i + k) (omega arith) (omega arith))
@@ -54,14 +55,15 @@ digits_between x i e h k lt =
     let n : k < e - i = omega (arith, length-take (e - i) (drop i x)) in
     rw (get_or-take (e - i) (drop i x) k 0 n, get_or-drop) (digit_between x i e k h.digit h.first n)
 
-pub number_digits : (x : List ℕ) (t : Token) → IsTokenOf x t → t.kind ≡ kinds.Number
-    → (k : ℕ) → k < length (slice_range x t.span.start t.span.end) → is_ascii_digit (slice_index (slice_range x t.span.start t.span.end) k) ≡ true
+pub number_digits : (x : List ℕ) (t : Token)
+    → IsTokenOf x t
+    → t.kind ≡ kinds.Number
+    → (k : ℕ)
+    → k < length (slice_range x t.span.start t.span.end)
+    → is_ascii_digit (slice_index (slice_range x t.span.start t.span.end) k) ≡ true
 number_digits x t h e = digits_between x t.span.start t.span.end (subst (λ (k : TokenKind). IsOfKind x k t.span.start t.span.end) e h.token)
 
 -- ---- names
-
-alphanumeric_ascii : (c : ℕ) → is_ascii_alphanumeric c ≡ true → c < 128
-alphanumeric_ascii c e = grind (arith, nat_tests)
 
 alphabetic_ascii : (c : ℕ) → is_ascii_alphabetic c ≡ true → c < 128
 alphabetic_ascii c e = grind (arith, nat_tests)
@@ -87,7 +89,10 @@ name_ascii x i e h k =
       | inr le ↦ let z : slice_index (slice_range x i e) k ≡ 0 = get_or_past (slice_range x i e) k 0 (omega (arith, length-take (e - i) (drop i x))) in rw z (omega arith)
     ]
 
-pub name_utf8 : (x : List ℕ) (t : Token) → IsTokenOf x t → ((t.kind ≡ kinds.Identifier) ⊎ (t.kind ≡ kinds.TypeReference)) → IsUtf8 (slice_range x t.span.start t.span.end)
+pub name_utf8 : (x : List ℕ) (t : Token)
+    → IsTokenOf x t
+    → ((t.kind ≡ kinds.Identifier) ⊎ (t.kind ≡ kinds.TypeReference))
+    → IsUtf8 (slice_range x t.span.start t.span.end)
 name_utf8 x t h (inl e) =
     let n : IsOfKind x kinds.Identifier t.span.start t.span.end = subst (λ (k : TokenKind). IsOfKind x k t.span.start t.span.end) e h.token in
     IsUtf8-from_ascii (slice_range x t.span.start t.span.end) (name_ascii x t.span.start t.span.end n.0)
@@ -97,7 +102,10 @@ name_utf8 x t h (inr e) =
 
 -- ---- strings
 
-pub digits_long : (x : List ℕ) (t : Token) → IsTokenOf x t → ((t.kind ≡ kinds.BinaryString) ⊎ (t.kind ≡ kinds.HexString)) → t.span.start + 3 ≤ t.span.end
+pub digits_long : (x : List ℕ) (t : Token)
+    → IsTokenOf x t
+    → ((t.kind ≡ kinds.BinaryString) ⊎ (t.kind ≡ kinds.HexString))
+    → t.span.start + 3 ≤ t.span.end
 digits_long x t h (inl e) =
     let n : IsOfKind x kinds.BinaryString t.span.start t.span.end = subst (λ (k : TokenKind). IsOfKind x k t.span.start t.span.end) e h.token in
     omega (arith, n.first.behind, n.end)
@@ -110,17 +118,26 @@ quoted_le x i k (quoted_end e) = omega arith
 quoted_le x i k (quoted_octet lt a b h) = let p = quoted_le x (i + 1) k h in omega arith
 quoted_le x i k (quoted_pair a b h) = let p = quoted_le x (i + 2) k h in omega arith
 
-pub chars_long : (x : List ℕ) (t : Token) → IsTokenOf x t → t.kind ≡ kinds.CharacterString → t.span.start + 2 ≤ t.span.end
+pub chars_long : (x : List ℕ) (t : Token)
+    → IsTokenOf x t
+    → t.kind ≡ kinds.CharacterString
+    → t.span.start + 2 ≤ t.span.end
 chars_long x t h e =
     let n : IsOfKind x kinds.CharacterString t.span.start t.span.end = subst (λ (k : TokenKind). IsOfKind x k t.span.start t.span.end) e h.token in
     omega (arith, quoted_le x (t.span.start + 1) n.close n.inside, n.end)
 
 -- ---- what is filtered, element by element
 
-pub filter_some : (h : ℕ → Option ℕ) (xs : List ℕ) (i v : ℕ) → i < length xs → h (get_or xs i 0) ≡ Some v → filter_map h (take (i + 1) xs) ≡ filter_map h (take i xs) ++ v ∷ []
+pub filter_some : (h : ℕ → Option ℕ) (xs : List ℕ) (i v : ℕ)
+    → i < length xs
+    → h (get_or xs i 0) ≡ Some v
+    → filter_map h (take (i + 1) xs) ≡ filter_map h (take i xs) ++ v ∷ []
 filter_some h xs i v lt e =
     ap (filter_map h) (take_more xs i 0 lt) ⋆ filter_map-append h (take i xs) (get_or xs i 0 ∷ []) ⋆ ap (λ (o : Option ℕ). filter_map h (take i xs) ++ cons_option o []) e
 
-pub filter_none : (h : ℕ → Option ℕ) (xs : List ℕ) (i : ℕ) → i < length xs → h (get_or xs i 0) ≡ None → filter_map h (take (i + 1) xs) ≡ filter_map h (take i xs)
+pub filter_none : (h : ℕ → Option ℕ) (xs : List ℕ) (i : ℕ)
+    → i < length xs
+    → h (get_or xs i 0) ≡ None
+    → filter_map h (take (i + 1) xs) ≡ filter_map h (take i xs)
 filter_none h xs i lt e =
     ap (filter_map h) (take_more xs i 0 lt) ⋆ filter_map-append h (take i xs) (get_or xs i 0 ∷ []) ⋆ ap (λ (o : Option ℕ). filter_map h (take i xs) ++ cons_option o []) e ⋆ append-nil (filter_map h (take i xs))

@@ -101,7 +101,8 @@ tag_word_same (Word Implicit ∷ ts) = refl
 tag_word_same (Word Automatic ∷ ts) = refl
 tag_word_same (t ∷ ts) = refl
 
-default_same : (ts : List Lexeme) → then_read (λ (p : TagDefault × Unit {0}). p.0) tag_word_at tags_at ts ≡ default_words_at ts
+default_same : (ts : List Lexeme)
+    → then_read (λ (p : TagDefault × Unit {0}). p.0) tag_word_at tags_at ts ≡ default_words_at ts
 unfolding default_words_at
 default_same ts = refl
 
@@ -128,7 +129,8 @@ of_list p = Some (names_in p.0)
 abbrev list_read : Reader (Option (List Name))
 list_read = then_read of_list (perhaps is_symbol (listed_at symbol_at)) semicolon_at
 
-some_same : (r : Read (List Name)) → after_read of_list (made Some r) semicolon_at ≡ after_read (λ (p : List Name × Unit {0}). Some p.0) r semicolon_at
+some_same : (r : Read (List Name))
+    → after_read of_list (made Some r) semicolon_at ≡ after_read (λ (p : List Name × Unit {0}). Some p.0) r semicolon_at
 some_same (Ok xs) = refl
 some_same (Err f) = refl
 
@@ -143,7 +145,8 @@ exported_same (TypeRef x ∷ ts) = some_same (listed_at symbol_at (TypeRef x ∷
 exported_same (Ident x ∷ ts) = some_same (listed_at symbol_at (Ident x ∷ ts))
 exported_same (t ∷ ts) = refl
 
-exports_same : (ts : List Lexeme) → then_read (λ (p : Unit {0} × Option (List Name)). p.1) (one_at is_exports_word) exported_at ts ≡ exports_at ts
+exports_same : (ts : List Lexeme)
+    → then_read (λ (p : Unit {0} × Option (List Name)). p.1) (one_at is_exports_word) exported_at ts ≡ exports_at ts
 unfolding exports_at
 exports_same [] = refl
 exports_same (Word Exports ∷ ts) = read_again (exported_at ts)
@@ -181,7 +184,8 @@ module _ {over : Limit → ℕ} {within : Limit → Type 0} where
   rule_implicit_word : Rules over within (lexeme (Word Implicit)) is_implicit_word no_lexeme (one_at is_implicit_word)
   rule_implicit_word = rule_token (one_is (Word Implicit) is_implicit_word refl implicit_word_one)
 
-  rule_automatic_word : Rules over within (lexeme (Word Automatic)) is_automatic_word no_lexeme (one_at is_automatic_word)
+  rule_automatic_word :
+      Rules over within (lexeme (Word Automatic)) is_automatic_word no_lexeme (one_at is_automatic_word)
   rule_automatic_word = rule_token (one_is (Word Automatic) is_automatic_word refl automatic_word_one)
 
   rule_semicolon : Rules over within (lexeme (Mark Semicolon)) is_semicolon no_lexeme (one_at is_semicolon)
@@ -196,12 +200,14 @@ module _ {over : Limit → ℕ} {within : Limit → Type 0} where
   pub rule_end : Rules over within (mark Semicolon) is_semicolon no_lexeme semicolon_at
   rule_end = rule_read semicolon_at semicolon_same rule_semicolon
 
-  rule_tag_word : Rules over within tag_word (either is_explicit_word (either is_implicit_word is_automatic_word)) (either no_lexeme (either no_lexeme no_lexeme)) tag_word_at
+  rule_tag_word :
+      Rules over within tag_word (either is_explicit_word (either is_implicit_word is_automatic_word)) (either no_lexeme (either no_lexeme no_lexeme)) tag_word_at
   rule_tag_word =
       rule_read tag_word_at tag_word_same
       (rule_pick (rule_made (λ _. defaults.Explicit) rule_explicit_word) (rule_pick (rule_made (λ _. defaults.Implicit) rule_implicit_word) (rule_made (λ _. defaults.Automatic) rule_automatic_word) automatic_no_implicit) implicit_no_explicit)
 
-  pub rule_default_words : Rules over within default_words (either is_explicit_word (either is_implicit_word is_automatic_word)) no_lexeme default_words_at
+  pub rule_default_words :
+      Rules over within default_words (either is_explicit_word (either is_implicit_word is_automatic_word)) no_lexeme default_words_at
   rule_default_words = rule_read default_words_at default_same (rule_seq (λ p. p.0) rule_tag_word (rule_token tags_is) (λ t e. refl))
 
   pub rule_symbol : Rules over within symbol is_symbol (either no_lexeme no_lexeme) symbol_at
@@ -210,7 +216,8 @@ module _ {over : Limit → ℕ} {within : Limit → Type 0} where
   pub rule_symbols : Rules over within symbols is_symbol (with_comma (either no_lexeme no_lexeme)) (listed_at symbol_at)
   rule_symbols = rule_listed rule_symbol refl
 
-  rule_exported : Rules over within ((word All ∙ mark Semicolon) ⇒ (λ _. None) ∣ (optional symbols ∙ mark Semicolon) ⇒ (λ p. Some (names_in p.0))) (either is_all_word (either is_symbol is_semicolon)) (either no_lexeme no_lexeme) exported_at
+  rule_exported :
+      Rules over within ((word All ∙ mark Semicolon) ⇒ (λ _. None) ∣ (optional symbols ∙ mark Semicolon) ⇒ (λ p. Some (names_in p.0))) (either is_all_word (either is_symbol is_semicolon)) (either no_lexeme no_lexeme) exported_at
   rule_exported = rule_read exported_at exported_same (rule_pick (rule_seq (λ _. None) rule_all_word rule_end (λ t e. refl)) (rule_lead (λ p. Some (names_in p.0)) (loose_optional rule_symbols) rule_end semicolon_after) list_no_all)
 
   pub rule_exports : Rules over within exports is_exports_word (either no_lexeme no_lexeme) exports_at

@@ -45,7 +45,8 @@ export_same [] = refl
 export_same (Word Exports ∷ ts) = again exports_or (λ e. refl) (exports_at (Word Exports ∷ ts))
 export_same (t ∷ ts) = refl
 
-import_same : (fits : ℕ → Bool) (ts : List Lexeme) → made imports_or (perhaps is_imports_word (imports_at fits) ts) ≡ import_list_at fits ts
+import_same : (fits : ℕ → Bool) (ts : List Lexeme)
+    → made imports_or (perhaps is_imports_word (imports_at fits) ts) ≡ import_list_at fits ts
 unfolding import_list_at
 import_same fits [] = refl
 import_same fits (Word Imports ∷ ts) = again imports_or (λ is. refl) (imports_at fits (Word Imports ∷ ts))
@@ -57,7 +58,9 @@ assign_no_default : (t : Lexeme) → is_assign t ≡ true → either is_default_
 assign_no_default (Mark Assign) e = refl
 assign_no_default t e = absurd cc
 
-definitions_no_brace : (t : Lexeme) → is_definitions t ≡ true → either no_lexeme (either is_open_brace no_lexeme) t ≡ false
+definitions_no_brace : (t : Lexeme)
+    → is_definitions t ≡ true
+    → either no_lexeme (either is_open_brace no_lexeme) t ≡ false
 definitions_no_brace (Word Definitions) e = refl
 definitions_no_brace t e = absurd cc
 
@@ -76,7 +79,10 @@ no_more t e = refl
 
 module _ {over : Limit → ℕ} {within : Limit → Type 0} where
   -- the tree made of what may be empty
-  loose_made : {A B : Type 0} {a : Grammar A} {starts ends : Lexeme → Bool} {r : Reader A} (f : A → B) (r' : Reader B) → ((ts : List Lexeme) → made f (r ts) ≡ r' ts) → Loose over within a starts ends r → Loose over within (a ⇒ f) starts ends r'
+  loose_made : {A B : Type 0} {a : Grammar A} {starts ends : Lexeme → Bool} {r : Reader A} (f : A → B) (r' : Reader B)
+      → ((ts : List Lexeme) → made f (r ts) ≡ r' ts)
+      → Loose over within a starts ends r
+      → Loose over within (a ⇒ f) starts ends r'
   loose_made {A} {B} {a} {starts} {ends} {r} f r' e k = record {
     sound = λ q. same_sound over (a ⇒ f) (λ ts. made f (r ts)) r' e (made_sound over a f r (k.sound q));
     finds = λ q. same_finds within (a ⇒ f) starts ends (λ ts. made f (r ts)) r' e (made_finds within a f starts ends r (k.finds q));
@@ -94,16 +100,21 @@ module _ {over : Limit → ℕ} {within : Limit → Type 0} where
   loose_default : Loose over within tag_default is_default_word (either is_default_word no_lexeme) tag_default_at
   loose_default = loose_made default_or tag_default_at default_same (loose_optional rule_default_words)
 
-  rule_begun : Rules over within ((tag_default ∙ behind (Mark Assign) (word Begin)) ⇒ (λ p. p.0)) (either is_default_word is_assign) no_lexeme begun_at
+  rule_begun :
+      Rules over within ((tag_default ∙ behind (Mark Assign) (word Begin)) ⇒ (λ p. p.0)) (either is_default_word is_assign) no_lexeme begun_at
   unfolding begun_at
   rule_begun = rule_lead (λ p. p.0) loose_default (rule_behind rule_assign rule_begin) assign_no_default
 
-  loose_exports : Loose over within export_list is_exports_word (either is_exports_word (either no_lexeme no_lexeme)) export_list_at
+  loose_exports :
+      Loose over within export_list is_exports_word (either is_exports_word (either no_lexeme no_lexeme)) export_list_at
   loose_exports = loose_made exports_or export_list_at export_same (loose_optional rule_exports)
 
 -- fits is the reader's test on numbers, fits' the grammar's
-module _ (over : Limit → ℕ) (within : Limit → Type 0) (fits fits' : ℕ → Bool) (grows : (n : ℕ) → fits n ≡ true → fits' n ≡ true) (past : Past (over Integer) ((n : ℕ) → fits' n ≡ true)) (room : (n : ℕ) → fits' n ≡ true → within Integer → fits n ≡ true) where
-  loose_imports : Loose over within (import_list fits') is_imports_word (either is_imports_word no_lexeme) (import_list_at fits)
+module _ (over : Limit → ℕ) (within : Limit → Type 0) (fits fits' : ℕ → Bool)
+    (grows : (n : ℕ) → fits n ≡ true → fits' n ≡ true) (past : Past (over Integer) ((n : ℕ) → fits' n ≡ true))
+    (room : (n : ℕ) → fits' n ≡ true → within Integer → fits n ≡ true) where
+  loose_imports :
+      Loose over within (import_list fits') is_imports_word (either is_imports_word no_lexeme) (import_list_at fits)
   loose_imports = loose_made imports_or (import_list_at fits) (import_same fits) (loose_optional (rule_imports over within fits fits' grows past room))
 
   rule_heading : Rules over within (heading fits') is_typeref no_lexeme (heading_at fits)

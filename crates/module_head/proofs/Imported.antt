@@ -81,7 +81,9 @@ module _ {over : Limit → ℕ} {within : Limit → Type 0} where
   rule_closed = rule_read closed_at closed_same rule_close_brace
 
 -- fits is the reader's test on numbers, fits' the grammar's
-module _ (over : Limit → ℕ) (within : Limit → Type 0) (fits fits' : ℕ → Bool) (grows : (n : ℕ) → fits n ≡ true → fits' n ≡ true) (past : Past (over Integer) ((n : ℕ) → fits' n ≡ true)) (room : (n : ℕ) → fits' n ≡ true → within Integer → fits n ≡ true) where
+module _ (over : Limit → ℕ) (within : Limit → Type 0) (fits fits' : ℕ → Bool)
+    (grows : (n : ℕ) → fits n ≡ true → fits' n ≡ true) (past : Past (over Integer) ((n : ℕ) → fits' n ≡ true))
+    (room : (n : ℕ) → fits' n ≡ true → within Integer → fits n ≡ true) where
   -- ---- object identifiers
 
   rule_arc_number : Rules over within (parens (number_of fits')) is_open no_lexeme (parens_at (number_at fits))
@@ -90,17 +92,21 @@ module _ (over : Limit → ℕ) (within : Limit → Type 0) (fits fits' : ℕ �
   abbrev named_read : Reader (Unit {0})
   named_read = then_read (λ (p : Name × Option ℕ). tt) name_at (perhaps is_open (parens_at (number_at fits)))
 
-  behind_same : (x : Name) (ts : List Lexeme) → made {B = Unit {0}} (λ (o : Option ℕ). tt) (perhaps is_open (parens_at (number_at fits)) ts) ≡ behind_arc_at fits ts
+  behind_same : (x : Name) (ts : List Lexeme)
+      →
+      made {B = Unit {0}} (λ (o : Option ℕ). tt) (perhaps is_open (parens_at (number_at fits)) ts) ≡ behind_arc_at fits ts
   unfolding behind_arc_at arc_number_at
   behind_same x [] = refl
   behind_same x (Mark OpenParenthesis ∷ ts) = go (parens_at (number_at fits) (Mark OpenParenthesis ∷ ts))
     where
-      go : (r : Read ℕ) → made {B = Unit {0}} (λ (o : Option ℕ). tt) (made Some r) ≡ made {B = Unit {0}} (λ (n : ℕ). tt) r
+      go : (r : Read ℕ)
+          → made {B = Unit {0}} (λ (o : Option ℕ). tt) (made Some r) ≡ made {B = Unit {0}} (λ (n : ℕ). tt) r
       go (Ok n) = refl
       go (Err f) = refl
   behind_same x (t ∷ ts) = refl
 
-  arc_same : (ts : List Lexeme) → pick is_number (λ ts. number_at fits ts >>= λ n. Ok (tt, n.1)) named_read ts ≡ arc_at fits ts
+  arc_same : (ts : List Lexeme)
+      → pick is_number (λ ts. number_at fits ts >>= λ n. Ok (tt, n.1)) named_read ts ≡ arc_at fits ts
   unfolding number_at name_at arc_at
   arc_same [] = refl
   arc_same (Number n ∷ ts) = fitting_made (λ n. tt) (fits n) n (Number n ∷ ts) ts
@@ -144,20 +150,28 @@ module _ (over : Limit → ℕ) (within : Limit → Type 0) (fits fits' : ℕ �
   abbrev Arcs : Type 0
   Arcs = Unit {0} × List (Unit {0})
 
-  ending : (r : Read (Unit {0})) (a : Arcs) → made {B = Unit {0}} (λ (x : Arcs). tt) (made (λ (p : Arcs × Unit {0}). p.0) (made (λ (u : Unit {0}). (a, u)) r)) ≡ r
+  ending : (r : Read (Unit {0})) (a : Arcs)
+      →
+      made {B = Unit {0}} (λ (x : Arcs). tt) (made (λ (p : Arcs × Unit {0}). p.0) (made (λ (u : Unit {0}). (a, u)) r)) ≡ r
   ending (Ok x) a = refl
   ending (Err f) a = refl
 
-  many_then : (u : Unit {0}) (r : Read (List (Unit {0}))) → made {B = Unit {0}} (λ (x : Arcs). tt) (made (λ (p : Arcs × Unit {0}). p.0) (after_read (λ (p : Arcs × Unit {0}). p) (made (λ (xs : List (Unit {0})). (u, xs)) r) closed_at)) ≡ (made {B = Unit {0}} (λ (xs : List (Unit {0})). tt) r >>= λ a. closed_at a.1)
+  many_then : (u : Unit {0}) (r : Read (List (Unit {0})))
+      →
+      made {B = Unit {0}} (λ (x : Arcs). tt) (made (λ (p : Arcs × Unit {0}). p.0) (after_read (λ (p : Arcs × Unit {0}). p) (made (λ (xs : List (Unit {0})). (u, xs)) r) closed_at)) ≡ (made {B = Unit {0}} (λ (xs : List (Unit {0})). tt) r >>= λ a. closed_at a.1)
   many_then u (Ok xs) = ending (closed_at xs.1) (u, xs.0)
   many_then u (Err f) = refl
 
-  first_then : (r : Read (Unit {0})) → made {B = Unit {0}} (λ (x : Arcs). tt) (made (λ (p : Arcs × Unit {0}). p.0) (after_read (λ (p : Arcs × Unit {0}). p) (after_read (λ (p : Arcs). p) r (λ us. many_at begins_arc (arc_at fits) (length us) us)) closed_at)) ≡ ((r >>= λ a. more_arcs_at fits a.1) >>= λ a. closed_at a.1)
+  first_then : (r : Read (Unit {0}))
+      →
+      made {B = Unit {0}} (λ (x : Arcs). tt) (made (λ (p : Arcs × Unit {0}). p.0) (after_read (λ (p : Arcs × Unit {0}). p) (after_read (λ (p : Arcs). p) r (λ us. many_at begins_arc (arc_at fits) (length us) us)) closed_at)) ≡ ((r >>= λ a. more_arcs_at fits a.1) >>= λ a. closed_at a.1)
   unfolding more_arcs_at
   first_then (Ok a) = many_then a.0 (many_at begins_arc (arc_at fits) (length a.1) a.1)
   first_then (Err f) = refl
 
-  oid_same : (ts : List Lexeme) → made {B = Unit {0}} (λ (x : Arcs). tt) (then_read (λ (p : Unit {0} × (Arcs × Unit {0})). p.1.0) (one_at is_open_brace) (then_read (λ p. p) arcs_read closed_at) ts) ≡ oid_at fits ts
+  oid_same : (ts : List Lexeme)
+      →
+      made {B = Unit {0}} (λ (x : Arcs). tt) (then_read (λ (p : Unit {0} × (Arcs × Unit {0})). p.1.0) (one_at is_open_brace) (then_read (λ p. p) arcs_read closed_at) ts) ≡ oid_at fits ts
   unfolding oid_at arcs_at
   oid_same [] = refl
   oid_same (Mark OpenBrace ∷ ts) = first_then (arc_at fits ts)
@@ -173,7 +187,8 @@ module _ (over : Limit → ℕ) (within : Limit → Type 0) (fits fits' : ℕ �
   abbrev name_of : Name × Option (Unit {0}) → Name
   name_of p = p.0
 
-  behind_module_same : (m : Name) (ts : List Lexeme) → made (λ (o : Option (Unit {0})). m) (perhaps is_open_brace (oid_at fits) ts) ≡ behind_module_at fits m ts
+  behind_module_same : (m : Name) (ts : List Lexeme)
+      → made (λ (o : Option (Unit {0})). m) (perhaps is_open_brace (oid_at fits) ts) ≡ behind_module_at fits m ts
   unfolding behind_module_at
   behind_module_same m [] = refl
   behind_module_same m (Mark OpenBrace ∷ ts) = go (oid_at fits (Mark OpenBrace ∷ ts))
@@ -183,22 +198,26 @@ module _ (over : Limit → ℕ) (within : Limit → Type 0) (fits fits' : ℕ �
       go (Err f) = refl
   behind_module_same m (t ∷ ts) = refl
 
-  module_same : (ts : List Lexeme) → then_read name_of module_name_at (perhaps is_open_brace (oid_at fits)) ts ≡ module_ref_at fits ts
+  module_same : (ts : List Lexeme)
+      → then_read name_of module_name_at (perhaps is_open_brace (oid_at fits)) ts ≡ module_ref_at fits ts
   unfolding module_name_at module_ref_at
   module_same [] = refl
   module_same (TypeRef m ∷ ts) = behind_module_same m ts
   module_same (t ∷ ts) = refl
 
-  pub rule_module : Rules over within ((token TypeRef ∙ optional (oid fits')) ⇒ (λ p. p.0)) is_typeref (either no_lexeme (either is_open_brace no_lexeme)) (module_ref_at fits)
+  pub rule_module :
+      Rules over within ((token TypeRef ∙ optional (oid fits')) ⇒ (λ p. p.0)) is_typeref (either no_lexeme (either is_open_brace no_lexeme)) (module_ref_at fits)
   rule_module = rule_read (module_ref_at fits) module_same (rule_tail (λ p. p.0) (rule_token typeref_is) (loose_optional rule_oid) (λ t e. refl))
 
-  from_same : (ts : List Lexeme) → then_read (λ (p : Unit {0} × Name). p.1) (one_at is_from_word) (module_ref_at fits) ts ≡ from_module_at fits ts
+  from_same : (ts : List Lexeme)
+      → then_read (λ (p : Unit {0} × Name). p.1) (one_at is_from_word) (module_ref_at fits) ts ≡ from_module_at fits ts
   unfolding from_module_at
   from_same [] = refl
   from_same (Word From ∷ ts) = read_again (module_ref_at fits ts)
   from_same (t ∷ ts) = refl
 
-  rule_from : Rules over within (behind (Word From) ((token TypeRef ∙ optional (oid fits')) ⇒ (λ p. p.0))) is_from_word (either no_lexeme (either is_open_brace no_lexeme)) (from_module_at fits)
+  rule_from :
+      Rules over within (behind (Word From) ((token TypeRef ∙ optional (oid fits')) ⇒ (λ p. p.0))) is_from_word (either no_lexeme (either is_open_brace no_lexeme)) (from_module_at fits)
   rule_from = rule_read (from_module_at fits) from_same (rule_behind rule_from_word rule_module)
 
   abbrev an_import : List Name × Name → ImportTree
@@ -228,11 +247,14 @@ module _ (over : Limit → ℕ) (within : Limit → Type 0) (fits fits' : ℕ �
   end_apart (Mark Semicolon) e = refl
   end_apart t e = absurd cc
 
-  rule_imported : Rules over within ((many (import_from fits') ∙ mark Semicolon) ⇒ (λ p. p.0)) (either begins_symbol is_semicolon) no_lexeme (imported_at fits)
+  rule_imported :
+      Rules over within ((many (import_from fits') ∙ mark Semicolon) ⇒ (λ p. p.0)) (either begins_symbol is_semicolon) no_lexeme (imported_at fits)
   unfolding imported_at
   rule_imported = rule_lead (λ p. p.0) (loose_many rule_import symbol_apart) rule_end end_apart
 
-  imports_same : (ts : List Lexeme) → then_read (λ (p : Unit {0} × List ImportTree). p.1) (one_at is_imports_word) (imported_at fits) ts ≡ imports_at fits ts
+  imports_same : (ts : List Lexeme)
+      →
+      then_read (λ (p : Unit {0} × List ImportTree). p.1) (one_at is_imports_word) (imported_at fits) ts ≡ imports_at fits ts
   unfolding imports_at
   imports_same [] = refl
   imports_same (Word Imports ∷ ts) = read_again (imported_at fits ts)
@@ -260,22 +282,37 @@ skip_front front (Err f) = refl
 abbrev arcs_from : List Lexeme → Read (List (Unit {0}))
 arcs_from ts = many_at begins_arc (arc_at small) (length ts) ts
 
-pub arcs_more : (ts : List Lexeme) (x : Unit {0} × List Lexeme) (total : Read (Unit {0})) → is_begun_by begins_arc ts ≡ true → arc_at small ts ≡ Ok x → skipped (arcs_from ts) ≡ total → skipped (arcs_from x.1) ≡ total
+pub arcs_more : (ts : List Lexeme) (x : Unit {0} × List Lexeme) (total : Read (Unit {0}))
+    → is_begun_by begins_arc ts ≡ true
+    → arc_at small ts ≡ Ok x
+    → skipped (arcs_from ts) ≡ total
+    → skipped (arcs_from x.1) ≡ total
 arcs_more ts x total b r h =
     let e = many_more begins_arc (arc_at small) arc_consumes ts x [] (with_front [] (arcs_from ts)) b r refl in
     sym (skip_front ([] ++ x.0 ∷ []) (arcs_from x.1)) ⋆ ap skipped e ⋆ skip_front [] (arcs_from ts) ⋆ h
 
-pub arcs_end : (ts : List Lexeme) (total : Read (Unit {0})) → is_begun_by begins_arc ts ≡ false → skipped (arcs_from ts) ≡ total → total ≡ Ok (tt, ts)
+pub arcs_end : (ts : List Lexeme) (total : Read (Unit {0}))
+    → is_begun_by begins_arc ts ≡ false
+    → skipped (arcs_from ts) ≡ total
+    → total ≡ Ok (tt, ts)
 arcs_end ts total b h =
     let e = many_end begins_arc (arc_at small) ts [] (with_front [] (arcs_from ts)) b refl in
     sym h ⋆ sym (skip_front [] (arcs_from ts)) ⋆ ap skipped e
 
-arcs_fail : (ts : List Lexeme) (f : Fault) (total : Read (Unit {0})) → is_begun_by begins_arc ts ≡ true → arc_at small ts ≡ Err f → skipped (arcs_from ts) ≡ total → total ≡ Err f
+arcs_fail : (ts : List Lexeme) (f : Fault) (total : Read (Unit {0}))
+    → is_begun_by begins_arc ts ≡ true
+    → arc_at small ts ≡ Err f
+    → skipped (arcs_from ts) ≡ total
+    → total ≡ Err f
 arcs_fail ts f total b r h =
     let e = many_fail begins_arc (arc_at small) ts f [] (with_front [] (arcs_from ts)) b r refl in
     sym h ⋆ sym (skip_front [] (arcs_from ts)) ⋆ ap skipped e
 
-pub arcs_give_up : (ts : List Lexeme) (e : ReadError) (total : Read (Unit {0})) → is_begun_by begins_arc ts ≡ true → Fails e (arc_at small ts) → skipped (arcs_from ts) ≡ total → Fails e total
+pub arcs_give_up : (ts : List Lexeme) (e : ReadError) (total : Read (Unit {0}))
+    → is_begun_by begins_arc ts ≡ true
+    → Fails e (arc_at small ts)
+    → skipped (arcs_from ts) ≡ total
+    → Fails e total
 arcs_give_up ts errors.Memory total b r h = tt
 arcs_give_up ts (errors.Unexpected n) total b r h = arcs_fail ts _ total b r h
 arcs_give_up ts (errors.Limit l n) total b r h = arcs_fail ts _ total b r h

@@ -197,54 +197,70 @@ module _ {over : Limit → ℕ} {within : Limit → Type 0} where
 
   -- ---- "|" and UNION
 
-  rule_or : Rules over within or (either is_bar is_union) (either no_lexeme no_lexeme) (pick is_bar (one_at is_bar) (one_at is_union))
+  rule_or :
+      Rules over within or (either is_bar is_union) (either no_lexeme no_lexeme) (pick is_bar (one_at is_bar) (one_at is_union))
   rule_or = rule_pick rule_bar rule_union apart
     where
       apart : (t : Lexeme) → is_union t ≡ true → is_bar t ≡ false
       apart t e = subst (λ (t : Lexeme). is_bar t ≡ false) (sym (union_one t e)) refl
 
   -- a part behind "|" or UNION
-  or_then_rule : {A : Type 0} {a : Grammar A} {starts ends : Lexeme → Bool} {read : Reader A} → Rules over within a starts ends read → Rules over within ((or ∙ a) ⇒ (λ p. p.1)) is_or ends (or_then_at read)
+  or_then_rule : {A : Type 0} {a : Grammar A} {starts ends : Lexeme → Bool} {read : Reader A}
+      → Rules over within a starts ends read
+      → Rules over within ((or ∙ a) ⇒ (λ p. p.1)) is_or ends (or_then_at read)
   unfolding or_then_at
   or_then_rule {A} {a} {starts} {ends} {read} k = rule_tests is_or ends or_is (λ t e. e) (rule_read (or_then_at read) same (rule_seq (λ p. p.1) rule_or k (λ t e. refl)))
     where
-      same : (ts : List Lexeme) → then_read (λ (p : Unit {0} × A). p.1) (pick is_bar (one_at is_bar) (one_at is_union)) read ts ≡ or_then_at read ts
+      same : (ts : List Lexeme)
+          →
+          then_read (λ (p : Unit {0} × A). p.1) (pick is_bar (one_at is_bar) (one_at is_union)) read ts ≡ or_then_at read ts
       same [] = refl
       same (Mark Bar ∷ ts) = read_again (read ts)
       same (Word Union ∷ ts) = read_again (read ts)
       same (t ∷ ts) = refl
 
-  pub rule_by_or : {A : Type 0} {a : Grammar A} {starts ends : Lexeme → Bool} {read : Reader A} → Rules over within a starts ends read → ((t : Lexeme) → is_or t ≡ true → ends t ≡ false) → Rules over within (by_or a) starts (either ends (either is_or ends)) (by_or_at read)
+  pub rule_by_or : {A : Type 0} {a : Grammar A} {starts ends : Lexeme → Bool} {read : Reader A}
+      → Rules over within a starts ends read
+      → ((t : Lexeme) → is_or t ≡ true → ends t ≡ false)
+      → Rules over within (by_or a) starts (either ends (either is_or ends)) (by_or_at read)
   unfolding by_or_at
   rule_by_or k apart = rule_tail (λ p. p.0 ∷ p.1) k (loose_many (or_then_rule k) apart) apart
 
   -- ---- the marker
 
-  loose_marker : Loose over within marker is_comma (either is_comma no_lexeme) (λ ts. made is_some (perhaps is_comma dots_read ts))
+  loose_marker :
+      Loose over within marker is_comma (either is_comma no_lexeme) (λ ts. made is_some (perhaps is_comma dots_read ts))
   loose_marker =
       loose_made is_some
       (loose_optional (rule_behind (rule_token (one_is (Mark Comma) is_comma refl comma_one)) (rule_token (one_is (Mark Ellipsis) is_ellipsis refl ellipsis_one))))
 
   -- ---- characters
 
-  range_then_text : Rules over within (behind (Mark Range) (token CString)) is_range no_lexeme (then_read (λ p. p.1) (one_at is_range) text_at)
+  range_then_text :
+      Rules over within (behind (Mark Range) (token CString)) is_range no_lexeme (then_read (λ p. p.1) (one_at is_range) text_at)
   range_then_text = rule_behind rule_dots (rule_token text_is)
 
   pub rule_chars : Rules over within chars is_text (either no_lexeme (either is_range no_lexeme)) chars_at
   unfolding text_at chars_at last_chars_at more_chars_at
   rule_chars = rule_read chars_at same (rule_pair (token CString) (optional (behind (Mark Range) (token CString))) (token_solid CString) (rule_tail (λ p. p) (rule_token text_is) (loose_optional range_then_text) (λ t e. refl)))
     where
-      last : (c : List ℕ) (ts : List Lexeme) → then_read (λ (p : List ℕ × Option (List ℕ)). p) (λ ts. Ok (c, ts)) (perhaps is_range (then_read (λ p. p.1) (one_at is_range) text_at)) (Mark Range ∷ ts) ≡ last_chars_at c ts
+      last : (c : List ℕ) (ts : List Lexeme)
+          →
+          then_read (λ (p : List ℕ × Option (List ℕ)). p) (λ ts. Ok (c, ts)) (perhaps is_range (then_read (λ p. p.1) (one_at is_range) text_at)) (Mark Range ∷ ts) ≡ last_chars_at c ts
       last c [] = refl
       last c (CString d ∷ ts) = refl
       last c (t ∷ ts) = refl
 
-      rest : (c : List ℕ) (ts : List Lexeme) → then_read (λ (p : List ℕ × Option (List ℕ)). p) (λ ts. Ok (c, ts)) (perhaps is_range (then_read (λ p. p.1) (one_at is_range) text_at)) ts ≡ more_chars_at c ts
+      rest : (c : List ℕ) (ts : List Lexeme)
+          →
+          then_read (λ (p : List ℕ × Option (List ℕ)). p) (λ ts. Ok (c, ts)) (perhaps is_range (then_read (λ p. p.1) (one_at is_range) text_at)) ts ≡ more_chars_at c ts
       rest c [] = refl
       rest c (Mark Range ∷ ts) = last c ts
       rest c (t ∷ ts) = refl
 
-      same : (ts : List Lexeme) → then_read (λ (p : List ℕ × Option (List ℕ)). p) text_at (perhaps is_range (then_read (λ p. p.1) (one_at is_range) text_at)) ts ≡ chars_at ts
+      same : (ts : List Lexeme)
+          →
+          then_read (λ (p : List ℕ × Option (List ℕ)). p) text_at (perhaps is_range (then_read (λ p. p.1) (one_at is_range) text_at)) ts ≡ chars_at ts
       same [] = refl
       same (CString c ∷ ts) = rest c ts
       same (t ∷ ts) = refl
@@ -259,14 +275,17 @@ module _ {over : Limit → ℕ} {within : Limit → Type 0} where
       or_apart (Word Union) e = refl
       or_apart t e = absurd cc
 
-      same : (ts : List Lexeme) → then_read (λ (p : Unit {0} × List (List ℕ × Option (List ℕ))). p.1) (one_at is_from) (parens_at (by_or_at chars_at)) ts ≡ from_at ts
+      same : (ts : List Lexeme)
+          →
+          then_read (λ (p : Unit {0} × List (List ℕ × Option (List ℕ))). p.1) (one_at is_from) (parens_at (by_or_at chars_at)) ts ≡ from_at ts
       same [] = refl
       same (Word From ∷ ts) = read_again (parens_at (by_or_at chars_at) ts)
       same (t ∷ ts) = refl
 
   -- ---- names
 
-  dot_then_name : Rules over within (behind (Mark Dot) (token Ident)) is_dot no_lexeme (then_read (λ p. p.1) (one_at is_dot) ident_at)
+  dot_then_name :
+      Rules over within (behind (Mark Dot) (token Ident)) is_dot no_lexeme (then_read (λ p. p.1) (one_at is_dot) ident_at)
   dot_then_name = rule_behind rule_dot (rule_token ident_is)
 
   rule_ref : Rules over within ref (either is_ident is_typeref) (either no_lexeme no_lexeme) ref_read
@@ -276,7 +295,9 @@ module _ {over : Limit → ℕ} {within : Limit → Type 0} where
       typeref_no_ident
 
 -- fits is the reader's test on numbers, fits' the grammar's
-module _ (over : Limit → ℕ) (within : Limit → Type 0) (fits fits' : ℕ → Bool) (grows : (n : ℕ) → fits n ≡ true → fits' n ≡ true) (past : Past (over Integer) ((n : ℕ) → fits' n ≡ true)) (room : (n : ℕ) → fits' n ≡ true → within Integer → fits n ≡ true) where
+module _ (over : Limit → ℕ) (within : Limit → Type 0) (fits fits' : ℕ → Bool)
+    (grows : (n : ℕ) → fits n ≡ true → fits' n ≡ true) (past : Past (over Integer) ((n : ℕ) → fits' n ≡ true))
+    (room : (n : ℕ) → fits' n ≡ true → within Integer → fits n ≡ true) where
   -- ---- ends of ranges
 
   abbrev ends_start : Lexeme → Bool
@@ -300,7 +321,9 @@ module _ (over : Limit → ℕ) (within : Limit → Type 0) (fits fits' : ℕ �
   rest_no_number (Number n) e = absurd cc
   rest_no_number t e = refl
 
-  end_tests : (t : Lexeme) → either is_number (either is_minus (either is_ident is_typeref)) t ≡ true → ends_start t ≡ true
+  end_tests : (t : Lexeme)
+      → either is_number (either is_minus (either is_ident is_typeref)) t ≡ true
+      → ends_start t ≡ true
   end_tests (Number n) e = refl
   end_tests (Mark Minus) e = refl
   end_tests (Ident x) e = refl
@@ -313,7 +336,8 @@ module _ (over : Limit → ℕ) (within : Limit → Type 0) (fits fits' : ℕ �
   minus_same (Number n ∷ ts) = refl
   minus_same (t ∷ ts) = refl
 
-  dot_same : (m : List ℕ) (ts : List Lexeme) → end_read (TypeRef m ∷ Mark Dot ∷ ts) ≡ end_at fits (TypeRef m ∷ Mark Dot ∷ ts)
+  dot_same : (m : List ℕ) (ts : List Lexeme)
+      → end_read (TypeRef m ∷ Mark Dot ∷ ts) ≡ end_at fits (TypeRef m ∷ Mark Dot ∷ ts)
   unfolding module_name_at ident_at end_at ref_dot_at ref_name_at
   dot_same m [] = refl
   dot_same m (Ident x ∷ ts) = refl
@@ -350,7 +374,9 @@ module _ (over : Limit → ℕ) (within : Limit → Type 0) (fits fits' : ℕ �
   max_no_end (Word Max) e = refl
   max_no_end t e = absurd cc
 
-  upper_same : (ts : List Lexeme) → pick ends_start (λ ts. end_at fits ts >>= λ e. Ok (Some e.0, e.1)) (λ ts. one_at is_max ts >>= λ x. Ok (None, x.1)) ts ≡ upper_at fits ts
+  upper_same : (ts : List Lexeme)
+      →
+      pick ends_start (λ ts. end_at fits ts >>= λ e. Ok (Some e.0, e.1)) (λ ts. one_at is_max ts >>= λ x. Ok (None, x.1)) ts ≡ upper_at fits ts
   unfolding upper_at some_end_at end_at
   upper_same [] = refl
   upper_same (Word Max ∷ ts) = refl
@@ -373,25 +399,32 @@ module _ (over : Limit → ℕ) (within : Limit → Type 0) (fits fits' : ℕ �
   of_ends (a, None) = only a
   of_ends (a, Some b) = between (Some a) b
 
-  behind_same : (a : EndTree) (ts : List Lexeme) → made (λ (y : Option (Option EndTree)). of_ends (a, y)) (perhaps is_range upper_read ts) ≡ behind_end_at fits a ts
+  behind_same : (a : EndTree) (ts : List Lexeme)
+      →
+      made (λ (y : Option (Option EndTree)). of_ends (a, y)) (perhaps is_range upper_read ts) ≡ behind_end_at fits a ts
   unfolding behind_end_at
   behind_same a [] = refl
   behind_same a (Mark Range ∷ ts) = go (upper_at fits ts)
     where
-      go : (r : Read (Option EndTree)) → made (λ (y : Option (Option EndTree)). of_ends (a, y)) (made Some (made (λ (b : Option EndTree). b) r)) ≡ made (between (Some a)) r
+      go : (r : Read (Option EndTree))
+          →
+          made (λ (y : Option (Option EndTree)). of_ends (a, y)) (made Some (made (λ (b : Option EndTree). b) r)) ≡ made (between (Some a)) r
       go (Ok x) = refl
       go (Err f) = refl
   behind_same a (t ∷ ts) = refl
 
-  single_same : (ts : List Lexeme) → then_read of_ends (end_at fits) (perhaps is_range upper_read) ts ≡ single_at fits ts
+  single_same : (ts : List Lexeme)
+      → then_read of_ends (end_at fits) (perhaps is_range upper_read) ts ≡ single_at fits ts
   unfolding single_at
   single_same ts = go (end_at fits ts)
     where
-      go : (r : Read EndTree) → after_read of_ends r (perhaps is_range upper_read) ≡ (r >>= λ a. behind_end_at fits a.0 a.1)
+      go : (r : Read EndTree)
+          → after_read of_ends r (perhaps is_range upper_read) ≡ (r >>= λ a. behind_end_at fits a.0 a.1)
       go (Ok x) = behind_same x.0 x.1
       go (Err f) = refl
 
-  rule_single : Rules over within ((end fits' ∙ optional upper) ⇒ of_ends) ends_start (either no_lexeme (either is_range (either no_lexeme no_lexeme))) (single_at fits)
+  rule_single :
+      Rules over within ((end fits' ∙ optional upper) ⇒ of_ends) ends_start (either no_lexeme (either is_range (either no_lexeme no_lexeme))) (single_at fits)
   rule_single = rule_read (single_at fits) single_same (rule_tail of_ends rule_end (loose_optional rule_upper) (λ t e. refl))
 
   min_same : (ts : List Lexeme) → made (between None) (upper_read ts) ≡ behind_min_at fits ts
@@ -399,7 +432,8 @@ module _ (over : Limit → ℕ) (within : Limit → Type 0) (fits fits' : ℕ �
   min_same [] = refl
   min_same (Mark Range ∷ ts) = go (upper_at fits ts)
     where
-      go : (r : Read (Option EndTree)) → made (between None) (made (λ (b : Option EndTree). b) r) ≡ made (between None) r
+      go : (r : Read (Option EndTree))
+          → made (between None) (made (λ (b : Option EndTree). b) r) ≡ made (between None) r
       go (Ok x) = refl
       go (Err f) = refl
   min_same (t ∷ ts) = refl
@@ -411,7 +445,9 @@ module _ (over : Limit → ℕ) (within : Limit → Type 0) (fits fits' : ℕ �
   single_no_min (Word Min) e = absurd cc
   single_no_min t e = refl
 
-  range_same : (ts : List Lexeme) → pick is_min (then_read (λ (p : Unit {0} × RangeTree). p.1) (one_at is_min) (behind_min_at fits)) (single_at fits) ts ≡ range_at fits ts
+  range_same : (ts : List Lexeme)
+      →
+      pick is_min (then_read (λ (p : Unit {0} × RangeTree). p.1) (one_at is_min) (behind_min_at fits)) (single_at fits) ts ≡ range_at fits ts
   unfolding range_at
   range_same [] = refl
   range_same (Word Min ∷ ts) = read_again (behind_min_at fits ts)
@@ -420,9 +456,6 @@ module _ (over : Limit → ℕ) (within : Limit → Type 0) (fits fits' : ℕ �
   -- what begins with MIN, and what begins with an end
   abbrev split_range : Grammar RangeTree
   split_range = behind (Word Min) (upper ⇒ between None) ∣ (end fits' ∙ optional upper) ⇒ of_ends
-
-  abbrev lower : Grammar (Option EndTree)
-  lower = end fits' ⇒ Some ∣ word Min ⇒ (λ _. None)
 
   end_part : (a : EndTree) (u : List Lexeme) → (end fits').Is a u → (end fits').CanGoOn u
   end_part = (rule_end.finds tt).part
@@ -457,7 +490,9 @@ module _ (over : Limit → ℕ) (within : Limit → Type 0) (fits fits' : ℕ �
   abbrev range_starts : Lexeme → Bool
   range_starts = either is_min ends_start
 
-  range_ends : (t : Lexeme) → is_range t ≡ false → either (either no_lexeme no_lexeme) (either no_lexeme (either is_range (either no_lexeme no_lexeme))) t ≡ false
+  range_ends : (t : Lexeme)
+      → is_range t ≡ false
+      → either (either no_lexeme no_lexeme) (either no_lexeme (either is_range (either no_lexeme no_lexeme))) t ≡ false
   range_ends (Mark Range) e = absurd cc
   range_ends t e = refl
 
@@ -477,11 +512,15 @@ module _ (over : Limit → ℕ) (within : Limit → Type 0) (fits fits' : ℕ �
   comma_ends : (t : Lexeme) → is_comma t ≡ true → either is_range (either is_or is_range) t ≡ false
   comma_ends t e = subst (λ (t : Lexeme). either is_range (either is_or is_range) t ≡ false) (sym (comma_one t e)) refl
 
-  ranges_same : (ts : List Lexeme) → then_read marked (by_or_at (range_at fits)) (λ us. made is_some (perhaps is_comma dots_read us)) ts ≡ ranges_at fits ts
+  ranges_same : (ts : List Lexeme)
+      →
+      then_read marked (by_or_at (range_at fits)) (λ us. made is_some (perhaps is_comma dots_read us)) ts ≡ ranges_at fits ts
   unfolding ranges_at
   ranges_same ts = go (by_or_at (range_at fits) ts)
     where
-      go : (r : Read (List RangeTree)) → after_read marked r (λ us. made is_some (perhaps is_comma dots_read us)) ≡ (r >>= λ rs. marker_at rs.1 >>= λ m. Ok (marked (rs.0, m.0), m.1))
+      go : (r : Read (List RangeTree))
+          →
+          after_read marked r (λ us. made is_some (perhaps is_comma dots_read us)) ≡ (r >>= λ rs. marker_at rs.1 >>= λ m. Ok (marked (rs.0, m.0), m.1))
       go (Ok x) = ap (λ (r : Read Bool). r >>= λ m. Ok (marked (x.0, m.0), m.1)) (marker_same x.1)
       go (Err f) = refl
 
@@ -490,7 +529,9 @@ module _ (over : Limit → ℕ) (within : Limit → Type 0) (fits fits' : ℕ �
 
   -- ---- sizes and constraints
 
-  size_same : (ts : List Lexeme) → made sizes_in (then_read (λ (p : Unit {0} × RangesTree). p.1) (one_at is_size) (parens_at (ranges_at fits)) ts) ≡ size_at fits ts
+  size_same : (ts : List Lexeme)
+      →
+      made sizes_in (then_read (λ (p : Unit {0} × RangesTree). p.1) (one_at is_size) (parens_at (ranges_at fits)) ts) ≡ size_at fits ts
   unfolding size_at
   size_same [] = refl
   size_same (Word Size ∷ ts) = ap (made sizes_in) (read_again (parens_at (ranges_at fits) ts))
@@ -506,7 +547,8 @@ module _ (over : Limit → ℕ) (within : Limit → Type 0) (fits fits' : ℕ �
   unfolding values_in_at
   rule_values_in = rule_made values_in rule_ranges
 
-  rule_from_in : Rules over within (behind (Word From) (parens (by_or chars)) ⇒ chars_in) is_from no_lexeme (from_in_at fits)
+  rule_from_in :
+      Rules over within (behind (Word From) (parens (by_or chars)) ⇒ chars_in) is_from no_lexeme (from_in_at fits)
   unfolding from_in_at
   rule_from_in = rule_made chars_in rule_from
 
@@ -518,7 +560,8 @@ module _ (over : Limit → ℕ) (within : Limit → Type 0) (fits fits' : ℕ �
   words_no_range (Word From) e = refl
   words_no_range t e = absurd cc
 
-  inside_same : (ts : List Lexeme) → pick range_starts (values_in_at fits) (pick is_size (size_at fits) (from_in_at fits)) ts ≡ inside_at fits ts
+  inside_same : (ts : List Lexeme)
+      → pick range_starts (values_in_at fits) (pick is_size (size_at fits) (from_in_at fits)) ts ≡ inside_at fits ts
   unfolding inside_at values_in_at from_in_at ranges_at by_or_at range_at single_at end_at from_at size_at
   inside_same [] = refl
   inside_same (Word Size ∷ ts) = refl
@@ -527,7 +570,8 @@ module _ (over : Limit → ℕ) (within : Limit → Type 0) (fits fits' : ℕ �
   inside_same (Mark Minus ∷ ts) = refl
   inside_same (t ∷ ts) = refl
 
-  rule_inside : Rules over within inner (either range_starts (either is_size is_from)) (either ranges_end (either no_lexeme no_lexeme)) (inside_at fits)
+  rule_inside :
+      Rules over within inner (either range_starts (either is_size is_from)) (either ranges_end (either no_lexeme no_lexeme)) (inside_at fits)
   rule_inside = rule_read (inside_at fits) inside_same (rule_pick rule_values_in (rule_pick rule_size rule_from_in from_no_size) words_no_range)
 
   abbrev split_constraint : Grammar ConstraintTree

@@ -71,9 +71,12 @@ all_follow : (us : List Lexeme) → Follows no_lexeme us
 all_follow [] = tt
 all_follow (t ∷ us) = refl
 
-module _ {A : Type 0} (g : (ℕ → Bool) → Grammar A) (starts : Lexeme → Bool) (read : (ℕ → Bool) → Reader A) (ruled : Ruled g starts read)
+module _ {A : Type 0} (g : (ℕ → Bool) → Grammar A) (starts : Lexeme → Bool) (read : (ℕ → Bool) → Reader A)
+    (ruled : Ruled g starts read)
     (grows : (fits fits' : ℕ → Bool) → ((n : ℕ) → fits n ≡ true → fits' n ≡ true) → Grows (g fits) (g fits')) where
-  rules : (over : Limit → ℕ) → over Integer ≡ 0 → Rules over (λ l. Within l (bounded 0) (bounded 0)) (g small) starts no_lexeme (read small)
+  rules : (over : Limit → ℕ)
+      → over Integer ≡ 0
+      → Rules over (λ l. Within l (bounded 0) (bounded 0)) (g small) starts no_lexeme (read small)
   rules over e = ruled over (bounded 0) (bounded 0) (λ n e. e) (none (over Integer) e)
     where
       none : (k : ℕ) → k ≡ 0 → Past k ((n : ℕ) → small n ≡ true)
@@ -84,12 +87,15 @@ module _ {A : Type 0} (g : (ℕ → Bool) → Grammar A) (starts : Lexeme → Bo
   numberless = record { nesting = 0; number = any; tag = any }
 
   -- where a limit is passed, the lexemes can go on once it alone is raised
-  flat_passed : (l : Limit) → (b : Limits) × ((ts : List Lexeme) → Sound (past l) (flat g (raised l (bounded 0) b)) ts (read small ts))
+  flat_passed : (l : Limit)
+      → (b : Limits) × ((ts : List Lexeme) → Sound (past l) (flat g (raised l (bounded 0) b)) ts (read small ts))
   flat_passed Nesting = (bounded 0, (rules deeper refl).sound tt)
   flat_passed Integer = (numberless, (ruled wider (bounded 0) numberless (λ n e. refl) (λ n. refl)).sound tt)
   flat_passed TagNumber = (bounded 0, (rules higher refl).sound tt)
 
-  flat_finds : (b : Limits) → Finds (λ l. Within l (joined (bounded 0) b) (bounded 0)) (flat g (joined (bounded 0) b)) starts no_lexeme (read small)
+  flat_finds : (b : Limits)
+      →
+      Finds (λ l. Within l (joined (bounded 0) b) (bounded 0)) (flat g (joined (bounded 0) b)) starts no_lexeme (read small)
   flat_finds b = (ruled nowhere (bounded 0) (joined (bounded 0) b) (joined_first small b.number) tt).finds tt
 
   pub flat_reads : Reads (flat g) (bounded 0) (read small)
@@ -112,7 +118,9 @@ module _ {A : Type 0} (g : (ℕ → Bool) → Grammar A) (starts : Lexeme → Bo
       one_result : (x y : A × List Lexeme) (r : Read A) → r ≡ Ok x → r ≡ Ok y → x ≡ y
       one_result x y r p q = let e = sym p ⋆ q in cc
 
-      same : Stands (λ l. Within l numberless numberless) (read any (u ++ [])) v [] → Stands (λ l. Within l numberless numberless) (read any (u ++ [])) w [] → v ≡ w
+      same : Stands (λ l. Within l numberless numberless) (read any (u ++ [])) v []
+          → Stands (λ l. Within l numberless numberless) (read any (u ++ [])) w []
+          → v ≡ w
       same (inl p) (inl q) = ap (λ (x : A × List Lexeme). x.0) (one_result (v, []) (w, []) (read any (u ++ [])) p q)
       same (inl p) (inr (g, n, q)) = absurd (n (within_all g.0 numberless))
       same (inr (g, n, p)) q = absurd (n (within_all g.0 numberless))

@@ -25,7 +25,8 @@ rbrace_no_num (Number n) e = absurd cc
 rbrace_no_num t e = refl
 
 -- fits is the reader's test on numbers, fits' the grammar's
-module _ (within : Limit → Type 0) (fits fits' : ℕ → Bool) (room : (n : ℕ) → fits' n ≡ true → within Integer → fits n ≡ true) where
+module _ (within : Limit → Type 0) (fits fits' : ℕ → Bool)
+    (room : (n : ℕ) → fits' n ≡ true → within Integer → fits n ≡ true) where
   abbrev more : Grammar (List ℕ)
   more = many (number_of fits')
 
@@ -39,11 +40,17 @@ module _ (within : Limit → Type 0) (fits fits' : ℕ → Bool) (room : (n : �
   numbers_shrink (t ∷ us) = omega arith
 
   -- a number more
-  one_more : (n : ℕ) (ts us : List Lexeme) → fits' n ≡ true → Passes within us (numbers_at fits ts) → Passes within us (numbers_at fits (Number n ∷ ts))
+  one_more : (n : ℕ) (ts us : List Lexeme)
+      → fits' n ≡ true
+      → Passes within us (numbers_at fits ts)
+      → Passes within us (numbers_at fits (Number n ∷ ts))
   unfolding numbers_at
   one_more n ts us f h = fitting_passes within (fits n) us (Number n ∷ ts) (numbers_at fits ts >>= λ ns. Ok (n ∷ ns.0, ns.1)) (room n f) (passes_made within us (numbers_at fits ts) (λ ns. n ∷ ns) h)
 
-  numbers_front' : (ns : List ℕ) (u v us : List Lexeme) → IsMany (number_of fits') ns u → (number_of fits').CanGoOn v → Passes within us (numbers_at fits ((u ++ v) ++ us))
+  numbers_front' : (ns : List ℕ) (u v us : List Lexeme)
+      → IsMany (number_of fits') ns u
+      → (number_of fits').CanGoOn v
+      → Passes within us (numbers_at fits ((u ++ v) ++ us))
   numbers_front' [] u v us h (inl e) = subst (λ (l : List Lexeme). Passes within us (numbers_at fits (l ++ us))) (sym (ap (λ (l : List Lexeme). l ++ v) h ⋆ e)) (numbers_shrink us)
   numbers_front' [] u v us h (inr (n, f, e)) =
       subst (λ (l : List Lexeme). Passes within us (numbers_at fits (l ++ us))) (sym (ap (λ (l : List Lexeme). l ++ v) h ⋆ e)) (one_more n us us f (numbers_shrink us))
@@ -56,11 +63,17 @@ module _ (within : Limit → Type 0) (fits fits' : ℕ → Bool) (room : (n : �
   numbers_end (Number n ∷ us) f = absurd cc
   numbers_end (t ∷ us) f = refl
 
-  stands_more : (n : ℕ) (ns : List ℕ) (ts us : List Lexeme) → fits' n ≡ true → Stands within (numbers_at fits ts) ns us → Stands within (numbers_at fits (Number n ∷ ts)) (n ∷ ns) us
+  stands_more : (n : ℕ) (ns : List ℕ) (ts us : List Lexeme)
+      → fits' n ≡ true
+      → Stands within (numbers_at fits ts) ns us
+      → Stands within (numbers_at fits (Number n ∷ ts)) (n ∷ ns) us
   unfolding numbers_at
   stands_more n ns ts us f h = fitting_stands within (fits n) (Number n ∷ ts) us (numbers_at fits ts >>= λ ns. Ok (n ∷ ns.0, ns.1)) (n ∷ ns) (room n f) (stands_made within us (numbers_at fits ts) ns (λ ns. n ∷ ns) h)
 
-  numbers_whole' : (ns : List ℕ) (u us : List Lexeme) → IsMany (number_of fits') ns u → Follows is_num us → Stands within (numbers_at fits (u ++ us)) ns us
+  numbers_whole' : (ns : List ℕ) (u us : List Lexeme)
+      → IsMany (number_of fits') ns u
+      → Follows is_num us
+      → Stands within (numbers_at fits (u ++ us)) ns us
   numbers_whole' [] u us h f = inl (ap (λ (l : List Lexeme). numbers_at fits (l ++ us)) h ⋆ numbers_end us f)
   numbers_whole' (n ∷ ns) u us (p, q, e, hp, hq) f =
       subst (λ (l : List Lexeme). Stands within (numbers_at fits (l ++ us)) (n ∷ ns) us) (sym (e ⋆ ap (λ (l : List Lexeme). l ++ q) hp.1)) (stands_more n ns (q ++ us) us hp.0 (numbers_whole' ns q us hq f))
@@ -81,11 +94,15 @@ module _ (within : Limit → Type 0) (fits fits' : ℕ → Bool) (room : (n : �
           subst (λ (t : Lexeme). is_num t ≡ true) (sym (head_is t (Number n) u (q ++ w) (e ⋆ ap (λ (l : List Lexeme). l ++ w) (d ⋆ ap (λ (l : List Lexeme). l ++ q) hp.1)))) refl
 
   -- the numbers behind two, and the end of the braces
-  two_numbers_front : (a b : ℕ) (u us : List Lexeme) → (more ∙ mark CloseBrace).CanGoOn u → Passes within us (two_numbers_at fits a b (u ++ us))
+  two_numbers_front : (a b : ℕ) (u us : List Lexeme)
+      → (more ∙ mark CloseBrace).CanGoOn u
+      → Passes within us (two_numbers_at fits a b (u ++ us))
   unfolding two_numbers_at
   two_numbers_front a b = seq_front within more (mark CloseBrace) (λ p. numbers (a ∷ b ∷ p.0)) is_num is_num is_rbrace no_lexeme no_lexeme (numbers_at fits) closed_at finds_numbers (finds_closed within) rbrace_no_num
 
-  two_numbers_whole : (a b : ℕ) (z : Tree) (u us : List Lexeme) → ((more ∙ mark CloseBrace) ⇒ (λ p. numbers (a ∷ b ∷ p.0))).Is z u → Stands within (two_numbers_at fits a b (u ++ us)) z us
+  two_numbers_whole : (a b : ℕ) (z : Tree) (u us : List Lexeme)
+      → ((more ∙ mark CloseBrace) ⇒ (λ p. numbers (a ∷ b ∷ p.0))).Is z u
+      → Stands within (two_numbers_at fits a b (u ++ us)) z us
   unfolding two_numbers_at
   two_numbers_whole a b z u us h = seq_whole within more (mark CloseBrace) (λ p. numbers (a ∷ b ∷ p.0)) is_num is_num is_rbrace no_lexeme no_lexeme (numbers_at fits) closed_at finds_numbers (finds_closed within) (λ y v us h g. subst (λ (l : List Lexeme). Follows is_num (l ++ us)) (sym h) refl) (λ us g. g) z u us h (all us)
     where
@@ -117,35 +134,49 @@ follows_not fits' (Mark CloseBrace) us e = absurd cc
 follows_not fits' t us e = refl
 
 -- a body of braces has an end
-body_not_empty : {A : Type 0} (a : Grammar A) (f : List A × Unit {0} → Tree) (z : Tree) → ((listed a ∙ mark CloseBrace) ⇒ f).Is z [] → ⊥
+body_not_empty : {A : Type 0} (a : Grammar A) (f : List A × Unit {0} → Tree) (z : Tree)
+    → ((listed a ∙ mark CloseBrace) ⇒ f).Is z []
+    → ⊥
 body_not_empty a f z (p, d, ([], w, e, ha, hr)) = let g = e ⋆ hr in absurd cc
 body_not_empty a f z (p, d, (t ∷ q, w, e, ha, hr)) = absurd cc
 
-body_long : {A : Type 0} (a : Grammar A) → IsSolid a → (f : List A × Unit {0} → Tree) (z : Tree) (s : Lexeme) → ((listed a ∙ mark CloseBrace) ⇒ f).Is z (s ∷ []) → ⊥
+body_long : {A : Type 0} (a : Grammar A)
+    → IsSolid a
+    → (f : List A × Unit {0} → Tree) (z : Tree) (s : Lexeme)
+    → ((listed a ∙ mark CloseBrace) ⇒ f).Is z (s ∷ [])
+    → ⊥
 body_long a solid f z s (p, d, ([], w, e, (x, dx, ([], y, ex, hx, hy)), hr)) = solid.no_empty x.0 hx
 body_long a solid f z s (p, d, ([], w, e, (x, dx, (t ∷ y', y, ex, hx, hy)), hr)) = absurd cc
 body_long a solid f z s (p, d, (t ∷ [], w, e, ha, hr)) = let g = e ⋆ ap (λ (l : List Lexeme). t ∷ l) hr in absurd cc
 body_long a solid f z s (p, d, (t ∷ t' ∷ q, w, e, ha, hr)) = absurd cc
 
-module _ (within : Limit → Type 0) (fits fits' : ℕ → Bool) (room : (n : ℕ) → fits' n ≡ true → within Integer → fits n ≡ true) (v : Grammar Tree) (read : Reader Tree) (fv : Finds within v (starts fits') goes_on read) (solid : IsSolid v)
-    (one_number : (a : ℕ) → fits' a ≡ true → v.CanGoOn (Number a ∷ [])) (one_name : (x : List ℕ) → v.CanGoOn (Ident x ∷ []))
-    (behind_number : (a : ℕ) → Next v (Number a) (λ t. ends_item t ≡ true)) (behind_name : (x : List ℕ) → Next v (Ident x) (λ t. ends_item t ≡ true)) where
+module _ (within : Limit → Type 0) (fits fits' : ℕ → Bool)
+    (room : (n : ℕ) → fits' n ≡ true → within Integer → fits n ≡ true) (v : Grammar Tree) (read : Reader Tree)
+    (fv : Finds within v (starts fits') goes_on read) (solid : IsSolid v)
+    (one_number : (a : ℕ) → fits' a ≡ true → v.CanGoOn (Number a ∷ []))
+    (one_name : (x : List ℕ) → v.CanGoOn (Ident x ∷ []))
+    (behind_number : (a : ℕ) → Next v (Number a) (λ t. ends_item t ≡ true))
+    (behind_name : (x : List ℕ) → Next v (Ident x) (λ t. ends_item t ≡ true)) where
   member_solid : IsSolid (token Ident ∙ v)
   member_solid = record { no_empty = go }
     where
       go : (m : List ℕ × Tree) → (token Ident ∙ v).Is m [] → ⊥
       go m (p, q, e, hp, hq) = let d = e ⋆ ap (λ (l : List Lexeme). l ++ q) hp in absurd cc
 
-  pub fi : Finds within ((listed v ∙ mark CloseBrace) ⇒ (λ p. items (trees p.0))) (starts fits') no_lexeme (items_at read)
+  pub fi :
+      Finds within ((listed v ∙ mark CloseBrace) ⇒ (λ p. items (trees p.0))) (starts fits') no_lexeme (items_at read)
   unfolding items_at
   fi = finds_body within v (starts fits') goes_on read fv refl refl solid (λ p. items (trees p.0))
 
-  pub ff : Finds within ((listed (token Ident ∙ v) ∙ mark CloseBrace) ⇒ (λ p. fields (members p.0))) is_ident no_lexeme (fields_at read)
+  pub ff :
+      Finds within ((listed (token Ident ∙ v) ∙ mark CloseBrace) ⇒ (λ p. fields (members p.0))) is_ident no_lexeme (fields_at read)
   unfolding fields_at
   ff = finds_body within (token Ident ∙ v) is_ident goes_on (named_at read) (finds_named within v (starts fits') goes_on read fv) refl refl member_solid (λ p. fields (members p.0))
 
   -- behind the first token of items
-  items_next : (s : Lexeme) → Next v s (λ t. ends_item t ≡ true) → Next (listed v ∙ mark CloseBrace) s (λ t. ends_item t ≡ true)
+  items_next : (s : Lexeme)
+      → Next v s (λ t. ends_item t ≡ true)
+      → Next (listed v ∙ mark CloseBrace) s (λ t. ends_item t ≡ true)
   items_next s n = body_next within v (starts fits') goes_on read fv refl refl solid (λ p. items (trees p.0)) s (λ t. ends_item t ≡ true) n (λ x h. (refl, refl))
 
   -- behind the first name of components
@@ -158,7 +189,8 @@ module _ (within : Limit → Type 0) (fits fits' : ℕ → Bool) (room : (n : �
       go t u (inr (y, p, [], e, hp, hq)) = let d = e ⋆ ap (λ (l : List Lexeme). l ++ []) hp in absurd cc
       go t u (inr (y, p, s ∷ w, e, hp, hq)) = subst (λ (t : Lexeme). (starts fits') t ≡ true) (sym (second_is (Ident x) t (Ident y) s u w (e ⋆ ap (λ (l : List Lexeme). l ++ s ∷ w) hp))) (fv.first s w hq)
 
-  fields_next : (x : List ℕ) → Next (listed (token Ident ∙ v) ∙ mark CloseBrace) (Ident x) (λ t. (starts fits') t ≡ true)
+  fields_next : (x : List ℕ)
+      → Next (listed (token Ident ∙ v) ∙ mark CloseBrace) (Ident x) (λ t. (starts fits') t ≡ true)
   fields_next x = body_next within (token Ident ∙ v) is_ident goes_on (named_at read) (finds_named within v (starts fits') goes_on read fv) refl refl member_solid (λ p. fields (members p.0)) (Ident x) (λ t. (starts fits') t ≡ true) (member_next x)
       (λ m h. absurd (alone m h))
     where
@@ -168,7 +200,10 @@ module _ (within : Limit → Type 0) (fits fits' : ℕ → Bool) (room : (n : �
 
   -- ---- fronts
 
-  by_name_passes : (b : Bool) (us ts : List Lexeme) → Passes within us (items_at read ts) → Passes within us (fields_at read ts) → Passes within us (by_name_at b read ts)
+  by_name_passes : (b : Bool) (us ts : List Lexeme)
+      → Passes within us (items_at read ts)
+      → Passes within us (fields_at read ts)
+      → Passes within us (by_name_at b read ts)
   unfolding by_name_at
   by_name_passes true us ts hi hf = hi
   by_name_passes false us ts hi hf = hf
@@ -181,11 +216,15 @@ module _ (within : Limit → Type 0) (fits fits' : ℕ → Bool) (room : (n : �
   unfolding by_name_at
   to_fields ts us h = h
 
-  stands_items : (ts us : List Lexeme) (z : Tree) → Stands within (items_at read ts) z us → Stands within (by_name_at true read ts) z us
+  stands_items : (ts us : List Lexeme) (z : Tree)
+      → Stands within (items_at read ts) z us
+      → Stands within (by_name_at true read ts) z us
   unfolding by_name_at
   stands_items ts us z h = h
 
-  stands_fields : (ts us : List Lexeme) (z : Tree) → Stands within (fields_at read ts) z us → Stands within (by_name_at false read ts) z us
+  stands_fields : (ts us : List Lexeme) (z : Tree)
+      → Stands within (fields_at read ts) z us
+      → Stands within (by_name_at false read ts) z us
   unfolding by_name_at
   stands_fields ts us z h = h
 
@@ -214,7 +253,10 @@ module _ (within : Limit → Type 0) (fits fits' : ℕ → Bool) (room : (n : �
   one_behind a f (Number b ∷ us) = fitting_shrinks within (fits b) b us (two_numbers_at fits a b us) (two_shrink a b us)
   one_behind a f (t ∷ us) = fi.front (Number a ∷ []) (t ∷ us) (inl (inl (one_number a f)))
 
-  number_one : (a : ℕ) → fits' a ≡ true → (us : List Lexeme) → Passes within us (fitting (fits a) (Number a ∷ us) (by_number_at fits read a us))
+  number_one : (a : ℕ)
+      → fits' a ≡ true
+      → (us : List Lexeme)
+      → Passes within us (fitting (fits a) (Number a ∷ us) (by_number_at fits read a us))
   number_one a f us = fitting_passes within (fits a) us (Number a ∷ us) (by_number_at fits read a us) (room a f) (one_behind a f us)
 
   name_one : (x : List ℕ) (us : List Lexeme) → Passes within us (by_name_at (follows_name us) read (Ident x ∷ us))
@@ -228,7 +270,9 @@ module _ (within : Limit → Type 0) (fits fits' : ℕ → Bool) (room : (n : �
   braced_shrinks (Ident x ∷ us) = passes_on within (Ident x ∷ us) us (by_name_at (follows_name us) read (Ident x ∷ us)) (omega arith) (name_one x us)
   braced_shrinks (t ∷ us) = fi.front [] (t ∷ us) fi.nil
 
-  pub items_front : (u us : List Lexeme) → (listed v ∙ mark CloseBrace).CanGoOn u → Passes within us (braced_at fits read (u ++ us))
+  pub items_front : (u us : List Lexeme)
+      → (listed v ∙ mark CloseBrace).CanGoOn u
+      → Passes within us (braced_at fits read (u ++ us))
   unfolding braced_at by_number_at
   items_front [] us h = braced_shrinks us
   items_front ((Mark CloseBrace) ∷ u) us h = let e = fi.first (Mark CloseBrace) u h in absurd cc
@@ -239,7 +283,9 @@ module _ (within : Limit → Type 0) (fits fits' : ℕ → Bool) (room : (n : �
   items_front (Ident x ∷ t ∷ u) us h = subst (λ (b : Bool). Passes within us (by_name_at b read (Ident x ∷ t ∷ (u ++ us)))) (sym (follows t (u ++ us) ((items_next (Ident x) (behind_name x)).next t u h))) (to_items (Ident x ∷ t ∷ (u ++ us)) us (fi.front (Ident x ∷ t ∷ u) us h))
   items_front (t ∷ u) us h = fi.front (t ∷ u) us h
 
-  pub fields_front : (u us : List Lexeme) → (listed (token Ident ∙ v) ∙ mark CloseBrace).CanGoOn u → Passes within us (braced_at fits read (u ++ us))
+  pub fields_front : (u us : List Lexeme)
+      → (listed (token Ident ∙ v) ∙ mark CloseBrace).CanGoOn u
+      → Passes within us (braced_at fits read (u ++ us))
   unfolding braced_at
   fields_front [] us h = braced_shrinks us
   fields_front (Ident x ∷ []) us h = name_one x us
@@ -247,18 +293,30 @@ module _ (within : Limit → Type 0) (fits fits' : ℕ → Bool) (room : (n : �
   fields_front (t ∷ u) us h = let e = ff.first t u h in absurd cc
 
   -- two numbers or more
-  at_two : (a b : ℕ) → fits' a ≡ true → fits' b ≡ true → (w u us : List Lexeme) → u ≡ Number a ∷ Number b ∷ w → (many (number_of fits') ∙ mark CloseBrace).CanGoOn w → Passes within us (braced_at fits read (u ++ us))
+  at_two : (a b : ℕ)
+      → fits' a ≡ true
+      → fits' b ≡ true
+      → (w u us : List Lexeme)
+      → u ≡ Number a ∷ Number b ∷ w
+      → (many (number_of fits') ∙ mark CloseBrace).CanGoOn w
+      → Passes within us (braced_at fits read (u ++ us))
   unfolding braced_at by_number_at
   at_two a b fa fb w u us e h =
       subst (λ (l : List Lexeme). Passes within us (braced_at fits read (l ++ us))) (sym e)
       (fitting_passes within (fits a) us (Number a ∷ Number b ∷ (w ++ us)) (fitting (fits b) (Number b ∷ (w ++ us)) (two_numbers_at fits a b (w ++ us))) (room a fa)
       (fitting_passes within (fits b) us (Number b ∷ (w ++ us)) (two_numbers_at fits a b (w ++ us)) (room b fb) (two_numbers_front within fits fits' room a b w us h)))
 
-  at_one : (a : ℕ) → fits' a ≡ true → (u us : List Lexeme) → u ≡ Number a ∷ [] → Passes within us (braced_at fits read (u ++ us))
+  at_one : (a : ℕ)
+      → fits' a ≡ true
+      → (u us : List Lexeme)
+      → u ≡ Number a ∷ []
+      → Passes within us (braced_at fits read (u ++ us))
   unfolding braced_at
   at_one a f u us e = subst (λ (l : List Lexeme). Passes within us (braced_at fits read (l ++ us))) (sym e) (number_one a f us)
 
-  pub numbers_front : (u us : List Lexeme) → (three_numbers fits' ∙ mark CloseBrace).CanGoOn u → Passes within us (braced_at fits read (u ++ us))
+  pub numbers_front : (u us : List Lexeme)
+      → (three_numbers fits' ∙ mark CloseBrace).CanGoOn u
+      → Passes within us (braced_at fits read (u ++ us))
   numbers_front u us (inl (inl (inl e))) = subst (λ (l : List Lexeme). Passes within us (braced_at fits read (l ++ us))) (sym e) (braced_shrinks us)
   numbers_front u us (inl (inl (inr (a, f, e)))) = at_one a f u us e
   numbers_front u us (inl (inr (a, p, q, e, hp, inl (inl d)))) = at_one a hp.0 u us (e ⋆ ap (λ (l : List Lexeme). l ++ q) hp.1 ⋆ ap (λ (l : List Lexeme). Number a ∷ l) d)
@@ -276,7 +334,9 @@ module _ (within : Limit → Type 0) (fits fits' : ℕ → Bool) (room : (n : �
   no_end [] = tt
   no_end (t ∷ us) = refl
 
-  pub items_whole : (z : Tree) (u us : List Lexeme) → ((listed v ∙ mark CloseBrace) ⇒ (λ p. items (trees p.0))).Is z u → Stands within (braced_at fits read (u ++ us)) z us
+  pub items_whole : (z : Tree) (u us : List Lexeme)
+      → ((listed v ∙ mark CloseBrace) ⇒ (λ p. items (trees p.0))).Is z u
+      → Stands within (braced_at fits read (u ++ us)) z us
   unfolding braced_at by_number_at
   items_whole z [] us h = absurd (body_not_empty v (λ p. items (trees p.0)) z h)
   items_whole z ((Mark CloseBrace) ∷ u) us h = let e = fi.first (Mark CloseBrace) u (fi.part z ((Mark CloseBrace) ∷ u) h) in absurd cc
@@ -289,7 +349,9 @@ module _ (within : Limit → Type 0) (fits fits' : ℕ → Bool) (room : (n : �
       subst (λ (b : Bool). Stands within (by_name_at b read (Ident x ∷ t ∷ (u ++ us))) z us) (sym (follows t (u ++ us) ((items_next (Ident x) (behind_name x)).next t u (fi.part z (Ident x ∷ t ∷ u) h)))) (stands_items (Ident x ∷ t ∷ (u ++ us)) us z (fi.whole z (Ident x ∷ t ∷ u) us h (no_end us)))
   items_whole z (t ∷ u) us h = fi.whole z (t ∷ u) us h (no_end us)
 
-  pub fields_whole : (z : Tree) (u us : List Lexeme) → ((listed (token Ident ∙ v) ∙ mark CloseBrace) ⇒ (λ p. fields (members p.0))).Is z u → Stands within (braced_at fits read (u ++ us)) z us
+  pub fields_whole : (z : Tree) (u us : List Lexeme)
+      → ((listed (token Ident ∙ v) ∙ mark CloseBrace) ⇒ (λ p. fields (members p.0))).Is z u
+      → Stands within (braced_at fits read (u ++ us)) z us
   unfolding braced_at
   fields_whole z [] us h = absurd (body_not_empty (token Ident ∙ v) (λ p. fields (members p.0)) z h)
   fields_whole z (Ident x ∷ []) us h = absurd (body_long (token Ident ∙ v) member_solid (λ p. fields (members p.0)) z (Ident x) h)
@@ -297,7 +359,9 @@ module _ (within : Limit → Type 0) (fits fits' : ℕ → Bool) (room : (n : �
       subst (λ (b : Bool). Stands within (by_name_at b read (Ident x ∷ t ∷ (u ++ us))) z us) (sym (follows_not fits' t (u ++ us) ((fields_next x).next t u (ff.part z (Ident x ∷ t ∷ u) h)))) (stands_fields (Ident x ∷ t ∷ (u ++ us)) us z (ff.whole z (Ident x ∷ t ∷ u) us h (no_end us)))
   fields_whole z (t ∷ u) us h = let e = ff.first t u (ff.part z (t ∷ u) h) in absurd cc
 
-  pub numbers_whole : (z : Tree) (u us : List Lexeme) → ((three_numbers fits' ∙ mark CloseBrace) ⇒ (λ p. numbers (p.0.0 ∷ p.0.1.0 ∷ p.0.1.1))).Is z u → Stands within (braced_at fits read (u ++ us)) z us
+  pub numbers_whole : (z : Tree) (u us : List Lexeme)
+      → ((three_numbers fits' ∙ mark CloseBrace) ⇒ (λ p. numbers (p.0.0 ∷ p.0.1.0 ∷ p.0.1.1))).Is z u
+      → Stands within (braced_at fits read (u ++ us)) z us
   unfolding braced_at by_number_at
   numbers_whole z u us (x, d, (p, q, e, (p1, q1, e1, hp1, (p2, q2, e2, hp2, hm)), hq)) =
       let a = x.0.0 in

@@ -44,23 +44,40 @@ module _ {A : Type 0} (read : Reader A) (s : Shrinks read) where
       go (Word Union ∷ ts) x e = let le = s.shorter ts x e in omega arith
       go (t ∷ ts) x e = absurd cc
 
-  pub ors_more : (ts rest : List Lexeme) (x : A × List Lexeme) (front : List A) (total : Read (List A)) → next_or ts ≡ Some rest → read rest ≡ Ok x → with_front front (many_at is_or (or_then_at read) (length ts) ts) ≡ total → with_front (front ++ x.0 ∷ []) (many_at is_or (or_then_at read) (length x.1) x.1) ≡ total
+  pub ors_more : (ts rest : List Lexeme) (x : A × List Lexeme) (front : List A) (total : Read (List A))
+      → next_or ts ≡ Some rest
+      → read rest ≡ Ok x
+      → with_front front (many_at is_or (or_then_at read) (length ts) ts) ≡ total
+      → with_front (front ++ x.0 ∷ []) (many_at is_or (or_then_at read) (length x.1) x.1) ≡ total
   ors_more ts rest x front total e r h = many_more is_or (or_then_at read) eats ts x front total (or_begun ts rest e) (behind_or read ts rest e ⋆ r) h
 
 module _ {A : Type 0} (read : Reader A) where
-  ors_fail : (ts rest : List Lexeme) (f : Fault) (front : List A) (total : Read (List A)) → next_or ts ≡ Some rest → read rest ≡ Err f → with_front front (many_at is_or (or_then_at read) (length ts) ts) ≡ total → total ≡ Err f
+  ors_fail : (ts rest : List Lexeme) (f : Fault) (front : List A) (total : Read (List A))
+      → next_or ts ≡ Some rest
+      → read rest ≡ Err f
+      → with_front front (many_at is_or (or_then_at read) (length ts) ts) ≡ total
+      → total ≡ Err f
   ors_fail ts rest f front total e r h = many_fail is_or (or_then_at read) ts f front total (or_begun ts rest e) (behind_or read ts rest e ⋆ r) h
 
-  pub ors_give_up : (ts rest : List Lexeme) (e : ReadError) (front : List A) (total : Read (List A)) → next_or ts ≡ Some rest → Fails e (read rest) → with_front front (many_at is_or (or_then_at read) (length ts) ts) ≡ total → Fails e total
+  pub ors_give_up : (ts rest : List Lexeme) (e : ReadError) (front : List A) (total : Read (List A))
+      → next_or ts ≡ Some rest
+      → Fails e (read rest)
+      → with_front front (many_at is_or (or_then_at read) (length ts) ts) ≡ total
+      → Fails e total
   ors_give_up ts rest errors.Memory front total c r h = tt
   ors_give_up ts rest (errors.Unexpected n) front total c r h = ors_fail ts rest _ front total c r h
   ors_give_up ts rest (errors.Limit l n) front total c r h = ors_fail ts rest _ front total c r h
 
 module _ {A : Type 0} (read : Reader A) where
-  pub ors_end : (ts : List Lexeme) (front : List A) (total : Read (List A)) → next_or ts ≡ None → with_front front (many_at is_or (or_then_at read) (length ts) ts) ≡ total → total ≡ Ok (front, ts)
+  pub ors_end : (ts : List Lexeme) (front : List A) (total : Read (List A))
+      → next_or ts ≡ None
+      → with_front front (many_at is_or (or_then_at read) (length ts) ts) ≡ total
+      → total ≡ Ok (front, ts)
   ors_end ts front total e h = many_end is_or (or_then_at read) ts front total (no_or ts e) h
 
-  pub ors_first : (ts : List Lexeme) (x : A × List Lexeme) → read ts ≡ Ok x → with_front (x.0 ∷ []) (many_at is_or (or_then_at read) (length x.1) x.1) ≡ by_or_at read ts
+  pub ors_first : (ts : List Lexeme) (x : A × List Lexeme)
+      → read ts ≡ Ok x
+      → with_front (x.0 ∷ []) (many_at is_or (or_then_at read) (length x.1) x.1) ≡ by_or_at read ts
   unfolding by_or_at
   ors_first ts x r = sym (ap (λ (q : Read A). q >>= λ x. many_at is_or (or_then_at read) (length x.1) x.1 >>= λ xs. Ok (x.0 ∷ xs.0, xs.1)) r)
 

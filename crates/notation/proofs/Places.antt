@@ -27,17 +27,28 @@ module _ (fits fits' : ℕ → Bool) (room : (n : ℕ) → fits' n ≡ true → 
   closed_name : (u us : List Lexeme) → Closed (free values) u us → (x : List ℕ) → u ≡ Ident x ∷ [] → Follows goes_on us
   closed_name u us c x e = at_colon x us (subst (λ (l : List Lexeme). Closed (free values) l us) e c)
 
-  closed_inside : (x : List ℕ) (w u us : List Lexeme) → u ≡ Ident x ∷ (Mark Colon) ∷ w → Closed (free values) u us → Closed (free values) w us
+  closed_inside : (x : List ℕ) (w u us : List Lexeme)
+      → u ≡ Ident x ∷ (Mark Colon) ∷ w
+      → Closed (free values) u us
+      → Closed (free values) w us
   closed_inside x w u us e c t r d (a, h) =
       c t r d (record { nesting = suc a.nesting; number = a.number; tag = a.tag }, subst (λ (l : List Lexeme). (value a.number (suc a.nesting)).CanGoOn (l ++ t ∷ [])) (sym e) (inr (inl (inr (x, Ident x ∷ [], (Mark Colon) ∷ (w ++ t ∷ []), refl, refl, inr (tt, (Mark Colon) ∷ [], w ++ t ∷ [], refl, refl, h))))))
 
-  to_zero : (z : Tree) (u us : List Lexeme) → Stands everywhere (step_at fits zero (value_at fits zero) (u ++ us)) z us → Stands everywhere (value_at fits zero (u ++ us)) z us
+  to_zero : (z : Tree) (u us : List Lexeme)
+      → Stands everywhere (step_at fits zero (value_at fits zero) (u ++ us)) z us
+      → Stands everywhere (value_at fits zero (u ++ us)) z us
   to_zero z u us h = subst (λ (q : Read Tree). Stands everywhere q z us) (zero_step everywhere fits fits' room (u ++ us)) h
 
-  to_suc : (n : ℕ) (z : Tree) (u us : List Lexeme) → Stands everywhere (step_at fits (suc n) (value_at fits n) (u ++ us)) z us → Stands everywhere (value_at fits (suc n) (u ++ us)) z us
+  to_suc : (n : ℕ) (z : Tree) (u us : List Lexeme)
+      → Stands everywhere (step_at fits (suc n) (value_at fits n) (u ++ us)) z us
+      → Stands everywhere (value_at fits (suc n) (u ++ us)) z us
   to_suc n z u us h = subst (λ (q : Read Tree). Stands everywhere q z us) (suc_step everywhere fits fits' room n (u ++ us)) h
 
-  pub value_closed : (n m : ℕ) (z : Tree) (u us : List Lexeme) → m ≤ n → (value fits' m).Is z u → Closed (free values) u us → Stands everywhere (value_at fits n (u ++ us)) z us
+  pub value_closed : (n m : ℕ) (z : Tree) (u us : List Lexeme)
+      → m ≤ n
+      → (value fits' m).Is z u
+      → Closed (free values) u us
+      → Stands everywhere (value_at fits n (u ++ us)) z us
   value_closed zero zero z u us le h c = to_zero z u us (simple_whole everywhere fits fits' room zero (value_at fits zero) (zero_colon everywhere fits fits' room) (zero_brace everywhere fits fits' room) z u us (closed_name u us c) h)
   value_closed zero (suc m) z u us le h c = absurd (omega arith)
   value_closed (suc n) zero z u us le h c =
@@ -104,18 +115,23 @@ one_tree u v w (a, h) (b, l) =
     one_result : (x y : Tree × List Lexeme) (r : Read Tree) → r ≡ Ok x → r ≡ Ok y → x ≡ y
     one_result x y r p q = let e = sym p ⋆ q in cc
 
-    same : (n : ℕ) → Stands everywhere (value_at any n (u ++ [])) v [] → Stands everywhere (value_at any n (u ++ [])) w [] → v ≡ w
+    same : (n : ℕ)
+        → Stands everywhere (value_at any n (u ++ [])) v []
+        → Stands everywhere (value_at any n (u ++ [])) w []
+        → v ≡ w
     same n (inl p) (inl q) = ap (λ (x : Tree × List Lexeme). x.0) (one_result (v, []) (w, []) (value_at any n (u ++ [])) p q)
     same n (inl p) (inr (g, k, q)) = absurd (k tt)
     same n (inr (g, k, p)) q = absurd (k tt)
 
 -- where a limit is passed, the lexemes can go on once it alone is raised
-values_passed : (n : ℕ) (l : Limit) → (b : Limits) × ((ts : List Lexeme) → Sound (past l) (values (raised l (bounded n) b)) ts (value_at small n ts))
+values_passed : (n : ℕ) (l : Limit)
+    → (b : Limits) × ((ts : List Lexeme) → Sound (past l) (values (raised l (bounded n) b)) ts (value_at small n ts))
 values_passed n Nesting = (bounded (suc n), value_deeper small n)
 values_passed n Integer = (record { nesting = n; number = any; tag = any }, value_wider small n)
 values_passed n TagNumber = (bounded n, value_higher small n)
 
-pub values_found : (a b : Limits) → Finds (λ l. Within l b a) (value b.number b.nesting) (starts b.number) goes_on (value_at a.number a.nesting)
+pub values_found : (a b : Limits)
+    → Finds (λ l. Within l b a) (value b.number b.nesting) (starts b.number) goes_on (value_at a.number a.nesting)
 values_found a b = value_finds (λ l. Within l b a) a.number b.number (λ n e w. w n e) a.nesting b.nesting (λ w. w)
 
 pub value_reads : (n : ℕ) → Reads values (bounded n) (value_at small n)
@@ -129,7 +145,9 @@ value_reads n = record {
   closed = λ x u us h c. within_itself (value_at small n (u ++ us)) x us (value_closed small small (λ k e t. e) n n x u us (omega arith) h c);
 }
   where
-    within_itself : (r : Read Tree) (x : Tree) (us : List Lexeme) → Stands everywhere r x us → Stands (λ l. Within l (bounded n) (bounded n)) r x us
+    within_itself : (r : Read Tree) (x : Tree) (us : List Lexeme)
+        → Stands everywhere r x us
+        → Stands (λ l. Within l (bounded n) (bounded n)) r x us
     within_itself r x us (inl e) = inl e
     within_itself r x us (inr (p, k, e)) = absurd (k tt)
 

@@ -33,11 +33,16 @@ abbrev pub fields_of : Grammar Tree → Grammar Tree
 fields_of v = braces (listed (token Ident ∙ v)) ⇒ (λ ms. fields (members ms))
 
 -- fits is the reader's test on numbers, fits' the grammar's
-module _ (over : Limit → ℕ) (fits fits' : ℕ → Bool) (grows : (n : ℕ) → fits n ≡ true → fits' n ≡ true) (past : Past (over Integer) ((n : ℕ) → fits' n ≡ true)) where
+module _ (over : Limit → ℕ) (fits fits' : ℕ → Bool) (grows : (n : ℕ) → fits n ≡ true → fits' n ≡ true)
+    (past : Past (over Integer) ((n : ℕ) → fits' n ≡ true)) where
   abbrev more : Grammar (List ℕ)
   more = many (number_of fits')
 
-  next_number_sound : (n : ℕ) (ts : List Lexeme) → fits' n ≡ true → (r : Read (List ℕ)) → Sound over more ts r → Sound over more (Number n ∷ ts) (r >>= λ ns. Ok (n ∷ ns.0, ns.1))
+  next_number_sound : (n : ℕ) (ts : List Lexeme)
+      → fits' n ≡ true
+      → (r : Read (List ℕ))
+      → Sound over more ts r
+      → Sound over more (Number n ∷ ts) (r >>= λ ns. Ok (n ∷ ns.0, ns.1))
   next_number_sound n ts f (Ok ns) s = (Number n ∷ s.0, ap (λ (l : List Lexeme). Number n ∷ l) s.1, (Number n ∷ [], s.0, refl, (f, refl), s.2))
   next_number_sound n ts f (Err g) (u, rest, e, k, (ns, v, w, p, hv, hw)) =
       (Number n ∷ u, rest, ap (λ (l : List Lexeme). Number n ∷ l) e, k, (n ∷ ns, Number n ∷ v, w, ap (λ (l : List Lexeme). Number n ∷ l) p, (Number n ∷ [], v, refl, (f, refl), hv), hw))
@@ -51,7 +56,13 @@ module _ (over : Limit → ℕ) (fits fits' : ℕ → Bool) (grows : (n : ℕ) �
   numbers_sound (t ∷ ts) = ([], refl, refl)
 
   -- two numbers and more, in braces
-  all_numbers : (a b : ℕ) → fits' a ≡ true → fits' b ≡ true → (ts : List Lexeme) (r : Read Tree) → Sound over ((more ∙ mark CloseBrace) ⇒ (λ p. numbers (a ∷ b ∷ p.0))) ts r → Sound over ((three_numbers fits' ∙ mark CloseBrace) ⇒ (λ p. numbers (p.0.0 ∷ p.0.1.0 ∷ p.0.1.1))) (Number a ∷ Number b ∷ ts) r
+  all_numbers : (a b : ℕ)
+      → fits' a ≡ true
+      → fits' b ≡ true
+      → (ts : List Lexeme) (r : Read Tree)
+      → Sound over ((more ∙ mark CloseBrace) ⇒ (λ p. numbers (a ∷ b ∷ p.0))) ts r
+      →
+      Sound over ((three_numbers fits' ∙ mark CloseBrace) ⇒ (λ p. numbers (p.0.0 ∷ p.0.1.0 ∷ p.0.1.1))) (Number a ∷ Number b ∷ ts) r
   all_numbers a b fa fb ts (Ok x) (u, e, (p, q, (v, w, d, hv, hw))) = (
     Number a ∷ Number b ∷ u,
     ap (λ (l : List Lexeme). Number a ∷ Number b ∷ l) e,
@@ -72,7 +83,11 @@ module _ (over : Limit → ℕ) (fits fits' : ℕ → Bool) (grows : (n : ℕ) �
     inr ((a, (b, ns)), Number a ∷ Number b ∷ v, w, ap (λ (l : List Lexeme). Number a ∷ Number b ∷ l) d, (Number a ∷ [], Number b ∷ v, refl, (fa, refl), (Number b ∷ [], v, refl, (fb, refl), hv)), hw),
   )
 
-  two_numbers_sound : (a b : ℕ) → fits' a ≡ true → fits' b ≡ true → (ts : List Lexeme) → Sound over (numbers_of fits') (Mark OpenBrace ∷ Number a ∷ Number b ∷ ts) (two_numbers_at fits a b ts)
+  two_numbers_sound : (a b : ℕ)
+      → fits' a ≡ true
+      → fits' b ≡ true
+      → (ts : List Lexeme)
+      → Sound over (numbers_of fits') (Mark OpenBrace ∷ Number a ∷ Number b ∷ ts) (two_numbers_at fits a b ts)
   unfolding two_numbers_at
   two_numbers_sound a b fa fb ts =
       brace_sound over (three_numbers fits') (λ p. numbers (p.0 ∷ p.1.0 ∷ p.1.1)) (Number a ∷ Number b ∷ ts) _
@@ -119,7 +134,10 @@ module _ (over : Limit → ℕ) (fits fits' : ℕ → Bool) (grows : (n : ℕ) �
     front_two : (a b : ℕ) → fits' a ≡ true → fits' b ≡ true → all.CanGoOn (Mark OpenBrace ∷ Number a ∷ Number b ∷ [])
     front_two a b fa fb = inr (inr (inr (inl (inr (tt, Mark OpenBrace ∷ [], Number a ∷ Number b ∷ [], refl, refl, inl (inr (a, Number a ∷ [], Number b ∷ [], refl, (fa, refl), inl (inr (b, fb, refl)))))))))
 
-    by_number_sound : (a : ℕ) → fits' a ≡ true → (ts : List Lexeme) → Sound over all (Mark OpenBrace ∷ Number a ∷ ts) (by_number_at fits read a ts)
+    by_number_sound : (a : ℕ)
+        → fits' a ≡ true
+        → (ts : List Lexeme)
+        → Sound over all (Mark OpenBrace ∷ Number a ∷ ts) (by_number_at fits read a ts)
     unfolding by_number_at
     by_number_sound a fa [] = items_sound (Number a ∷ [])
     by_number_sound a fa (Number b ∷ ts) =
@@ -137,7 +155,9 @@ module _ (over : Limit → ℕ) (fits fits' : ℕ → Bool) (grows : (n : ℕ) �
     braced_sound (Ident x ∷ ts) = by_name_sound (follows_name ts) (Ident x ∷ ts)
     braced_sound (t ∷ ts) = items_sound (t ∷ ts)
 
-    chosen_sound : (x : List ℕ) (ts : List Lexeme) (r : Read Tree) → Sound over v ts r → Sound over (chosen_of v) (Ident x ∷ Mark Colon ∷ ts) (r >>= λ t. Ok (chosen x t.0, t.1))
+    chosen_sound : (x : List ℕ) (ts : List Lexeme) (r : Read Tree)
+        → Sound over v ts r
+        → Sound over (chosen_of v) (Ident x ∷ Mark Colon ∷ ts) (r >>= λ t. Ok (chosen x t.0, t.1))
     chosen_sound x ts (Ok t) (u, e, h) = (Ident x ∷ Mark Colon ∷ u, ap (λ (l : List Lexeme). Ident x ∷ Mark Colon ∷ l) e, ((x, t.0), refl, (Ident x ∷ [], Mark Colon ∷ u, refl, refl, is_behind (Mark Colon) v t.0 u h)))
     chosen_sound x ts (Err f) (u, rest, e, k, h) = (Ident x ∷ Mark Colon ∷ u, rest, ap (λ (l : List Lexeme). Ident x ∷ Mark Colon ∷ l) e, k, inr (x, Ident x ∷ [], Mark Colon ∷ u, refl, refl, front_behind (Mark Colon) v u h))
 
@@ -149,13 +169,15 @@ module _ (over : Limit → ℕ) (fits fits' : ℕ → Bool) (grows : (n : ℕ) �
   at_dot : (m : List ℕ) → (simple fits').CanGoOn (TypeRef m ∷ Mark Dot ∷ [])
   at_dot m = inr (inr (inr (inr (inr (inr (inr (inr (inr (inr (m, TypeRef m ∷ [], Mark Dot ∷ [], refl, refl, front_behind (Mark Dot) (token Ident) [] (inl refl)))))))))))
 
-  value_name_sound : (m : List ℕ) (ts : List Lexeme) → Sound over (simple fits') (TypeRef m ∷ Mark Dot ∷ ts) (referred (ref_name_at m ts))
+  value_name_sound : (m : List ℕ) (ts : List Lexeme)
+      → Sound over (simple fits') (TypeRef m ∷ Mark Dot ∷ ts) (referred (ref_name_at m ts))
   unfolding ref_name_at
   value_name_sound m [] = (TypeRef m ∷ Mark Dot ∷ [], [], refl, refl, at_dot m)
   value_name_sound m (Ident x ∷ ts) = (TypeRef m ∷ Mark Dot ∷ Ident x ∷ [], refl, inr (inr (inr (inr (inr (inr (inr (inr (inr ((m, x), refl, (TypeRef m ∷ [], Mark Dot ∷ Ident x ∷ [], refl, refl, is_behind (Mark Dot) (token Ident) x (Ident x ∷ []) refl)))))))))))
   value_name_sound m (t ∷ ts) = (TypeRef m ∷ Mark Dot ∷ [], t ∷ ts, refl, refl, at_dot m)
 
-  qualified_sound : (m : List ℕ) (ts : List Lexeme) → Sound over (simple fits') (TypeRef m ∷ ts) (referred (ref_dot_at m ts))
+  qualified_sound : (m : List ℕ) (ts : List Lexeme)
+      → Sound over (simple fits') (TypeRef m ∷ ts) (referred (ref_dot_at m ts))
   unfolding ref_dot_at
   qualified_sound m [] = (TypeRef m ∷ [], [], refl, refl, at_module m)
   qualified_sound m (Mark Dot ∷ ts) = value_name_sound m ts
@@ -174,37 +196,43 @@ module _ (over : Limit → ℕ) (fits fits' : ℕ → Bool) (grows : (n : ℕ) �
   name_sound : (x : List ℕ) (ts : List Lexeme) → Sound over (simple fits') (Ident x ∷ ts) (Ok (reference None x, ts))
   name_sound x ts = (Ident x ∷ [], refl, inr (inr (inr (inr (inr (inr (inr (inr (inl (x, refl, refl))))))))))
 
-  module _ (g : Grammar Tree) (n : ℕ) (read : Reader Tree) (lift : (ts : List Lexeme) (r : Read Tree) → Sound over (simple fits') ts r → Sound over g ts r)
+  module _ (g : Grammar Tree) (n : ℕ) (read : Reader Tree)
+      (lift : (ts : List Lexeme) (r : Read Tree) → Sound over (simple fits') ts r → Sound over g ts r)
       (open_name : (x : List ℕ) (ts : List Lexeme) → Sound over g (Ident x ∷ Mark Colon ∷ ts) (opened n (Mark Colon ∷ ts) (read ts >>= λ v. Ok (chosen x v.0, v.1))))
-      (open_brace : (ts : List Lexeme) → Sound over g (Mark OpenBrace ∷ ts) (opened n (Mark OpenBrace ∷ ts) (braced_at fits read ts))) where
-    alternative_sound : (x : List ℕ) (ts : List Lexeme) → Sound over g (Ident x ∷ ts) (alternative_at fits n read x ts)
-    unfolding alternative_at
-    alternative_sound x [] = lift (Ident x ∷ []) (Ok (reference None x, [])) (name_sound x [])
-    alternative_sound x (Mark Colon ∷ ts) = open_name x ts
-    alternative_sound x (t ∷ ts) = lift (Ident x ∷ t ∷ ts) (Ok (reference None x, t ∷ ts)) (name_sound x (t ∷ ts))
+      (open_brace : (ts : List Lexeme) → Sound over g (Mark OpenBrace ∷ ts) (opened n (Mark OpenBrace ∷ ts) (braced_at fits read ts)))
+    where
+      alternative_sound : (x : List ℕ) (ts : List Lexeme) → Sound over g (Ident x ∷ ts) (alternative_at fits n read x ts)
+      unfolding alternative_at
+      alternative_sound x [] = lift (Ident x ∷ []) (Ok (reference None x, [])) (name_sound x [])
+      alternative_sound x (Mark Colon ∷ ts) = open_name x ts
+      alternative_sound x (t ∷ ts) = lift (Ident x ∷ t ∷ ts) (Ok (reference None x, t ∷ ts)) (name_sound x (t ∷ ts))
 
-    number_sound : (m : ℕ) (ts : List Lexeme) → Sound over (simple fits') (Number m ∷ ts) (fitting (fits m) (Number m ∷ ts) (Ok (positive m, ts)))
-    number_sound m ts = fitting_sound over fits fits' past (simple fits') (fits m) m [] ts (Ok (positive m, ts)) (inl (inl refl)) (λ f. inr (inr (inr (inl (inr (m, f, refl))))))
-        (λ f. (Number m ∷ [], refl, inr (inr (inr (inl (m, refl, (grows m f, refl)))))))
+      number_sound : (m : ℕ) (ts : List Lexeme)
+          → Sound over (simple fits') (Number m ∷ ts) (fitting (fits m) (Number m ∷ ts) (Ok (positive m, ts)))
+      number_sound m ts = fitting_sound over fits fits' past (simple fits') (fits m) m [] ts (Ok (positive m, ts)) (inl (inl refl)) (λ f. inr (inr (inr (inl (inr (m, f, refl))))))
+          (λ f. (Number m ∷ [], refl, inr (inr (inr (inl (m, refl, (grows m f, refl)))))))
 
-    step_sound : (ts : List Lexeme) → Sound over g ts (step_at fits n read ts)
-    unfolding step_at
-    step_sound [] = lift [] (stop []) (stop_sound over (simple fits') [] (inl (inl refl)))
-    step_sound (Word True ∷ ts) = lift (Word True ∷ ts) (Ok (yes, ts)) (Word True ∷ [], refl, inl (tt, refl, refl))
-    step_sound (Word False ∷ ts) = lift (Word False ∷ ts) (Ok (no, ts)) (Word False ∷ [], refl, inr (inl (tt, refl, refl)))
-    step_sound (Word Null ∷ ts) = lift (Word Null ∷ ts) (Ok (null, ts)) (Word Null ∷ [], refl, inr (inr (inl (tt, refl, refl))))
-    step_sound (Number m ∷ ts) = lift (Number m ∷ ts) (fitting (fits m) (Number m ∷ ts) (Ok (positive m, ts))) (number_sound m ts)
-    step_sound (Mark Minus ∷ ts) = lift (Mark Minus ∷ ts) (negative_at ts) (negative_sound ts)
-    step_sound (BString b ∷ ts) = lift (BString b ∷ ts) (Ok (binary b, ts)) (BString b ∷ [], refl, inr (inr (inr (inr (inr (inl (b, refl, refl)))))))
-    step_sound (HString b ∷ ts) = lift (HString b ∷ ts) (Ok (hex b, ts)) (HString b ∷ [], refl, inr (inr (inr (inr (inr (inr (inl (b, refl, refl))))))))
-    step_sound (CString b ∷ ts) = lift (CString b ∷ ts) (Ok (chars b, ts)) (CString b ∷ [], refl, inr (inr (inr (inr (inr (inr (inr (inl (b, refl, refl)))))))))
-    step_sound (TypeRef m ∷ ts) = lift (TypeRef m ∷ ts) (referred (ref_dot_at m ts)) (qualified_sound m ts)
-    step_sound (Ident x ∷ ts) = alternative_sound x ts
-    step_sound (Mark OpenBrace ∷ ts) = open_brace ts
-    step_sound (t ∷ ts) = lift (t ∷ ts) (stop (t ∷ ts)) (stop_sound over (simple fits') (t ∷ ts) (inl (inl refl)))
+      step_sound : (ts : List Lexeme) → Sound over g ts (step_at fits n read ts)
+      unfolding step_at
+      step_sound [] = lift [] (stop []) (stop_sound over (simple fits') [] (inl (inl refl)))
+      step_sound (Word True ∷ ts) = lift (Word True ∷ ts) (Ok (yes, ts)) (Word True ∷ [], refl, inl (tt, refl, refl))
+      step_sound (Word False ∷ ts) = lift (Word False ∷ ts) (Ok (no, ts)) (Word False ∷ [], refl, inr (inl (tt, refl, refl)))
+      step_sound (Word Null ∷ ts) = lift (Word Null ∷ ts) (Ok (null, ts)) (Word Null ∷ [], refl, inr (inr (inl (tt, refl, refl))))
+      step_sound (Number m ∷ ts) = lift (Number m ∷ ts) (fitting (fits m) (Number m ∷ ts) (Ok (positive m, ts))) (number_sound m ts)
+      step_sound (Mark Minus ∷ ts) = lift (Mark Minus ∷ ts) (negative_at ts) (negative_sound ts)
+      step_sound (BString b ∷ ts) = lift (BString b ∷ ts) (Ok (binary b, ts)) (BString b ∷ [], refl, inr (inr (inr (inr (inr (inl (b, refl, refl)))))))
+      step_sound (HString b ∷ ts) = lift (HString b ∷ ts) (Ok (hex b, ts)) (HString b ∷ [], refl, inr (inr (inr (inr (inr (inr (inl (b, refl, refl))))))))
+      step_sound (CString b ∷ ts) = lift (CString b ∷ ts) (Ok (chars b, ts)) (CString b ∷ [], refl, inr (inr (inr (inr (inr (inr (inr (inl (b, refl, refl)))))))))
+      step_sound (TypeRef m ∷ ts) = lift (TypeRef m ∷ ts) (referred (ref_dot_at m ts)) (qualified_sound m ts)
+      step_sound (Ident x ∷ ts) = alternative_sound x ts
+      step_sound (Mark OpenBrace ∷ ts) = open_brace ts
+      step_sound (t ∷ ts) = lift (t ∷ ts) (stop (t ∷ ts)) (stop_sound over (simple fits') (t ∷ ts) (inl (inl refl)))
 
   -- one more level round a value
-  inner_sound : (n : ℕ) (v : Grammar Tree) (read : Reader Tree) → ((us : List Lexeme) → Sound over v us (read us)) → (ts : List Lexeme) → Sound over (simple fits' ∣ nested fits' v) ts (step_at fits (suc n) read ts)
+  inner_sound : (n : ℕ) (v : Grammar Tree) (read : Reader Tree)
+      → ((us : List Lexeme) → Sound over v us (read us))
+      → (ts : List Lexeme)
+      → Sound over (simple fits' ∣ nested fits' v) ts (step_at fits (suc n) read ts)
   inner_sound n v read s ts =
       step_sound (simple fits' ∣ nested fits' v) (suc n) read (λ ts r s. left_sound over (simple fits') (nested fits' v) ts r s)
       (λ x ts. let r = read ts >>= (λ v. Ok (chosen x v.0, v.1)) in up v read s (Ident x ∷ Mark Colon ∷ ts) r (left_sound over (chosen_of v) _ (Ident x ∷ Mark Colon ∷ ts) r (chosen_sound v read s x ts (read ts) (s ts))))
@@ -221,7 +249,11 @@ module _ (fits : ℕ → Bool) where
   past_any n = refl
 
   -- What is read is so, where the faults of nesting and of numbers stand before the lexeme that passes the limit.
-  unmoved : (over : Limit → ℕ) → over Nesting ≡ 0 → Past (over Integer) ((n : ℕ) → fits n ≡ true) → (n : ℕ) (ts : List Lexeme) → Sound over (value fits n) ts (value_at fits n ts)
+  unmoved : (over : Limit → ℕ)
+      → over Nesting ≡ 0
+      → Past (over Integer) ((n : ℕ) → fits n ≡ true)
+      → (n : ℕ) (ts : List Lexeme)
+      → Sound over (value fits n) ts (value_at fits n ts)
   unfolding value_at
   unmoved over e past zero ts =
       step_sound over fits fits same_fits past (simple fits) zero stop (λ ts r s. s)

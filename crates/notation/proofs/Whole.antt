@@ -17,11 +17,15 @@ use Rattle.notation.proofs.Values.{ends_item_is, simple_front, nested_front, sim
 
 -- ---- the first token of a production
 
-head_one : {A : Type 0} (kind : A → Lexeme) (s : Lexeme) (u : List Lexeme) → (token kind).CanGoOn (s ∷ u) → (x : A) × (s ≡ kind x)
+head_one : {A : Type 0} (kind : A → Lexeme) (s : Lexeme) (u : List Lexeme)
+    → (token kind).CanGoOn (s ∷ u)
+    → (x : A) × (s ≡ kind x)
 head_one kind s u (inl e) = absurd cc
 head_one kind s u (inr (x, e)) = (x, head_is s (kind x) u [] e)
 
-head_of : {A B : Type 0} (kind : A → Lexeme) (b : Grammar B) (s : Lexeme) (u : List Lexeme) → (token kind ∙ b).CanGoOn (s ∷ u) → (x : A) × (s ≡ kind x)
+head_of : {A B : Type 0} (kind : A → Lexeme) (b : Grammar B) (s : Lexeme) (u : List Lexeme)
+    → (token kind ∙ b).CanGoOn (s ∷ u)
+    → (x : A) × (s ≡ kind x)
 head_of kind b s u (inl h) = head_one kind s u h
 head_of kind b s u (inr (x, p, q, e, hp, hq)) = (x, head_is s (kind x) u q (e ⋆ ap (λ (l : List Lexeme). l ++ q) hp))
 
@@ -37,7 +41,9 @@ full kind x e = absurd cc
 full_of : {A B : Type 0} (kind : A → Lexeme) (b : Grammar B) (x : A × B) → (token kind ∙ b).Is x [] → ⊥
 full_of kind b x (p, q, e, hp, hq) = let d = e ⋆ ap (λ (l : List Lexeme). l ++ q) hp in absurd cc
 
-head_number : (fits : ℕ → Bool) (s : Lexeme) (u : List Lexeme) → (number_of fits).CanGoOn (s ∷ u) → (n : ℕ) × (fits n ≡ true) × (s ≡ Number n)
+head_number : (fits : ℕ → Bool) (s : Lexeme) (u : List Lexeme)
+    → (number_of fits).CanGoOn (s ∷ u)
+    → (n : ℕ) × (fits n ≡ true) × (s ≡ Number n)
 head_number fits s u (inl e) = absurd cc
 head_number fits s u (inr (n, f, e)) = (n, f, head_is s (Number n) u [] e)
 
@@ -115,7 +121,9 @@ module _ (fits' : ℕ → Bool) where
 
   -- ---- values that open
 
-  nested_first : (v : Grammar Tree) (t : Lexeme) (u : List Lexeme) → (nested fits' v).CanGoOn (t ∷ u) → (starts fits') t ≡ true
+  nested_first : (v : Grammar Tree) (t : Lexeme) (u : List Lexeme)
+      → (nested fits' v).CanGoOn (t ∷ u)
+      → (starts fits') t ≡ true
   nested_first v t u (inl h) = let p = head_of Ident (behind (Mark Colon) v) t u h in is_start t (Ident p.0) p.1 refl
   nested_first v t u (inr (inl h)) = let p = head_of (λ (x : Unit {0}). (Mark OpenBrace)) (mark CloseBrace) t u h in is_start t (Mark OpenBrace) p.1 refl
   nested_first v t u (inr (inr (inl h))) = let p = head_of (λ (x : Unit {0}). (Mark OpenBrace)) (three_numbers fits' ∙ mark CloseBrace) t u h in is_start t (Mark OpenBrace) p.1 refl
@@ -125,7 +133,11 @@ module _ (fits' : ℕ → Bool) where
   braces_part : {A : Type 0} (a : Grammar A) (z : A) (u : List Lexeme) → (braces a).Is z u → (braces a).CanGoOn u
   braces_part a z u (x, d, (p, q, e, hp, (p', q', e', hp', hq'))) = inr (tt, p, q, e, hp, inr (x.1.0, p', q', e', hp', inr (tt, hq')))
 
-  nested_part : (v : Grammar Tree) → ((z : Tree) (u : List Lexeme) → v.Is z u → v.CanGoOn u) → (z : Tree) (u : List Lexeme) → (nested fits' v).Is z u → (nested fits' v).CanGoOn u
+  nested_part : (v : Grammar Tree)
+      → ((z : Tree) (u : List Lexeme) → v.Is z u → v.CanGoOn u)
+      → (z : Tree) (u : List Lexeme)
+      → (nested fits' v).Is z u
+      → (nested fits' v).CanGoOn u
   nested_part v part z u (inl (x, d, (p, q, e, hp, (y, k, (p', q', g, hp', hq'))))) = inl (inr (x.0, p, q, e, hp, inr (tt, p', q', g, hp', part y.1 q' hq')))
   nested_part v part z u (inr (inl (x, d, (p, q, e, hp, hq)))) = inr (inl (inr (tt, p, q, e, hp, inr (tt, hq))))
   nested_part v part z u (inr (inr (inl (x, d, h)))) = inr (inr (inl (braces_part (three_numbers fits') x u h)))
@@ -139,7 +151,11 @@ module _ (fits' : ℕ → Bool) where
   nested_full v z (inr (inr (inr (inl (x, d, (p, k, h)))))) = full_of (λ (x : Unit {0}). (Mark OpenBrace)) (listed v ∙ mark CloseBrace) p h
   nested_full v z (inr (inr (inr (inr (x, d, (p, k, h)))))) = full_of (λ (x : Unit {0}). (Mark OpenBrace)) (listed (token Ident ∙ v) ∙ mark CloseBrace) p h
 
-  colon_next : (v : Grammar Tree) → v.CanGoOn [] → (s t : Lexeme) (u : List Lexeme) → (token Ident ∙ behind (Mark Colon) v).CanGoOn (s ∷ t ∷ u) → t ≡ (Mark Colon)
+  colon_next : (v : Grammar Tree)
+      → v.CanGoOn []
+      → (s t : Lexeme) (u : List Lexeme)
+      → (token Ident ∙ behind (Mark Colon) v).CanGoOn (s ∷ t ∷ u)
+      → t ≡ (Mark Colon)
   colon_next v nil s t u (inl h) = absurd (no_second Ident s t u h)
   colon_next v nil s t u (inr (x, p, q, e, hp, hq)) =
       let d = e ⋆ ap (λ (l : List Lexeme). l ++ q) hp in
@@ -151,7 +167,13 @@ module _ (fits' : ℕ → Bool) where
       short : s ∷ t ∷ u ≡ Ident x ∷ [] → ⊥
       short e = absurd cc
 
-  nested_next : (v : Grammar Tree) → v.CanGoOn [] → (s : Lexeme) → IsHead s → (t : Lexeme) (u : List Lexeme) → (nested fits' v).CanGoOn (s ∷ t ∷ u) → t ≡ (Mark Colon)
+  nested_next : (v : Grammar Tree)
+      → v.CanGoOn []
+      → (s : Lexeme)
+      → IsHead s
+      → (t : Lexeme) (u : List Lexeme)
+      → (nested fits' v).CanGoOn (s ∷ t ∷ u)
+      → t ≡ (Mark Colon)
   nested_next v nil s i t u (inl h) = colon_next v nil s t u h
   nested_next v nil s i t u (inr (inl h)) = absurd (i.no_brace (head_of (λ (x : Unit {0}). (Mark OpenBrace)) (mark CloseBrace) s (t ∷ u) h).1)
   nested_next v nil s i t u (inr (inr (inl h))) = absurd (i.no_brace (head_of (λ (x : Unit {0}). (Mark OpenBrace)) (three_numbers fits' ∙ mark CloseBrace) s (t ∷ u) h).1)
@@ -190,7 +212,11 @@ module _ (fits' : ℕ → Bool) where
   v_name zero x = inr (inr (inr (inr (inr (inr (inr (inr (inl (inr (x, refl))))))))))
   v_name (suc m) x = inl (inr (inr (inr (inr (inr (inr (inr (inr (inl (inr (x, refl)))))))))))
 
-  v_behind : (m : ℕ) (s : Lexeme) → IsHead s → (t : Lexeme) (u : List Lexeme) → (value fits' m).CanGoOn (s ∷ t ∷ u) → ends_item t ≡ true
+  v_behind : (m : ℕ) (s : Lexeme)
+      → IsHead s
+      → (t : Lexeme) (u : List Lexeme)
+      → (value fits' m).CanGoOn (s ∷ t ∷ u)
+      → ends_item t ≡ true
   v_behind zero s i t u h = absurd (simple_next s i t u h)
   v_behind (suc m) s i t u (inl h) = absurd (simple_next s i t u h)
   v_behind (suc m) s i t u (inr h) = subst (λ (t : Lexeme). ends_item t ≡ true) (sym (nested_next (value fits' m) (v_nil m) s i t u h)) refl
@@ -202,9 +228,13 @@ module _ (fits' : ℕ → Bool) where
   v_behind_name m x = record { next = v_behind m (Ident x) (name_head x) }
 
 -- fits is the reader's test on numbers, fits' the grammar's
-module _ (within : Limit → Type 0) (fits fits' : ℕ → Bool) (room : (n : ℕ) → fits' n ≡ true → within Integer → fits n ≡ true) where
+module _ (within : Limit → Type 0) (fits fits' : ℕ → Bool)
+    (room : (n : ℕ) → fits' n ≡ true → within Integer → fits n ≡ true) where
   -- the reader of values with (simple fits') ones alone
-  simple_finds : (n : ℕ) (read : Reader Tree) (colon : (x : List ℕ) (us : List Lexeme) → Passes within ((Mark Colon) ∷ us) (opened n ((Mark Colon) ∷ us) (read us >>= λ v. Ok (chosen x v.0, v.1)))) (brace : (us : List Lexeme) → Passes within ((Mark OpenBrace) ∷ us) (opened n ((Mark OpenBrace) ∷ us) (braced_at fits read us))) → Finds within (simple fits') (starts fits') goes_on (step_at fits n read)
+  simple_finds : (n : ℕ) (read : Reader Tree)
+      (colon : (x : List ℕ) (us : List Lexeme) → Passes within ((Mark Colon) ∷ us) (opened n ((Mark Colon) ∷ us) (read us >>= λ v. Ok (chosen x v.0, v.1))))
+      (brace : (us : List Lexeme) → Passes within ((Mark OpenBrace) ∷ us) (opened n ((Mark OpenBrace) ∷ us) (braced_at fits read us)))
+      → Finds within (simple fits') (starts fits') goes_on (step_at fits n read)
   simple_finds n read colon brace = record {
     nil = inl (inl refl);
     part = simple_part fits';
@@ -214,7 +244,9 @@ module _ (within : Limit → Type 0) (fits fits' : ℕ → Bool) (room : (n : �
   }
 
   -- and with values in them
-  all_finds : (n m : ℕ) (read : Reader Tree) (colon : (x : List ℕ) (us : List Lexeme) → Passes within ((Mark Colon) ∷ us) (opened n ((Mark Colon) ∷ us) (read us >>= λ v. Ok (chosen x v.0, v.1)))) (brace : (us : List Lexeme) → Passes within ((Mark OpenBrace) ∷ us) (opened n ((Mark OpenBrace) ∷ us) (braced_at fits read us)))
+  all_finds : (n m : ℕ) (read : Reader Tree)
+      (colon : (x : List ℕ) (us : List Lexeme) → Passes within ((Mark Colon) ∷ us) (opened n ((Mark Colon) ∷ us) (read us >>= λ v. Ok (chosen x v.0, v.1))))
+      (brace : (us : List Lexeme) → Passes within ((Mark OpenBrace) ∷ us) (opened n ((Mark OpenBrace) ∷ us) (braced_at fits read us)))
       → Finds within (value fits' m) (starts fits') goes_on read
       → ((ts us : List Lexeme) (r : Read Tree) → Passes within us r → Passes within us (opened n ts r))
       → ((ts us : List Lexeme) (z : Tree) (r : Read Tree) → Stands within r z us → Stands within (opened n ts r) z us)
@@ -227,7 +259,10 @@ module _ (within : Limit → Type 0) (fits fits' : ℕ → Bool) (room : (n : �
     front = front;
   }
     where
-      whole : (z : Tree) (u us : List Lexeme) → (value fits' (suc m)).Is z u → Follows goes_on us → Stands within (step_at fits n read (u ++ us)) z us
+      whole : (z : Tree) (u us : List Lexeme)
+          → (value fits' (suc m)).Is z u
+          → Follows goes_on us
+          → Stands within (step_at fits n read (u ++ us)) z us
       whole z u us (inl h) f = simple_whole within fits fits' room n read colon brace z u us (λ x e. f) h
       whole z u us (inr h) f = nested_whole within fits fits' room n read colon brace (value fits' m) fv (v_solid fits' m) (v_number fits' m) (v_name fits' m) (v_behind_number fits' m) (v_behind_name fits' m) enters z u us f h
 
@@ -235,7 +270,10 @@ module _ (within : Limit → Type 0) (fits fits' : ℕ → Bool) (room : (n : �
       front u us (inl h) = simple_front within fits fits' room n read colon brace u us h
       front u us (inr h) = nested_front within fits fits' room n read colon brace (value fits' m) fv (v_solid fits' m) (v_number fits' m) (v_name fits' m) (v_behind_number fits' m) (v_behind_name fits' m) enter u us h
 
-  same_reader : (g : Grammar Tree) (r r' : Reader Tree) → ((ts : List Lexeme) → r ts ≡ r' ts) → Finds within g (starts fits') goes_on r → Finds within g (starts fits') goes_on r'
+  same_reader : (g : Grammar Tree) (r r' : Reader Tree)
+      → ((ts : List Lexeme) → r ts ≡ r' ts)
+      → Finds within g (starts fits') goes_on r
+      → Finds within g (starts fits') goes_on r'
   same_reader g r r' e f = record {
     nil = f.nil;
     part = f.part;
@@ -245,10 +283,14 @@ module _ (within : Limit → Type 0) (fits fits' : ℕ → Bool) (room : (n : �
   }
 
   -- where nothing more may be open
-  pub zero_colon : (x : List ℕ) (us : List Lexeme) → Passes within ((Mark Colon) ∷ us) (opened zero ((Mark Colon) ∷ us) (value_at fits zero us >>= λ v. Ok (chosen x v.0, v.1)))
+  pub zero_colon : (x : List ℕ) (us : List Lexeme)
+      →
+      Passes within ((Mark Colon) ∷ us) (opened zero ((Mark Colon) ∷ us) (value_at fits zero us >>= λ v. Ok (chosen x v.0, v.1)))
   zero_colon x us = inl (omega arith)
 
-  pub zero_brace : (us : List Lexeme) → Passes within ((Mark OpenBrace) ∷ us) (opened zero ((Mark OpenBrace) ∷ us) (braced_at fits (value_at fits zero) us))
+  pub zero_brace : (us : List Lexeme)
+      →
+      Passes within ((Mark OpenBrace) ∷ us) (opened zero ((Mark OpenBrace) ∷ us) (braced_at fits (value_at fits zero) us))
   zero_brace us = inl (omega arith)
 
   none_open : (ts : List Lexeme) → step_at fits zero stop ts ≡ step_at fits zero (step_at fits zero stop) ts
@@ -263,7 +305,9 @@ module _ (within : Limit → Type 0) (fits fits' : ℕ → Bool) (room : (n : �
   unfolding value_at
   zero_step ts = sym (none_open ts)
 
-  zero_finds : (m : ℕ) → (within Nesting → m ≤ zero) → Finds within (value fits' m) (starts fits') goes_on (value_at fits zero)
+  zero_finds : (m : ℕ)
+      → (within Nesting → m ≤ zero)
+      → Finds within (value fits' m) (starts fits') goes_on (value_at fits zero)
   zero_finds zero deep = same_reader (simple fits') (step_at fits zero (value_at fits zero)) (value_at fits zero) zero_step (simple_finds zero (value_at fits zero) zero_colon zero_brace)
   zero_finds (suc m) deep =
       let w : within Nesting → ⊥ = λ d. omega (arith, deep d) in
@@ -276,13 +320,23 @@ module _ (within : Limit → Type 0) (fits fits' : ℕ → Bool) (room : (n : �
   unfolding value_at
   suc_step n ts = refl
 
-  pub suc_colon : (n : ℕ) → Finds within (value fits' zero) (starts fits') goes_on (value_at fits n) → (x : List ℕ) (us : List Lexeme) → Passes within ((Mark Colon) ∷ us) (opened (suc n) ((Mark Colon) ∷ us) (value_at fits n us >>= λ v. Ok (chosen x v.0, v.1)))
+  pub suc_colon : (n : ℕ)
+      → Finds within (value fits' zero) (starts fits') goes_on (value_at fits n)
+      → (x : List ℕ) (us : List Lexeme)
+      →
+      Passes within ((Mark Colon) ∷ us) (opened (suc n) ((Mark Colon) ∷ us) (value_at fits n us >>= λ v. Ok (chosen x v.0, v.1)))
   suc_colon n f x us = passes_on within ((Mark Colon) ∷ us) us (value_at fits n us >>= λ v. Ok (chosen x v.0, v.1)) (omega arith) (passes_made within us (value_at fits n us) (λ t. chosen x t) (f.front [] us f.nil))
 
-  pub suc_brace : (n : ℕ) → Finds within (value fits' zero) (starts fits') goes_on (value_at fits n) → (us : List Lexeme) → Passes within ((Mark OpenBrace) ∷ us) (opened (suc n) ((Mark OpenBrace) ∷ us) (braced_at fits (value_at fits n) us))
+  pub suc_brace : (n : ℕ)
+      → Finds within (value fits' zero) (starts fits') goes_on (value_at fits n)
+      → (us : List Lexeme)
+      →
+      Passes within ((Mark OpenBrace) ∷ us) (opened (suc n) ((Mark OpenBrace) ∷ us) (braced_at fits (value_at fits n) us))
   suc_brace n f us = passes_on within ((Mark OpenBrace) ∷ us) us (braced_at fits (value_at fits n) us) (omega arith) (braced_shrinks within fits fits' room (value fits' zero) (value_at fits n) f (v_solid fits' zero) (v_number fits' zero) (v_name fits' zero) (v_behind_number fits' zero) (v_behind_name fits' zero) us)
 
-  pub value_finds : (n m : ℕ) → (within Nesting → m ≤ n) → Finds within (value fits' m) (starts fits') goes_on (value_at fits n)
+  pub value_finds : (n m : ℕ)
+      → (within Nesting → m ≤ n)
+      → Finds within (value fits' m) (starts fits') goes_on (value_at fits n)
   value_finds zero m deep = zero_finds m deep
   value_finds (suc n) zero deep =
       let f = value_finds n zero (λ e. omega arith) in

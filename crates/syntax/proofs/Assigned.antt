@@ -33,7 +33,10 @@ pub record ModuleLaws : Type 0 where
   pub sound_any : (n : ℕ) → SoundReader wider (assignment any tag_small n) (assignment_at small n)
   pub sound_higher : (n : ℕ) → SoundReader higher (assignment small any n) (assignment_at small n)
   pub sound_deeper : (n : ℕ) → SoundReader deeper (assignment small tag_small (suc n)) (assignment_at small n)
-  pub finds : (a b : Limits) → Allows a b → Finds (λ l. Within l b a) (assignment b.number b.tag b.nesting) begins_assignment assignment_ends (assignment_at a.number a.nesting)
+  pub finds : (a b : Limits)
+      → Allows a b
+      →
+      Finds (λ l. Within l b a) (assignment b.number b.tag b.nesting) begins_assignment assignment_ends (assignment_at a.number a.nesting)
   pub grows : (a b : Limits)
       → ((n : ℕ) → a.number n ≡ true → b.number n ≡ true)
       → ((n : ℕ) → a.tag n ≡ true → b.tag n ≡ true)

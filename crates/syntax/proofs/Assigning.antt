@@ -48,7 +48,8 @@ type_read fits n = then_read (λ p. assigns_type p.0 p.1) module_name_at (then_a
 abbrev value_read : (ℕ → Bool) → ℕ → Reader AssignmentTree
 value_read fits n = then_read (λ p. assigns_value p.0 p.1.0 p.1.1) ident_at (typed_at fits n)
 
-assignment_same : (fits : ℕ → Bool) (n : ℕ) (ts : List Lexeme) → pick is_typeref (type_read fits n) (value_read fits n) ts ≡ assignment_at fits n ts
+assignment_same : (fits : ℕ → Bool) (n : ℕ) (ts : List Lexeme)
+    → pick is_typeref (type_read fits n) (value_read fits n) ts ≡ assignment_at fits n ts
 unfolding assignment_at module_name_at ident_at
 assignment_same fits n [] = refl
 assignment_same fits n (TypeRef x ∷ ts) = refl
@@ -58,11 +59,17 @@ assignment_same fits n (t ∷ ts) = refl
 -- ---- what is read is so
 
 -- behind a lexeme that a reader reads
-behind_sound : {A : Type 0} (over : Limit → ℕ) (m : Lexeme) (mark : Reader (Unit {0})) (a : Grammar A) (read : Reader A) → SoundReader over (token (λ (x : Unit {0}). m)) mark → SoundReader over a read → SoundReader over (behind m a) (then_at mark read)
+behind_sound : {A : Type 0} (over : Limit → ℕ) (m : Lexeme) (mark : Reader (Unit {0})) (a : Grammar A) (read : Reader A)
+    → SoundReader over (token (λ (x : Unit {0}). m)) mark
+    → SoundReader over a read
+    → SoundReader over (behind m a) (then_at mark read)
 behind_sound over m mark a read sm s ts = seq_sound over (token (λ (x : Unit {0}). m)) a second ts (mark ts) read (sm ts) s
 
-module _ (over : Limit → ℕ) (fits : ℕ → Bool) (n : ℕ) (t : Grammar TypeTree) (v : Grammar Tree) (st : SoundReader over t (type_at fits n)) (sv : SoundReader over v (value_at fits n)) where
-  assigned_sound : {A : Type 0} (a : Grammar A) (read : Reader A) → SoundReader over a read → SoundReader over (behind (Mark Assign) a) (then_at assign_at read)
+module _ (over : Limit → ℕ) (fits : ℕ → Bool) (n : ℕ) (t : Grammar TypeTree) (v : Grammar Tree)
+    (st : SoundReader over t (type_at fits n)) (sv : SoundReader over v (value_at fits n)) where
+  assigned_sound : {A : Type 0} (a : Grammar A) (read : Reader A)
+      → SoundReader over a read
+      → SoundReader over (behind (Mark Assign) a) (then_at assign_at read)
   assigned_sound a read s = behind_sound over (Mark Assign) assign_at a read (token_sound (λ (x : Unit {0}). Mark Assign) is_assign assign_at assign_is over) s
 
   pub assignment_sound : SoundReader over (assigns t v) (assignment_at fits n)
@@ -111,13 +118,21 @@ pub assigns_solid : (t : Grammar TypeTree) (v : Grammar Tree) → IsSolid (assig
 assigns_solid t v =
     either_solid (assigns_a_type t) (assigns_a_value t v) (seq_solid (token TypeRef) (behind (Mark Assign) t) (λ p. assigns_type p.0 p.1) (token_solid TypeRef)) (seq_solid (token Ident) (typed t v) (λ p. assigns_value p.0 p.1.0 p.1.1) (token_solid Ident))
 
-module _ (within : Limit → Type 0) (fits : ℕ → Bool) (n : ℕ) (t : Grammar TypeTree) (v : Grammar Tree) (type_starts value_starts : Lexeme → Bool)
-    (ft : Finds within t type_starts type_ends (type_at fits n)) (fv : Finds within v value_starts goes_on (value_at fits n)) (solid_t : IsSolid t) (solid_v : IsSolid v) where
-  behind_finds : {A : Type 0} (m : Lexeme) (test : Lexeme → Bool) (mark : Reader (Unit {0})) (a : Grammar A) (starts ends : Lexeme → Bool) (read : Reader A)
-      → Finds within (token (λ (x : Unit {0}). m)) test no_lexeme mark → Finds within a starts ends read → IsSolid a → Finds within (behind m a) test ends (then_at mark read)
+module _ (within : Limit → Type 0) (fits : ℕ → Bool) (n : ℕ) (t : Grammar TypeTree) (v : Grammar Tree)
+    (type_starts value_starts : Lexeme → Bool) (ft : Finds within t type_starts type_ends (type_at fits n))
+    (fv : Finds within v value_starts goes_on (value_at fits n)) (solid_t : IsSolid t) (solid_v : IsSolid v) where
+  behind_finds : {A : Type 0} (m : Lexeme) (test : Lexeme → Bool) (mark : Reader (Unit {0})) (a : Grammar A)
+      (starts ends : Lexeme → Bool) (read : Reader A)
+      → Finds within (token (λ (x : Unit {0}). m)) test no_lexeme mark
+      → Finds within a starts ends read
+      → IsSolid a
+      → Finds within (behind m a) test ends (then_at mark read)
   behind_finds m test mark a starts ends read fm fa sa = seq_finds within (token (λ (x : Unit {0}). m)) a second test no_lexeme starts ends mark read fm fa (token_solid (λ (x : Unit {0}). m)) sa (λ t e. refl)
 
-  assigned_finds : {A : Type 0} (a : Grammar A) (starts ends : Lexeme → Bool) (read : Reader A) → Finds within a starts ends read → IsSolid a → Finds within (behind (Mark Assign) a) is_assign ends (then_at assign_at read)
+  assigned_finds : {A : Type 0} (a : Grammar A) (starts ends : Lexeme → Bool) (read : Reader A)
+      → Finds within a starts ends read
+      → IsSolid a
+      → Finds within (behind (Mark Assign) a) is_assign ends (then_at assign_at read)
   assigned_finds a starts ends read fa sa = behind_finds (Mark Assign) is_assign assign_at a starts ends read (token_finds (λ (x : Unit {0}). Mark Assign) is_assign assign_at assign_is within) fa sa
 
   pub assignment_finds : Finds within (assigns t v) begins_assignment assignment_ends (assignment_at fits n)
@@ -132,7 +147,10 @@ module _ (within : Limit → Type 0) (fits : ℕ → Bool) (n : ℕ) (t : Gramma
 
 -- ---- more of what is in it, more of the whole
 
-pub assigns_grow : (t t' : Grammar TypeTree) (v v' : Grammar Tree) → Grows t t' → Grows v v' → Grows (assigns t v) (assigns t' v')
+pub assigns_grow : (t t' : Grammar TypeTree) (v v' : Grammar Tree)
+    → Grows t t'
+    → Grows v v'
+    → Grows (assigns t v) (assigns t' v')
 assigns_grow t t' v v' gt gv =
     either_grows (assigns_a_type t) (assigns_a_type t') (assigns_a_value t v) (assigns_a_value t' v')
     (made_grows (token TypeRef ∙ behind (Mark Assign) t) (token TypeRef ∙ behind (Mark Assign) t') (λ p. assigns_type p.0 p.1) (seq_grows (token TypeRef) (token TypeRef) (behind (Mark Assign) t) (behind (Mark Assign) t') (same_grows (token TypeRef)) (behind_grows (Mark Assign) t t' gt)))

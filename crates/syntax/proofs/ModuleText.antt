@@ -65,28 +65,38 @@ body_solid : (a : Grammar AssignmentTree) → IsSolid (body a)
 body_solid a = open_solid (many a) (word End) (λ p. p.0) (token_solid (λ (x : Unit {0}). Word End))
 
 -- fits is the reader's test on numbers, fits' the grammar's
-module _ (over : Limit → ℕ) (within : Limit → Type 0) (fits fits' : ℕ → Bool) (headed : Rules over within (head fits') is_typeref head_ends (head_at fits))
-    (n : ℕ) (a : Grammar AssignmentTree) where
-  body_sound : SoundReader over a (assignment_at fits n) → SoundReader over (body a) (assignments_at fits n)
-  unfolding assignments_at
-  body_sound s ts = seq_sound over (many a) (word End) (λ p. p.0) ts (many_read fits n ts) end_at (many_sound over a begins_assignment (assignment_at fits n) s (length ts) ts) (token_sound (λ (x : Unit {0}). Word End) is_end end_at end_is over)
+module _ (over : Limit → ℕ) (within : Limit → Type 0) (fits fits' : ℕ → Bool)
+    (headed : Rules over within (head fits') is_typeref head_ends (head_at fits)) (n : ℕ) (a : Grammar AssignmentTree)
+  where
+    body_sound : SoundReader over a (assignment_at fits n) → SoundReader over (body a) (assignments_at fits n)
+    unfolding assignments_at
+    body_sound s ts = seq_sound over (many a) (word End) (λ p. p.0) ts (many_read fits n ts) end_at (many_sound over a begins_assignment (assignment_at fits n) s (length ts) ts) (token_sound (λ (x : Unit {0}). Word End) is_end end_at end_is over)
 
-  module_sound : SoundReader over a (assignment_at fits n) → SoundReader over (module_with fits' a) (module_at fits n)
-  unfolding module_at
-  module_sound s ts = seq_sound over (head fits') (body a) made_of ts (head_at fits ts) (assignments_at fits n) (headed.sound tt ts) (body_sound s)
+    module_sound : SoundReader over a (assignment_at fits n) → SoundReader over (module_with fits' a) (module_at fits n)
+    unfolding module_at
+    module_sound s ts = seq_sound over (head fits') (body a) made_of ts (head_at fits ts) (assignments_at fits n) (headed.sound tt ts) (body_sound s)
 
-  body_finds : Finds within a begins_assignment assignment_ends (assignment_at fits n) → IsSolid a → Finds within (body a) body_starts no_lexeme (assignments_at fits n)
-  unfolding assignments_at
-  body_finds f s =
-      open_finds within (many a) (word End) (λ p. p.0) body_starts begins_assignment more is_end no_lexeme (many_read fits n) end_at
-      (many_finds within a begins_assignment assignment_ends more (assignment_at fits n) f s begins_apart (λ t. no_left (begins_assignment t) (assignment_ends t)) (λ t. no_right (begins_assignment t) (assignment_ends t)))
-      (token_finds (λ (x : Unit {0}). Word End) is_end end_at end_is within) (token_solid (λ (x : Unit {0}). Word End)) end_no_more (λ t. bor_left (begins_assignment t) (is_end t)) (λ t. bor_right (begins_assignment t) (is_end t))
+    body_finds : Finds within a begins_assignment assignment_ends (assignment_at fits n)
+        → IsSolid a
+        → Finds within (body a) body_starts no_lexeme (assignments_at fits n)
+    unfolding assignments_at
+    body_finds f s =
+        open_finds within (many a) (word End) (λ p. p.0) body_starts begins_assignment more is_end no_lexeme (many_read fits n) end_at
+        (many_finds within a begins_assignment assignment_ends more (assignment_at fits n) f s begins_apart (λ t. no_left (begins_assignment t) (assignment_ends t)) (λ t. no_right (begins_assignment t) (assignment_ends t)))
+        (token_finds (λ (x : Unit {0}). Word End) is_end end_at end_is within) (token_solid (λ (x : Unit {0}). Word End)) end_no_more (λ t. bor_left (begins_assignment t) (is_end t)) (λ t. bor_right (begins_assignment t) (is_end t))
 
-  module_finds : Finds within a begins_assignment assignment_ends (assignment_at fits n) → IsSolid a → Finds within (module_with fits' a) is_typeref no_lexeme (module_at fits n)
-  unfolding module_at
-  module_finds f s = seq_finds within (head fits') (body a) made_of is_typeref head_ends body_starts no_lexeme (head_at fits) (assignments_at fits n) (headed.finds tt) (body_finds f s) headed.solid (body_solid a) body_no_head
+    module_finds : Finds within a begins_assignment assignment_ends (assignment_at fits n)
+        → IsSolid a
+        → Finds within (module_with fits' a) is_typeref no_lexeme (module_at fits n)
+    unfolding module_at
+    module_finds f s = seq_finds within (head fits') (body a) made_of is_typeref head_ends body_starts no_lexeme (head_at fits) (assignments_at fits n) (headed.finds tt) (body_finds f s) headed.solid (body_solid a) body_no_head
 
-module_grows : HeadLaws → (fits fits' : ℕ → Bool) → ((n : ℕ) → fits n ≡ true → fits' n ≡ true) → (a a' : Grammar AssignmentTree) → Grows a a' → Grows (module_with fits a) (module_with fits' a')
+module_grows : HeadLaws
+    → (fits fits' : ℕ → Bool)
+    → ((n : ℕ) → fits n ≡ true → fits' n ≡ true)
+    → (a a' : Grammar AssignmentTree)
+    → Grows a a'
+    → Grows (module_with fits a) (module_with fits' a')
 module_grows heads fits fits' grows a a' g =
     made_grows (head fits ∙ body a) (head fits' ∙ body a') made_of
     (seq_grows (head fits) (head fits') (body a) (body a') (heads.grows fits fits' grows)
@@ -96,13 +106,18 @@ module_grows heads fits fits' grows a a' g =
 
 module _ (laws : ModuleLaws) where
   -- a are the reader's limits, b the grammar's
-  finds : (a b : Limits) → Allows a b → Finds (λ l. Within l b a) (module_text b) is_typeref no_lexeme (module_at a.number a.nesting)
+  finds : (a b : Limits)
+      → Allows a b
+      → Finds (λ l. Within l b a) (module_text b) is_typeref no_lexeme (module_at a.number a.nesting)
   finds a b allows =
       module_finds nowhere (λ l. Within l b a) a.number b.number (laws.heads.read nowhere a b allows.number tt) a.nesting (assignment b.number b.tag b.nesting)
       (laws.finds a b allows) (laws.solid b.number b.tag b.nesting)
 
-  sound_at : (over : Limit → ℕ) (n : ℕ) (b : Limits) → ((n : ℕ) → small n ≡ true → b.number n ≡ true) → Past (over Integer) ((n : ℕ) → b.number n ≡ true)
-      → SoundReader over (assignment b.number b.tag b.nesting) (assignment_at small n) → SoundReader over (module_text b) (module_at small n)
+  sound_at : (over : Limit → ℕ) (n : ℕ) (b : Limits)
+      → ((n : ℕ) → small n ≡ true → b.number n ≡ true)
+      → Past (over Integer) ((n : ℕ) → b.number n ≡ true)
+      → SoundReader over (assignment b.number b.tag b.nesting) (assignment_at small n)
+      → SoundReader over (module_text b) (module_at small n)
   sound_at over n b grows past s = module_sound over (λ l. Within l b (bounded n)) small b.number (laws.heads.read over (bounded n) b grows past) n (assignment b.number b.tag b.nesting) s
 
   no_end : (us : List Lexeme) → Follows no_lexeme us
@@ -121,12 +136,18 @@ module _ (laws : ModuleLaws) where
   itself n = record { number = λ k e. e; tag = laws.small_tags; own = laws.tags_small }
 
   -- where a limit is passed, the lexemes can go on once it alone is raised
-  passed : (n : ℕ) (l : Limit) → (b : Limits) × ((ts : List Lexeme) → Sound (past l) (module_text (raised l (bounded n) b)) ts (module_at small n ts))
+  passed : (n : ℕ) (l : Limit)
+      →
+      (b : Limits) × ((ts : List Lexeme) → Sound (past l) (module_text (raised l (bounded n) b)) ts (module_at small n ts))
   passed n Nesting = (bounded (suc n), sound_at deeper n (bounded (suc n)) (λ k e. e) tt (laws.sound_deeper n))
   passed n Integer = (record { nesting = n; number = any; tag = any }, sound_at wider n (record { nesting = n; number = any; tag = tag_small }) (λ k e. refl) (λ k. refl) (laws.sound_any n))
   passed n TagNumber = (record { nesting = n; number = any; tag = any }, sound_at higher n (record { nesting = n; number = small; tag = any }) (λ k e. e) tt (laws.sound_higher n))
 
-  grown : (a b : Limits) → ((n : ℕ) → a.number n ≡ true → b.number n ≡ true) → ((n : ℕ) → a.tag n ≡ true → b.tag n ≡ true) → a.nesting ≡ b.nesting → Grows (module_text a) (module_text b)
+  grown : (a b : Limits)
+      → ((n : ℕ) → a.number n ≡ true → b.number n ≡ true)
+      → ((n : ℕ) → a.tag n ≡ true → b.tag n ≡ true)
+      → a.nesting ≡ b.nesting
+      → Grows (module_text a) (module_text b)
   grown a b grows grows_tags e = module_grows laws.heads a.number b.number grows (assignment a.number a.tag a.nesting) (assignment b.number b.tag b.nesting)
       (subst (λ (n : ℕ). Grows (assignment a.number a.tag a.nesting) (assignment b.number b.tag n)) e (laws.grows a b grows grows_tags a.nesting))
 
@@ -145,13 +166,17 @@ module _ (laws : ModuleLaws) where
   abbrev unlimited : ℕ → Limits
   unlimited n = record { nesting = n; number = any; tag = any }
 
-  read_whole : (n : ℕ) (u : List Lexeme) (a : Limits) (v : ModuleTree) → a.nesting ≤ n → (module_text a).Is v u → module_at any n (u ++ []) ≡ Ok (v, [])
+  read_whole : (n : ℕ) (u : List Lexeme) (a : Limits) (v : ModuleTree)
+      → a.nesting ≤ n
+      → (module_text a).Is v u
+      → module_at any n (u ++ []) ≡ Ok (v, [])
   read_whole n u a v le h = go (f.whole v u [] ((grown a (unlimited a.nesting) (λ k e. refl) (λ k e. refl) refl).is v u h) tt)
     where
       never_tag : (k : ℕ) → any k ≡ true → tag_fits any k ≡ true
       never_tag k e = bor_right _ true refl
 
-      f : Finds (λ l. Within l (unlimited a.nesting) (unlimited n)) (module_text (unlimited a.nesting)) is_typeref no_lexeme (module_at any n)
+      f :
+          Finds (λ l. Within l (unlimited a.nesting) (unlimited n)) (module_text (unlimited a.nesting)) is_typeref no_lexeme (module_at any n)
       f = finds (unlimited n) (unlimited a.nesting) (record { number = λ k e. e; tag = λ k e. refl; own = never_tag })
 
       all : (l : Limit) → Within l (unlimited a.nesting) (unlimited n)
@@ -159,7 +184,8 @@ module _ (laws : ModuleLaws) where
       all Integer = λ k e. refl
       all TagNumber = λ k e. refl
 
-      go : Stands (λ l. Within l (unlimited a.nesting) (unlimited n)) (module_at any n (u ++ [])) v [] → module_at any n (u ++ []) ≡ Ok (v, [])
+      go : Stands (λ l. Within l (unlimited a.nesting) (unlimited n)) (module_at any n (u ++ [])) v []
+          → module_at any n (u ++ []) ≡ Ok (v, [])
       go (inl e) = e
       go (inr (p, k, e)) = absurd (k (all p.0))
 

@@ -22,17 +22,25 @@ module _ (laws : ModuleLaws) (n : ℕ) (x : List ℕ) (ts : List Token) where
   none : 0 ≤ length ts
   none = omega arith
 
-  pub rest_le : (m : ModuleTree) (rest : List Token) → module_at small n (lexemes x ts) ≡ Ok (m, lexemes x rest) → length rest ≤ length ts
+  pub rest_le : (m : ModuleTree) (rest : List Token)
+      → module_at small n (lexemes x ts) ≡ Ok (m, lexemes x rest)
+      → length rest ≤ length ts
   rest_le m rest e = rest_fits module_text (bounded n) (module_at small n) (module_reads laws n) x ts 0 none m rest (from_whole (module_at small n) x ts (Ok (m, lexemes x rest)) e)
 
   pub left_le : (f : Fault) → module_at small n (lexemes x ts) ≡ Err f → left_of f ≤ length ts
   left_le f e = left_fits module_text (bounded n) (module_at small n) (module_reads laws n) x ts 0 none f (from_whole (module_at small n) x ts (Err f) e)
 
   -- nothing is left
-  nothing : (m : ModuleTree) (rest : List Token) → rest ≡ [] → module_at small n (lexemes x ts) ≡ Ok (m, lexemes x rest) → module_at small n (lexemes x ts) ≡ Ok (m, [])
+  nothing : (m : ModuleTree) (rest : List Token)
+      → rest ≡ []
+      → module_at small n (lexemes x ts) ≡ Ok (m, lexemes x rest)
+      → module_at small n (lexemes x ts) ≡ Ok (m, [])
   nothing m rest q e = e ⋆ ap (λ (l : List Token). Ok (m, lexemes x l)) q
 
-  pub is_there : (m : ModuleTree) (rest : List Token) → rest ≡ [] → module_at small n (lexemes x ts) ≡ Ok (m, lexemes x rest) → (module_text (bounded n)).Is m (lexemes x ts)
+  pub is_there : (m : ModuleTree) (rest : List Token)
+      → rest ≡ []
+      → module_at small n (lexemes x ts) ≡ Ok (m, lexemes x rest)
+      → (module_text (bounded n)).Is m (lexemes x ts)
   is_there m rest q e = whole_is module_text (bounded n) (module_at small n) (module_reads laws n) (lexemes x ts) m (nothing m rest q e)
 
   one_result : (v w : ModuleTree × List Lexeme) (r : Read ModuleTree) → r ≡ Ok v → r ≡ Ok w → v ≡ w
@@ -41,29 +49,48 @@ module _ (laws : ModuleLaws) (n : ℕ) (x : List ℕ) (ts : List Token) where
   no_result : (v : ModuleTree × List Lexeme) (f : Fault) (r : Read ModuleTree) → r ≡ Ok v → r ≡ Err f → ⊥
   no_result v f r p q = let e = sym p ⋆ q in absurd cc
 
-  read_of : (m : ModuleTree) → (module_text (bounded n)).Is m (lexemes x ts) → module_at small n (lexemes x ts) ≡ Ok (m, [])
+  read_of : (m : ModuleTree)
+      → (module_text (bounded n)).Is m (lexemes x ts)
+      → module_at small n (lexemes x ts) ≡ Ok (m, [])
   read_of m h = whole_read module_text (bounded n) (module_at small n) (module_reads laws n) (lexemes x ts) m h
 
-  pub is_same : (m w : ModuleTree) (rest : List Token) → module_at small n (lexemes x ts) ≡ Ok (m, lexemes x rest) → (module_text (bounded n)).Is w (lexemes x ts) → m ≡ w
+  pub is_same : (m w : ModuleTree) (rest : List Token)
+      → module_at small n (lexemes x ts) ≡ Ok (m, lexemes x rest)
+      → (module_text (bounded n)).Is w (lexemes x ts)
+      → m ≡ w
   is_same m w rest e h = ap (λ (y : ModuleTree × List Lexeme). y.0) (one_result (m, lexemes x rest) (w, []) (module_at small n (lexemes x ts)) e (read_of w h))
 
   none_left : (rest : List Token) → lexemes x rest ≡ [] → 1 ≤ length rest → ⊥
   none_left [] e h = omega arith
   none_left (t ∷ rest) e h = absurd cc
 
-  pub no_rest : (m w : ModuleTree) (rest : List Token) → module_at small n (lexemes x ts) ≡ Ok (m, lexemes x rest) → 1 ≤ length rest → (module_text (bounded n)).Is w (lexemes x ts) → ⊥
+  pub no_rest : (m w : ModuleTree) (rest : List Token)
+      → module_at small n (lexemes x ts) ≡ Ok (m, lexemes x rest)
+      → 1 ≤ length rest
+      → (module_text (bounded n)).Is w (lexemes x ts)
+      → ⊥
   no_rest m w rest e some h = none_left rest (ap (λ (y : ModuleTree × List Lexeme). y.1) (one_result (m, lexemes x rest) (w, []) (module_at small n (lexemes x ts)) e (read_of w h))) some
 
-  pub no_fault : (f : Fault) (w : ModuleTree) → module_at small n (lexemes x ts) ≡ Err f → (module_text (bounded n)).Is w (lexemes x ts) → ⊥
+  pub no_fault : (f : Fault) (w : ModuleTree)
+      → module_at small n (lexemes x ts) ≡ Err f
+      → (module_text (bounded n)).Is w (lexemes x ts)
+      → ⊥
   no_fault f w e h = no_result (w, []) f (module_at small n (lexemes x ts)) (read_of w h) e
 
-  pub first_rest : (m : ModuleTree) (rest : List Token) → module_at small n (lexemes x ts) ≡ Ok (m, lexemes x rest) → 1 ≤ length rest → Ends module_text (bounded n) (lexemes x ts) 0 (length ts - length rest)
+  pub first_rest : (m : ModuleTree) (rest : List Token)
+      → module_at small n (lexemes x ts) ≡ Ok (m, lexemes x rest)
+      → 1 ≤ length rest
+      → Ends module_text (bounded n) (lexemes x ts) 0 (length ts - length rest)
   first_rest m rest e some = stopped module_text (bounded n) (module_at small n) (module_reads laws n) x ts 0 none m rest (from_whole (module_at small n) x ts (Ok (m, lexemes x rest)) e) some
 
-  pub first_left : (k : ℕ) → module_at small n (lexemes x ts) ≡ Err (Unexpected k) → Ends module_text (bounded n) (lexemes x ts) 0 (length ts - k)
+  pub first_left : (k : ℕ)
+      → module_at small n (lexemes x ts) ≡ Err (Unexpected k)
+      → Ends module_text (bounded n) (lexemes x ts) 0 (length ts - k)
   first_left k e = first module_text (bounded n) (module_at small n) (module_reads laws n) x ts 0 none k (from_whole (module_at small n) x ts (Err (Unexpected k)) e)
 
-  pub limit_stands : (l : Limit) (k : ℕ) → module_at small n (lexemes x ts) ≡ Err (Beyond (limit_of l) k) → Stands module_text (lexemes x ts) 0 (bounded n) (faults.Limit l (length ts - k))
+  pub limit_stands : (l : Limit) (k : ℕ)
+      → module_at small n (lexemes x ts) ≡ Err (Beyond (limit_of l) k)
+      → Stands module_text (lexemes x ts) 0 (bounded n) (faults.Limit l (length ts - k))
   limit_stands l k e = passes module_text (bounded n) (module_at small n) (module_reads laws n) x ts 0 none (limit_of l) k (from_whole (module_at small n) x ts (Err (Beyond (limit_of l) k)) e)
 
 not_zero : (n : ℕ) → (suc n == 0) ≡ true → ⊥

@@ -20,7 +20,12 @@ use Rattle.text.proofs.Complete.{fault_no_gap, fault_token, same_token, is_nothi
 no_gap_there : (x : List ℕ) (e : LexFault) (i p k : ℕ) → IsFaultAt x p e → i ≡ p → IsGap x i k → ⊥
 no_gap_there x e i p k f r g = fault_no_gap x p k e f (rw r at g)
 
-no_small_there : (x : List ℕ) (e : LexFault) (t : Token) (p : ℕ) → IsFaultAt x p e → t.span.start ≡ p → IsToken x t → IsSmall x t → ⊥
+no_small_there : (x : List ℕ) (e : LexFault) (t : Token) (p : ℕ)
+    → IsFaultAt x p e
+    → t.span.start ≡ p
+    → IsToken x t
+    → IsSmall x t
+    → ⊥
 no_small_there x e t p f r a small =
     let c = fault_token x t.kind t.span.start t.span.end e (rw r f) a in
     let le = small c.0 in
@@ -139,5 +144,10 @@ ways_meet x e f (way_reached c) (way_reached d) =
     let r : c.place ≡ d.place = same_place x e f c.shown d.shown c.limits.numbers d.limits.numbers c.up_to d.up_to in
     same_fault x d.place e f (rw r at c.shown) d.shown
 
-pub one_fault : (x : List ℕ) (e f : LexFault) → (e ≡ faults.Memory → ⊥) → (f ≡ faults.Memory → ⊥) → Stands x e → Stands x f → e ≡ f
+pub one_fault : (x : List ℕ) (e f : LexFault)
+    → (e ≡ faults.Memory → ⊥)
+    → (f ≡ faults.Memory → ⊥)
+    → Stands x e
+    → Stands x f
+    → e ≡ f
 one_fault x e f n m s t = ways_meet x e f (way x e n s) (way x f m t)

@@ -13,9 +13,9 @@ use Rattle.text.specs.declared.token.TokenKind.{TokenKind}
 use Rattle.text.specs.declared.token.TokenKind.TheVariants as kinds
 use Rattle.text.specs.declared.token.Mark.{Mark}
 use Rattle.text.specs.Octets.{octet_at, stops_name, stops_number, IsFirst}
-use Rattle.text.specs.Items.{IsName, IsNumber, IsDigitString, IsOfKind, IsToken, marks, is_spelled, first_mark, mark_at}
+use Rattle.text.specs.Items.{IsName, IsNumber, IsDigitString, IsOfKind, marks, is_spelled, first_mark, mark_at}
 use Rattle.text.specs.Text.{Holds, holds_none, holds_gap, holds_token, IsText, IsSmall, IsWithinLimits, IsTokenOf}
-use Rattle.text.proofs.Quotes.{within, quoted_on, string_at}
+use Rattle.text.proofs.Quotes.{within}
 use Rattle.text.proofs.Unique.{some_is, token_within, mark_begins}
 use Rattle.text.proofs.Lexing.{kind_end_within}
 use Rattle.text.proofs.Spans.{kind_behind}
@@ -59,7 +59,13 @@ in_number : (x : List ℕ) (i : ℕ) → stops_number x i ≡ false → octet_at
 unfolding stops_number
 in_number x i e = grind (arith, nat_tests)
 
-run_below : (p : ℕ → Bool) (x : List ℕ) (i j k : ℕ) → ((m : ℕ) → p m ≡ false → octet_at x m < 128) → octet_at x i < 128 → IsFirst p (i + 1) j → i ≤ k → k < j → octet_at x k < 128
+run_below : (p : ℕ → Bool) (x : List ℕ) (i j k : ℕ)
+    → ((m : ℕ) → p m ≡ false → octet_at x m < 128)
+    → octet_at x i < 128
+    → IsFirst p (i + 1) j
+    → i ≤ k
+    → k < j
+    → octet_at x k < 128
 run_below p x i j k in_run begins f le lt =
     elim (cases_lt i k) [
       | inl on ↦ in_run k (f.before k (omega arith) lt)
@@ -73,7 +79,12 @@ name_below x i j k a = run_below (stops_name x) x i j k (in_name x) (letter_belo
 number_below : (x : List ℕ) (i j k : ℕ) → IsNumber x i j → i ≤ k → k < j → octet_at x k < 128
 number_below x i j k a = run_below (stops_number x) x i j k (in_number x) (digit_below _ a.digit) a.first
 
-behind_octet : (x : List ℕ) (i j : ℕ) → IsUtf8 x → j ≤ length x → i < j → ((k : ℕ) → i ≤ k → k < j → octet_at x k < 128) → IsCharBoundary x j
+behind_octet : (x : List ℕ) (i j : ℕ)
+    → IsUtf8 x
+    → j ≤ length x
+    → i < j
+    → ((k : ℕ) → i ≤ k → k < j → octet_at x k < 128)
+    → IsCharBoundary x j
 behind_octet x i j u le lt h =
     let e : (j - 1) + 1 ≡ j = omega arith in
     let b = IsCharBoundary-after_ascii x (j - 1) u (omega arith) (h (j - 1) (omega arith) (omega arith)) in
@@ -83,7 +94,12 @@ behind_octet x i j u le lt h =
 behind_known : (x : List ℕ) (i c j : ℕ) → IsUtf8 x → octet_at x i ≡ c → 0 < c → c < 128 → j ≡ i + 1 → IsCharBoundary x j
 behind_known x i c j u e pos lt f = rw f (IsCharBoundary-after_ascii x i u (within x i c e pos) (omega (arith, e)))
 
-behind_digits : (p : ℕ → Bool) (c : ℕ) (x : List ℕ) (i j : ℕ) → IsUtf8 x → 0 < c → c < 128 → IsDigitString p c x i j → IsCharBoundary x j
+behind_digits : (p : ℕ → Bool) (c : ℕ) (x : List ℕ) (i j : ℕ)
+    → IsUtf8 x
+    → 0 < c
+    → c < 128
+    → IsDigitString p c x i j
+    → IsCharBoundary x j
 behind_digits p c x i j u pos lt a = behind_known x (a.close + 1) c j u a.lettered pos lt (omega (arith, a.end))
 
 -- the octets of a mark are ASCII and none is 0
@@ -105,7 +121,13 @@ and_both false b e = absurd cc
 plain : (c : ℕ) → is_plain c ≡ true → (0 < c) × (c < 128)
 plain c e = (grind (arith, nat_tests), grind (arith, nat_tests))
 
-behind_spelled : (x : List ℕ) (i j : ℕ) (w : List ℕ) → IsUtf8 x → IsCharBoundary x i → are_plain w ≡ true → is_spelled x i w ≡ true → i + length w ≡ j → IsCharBoundary x j
+behind_spelled : (x : List ℕ) (i j : ℕ) (w : List ℕ)
+    → IsUtf8 x
+    → IsCharBoundary x i
+    → are_plain w ≡ true
+    → is_spelled x i w ≡ true
+    → i + length w ≡ j
+    → IsCharBoundary x j
 behind_spelled x i j [] u b p s e = let f : i ≡ j = omega (arith, e) in rw f at b
 behind_spelled x i j (c ∷ cs) u b p s e =
     let q = and_both (is_plain c) (are_plain cs) p in
@@ -114,20 +136,39 @@ behind_spelled x i j (c ∷ cs) u b p s e =
     let f : suc i ≡ i + 1 = omega arith in
     behind_spelled x (suc i) j cs u (behind_known x i c (suc i) u (eqb-true _ _ t.0) r.0 r.1 f) q.1 t.1 (omega (arith, e))
 
-behind_first : (x : List ℕ) (i j : ℕ) (m : Mark) (ms : List (List ℕ × Mark)) → IsUtf8 x → IsCharBoundary x i → marks_plain ms ≡ true → first_mark x i ms ≡ Some (m, j) → IsCharBoundary x j
+behind_first : (x : List ℕ) (i j : ℕ) (m : Mark) (ms : List (List ℕ × Mark))
+    → IsUtf8 x
+    → IsCharBoundary x i
+    → marks_plain ms ≡ true
+    → first_mark x i ms ≡ Some (m, j)
+    → IsCharBoundary x j
 behind_first x i j m [] u b p e = absurd cc
 behind_first x i j m (n ∷ ns) u b p e = go (is_spelled x i n.0) refl e (and_both (are_plain n.0) (marks_plain ns) p) (λ q f. behind_first x i j m ns u b q f)
   where
-    go : (c : Bool) → is_spelled x i n.0 ≡ c → cond c (Some (n.1, i + length n.0)) (first_mark x i ns) ≡ Some (m, j)
-        → (are_plain n.0 ≡ true) × (marks_plain ns ≡ true) → (marks_plain ns ≡ true → first_mark x i ns ≡ Some (m, j) → IsCharBoundary x j) → IsCharBoundary x j
+    go : (c : Bool)
+        → is_spelled x i n.0 ≡ c
+        → cond c (Some (n.1, i + length n.0)) (first_mark x i ns) ≡ Some (m, j)
+        → (are_plain n.0 ≡ true) × (marks_plain ns ≡ true)
+        → (marks_plain ns ≡ true → first_mark x i ns ≡ Some (m, j) → IsCharBoundary x j)
+        → IsCharBoundary x j
     go true s t h ih = behind_spelled x i j n.0 u b h.0 s (ap (λ (q : Mark × ℕ). q.1) (some_is (n.1, i + length n.0) (m, j) t))
     go false s t h ih = ih h.1 t
 
-behind_mark : (x : List ℕ) (i j : ℕ) (m : Mark) → IsUtf8 x → IsCharBoundary x i → mark_at x i ≡ Some (m, j) → IsCharBoundary x j
+behind_mark : (x : List ℕ) (i j : ℕ) (m : Mark)
+    → IsUtf8 x
+    → IsCharBoundary x i
+    → mark_at x i ≡ Some (m, j)
+    → IsCharBoundary x j
 unfolding mark_at
 behind_mark x i j m u b e = behind_first x i j m marks u b refl e
 
-ends_boundary : (x : List ℕ) (k : TokenKind) (i j : ℕ) → IsUtf8 x → IsCharBoundary x i → i < j → j ≤ length x → IsOfKind x k i j → IsCharBoundary x j
+ends_boundary : (x : List ℕ) (k : TokenKind) (i j : ℕ)
+    → IsUtf8 x
+    → IsCharBoundary x i
+    → i < j
+    → j ≤ length x
+    → IsOfKind x k i j
+    → IsCharBoundary x j
 ends_boundary x kinds.TypeReference i j u b lt le a = behind_octet x i j u le lt (λ k. name_below x i j k a.0)
 ends_boundary x kinds.Identifier i j u b lt le a = behind_octet x i j u le lt (λ k. name_below x i j k a.0)
 ends_boundary x (kinds.Reserved w) i j u b lt le a = behind_octet x i j u le lt (λ k. name_below x i j k a.0)
@@ -146,7 +187,11 @@ kind_utf8 x k i j u a =
 
 -- ---- each token
 
-each_known : (x : List ℕ) {i j : ℕ} {ts : List Token} → IsUtf8 x → Holds x i j ts → AllByRecursion (IsSmall x) ts → AllByRecursion (IsTokenOf x) ts
+each_known : (x : List ℕ) {i j : ℕ} {ts : List Token}
+    → IsUtf8 x
+    → Holds x i j ts
+    → AllByRecursion (IsSmall x) ts
+    → AllByRecursion (IsTokenOf x) ts
 each_known x u (holds_none e) s = tt
 each_known x u (holds_gap k g h) s = each_known x u h s
 each_known x u (holds_token t b a h) s =
@@ -163,16 +208,3 @@ each_known x u (holds_token t b a h) s =
 
 pub tokens_known : (x : List ℕ) (ts : List Token) → IsText x ts → IsWithinLimits x ts → All (IsTokenOf x) ts
 tokens_known x ts t l = All-from_recursion (IsTokenOf x) ts (each_known x t.utf8 t.whole l.numbers)
-
--- what stands between the quotes of a character string
-pub quoted_utf8 : (x : List ℕ) (i j : ℕ) → IsUtf8 x → IsOfKind x kinds.CharacterString i j → IsUtf8 (slice_range x (i + 1) (j - 1))
-quoted_utf8 x i j u a =
-    let lt = within x a.close 34 a.closed (omega arith) in
-    let e : j - 1 ≡ a.close = omega (arith, a.end) in
-    let b = behind_known x i 34 (i + 1) u a.begins (omega arith) (omega arith) refl in
-    let c = IsCharBoundary-before_ascii x a.close lt (omega (arith, a.closed)) in
-    let on = quoted_on x a.inside in
-    rw e (IsUtf8-between x (i + 1) a.close u on b c)
-
-pub string_utf8 : (x : List ℕ) (t : Token) → IsUtf8 x → IsToken x t → t.kind ≡ kinds.CharacterString → IsUtf8 (slice_range x (t.span.start + 1) (t.span.end - 1))
-string_utf8 x t u a e = quoted_utf8 x t.span.start t.span.end u (string_at x t.kind t.span.start t.span.end e a)

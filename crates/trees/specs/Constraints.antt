@@ -1,5 +1,5 @@
 -- The trees of constraints, without where they lie in memory or in the text. A name is the list of its octets.
-use Rattle.std.specs.Prelude.{ℕ, ℤ, Option, Bool, List, map, option_map, string_bytes, Vec}
+use Rattle.std.specs.Prelude.{ℕ, ℤ, Option, Bool, List, map, option_map, string_bytes}
 use Rattle.trees.specs.declared.constraint.EndSyntax.{EndSyntax}
 use Rattle.trees.specs.declared.constraint.EndSyntax.TheVariants as ends
 use Rattle.trees.specs.declared.constraint.RangeSyntax.{RangeSyntax}

@@ -1,5 +1,5 @@
 -- The trees of types, without where they lie in memory or in the text. A name is the list of its octets.
-use Rattle.std.specs.Prelude.{ℕ, ℤ, Bool, Option, Some, None, List, [], ◌∷◌, map, option_map, string_bytes}
+use Rattle.std.specs.Prelude.{ℕ, ℤ, Bool, Option, List, [], ◌∷◌, map, option_map, string_bytes}
 use Rattle.asn_base.specs.declared.strings.StringKind.{StringKind}
 use Rattle.asn_base.specs.declared.strings.StringKind.TheVariants.{Numeric, Printable, Ia5, Visible}
 use Rattle.asn_base.specs.declared.tag.Tag.{Tag}

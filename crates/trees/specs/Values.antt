@@ -1,5 +1,5 @@
 -- The tree of a value, without where it lies in memory or in the text. A name is the list of its octets.
-use Rattle.std.specs.Prelude.{ℕ, ℤ, Option, Some, None, List, [], ◌∷◌, map, option_map, string_bytes, String}
+use Rattle.std.specs.Prelude.{ℕ, ℤ, Option, List, [], ◌∷◌, map, option_map, string_bytes, String}
 use Rattle.std.specs.Global.{Global}
 use Rattle.trees.specs.declared.place.At.{At}
 use Rattle.trees.specs.declared.value.ValueSyntax.{ValueSyntax}

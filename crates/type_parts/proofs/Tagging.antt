@@ -24,7 +24,12 @@ below_prop n = hlevel props
 reserved_prop : (c : Class) (n : ℕ) → IsProp (c ≡ Universal → 0 < n)
 reserved_prop c n = hlevel props
 
-tags_same : (c d : Class) (m n : ℕ) (p : m < 2147483648) (q : n < 2147483648) (r : c ≡ Universal → 0 < m) (t : d ≡ Universal → 0 < n) → c ≡ d → m ≡ n → ◌≡◌ {A = Tag} (record { class = c; number = m; in_range = p; not_reserved = r }) (record { class = d; number = n; in_range = q; not_reserved = t })
+tags_same : (c d : Class) (m n : ℕ) (p : m < 2147483648) (q : n < 2147483648) (r : c ≡ Universal → 0 < m)
+    (t : d ≡ Universal → 0 < n)
+    → c ≡ d
+    → m ≡ n
+    →
+    ◌≡◌ {A = Tag} (record { class = c; number = m; in_range = p; not_reserved = r }) (record { class = d; number = n; in_range = q; not_reserved = t })
 tags_same c d m n p q r t e f = subst (λ d. (t : d ≡ Universal → 0 < n) → ◌≡◌ {A = Tag} (record { class = c; number = m; in_range = p; not_reserved = r }) (record { class = d; number = n; in_range = q; not_reserved = t })) e
     (λ t. subst (λ n. (q : n < 2147483648) (t : c ≡ Universal → 0 < n) → ◌≡◌ {A = Tag} (record { class = c; number = m; in_range = p; not_reserved = r }) (record { class = c; number = n; in_range = q; not_reserved = t })) f
     (λ q t. ap (λ z. record { class = c; number = m; in_range = z; not_reserved = r }) (below_prop m p q) ⋆ ap (λ z. record { class = c; number = m; in_range = q; not_reserved = z }) (reserved_prop c m r t)) q t) t
@@ -43,7 +48,8 @@ none_below_itself n = grind (arith, nat_tests)
 limited : small (2 ^ 127) ≡ false
 limited = none_below_itself (2 ^ 127)
 
-limit_is : (n : ℕ) (b : Bool) (e : nat_lt n 2147483648 ≡ b) (rest : List Lexeme) → made plain (by_limit (small (2 ^ 127)) n b e rest) ≡ low b n rest
+limit_is : (n : ℕ) (b : Bool) (e : nat_lt n 2147483648 ≡ b) (rest : List Lexeme)
+    → made plain (by_limit (small (2 ^ 127)) n b e rest) ≡ low b n rest
 limit_is n true e rest = refl
 limit_is n false e rest = ap (λ (u : Bool). made plain (by_limit u n false e rest)) limited
 
@@ -57,11 +63,14 @@ end_is : (ts : List Lexeme) → made plain (tag_end_at small ts) ≡ low_end_at 
 unfolding tag_end_at low_end_at
 end_is ts = go (tag_number_at small ts) ⋆ ap (λ (r : Read ℕ). r >>= λ n. bracket_at n.1 >>= λ e. Ok (n.0, e.1)) (number_is ts)
   where
-    close : (n : TagNumber) (r : Read (Unit {0})) → made plain (made (λ (u : Unit {0}). n) r) ≡ made (λ (u : Unit {0}). n.0) r
+    close : (n : TagNumber) (r : Read (Unit {0}))
+        → made plain (made (λ (u : Unit {0}). n) r) ≡ made (λ (u : Unit {0}). n.0) r
     close n (Ok u) = refl
     close n (Err f) = refl
 
-    go : (r : Read TagNumber) → made plain (r >>= λ n. bracket_at n.1 >>= λ e. Ok (n.0, e.1)) ≡ (made plain r >>= λ n. bracket_at n.1 >>= λ e. Ok (n.0, e.1))
+    go : (r : Read TagNumber)
+        →
+        made plain (r >>= λ n. bracket_at n.1 >>= λ e. Ok (n.0, e.1)) ≡ (made plain r >>= λ n. bracket_at n.1 >>= λ e. Ok (n.0, e.1))
     go (Ok n) = close n.0 (bracket_at n.1)
     go (Err f) = refl
 
@@ -73,7 +82,10 @@ done x = Ok x
 first_is : {A : Type 0} (x y : A × List Lexeme) → done x ≡ done y → x ≡ y
 first_is x y e = cc
 
-made_is : (f : TagNumber → Tag) (r : Read TagNumber) (n : ℕ) (g : Tag) (rest : List Lexeme) → made plain r ≡ Ok (n, rest) → ((x : TagNumber) → x.0 ≡ n → f x ≡ g) → made f r ≡ Ok (g, rest)
+made_is : (f : TagNumber → Tag) (r : Read TagNumber) (n : ℕ) (g : Tag) (rest : List Lexeme)
+    → made plain r ≡ Ok (n, rest)
+    → ((x : TagNumber) → x.0 ≡ n → f x ≡ g)
+    → made f r ≡ Ok (g, rest)
 made_is f (Ok x) n g rest e h =
     let p = first_is (x.0.0, x.1) (n, rest) e in
     ap (λ (u : Tag). Ok (u, x.1)) (h x.0 (ap (λ (y : ℕ × List Lexeme). y.0) p)) ⋆ ap (λ (l : List Lexeme). Ok (g, l)) (ap (λ (y : ℕ × List Lexeme). y.1) p)
@@ -83,20 +95,34 @@ made_fails : (f : TagNumber → Tag) (r : Read TagNumber) (e : Fault) → made p
 made_fails f (Ok x) e h = absurd cc
 made_fails f (Err q) e h = let d : q ≡ e = cc in ap (λ (q : Fault). Err q) d
 
-fails : (f : TagNumber → Tag) (ts : List Lexeme) (e : ReadError) → Fails e (low_end_at ts) → Fails e (made f (tag_end_at small ts))
+fails : (f : TagNumber → Tag) (ts : List Lexeme) (e : ReadError)
+    → Fails e (low_end_at ts)
+    → Fails e (made f (tag_end_at small ts))
 fails f ts errors.Memory h = tt
 fails f ts (errors.Unexpected n) h = made_fails f (tag_end_at small ts) _ (end_is ts ⋆ h)
 fails f ts (errors.Limit l n) h = made_fails f (tag_end_at small ts) _ (end_is ts ⋆ h)
 
-pub application_is : (ts rest : List Lexeme) (n : ℕ) (g : Tag) → low_end_at ts ≡ Ok (n, rest) → g.class ≡ Application → g.number ≡ n → application_at small ts ≡ Ok (g, rest)
+pub application_is : (ts rest : List Lexeme) (n : ℕ) (g : Tag)
+    → low_end_at ts ≡ Ok (n, rest)
+    → g.class ≡ Application
+    → g.number ≡ n
+    → application_at small ts ≡ Ok (g, rest)
 unfolding application_at
 application_is ts rest n g e c d = made_is application_tag (tag_end_at small ts) n g rest (end_is ts ⋆ e) (λ x h. tag_same (application_tag x) g (sym c) (h ⋆ sym d))
 
-pub private_is : (ts rest : List Lexeme) (n : ℕ) (g : Tag) → low_end_at ts ≡ Ok (n, rest) → g.class ≡ Private → g.number ≡ n → private_at small ts ≡ Ok (g, rest)
+pub private_is : (ts rest : List Lexeme) (n : ℕ) (g : Tag)
+    → low_end_at ts ≡ Ok (n, rest)
+    → g.class ≡ Private
+    → g.number ≡ n
+    → private_at small ts ≡ Ok (g, rest)
 unfolding private_at
 private_is ts rest n g e c d = made_is private_tag (tag_end_at small ts) n g rest (end_is ts ⋆ e) (λ x h. tag_same (private_tag x) g (sym c) (h ⋆ sym d))
 
-pub context_is : (ts rest : List Lexeme) (n : ℕ) (g : Tag) → low_end_at ts ≡ Ok (n, rest) → g.class ≡ Context → g.number ≡ n → context_at small ts ≡ Ok (g, rest)
+pub context_is : (ts rest : List Lexeme) (n : ℕ) (g : Tag)
+    → low_end_at ts ≡ Ok (n, rest)
+    → g.class ≡ Context
+    → g.number ≡ n
+    → context_at small ts ≡ Ok (g, rest)
 unfolding context_at
 context_is ts rest n g e c d = made_is context_tag (tag_end_at small ts) n g rest (end_is ts ⋆ e) (λ x h. tag_same (context_tag x) g (sym c) (h ⋆ sym d))
 

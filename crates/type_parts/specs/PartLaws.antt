@@ -10,6 +10,8 @@ use Rattle.grammar.specs.Reading.{is_open}
 pub record PartLaws : Type 0 where
   pub values : ValueLaws
   pub constraints : Ruled constraint is_open constraint_at
-  pub constraints_grow : (fits fits' : ℕ → Bool) → ((n : ℕ) → fits n ≡ true → fits' n ≡ true) → Grows (constraint fits) (constraint fits')
+  pub constraints_grow : (fits fits' : ℕ → Bool)
+      → ((n : ℕ) → fits n ≡ true → fits' n ≡ true)
+      → Grows (constraint fits) (constraint fits')
   pub sizes : Ruled size is_size size_at
   pub sizes_grow : (fits fits' : ℕ → Bool) → ((n : ℕ) → fits n ≡ true → fits' n ≡ true) → Grows (size fits) (size fits')

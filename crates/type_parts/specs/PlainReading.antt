@@ -68,7 +68,8 @@ pub below : (n : ℕ) → nat_lt n 2147483648 ≡ true → n < 2147483648
 below n e = grind (arith, nat_tests)
 
 -- a number that is below 2 to the 31 or not
-abbrev pub by_limit : (unlimited : Bool) (n : ℕ) (small : Bool) → nat_lt n 2147483648 ≡ small → List Lexeme → Read TagNumber
+abbrev pub by_limit : (unlimited : Bool) (n : ℕ) (small : Bool) → nat_lt n 2147483648 ≡ small → List Lexeme
+    → Read TagNumber
 by_limit unlimited n true e rest = Ok ((n, below n e), rest)
 by_limit true n false e rest = stop rest
 by_limit false n false e rest = Err (Beyond TagLimit (length (Number n ∷ rest)))

@@ -213,55 +213,65 @@ bracket_same (Mark CloseBracket ∷ ts) = refl
 bracket_same (t ∷ ts) = refl
 
 module _ {s f : Type 0} {over : Limit → ℕ} {within : Limit → Type 0} where
-  pub rule_object_word : Owes s f over within (only (Word words.Object)) is_object_word no_lexeme (one_at is_object_word)
+  pub rule_object_word :
+      Owes s f over within (only (Word words.Object)) is_object_word no_lexeme (one_at is_object_word)
   rule_object_word = rule_token (one_is (Word words.Object) is_object_word refl object_word_one)
 
-  pub rule_identifier_word : Owes s f over within (only (Word words.Identifier)) is_identifier_word no_lexeme (one_at is_identifier_word)
+  pub rule_identifier_word :
+      Owes s f over within (only (Word words.Identifier)) is_identifier_word no_lexeme (one_at is_identifier_word)
   rule_identifier_word = rule_token (one_is (Word words.Identifier) is_identifier_word refl identifier_word_one)
 
   pub rule_octet_word : Owes s f over within (only (Word words.Octet)) is_octet_word no_lexeme (one_at is_octet_word)
   rule_octet_word = rule_token (one_is (Word words.Octet) is_octet_word refl octet_word_one)
 
-  pub rule_string_word : Owes s f over within (only (Word words.String)) is_string_word no_lexeme (one_at is_string_word)
+  pub rule_string_word :
+      Owes s f over within (only (Word words.String)) is_string_word no_lexeme (one_at is_string_word)
   rule_string_word = rule_token (one_is (Word words.String) is_string_word refl string_word_one)
 
-  pub rule_integer_word : Owes s f over within (only (Word words.Integer)) is_integer_word no_lexeme (one_at is_integer_word)
+  pub rule_integer_word :
+      Owes s f over within (only (Word words.Integer)) is_integer_word no_lexeme (one_at is_integer_word)
   rule_integer_word = rule_token (one_is (Word words.Integer) is_integer_word refl integer_word_one)
 
   pub rule_bit_word : Owes s f over within (only (Word words.Bit)) is_bit_word no_lexeme (one_at is_bit_word)
   rule_bit_word = rule_token (one_is (Word words.Bit) is_bit_word refl bit_word_one)
 
-  pub rule_enumerated_word : Owes s f over within (only (Word words.Enumerated)) is_enumerated_word no_lexeme (one_at is_enumerated_word)
+  pub rule_enumerated_word :
+      Owes s f over within (only (Word words.Enumerated)) is_enumerated_word no_lexeme (one_at is_enumerated_word)
   rule_enumerated_word = rule_token (one_is (Word words.Enumerated) is_enumerated_word refl enumerated_word_one)
 
-  pub rule_choice_word : Owes s f over within (only (Word words.Choice)) is_choice_word no_lexeme (one_at is_choice_word)
+  pub rule_choice_word :
+      Owes s f over within (only (Word words.Choice)) is_choice_word no_lexeme (one_at is_choice_word)
   rule_choice_word = rule_token (one_is (Word words.Choice) is_choice_word refl choice_word_one)
 
-  pub rule_sequence_word : Owes s f over within (only (Word words.Sequence)) is_sequence_word no_lexeme (one_at is_sequence_word)
+  pub rule_sequence_word :
+      Owes s f over within (only (Word words.Sequence)) is_sequence_word no_lexeme (one_at is_sequence_word)
   rule_sequence_word = rule_token (one_is (Word words.Sequence) is_sequence_word refl sequence_word_one)
 
   pub rule_set_word : Owes s f over within (only (Word words.Set)) is_set_word no_lexeme (one_at is_set_word)
   rule_set_word = rule_token (one_is (Word words.Set) is_set_word refl set_word_one)
 
-  pub rule_of_word : Owes s f over within (only (Word words.Of)) is_of_word no_lexeme (one_at is_of_word)
-  rule_of_word = rule_token (one_is (Word words.Of) is_of_word refl of_word_one)
-
-  pub rule_optional_word : Owes s f over within (only (Word words.Optional)) is_optional_word no_lexeme (one_at is_optional_word)
+  pub rule_optional_word :
+      Owes s f over within (only (Word words.Optional)) is_optional_word no_lexeme (one_at is_optional_word)
   rule_optional_word = rule_token (one_is (Word words.Optional) is_optional_word refl optional_word_one)
 
-  pub rule_default_word : Owes s f over within (only (Word words.Default)) is_default_word no_lexeme (one_at is_default_word)
+  pub rule_default_word :
+      Owes s f over within (only (Word words.Default)) is_default_word no_lexeme (one_at is_default_word)
   rule_default_word = rule_token (one_is (Word words.Default) is_default_word refl default_word_one)
 
-  pub rule_implicit_word : Owes s f over within (only (Word words.Implicit)) is_implicit_word no_lexeme (one_at is_implicit_word)
+  pub rule_implicit_word :
+      Owes s f over within (only (Word words.Implicit)) is_implicit_word no_lexeme (one_at is_implicit_word)
   rule_implicit_word = rule_token (one_is (Word words.Implicit) is_implicit_word refl implicit_word_one)
 
-  pub rule_explicit_word : Owes s f over within (only (Word words.Explicit)) is_explicit_word no_lexeme (one_at is_explicit_word)
+  pub rule_explicit_word :
+      Owes s f over within (only (Word words.Explicit)) is_explicit_word no_lexeme (one_at is_explicit_word)
   rule_explicit_word = rule_token (one_is (Word words.Explicit) is_explicit_word refl explicit_word_one)
 
-  pub rule_application_word : Owes s f over within (only (Word words.Application)) is_application_word no_lexeme (one_at is_application_word)
+  pub rule_application_word :
+      Owes s f over within (only (Word words.Application)) is_application_word no_lexeme (one_at is_application_word)
   rule_application_word = rule_token (one_is (Word words.Application) is_application_word refl application_word_one)
 
-  pub rule_private_word : Owes s f over within (only (Word words.Private)) is_private_word no_lexeme (one_at is_private_word)
+  pub rule_private_word :
+      Owes s f over within (only (Word words.Private)) is_private_word no_lexeme (one_at is_private_word)
   rule_private_word = rule_token (one_is (Word words.Private) is_private_word refl private_word_one)
 
   pub rule_dot : Owes s f over within (only (Mark Dot)) is_dot no_lexeme (one_at is_dot)
@@ -270,10 +280,8 @@ module _ {s f : Type 0} {over : Limit → ℕ} {within : Limit → Type 0} where
   pub rule_minus : Owes s f over within (only (Mark Minus)) is_minus no_lexeme (one_at is_minus)
   rule_minus = rule_token (one_is (Mark Minus) is_minus refl minus_one)
 
-  pub rule_open_bracket : Owes s f over within (only (Mark OpenBracket)) is_open_bracket no_lexeme (one_at is_open_bracket)
-  rule_open_bracket = rule_token (one_is (Mark OpenBracket) is_open_bracket refl open_bracket_one)
-
-  pub rule_close_bracket : Owes s f over within (only (Mark CloseBracket)) is_close_bracket no_lexeme (one_at is_close_bracket)
+  pub rule_close_bracket :
+      Owes s f over within (only (Mark CloseBracket)) is_close_bracket no_lexeme (one_at is_close_bracket)
   rule_close_bracket = rule_token (one_is (Mark CloseBracket) is_close_bracket refl close_bracket_one)
 
   pub rule_string : Owes s f over within (only (Word words.String)) is_string_word no_lexeme string_at

@@ -46,7 +46,8 @@ keyword_same (t ∷ ts) = refl
 abbrev dot_read : Reader Name
 dot_read = then_read (λ (p : Unit {0} × Name). p.1) (one_at is_dot) module_name_at
 
-dot_same : (x : Name) (ts : List Lexeme) → made (λ (o : Option Name). referred (x, o)) (perhaps is_dot dot_read ts) ≡ ref_at x ts
+dot_same : (x : Name) (ts : List Lexeme)
+    → made (λ (o : Option Name). referred (x, o)) (perhaps is_dot dot_read ts) ≡ ref_at x ts
 unfolding ref_at type_in_at module_name_at
 dot_same x [] = refl
 dot_same x (Mark Dot ∷ []) = refl
@@ -62,7 +63,8 @@ unfolding module_name_at
 ref_same x ts = dot_same x ts
 
 module _ {s f : Type 0} {over : Limit → ℕ} {within : Limit → Type 0} where
-  pub loose_keyword : OwesLoosely s f over within keyword is_keyword (either is_keyword (either no_lexeme no_lexeme)) keyword_at
+  pub loose_keyword :
+      OwesLoosely s f over within keyword is_keyword (either is_keyword (either no_lexeme no_lexeme)) keyword_at
   loose_keyword = loose_read keyword_at keyword_same (loose_made keyword_of (loose_optional (rule_pick (rule_made (λ _. keywords.Implicit) rule_implicit_word) (rule_made (λ _. keywords.Explicit) rule_explicit_word) explicit_no_implicit)))
 
   pub rule_ref : Owes s f over within ref is_typeref (either no_lexeme (either is_dot no_lexeme)) ref_read
@@ -84,11 +86,15 @@ module _ (fits : ℕ → Bool) where
   abbrev bits_read : ℕ → Reader Plain
   bits_read n = then_read (λ (p : Unit {0} × (Unit {0} × Option (List (Name × ℕ)))). bits_with p.1.1) (one_at is_bit_word) (string_bits n)
 
-  behind_string : (r : Read (Option (List (Name × ℕ)))) → made (λ (p : Unit {0} × Option (List (Name × ℕ))). bits_with p.1) (made (λ (o : Option (List (Name × ℕ))). (tt, o)) r) ≡ made bits_with r
+  behind_string : (r : Read (Option (List (Name × ℕ))))
+      →
+      made (λ (p : Unit {0} × Option (List (Name × ℕ))). bits_with p.1) (made (λ (o : Option (List (Name × ℕ))). (tt, o)) r) ≡ made bits_with r
   behind_string (Ok o) = refl
   behind_string (Err e) = refl
 
-  string_then : (n : ℕ) (r : Read (Unit {0})) → made (λ (p : Unit {0} × Option (List (Name × ℕ))). bits_with p.1) (after_read (λ p. p) r (perhaps is_lbrace (braces_at n (listed_at (named_bit_at fits))))) ≡ (r >>= λ s. bits_at fits n s.1)
+  string_then : (n : ℕ) (r : Read (Unit {0}))
+      →
+      made (λ (p : Unit {0} × Option (List (Name × ℕ))). bits_with p.1) (after_read (λ p. p) r (perhaps is_lbrace (braces_at n (listed_at (named_bit_at fits))))) ≡ (r >>= λ s. bits_at fits n s.1)
   unfolding bits_at
   string_then n (Ok s) = behind_string (perhaps is_lbrace (braces_at n (listed_at (named_bit_at fits))) s.1)
   string_then n (Err e) = refl
@@ -127,7 +133,9 @@ simple_starts = either is_type_word (either is_object_word (either is_octet_word
 abbrev braced : Lexeme → Bool
 braced = either no_lexeme (either is_lbrace no_lexeme)
 
-simple_ends : (t : Lexeme) → is_lbrace t ≡ false → either no_lexeme (either no_lexeme (either no_lexeme (either braced (either braced no_lexeme)))) t ≡ false
+simple_ends : (t : Lexeme)
+    → is_lbrace t ≡ false
+    → either no_lexeme (either no_lexeme (either no_lexeme (either braced (either braced no_lexeme)))) t ≡ false
 simple_ends (Mark OpenBrace) e = absurd cc
 simple_ends t e = refl
 
@@ -140,15 +148,22 @@ rest_no_integer : (t : Lexeme) → either is_bit_word is_enumerated_word t ≡ t
 rest_no_integer (Word words.Integer) e = absurd cc
 rest_no_integer t e = refl
 
-rest_no_octet : (t : Lexeme) → either is_integer_word (either is_bit_word is_enumerated_word) t ≡ true → is_octet_word t ≡ false
+rest_no_octet : (t : Lexeme)
+    → either is_integer_word (either is_bit_word is_enumerated_word) t ≡ true
+    → is_octet_word t ≡ false
 rest_no_octet (Word words.Octet) e = absurd cc
 rest_no_octet t e = refl
 
-rest_no_object : (t : Lexeme) → either is_octet_word (either is_integer_word (either is_bit_word is_enumerated_word)) t ≡ true → is_object_word t ≡ false
+rest_no_object : (t : Lexeme)
+    → either is_octet_word (either is_integer_word (either is_bit_word is_enumerated_word)) t ≡ true
+    → is_object_word t ≡ false
 rest_no_object (Word words.Object) e = absurd cc
 rest_no_object t e = refl
 
-rest_no_word : (t : Lexeme) → either is_object_word (either is_octet_word (either is_integer_word (either is_bit_word is_enumerated_word))) t ≡ true → is_type_word t ≡ false
+rest_no_word : (t : Lexeme)
+    →
+    either is_object_word (either is_octet_word (either is_integer_word (either is_bit_word is_enumerated_word))) t ≡ true
+    → is_type_word t ≡ false
 rest_no_word (Word words.Object) e = refl
 rest_no_word (Word words.Octet) e = refl
 rest_no_word (Word words.Integer) e = refl
@@ -157,7 +172,10 @@ rest_no_word (Word words.Enumerated) e = refl
 rest_no_word t e = absurd cc
 
 -- fits is the reader's test on numbers, fits' the grammar's
-module _ (over : Limit → ℕ) (within : Limit → Type 0) (fits fits' : ℕ → Bool) (grows : (n : ℕ) → fits n ≡ true → fits' n ≡ true) (past : Past (over Integer) ((n : ℕ) → fits' n ≡ true)) (tags : ℕ → Bool) (tag_rule : TagRule over within fits tags) (room : (n : ℕ) → fits' n ≡ true → within Integer → fits n ≡ true) where
+module _ (over : Limit → ℕ) (within : Limit → Type 0) (fits fits' : ℕ → Bool)
+    (grows : (n : ℕ) → fits n ≡ true → fits' n ≡ true) (past : Past (over Integer) ((n : ℕ) → fits' n ≡ true))
+    (tags : ℕ → Bool) (tag_rule : TagRule over within fits tags)
+    (room : (n : ℕ) → fits' n ≡ true → within Integer → fits n ≡ true) where
   rule_num : Rules over within (number_of fits') is_number no_lexeme (number_at fits)
   rule_num = rule_number over within fits fits' grows past room
 
@@ -181,7 +199,8 @@ module _ (over : Limit → ℕ) (within : Limit → Type 0) (fits fits' : ℕ �
   minus_no_number (Number n) e = absurd cc
   minus_no_number t e = refl
 
-  rule_signed : Rules over within (signed fits') (either is_number is_minus) (either no_lexeme no_lexeme) (signed_at fits)
+  rule_signed :
+      Rules over within (signed fits') (either is_number is_minus) (either no_lexeme no_lexeme) (signed_at fits)
   rule_signed = rule_read (signed_at fits) signed_same (rule_pick (rule_made positive rule_num) (rule_made negative (rule_behind rule_minus rule_digits)) minus_no_number)
 
   rule_given : Rules over within (parens (signed fits')) is_open no_lexeme (parens_at (signed_at fits))
@@ -196,22 +215,27 @@ module _ (over : Limit → ℕ) (within : Limit → Type 0) (fits fits' : ℕ �
   pub rule_item : Rules over within (item fits') is_ident (either is_open no_lexeme) (item_at fits)
   rule_item = rule_named (loose_optional rule_given)
 
-  rule_numbers : Rules over within (inside (listed (named_number fits'))) is_ident no_lexeme (inside_at (listed_at (named_number_at fits)))
+  rule_numbers :
+      Rules over within (inside (listed (named_number fits'))) is_ident no_lexeme (inside_at (listed_at (named_number_at fits)))
   rule_numbers = rule_inside (rule_listed rule_number_named refl) refl
 
-  rule_bits : Rules over within (inside (listed (named_bit fits'))) is_ident no_lexeme (inside_at (listed_at (named_bit_at fits)))
+  rule_bits :
+      Rules over within (inside (listed (named_bit fits'))) is_ident no_lexeme (inside_at (listed_at (named_bit_at fits)))
   rule_bits = rule_inside (rule_listed rule_bit_named refl) refl
 
-  rule_items : Rules over within (inside (extensible (item fits') (item fits'))) is_ident no_lexeme (inside_at (extensible_at (item_at fits) (item_at fits)))
+  rule_items :
+      Rules over within (inside (extensible (item fits') (item fits'))) is_ident no_lexeme (inside_at (extensible_at (item_at fits) (item_at fits)))
   rule_items = rule_inside (rule_extensible rule_item rule_item refl refl refl) refl
 
   -- ---- their types
 
   module _ (s f : Type 0) (n m : ℕ) (fit : s → m ≡ over Nesting + n) (deep : f → within Nesting → m ≤ n) where
-    rule_integer : Owes s f over within (integer fits' m) is_integer_word (either no_lexeme (either is_lbrace no_lexeme)) (integer_read fits n)
+    rule_integer :
+        Owes s f over within (integer fits' m) is_integer_word (either no_lexeme (either is_lbrace no_lexeme)) (integer_read fits n)
     rule_integer = rule_tail (λ p. integer_with p.1) rule_integer_word (loose_optional (rule_in_braces (listed (named_number fits')) (listed_at (named_number_at fits)) n m fit deep (λ q. (rule_numbers.finds tt).part) (λ o. asked rule_numbers))) (λ t e. refl)
 
-    rule_bit_string : Owes s f over within (bit_string fits' m) is_bit_word (either no_lexeme (either is_lbrace no_lexeme)) (bits_read fits n)
+    rule_bit_string :
+        Owes s f over within (bit_string fits' m) is_bit_word (either no_lexeme (either is_lbrace no_lexeme)) (bits_read fits n)
     rule_bit_string =
         rule_seq (λ p. bits_with p.1.1) rule_bit_word
         (rule_both _ _ (rule_tail (λ p. p) rule_string (loose_optional (rule_in_braces (listed (named_bit fits')) (listed_at (named_bit_at fits)) n m fit deep (λ q. (rule_bits.finds tt).part) (λ o. asked rule_bits))) (λ t e. refl))) (λ t e. refl)
@@ -219,10 +243,12 @@ module _ (over : Limit → ℕ) (within : Limit → Type 0) (fits fits' : ℕ �
     rule_enumerated : Owes s f over within (enumerated fits' m) is_enumerated_word no_lexeme (items_read fits n)
     rule_enumerated = rule_seq (λ p. enumerated_of p.1) rule_enumerated_word (rule_in_braces (extensible (item fits') (item fits')) (extensible_at (item_at fits) (item_at fits)) n m fit deep (λ q. (rule_items.finds tt).part) (λ o. asked rule_items)) (λ t e. refl)
 
-    rule_object : Owes s f over within ((word words.Object ∙ word words.Identifier) ⇒ (λ _. an_object_identifier)) is_object_word no_lexeme (then_read (λ (p : Unit {0} × Unit {0}). an_object_identifier) (one_at is_object_word) identifier_at)
+    rule_object :
+        Owes s f over within ((word words.Object ∙ word words.Identifier) ⇒ (λ _. an_object_identifier)) is_object_word no_lexeme (then_read (λ (p : Unit {0} × Unit {0}). an_object_identifier) (one_at is_object_word) identifier_at)
     rule_object = rule_seq (λ p. an_object_identifier) rule_object_word rule_identifier (λ t e. refl)
 
-    rule_octets : Owes s f over within ((word words.Octet ∙ word words.String) ⇒ (λ _. an_octet_string)) is_octet_word no_lexeme (then_read (λ (p : Unit {0} × Unit {0}). an_octet_string) (one_at is_octet_word) string_at)
+    rule_octets :
+        Owes s f over within ((word words.Octet ∙ word words.String) ⇒ (λ _. an_octet_string)) is_octet_word no_lexeme (then_read (λ (p : Unit {0} × Unit {0}). an_octet_string) (one_at is_octet_word) string_at)
     rule_octets = rule_seq (λ p. an_octet_string) rule_octet_word rule_string (λ t e. refl)
 
     pub rule_simple : Owes s f over within (simple fits' m) simple_starts is_lbrace (simple_at fits n)
@@ -256,7 +282,8 @@ module _ (over : Limit → ℕ) (within : Limit → Type 0) (fits fits' : ℕ �
   rest_no_application (Word words.Application) e = absurd cc
   rest_no_application t e = refl
 
-  pub rule_tag : Rules over within (tag tags) (either is_application_word (either is_private_word is_number)) (either no_lexeme (either no_lexeme no_lexeme)) (tag_at fits)
+  pub rule_tag :
+      Rules over within (tag tags) (either is_application_word (either is_private_word is_number)) (either no_lexeme (either no_lexeme no_lexeme)) (tag_at fits)
   rule_tag =
       rule_read (tag_at fits) tag_same
       (rule_pick (rule_made application_tag (rule_behind rule_application_word rule_tag_end)) (rule_pick (rule_made private_tag (rule_behind rule_private_word rule_tag_end)) (rule_made context_tag rule_tag_end) number_no_private) rest_no_application)

@@ -10,7 +10,8 @@ pub same_items : {A : Type 0} (l : List A) → map (λ (x : A). x) l ≡ l
 same_items [] = refl
 same_items (x ∷ l) = ap (λ (l : List _). x ∷ l) (same_items l)
 
-pub map_behind : {A B : Type 0} (f : A → B) (l : List A) (x : A) (rest : List B) → map f (l ++ x ∷ []) ++ rest ≡ map f l ++ f x ∷ rest
+pub map_behind : {A B : Type 0} (f : A → B) (l : List A) (x : A) (rest : List B)
+    → map f (l ++ x ∷ []) ++ rest ≡ map f l ++ f x ∷ rest
 map_behind f [] x rest = refl
 map_behind f (y ∷ l) x rest = ap (λ (l : List _). f y ∷ l) (map_behind f l x rest)
 
@@ -21,16 +22,23 @@ Added = (Name × Component) ⊎ List (Name × Component)
 abbrev pub Taken : List MemberTree → List MemberTree → List Added → ℕ → Type 0
 Taken members root taken n = (rest : List Added) → members ++ additions_from n rest ≡ root ++ additions_from 0 (taken ++ rest)
 
-pub none_taken : (root : List MemberTree) → Taken root root [] 0
-none_taken root rest = refl
-
-pub one_alone : {A : Type 0} (f : A → Added) (members members' root : List MemberTree) (taken : List A) (n : ℕ) (x : A) (m : Name × Component) → f x ≡ inl m → members' ≡ members ++ a_member (standings.Addition None) m ∷ [] → Taken members root (map f taken) n → Taken members' root (map f (taken ++ x ∷ [])) n
+pub one_alone : {A : Type 0} (f : A → Added) (members members' root : List MemberTree) (taken : List A) (n : ℕ) (x : A)
+    (m : Name × Component)
+    → f x ≡ inl m
+    → members' ≡ members ++ a_member (standings.Addition None) m ∷ []
+    → Taken members root (map f taken) n
+    → Taken members' root (map f (taken ++ x ∷ [])) n
 one_alone f members members' root taken n x m e d h rest =
     ap (λ (l : List MemberTree). l ++ additions_from n rest) d ⋆ append_assoc members (a_member (standings.Addition None) m ∷ []) (additions_from n rest)
     ⋆ ap (λ (y : Added). members ++ additions_from n (y ∷ rest)) (sym e) ⋆ h (f x ∷ rest)
     ⋆ ap (λ (l : List Added). root ++ additions_from 0 l) (sym (map_behind f taken x rest))
 
-pub one_bracket : {A : Type 0} (f : A → Added) (members members' root : List MemberTree) (taken : List A) (n : ℕ) (x : A) (ms : List (Name × Component)) → f x ≡ inr ms → members' ≡ members ++ map (a_member (standings.Addition (Some n))) ms → Taken members root (map f taken) n → Taken members' root (map f (taken ++ x ∷ [])) (n + 1)
+pub one_bracket : {A : Type 0} (f : A → Added) (members members' root : List MemberTree) (taken : List A) (n : ℕ)
+    (x : A) (ms : List (Name × Component))
+    → f x ≡ inr ms
+    → members' ≡ members ++ map (a_member (standings.Addition (Some n))) ms
+    → Taken members root (map f taken) n
+    → Taken members' root (map f (taken ++ x ∷ [])) (n + 1)
 one_bracket f members members' root taken n x ms e d h =
     let one_more : suc n ≡ n + 1 = omega arith in
     subst (Taken members' root (map f (taken ++ x ∷ []))) one_more (λ rest.
@@ -38,6 +46,9 @@ one_bracket f members members' root taken n x ms e d h =
     ⋆ ap (λ (y : Added). members ++ additions_from n (y ∷ rest)) (sym e) ⋆ h (f x ∷ rest)
     ⋆ ap (λ (l : List Added). root ++ additions_from 0 l) (sym (map_behind f taken x rest)))
 
-pub all_taken : {A : Type 0} (f : A → Added) (members root : List MemberTree) (taken all : List A) (n : ℕ) → Taken members root (map f taken) n → map (λ (x : A). x) taken ≡ all → members ≡ root ++ additions_from 0 (map f all)
+pub all_taken : {A : Type 0} (f : A → Added) (members root : List MemberTree) (taken all : List A) (n : ℕ)
+    → Taken members root (map f taken) n
+    → map (λ (x : A). x) taken ≡ all
+    → members ≡ root ++ additions_from 0 (map f all)
 all_taken f members root taken all n h e =
     sym (append-nil members) ⋆ h [] ⋆ ap (λ (l : List Added). root ++ additions_from 0 l) (append-nil (map f taken)) ⋆ ap (λ (l : List _). root ++ additions_from 0 (map f l)) (sym (same_items taken) ⋆ e)

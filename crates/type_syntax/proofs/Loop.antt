@@ -45,7 +45,8 @@ module _ (fits : ℕ → Bool) (r r' : Reader TypeTree) (v v' : Reader Tree) whe
   unfolding list_at
   list_none set ts = go (list_size_at fits ts)
     where
-      go : (q : Read (Option ConstraintTree)) → after_read (list_pair set) q (of_at fits zero r) ≡ after_read (list_pair set) q (of_at fits zero r')
+      go : (q : Read (Option ConstraintTree))
+          → after_read (list_pair set) q (of_at fits zero r) ≡ after_read (list_pair set) q (of_at fits zero r')
       go (Ok s) = ap (made (λ (t : TypeTree). list_pair set (s.0, t))) (of_none s.1)
       go (Err e) = refl
 
@@ -79,7 +80,8 @@ module _ (fits : ℕ → Bool) (r r' : Reader TypeTree) (v v' : Reader Tree) whe
   none_open (Word words.Set ∷ ts) = behind_none true ts
   none_open (t ∷ ts) = plain_none (t ∷ ts)
 
-pub type_stepped : (fits : ℕ → Bool) (n : ℕ) (ts : List Lexeme) → type_at fits n ts ≡ type_step fits n (type_at fits (n - 1)) (value_at fits (n - 1)) ts
+pub type_stepped : (fits : ℕ → Bool) (n : ℕ) (ts : List Lexeme)
+    → type_at fits n ts ≡ type_step fits n (type_at fits (n - 1)) (value_at fits (n - 1)) ts
 unfolding type_at
 type_stepped fits zero ts = none_open fits stop (type_at fits zero) stop (value_at fits zero) ts
 type_stepped fits (suc n) ts = let e : n ≡ suc n - 1 = omega arith in ap (λ (k : ℕ). type_step fits (suc n) (type_at fits k) (value_at fits k) ts) e
@@ -126,18 +128,23 @@ module _ (laws : PartLaws) (n : ℕ) where
 
 -- ---- trees
 
-form_is : (f : TypeForm TypeSyntax) → form_layer (former-TypeSyntax-form.map TypeSyntax TypeTree type_tree_of f) ≡ form_tree f
+form_is : (f : TypeForm TypeSyntax)
+    → form_layer (former-TypeSyntax-form.map TypeSyntax TypeTree type_tree_of f) ≡ form_tree f
 form_is (forms.Simple s) = refl
 form_is (forms.Reference r) = refl
 form_is (forms.List k marker ms) = ap (λ (l : List MemberTree). a_list k marker (type_members l)) (together ms.items)
   where
-    together : (l : List (Member TypeSyntax)) → map member_layer (map (former-TypeSyntax-form-at-8.map TypeSyntax TypeTree type_tree_of) l) ≡ map type_member_of l
+    together : (l : List (Member TypeSyntax))
+        →
+        map member_layer (map (former-TypeSyntax-form-at-8.map TypeSyntax TypeTree type_tree_of) l) ≡ map type_member_of l
     together [] = refl
     together (m ∷ l) = ap (λ (r : List MemberTree). type_member_of m ∷ r) (together l)
 form_is (forms.Elements k t) = refl
 form_is (forms.Tagged tag word t) = refl
 
-pub type_tree : (at : ℕ) (f : TypeForm TypeSyntax) (cs : Vec ConstraintSyntax) → type_tree_of (roll-TypeSyntax (record { at = at; form = f; constraints = cs })) ≡ a_type (form_tree f) (map constraint_of cs.items)
+pub type_tree : (at : ℕ) (f : TypeForm TypeSyntax) (cs : Vec ConstraintSyntax)
+    →
+    type_tree_of (roll-TypeSyntax (record { at = at; form = f; constraints = cs })) ≡ a_type (form_tree f) (map constraint_of cs.items)
 type_tree at f cs =
     fold-roll-TypeSyntax TypeTree type_layer (record { at = at; form = f; constraints = cs })
     ⋆ ap (λ (g : FormTree). a_type g (map constraint_of cs.items)) (form_is f)

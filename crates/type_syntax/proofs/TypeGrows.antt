@@ -43,7 +43,9 @@ perhaps {A} {a} {a'} g = optional_grows a a' g
 opened : {A : Type 0} {a a' : Grammar A} (n : ℕ) → Grows a a' → Grows (opens n a) (opens n a')
 opened {A} {a} {a'} n g = opens_grows n a a' g
 
-module _ (fits fits' : ℕ → Bool) (grows : (n : ℕ) → fits n ≡ true → fits' n ≡ true) (few more : ℕ → Bool) (grows_tags : (n : ℕ) → few n ≡ true → more n ≡ true) (constraints : Grows (constraint fits) (constraint fits')) (sizes : Grows (size fits) (size fits')) where
+module _ (fits fits' : ℕ → Bool) (grows : (n : ℕ) → fits n ≡ true → fits' n ≡ true) (few more : ℕ → Bool)
+    (grows_tags : (n : ℕ) → few n ≡ true → more n ≡ true) (constraints : Grows (constraint fits) (constraint fits'))
+    (sizes : Grows (size fits) (size fits')) where
   number : Grows (number_of fits) (number_of fits')
   number = number_grows fits fits' grows
 
@@ -63,7 +65,10 @@ module _ (fits fits' : ℕ → Bool) (grows : (n : ℕ) → fits n ≡ true → 
   tags : Grows (tag few) (tag more)
   tags = either (made (back tag_ends)) (either (made (back tag_ends)) (made tag_ends))
 
-  with_grows : (n : ℕ) (t t' : Grammar TypeTree) (v v' : Grammar Tree) → Grows t t' → Grows v v' → Grows (type_with fits few n t v) (type_with fits' more n t' v')
+  with_grows : (n : ℕ) (t t' : Grammar TypeTree) (v v' : Grammar Tree)
+      → Grows t t'
+      → Grows v v'
+      → Grows (type_with fits few n t v) (type_with fits' more n t' v')
   with_grows n t t' v v' gt gv = either tagged_grows (either (made (seq (either one_grows (made (seq same members_grow))) (any_number constraints))) list_grows)
     where
       tagged_grows : Grows (tagged few n t) (tagged more n t')
@@ -102,6 +107,8 @@ module _ (fits fits' : ℕ → Bool) (grows : (n : ℕ) → fits n ≡ true → 
       list_grows : Grows (list fits n t) (list fits' n t')
       list_grows = made (seq same (seq (perhaps (either sizes (in_parens sizes))) (opened n (back gt))))
 
-  pub types_grow : ((n : ℕ) → Grows (value fits n) (value fits' n)) → (n : ℕ) → Grows (type fits few n) (type fits' more n)
+  pub types_grow : ((n : ℕ) → Grows (value fits n) (value fits' n))
+      → (n : ℕ)
+      → Grows (type fits few n) (type fits' more n)
   types_grow gv zero = with_grows zero cut_off cut_off cut_off cut_off same same
   types_grow gv (suc n) = with_grows (suc n) (type fits few n) (type fits' more n) (value fits n) (value fits' n) (types_grow gv n) (gv n)

@@ -73,7 +73,8 @@ presence_read value ts =
     perhaps is_presence (pick is_optional_word (λ ts. one_at is_optional_word ts >>= λ x. Ok (may_be_absent, x.1)) (λ ts. then_read (λ (p : Unit {0} × Tree). p.1) (one_at is_default_word) value ts >>= λ x. Ok (default x.0, x.1))) ts
     >>= λ x. Ok (present x.0, x.1)
 
-default_same : (r : Read Tree) → made present (made (λ x. Some x) (made default (r >>= λ y. Ok (y.0, y.1)))) ≡ made default r
+default_same : (r : Read Tree)
+    → made present (made (λ x. Some x) (made default (r >>= λ y. Ok (y.0, y.1)))) ≡ made default r
 default_same (Ok v) = refl
 default_same (Err e) = refl
 
@@ -89,27 +90,34 @@ presence_same value (t ∷ ts) = refl
 abbrev tag_tree : Tag × (Keyword × TypeTree) → TypeTree
 tag_tree p = a_type (a_tagged p.0 p.1.0 p.1.1) []
 
-inside_same : (fits : ℕ → Bool) (read : Reader TypeTree) (ts : List Lexeme) → then_read tag_tree (tag_at fits) (then_read (λ p. p) keyword_at read) ts ≡ inside_tag_at fits read ts
+inside_same : (fits : ℕ → Bool) (read : Reader TypeTree) (ts : List Lexeme)
+    → then_read tag_tree (tag_at fits) (then_read (λ p. p) keyword_at read) ts ≡ inside_tag_at fits read ts
 unfolding inside_tag_at
 inside_same fits read ts = go (tag_at fits ts)
   where
-    go : (r : Read Tag) → after_read tag_tree r (then_read (λ p. p) keyword_at read) ≡ (r >>= λ g. keyword_at g.1 >>= λ k. read k.1 >>= λ t. Ok (a_type (a_tagged g.0 k.0 t.0) [], t.1))
+    go : (r : Read Tag)
+        →
+        after_read tag_tree r (then_read (λ p. p) keyword_at read) ≡ (r >>= λ g. keyword_at g.1 >>= λ k. read k.1 >>= λ t. Ok (a_type (a_tagged g.0 k.0 t.0) [], t.1))
     go (Ok g) = after_made (λ (y : Keyword × TypeTree). tag_tree (g.0, y)) (λ (p : Keyword × TypeTree). p) (keyword_at g.1) read
     go (Err e) = refl
 
-tagged_same : (fits : ℕ → Bool) (n : ℕ) (read : Reader TypeTree) (ts : List Lexeme) → opened_by is_open_bracket n (inside_tag_at fits read) ts ≡ tagged_at fits n read ts
+tagged_same : (fits : ℕ → Bool) (n : ℕ) (read : Reader TypeTree) (ts : List Lexeme)
+    → opened_by is_open_bracket n (inside_tag_at fits read) ts ≡ tagged_at fits n read ts
 unfolding tagged_at
 tagged_same fits n read [] = refl
 tagged_same fits n read (Mark OpenBracket ∷ ts) = refl
 tagged_same fits n read (t ∷ ts) = refl
 
-of_same : (fits : ℕ → Bool) (n : ℕ) (read : Reader TypeTree) (ts : List Lexeme) → opened_by is_of_word n read ts ≡ of_at fits n read ts
+of_same : (fits : ℕ → Bool) (n : ℕ) (read : Reader TypeTree) (ts : List Lexeme)
+    → opened_by is_of_word n read ts ≡ of_at fits n read ts
 unfolding of_at
 of_same fits n read [] = refl
 of_same fits n read (Word words.Of ∷ ts) = refl
 of_same fits n read (t ∷ ts) = refl
 
-size_same : (fits : ℕ → Bool) (ts : List Lexeme) → perhaps (either is_size is_open) (pick is_size (size_at fits) (parens_at (size_at fits))) ts ≡ list_size_at fits ts
+size_same : (fits : ℕ → Bool) (ts : List Lexeme)
+    →
+    perhaps (either is_size is_open) (pick is_size (size_at fits) (parens_at (size_at fits))) ts ≡ list_size_at fits ts
 unfolding list_size_at some_size_at size_in_parens_at
 size_same fits [] = refl
 size_same fits (Word words.Size ∷ ts) = refl
@@ -129,29 +137,35 @@ of_apart t e = absurd cc
 
 -- ---- lists
 
-component_read : (read : Reader TypeTree) (value : Reader Tree) (ts : List Lexeme) → then_read (λ p. p) read (presence_at value) ts ≡ component_at read value ts
+component_read : (read : Reader TypeTree) (value : Reader Tree) (ts : List Lexeme)
+    → then_read (λ p. p) read (presence_at value) ts ≡ component_at read value ts
 unfolding component_at
 component_read read value ts = refl
 
 abbrev body_read : (ℕ → Bool) → ℕ → Reader TypeTree → Reader Tree → Reader Listing
 body_read fits n read value ts = braces_at n (listing_at fits (named_at (component_at read value))) ts >>= λ l. Ok (listing_of l.0, l.1)
 
-body_same : (fits : ℕ → Bool) (n : ℕ) (read : Reader TypeTree) (value : Reader Tree) (ts : List Lexeme) → body_read fits n read value ts ≡ body_at fits n read value ts
+body_same : (fits : ℕ → Bool) (n : ℕ) (read : Reader TypeTree) (value : Reader Tree) (ts : List Lexeme)
+    → body_read fits n read value ts ≡ body_at fits n read value ts
 unfolding body_at
 body_same fits n read value ts = refl
 
-listing_same : (fits : ℕ → Bool) (part : Reader (Name × Component)) (ts : List Lexeme) → perhaps is_listing (rootless_at part (addition_at fits part)) ts ≡ listing_at fits part ts
+listing_same : (fits : ℕ → Bool) (part : Reader (Name × Component)) (ts : List Lexeme)
+    → perhaps is_listing (rootless_at part (addition_at fits part)) ts ≡ listing_at fits part ts
 unfolding listing_at
 listing_same fits part ts = refl
 
-alternatives_same : (fits : ℕ → Bool) (read : Reader TypeTree) (ts : List Lexeme) → extensible_at (named_at (bare_at read)) (addition_at fits (named_at (bare_at read))) ts ≡ alternatives_at fits read ts
+alternatives_same : (fits : ℕ → Bool) (read : Reader TypeTree) (ts : List Lexeme)
+    →
+    extensible_at (named_at (bare_at read)) (addition_at fits (named_at (bare_at read))) ts ≡ alternatives_at fits read ts
 unfolding alternatives_at
 alternatives_same fits read ts = refl
 
 abbrev choice_read : (ℕ → Bool) → ℕ → Reader TypeTree → Reader FormTree
 choice_read fits n read = then_read (λ (p : Unit {0} × Listing). of_listing lists.Choice p.1) (one_at is_choice_word) (braces_at n (alternatives_at fits read))
 
-choice_same : (fits : ℕ → Bool) (n : ℕ) (read : Reader TypeTree) (ts : List Lexeme) → choice_read fits n read (Word words.Choice ∷ ts) ≡ choice_at fits n read ts
+choice_same : (fits : ℕ → Bool) (n : ℕ) (read : Reader TypeTree) (ts : List Lexeme)
+    → choice_read fits n read (Word words.Choice ∷ ts) ≡ choice_at fits n read ts
 unfolding choice_at
 choice_same fits n read ts = refl
 
@@ -183,7 +197,8 @@ module _ (fits : ℕ → Bool) (n : ℕ) (read : Reader TypeTree) (value : Reade
   abbrev rest_read : Reader Rest
   rest_read = pick is_lbrace (then_read set_or_not (body_at fits n read value) (constraints_at fits)) (then_read list_or_not (list_size_at fits) (of_at fits n read))
 
-  rest_same : (set : Bool) (ts : List Lexeme) → made (λ (g : Rest). g set) (rest_read ts) ≡ behind_at fits n read value set ts
+  rest_same : (set : Bool) (ts : List Lexeme)
+      → made (λ (g : Rest). g set) (rest_read ts) ≡ behind_at fits n read value set ts
   unfolding behind_at structure_at list_at with_constraints_at
   rest_same set [] = after_made (λ (g : Rest). g set) list_or_not (list_size_at fits []) (of_at fits n read)
   rest_same set (Mark OpenBrace ∷ ts) = after_made (λ (g : Rest). g set) set_or_not (body_at fits n read value (Mark OpenBrace ∷ ts)) (constraints_at fits)
@@ -296,12 +311,17 @@ list_no_brace t e = refl
 abbrev none : Lexeme → Bool
 none = no_lexeme
 
-one_ends_are : (t : Lexeme) → one_ends t ≡ false → either (either none (either is_dot none)) (either none is_lbrace) t ≡ false
+one_ends_are : (t : Lexeme)
+    → one_ends t ≡ false
+    → either (either none (either is_dot none)) (either none is_lbrace) t ≡ false
 one_ends_are (Mark OpenBrace) e = absurd cc
 one_ends_are (Mark Dot) e = absurd cc
 one_ends_are t e = refl
 
-type_ends_are : (t : Lexeme) → type_ends t ≡ false → either type_ends (either (either one_ends (either is_open none)) (either (either none (either is_open none)) type_ends)) t ≡ false
+type_ends_are : (t : Lexeme)
+    → type_ends t ≡ false
+    →
+    either type_ends (either (either one_ends (either is_open none)) (either (either none (either is_open none)) type_ends)) t ≡ false
 type_ends_are (Mark OpenBrace) e = absurd cc
 type_ends_are (Mark Dot) e = absurd cc
 type_ends_are (Mark OpenParenthesis) e = absurd cc
@@ -315,18 +335,25 @@ presence_ends = either is_presence (either no_lexeme goes_on)
 abbrev member_ends : Lexeme → Bool
 member_ends = either type_ends presence_ends
 
-module _ {s f : Type 0} {over : Limit → ℕ} {within : Limit → Type 0} {v : Grammar Tree} {value_starts : Lexeme → Bool} {value : Reader Tree} where
-  loose_presence : Owes s f over within v value_starts goes_on value → OwesLoosely s f over within (presence v) is_presence presence_ends (presence_at value)
+module _ {s f : Type 0} {over : Limit → ℕ} {within : Limit → Type 0} {v : Grammar Tree} {value_starts : Lexeme → Bool}
+    {value : Reader Tree} where
+  loose_presence : Owes s f over within v value_starts goes_on value
+      → OwesLoosely s f over within (presence v) is_presence presence_ends (presence_at value)
   loose_presence kv = loose_read (presence_at value) (presence_same value) (loose_made present (loose_optional (rule_pick (rule_made (λ _. may_be_absent) rule_optional_word) (rule_made default (rule_behind rule_default_word kv)) default_no_optional)))
 
-module _ {s f : Type 0} {over : Limit → ℕ} {within : Limit → Type 0} {t : Grammar TypeTree} {v : Grammar Tree} {value_starts : Lexeme → Bool} {read : Reader TypeTree} {value : Reader Tree} where
-  pub rule_member : Owes s f over within t type_starts type_ends read → Owes s f over within v value_starts goes_on value → Owes s f over within (member t v) is_ident member_ends (named_at (component_at read value))
+module _ {s f : Type 0} {over : Limit → ℕ} {within : Limit → Type 0} {t : Grammar TypeTree} {v : Grammar Tree}
+    {value_starts : Lexeme → Bool} {read : Reader TypeTree} {value : Reader Tree} where
+  pub rule_member : Owes s f over within t type_starts type_ends read
+      → Owes s f over within v value_starts goes_on value
+      → Owes s f over within (member t v) is_ident member_ends (named_at (component_at read value))
   rule_member kt kv = rule_named (loosely (rule_read (component_at read value) (component_read read value) (rule_both t (presence v) (rule_tail (λ p. p) kt (loose_presence kv) presence_apart))))
 
-module _ {s f : Type 0} {over : Limit → ℕ} {within : Limit → Type 0} {t : Grammar TypeTree} {read : Reader TypeTree} where
-  pub rule_alternative : Owes s f over within t type_starts type_ends read → Owes s f over within (alternative t) is_ident type_ends (named_at (bare_at read))
-  unfolding bare_at
-  rule_alternative kt = rule_named (loosely (rule_made (λ t. (t, mandatory)) kt))
+module _ {s f : Type 0} {over : Limit → ℕ} {within : Limit → Type 0} {t : Grammar TypeTree} {read : Reader TypeTree}
+  where
+    pub rule_alternative : Owes s f over within t type_starts type_ends read
+        → Owes s f over within (alternative t) is_ident type_ends (named_at (bare_at read))
+    unfolding bare_at
+    rule_alternative kt = rule_named (loosely (rule_made (λ t. (t, mandatory)) kt))
 
 member_fits : FitsBrackets is_ident member_ends
 member_fits = record { comma = refl; close = refl; bracket = refl; number = λ n. refl }
@@ -337,39 +364,56 @@ alternative_fits = record { comma = refl; close = refl; bracket = refl; number =
 -- ---- what is owed for types
 
 -- fits is the reader's test on numbers, fits' the grammar's
-module _ (over : Limit → ℕ) (within : Limit → Type 0) (fits fits' : ℕ → Bool) (grows : (n : ℕ) → fits n ≡ true → fits' n ≡ true) (past : Past (over Integer) ((n : ℕ) → fits' n ≡ true)) (tags : ℕ → Bool) (tag_rule : TagRule over within fits tags) (room : (n : ℕ) → fits' n ≡ true → within Integer → fits n ≡ true)
-    (constraints : Rules over within (constraint fits') is_open no_lexeme (constraint_at fits)) (sizes : Rules over within (size fits') is_size no_lexeme (size_at fits)) where
+module _ (over : Limit → ℕ) (within : Limit → Type 0) (fits fits' : ℕ → Bool)
+    (grows : (n : ℕ) → fits n ≡ true → fits' n ≡ true) (past : Past (over Integer) ((n : ℕ) → fits' n ≡ true))
+    (tags : ℕ → Bool) (tag_rule : TagRule over within fits tags)
+    (room : (n : ℕ) → fits' n ≡ true → within Integer → fits n ≡ true)
+    (constraints : Rules over within (constraint fits') is_open no_lexeme (constraint_at fits))
+    (sizes : Rules over within (size fits') is_size no_lexeme (size_at fits)) where
   rule_size : Rules over within (size fits') is_size no_lexeme (size_at fits)
   rule_size = sizes
 
   module _ (s f : Type 0) where
-    loose_constraints : OwesLoosely s f over within (many (constraint fits')) is_open (either is_open no_lexeme) (constraints_at fits)
+    loose_constraints :
+        OwesLoosely s f over within (many (constraint fits')) is_open (either is_open no_lexeme) (constraints_at fits)
     unfolding constraints_at
     loose_constraints = loose_many (asked (constraints)) (λ t e. refl)
 
     loose_size : OwesLoosely s f over within (list_size fits') (either is_size is_open) size_ends (list_size_at fits)
     loose_size = loose_read (list_size_at fits) (size_same fits) (loose_optional (rule_pick (asked rule_size) (rule_parens (asked rule_size) refl) open_no_size))
 
-  rule_inside_tag : {s f : Type 0} {t : Grammar TypeTree} {read : Reader TypeTree} → Owes s f over within t type_starts type_ends read → Owes s f over within ((tag tags ∙ (keyword ∙ t)) ⇒ tag_tree) (either is_application_word (either is_private_word is_number)) type_ends (inside_tag_at fits read)
+  rule_inside_tag : {s f : Type 0} {t : Grammar TypeTree} {read : Reader TypeTree}
+      → Owes s f over within t type_starts type_ends read
+      →
+      Owes s f over within ((tag tags ∙ (keyword ∙ t)) ⇒ tag_tree) (either is_application_word (either is_private_word is_number)) type_ends (inside_tag_at fits read)
   rule_inside_tag {s} {f} {t} {read} kt =
       rule_read (inside_tag_at fits read) (inside_same fits read) (rule_seq tag_tree (asked (rule_tag over within fits fits' grows past tags tag_rule room)) (rule_both keyword t (rule_lead (λ p. p) loose_keyword kt type_no_keyword)) (λ t e. refl))
 
-  module _ {s f : Type 0} {t : Grammar TypeTree} {v : Grammar Tree} {value_starts : Lexeme → Bool} {read : Reader TypeTree} {value : Reader Tree} where
-    rule_members : Owes s f over within t type_starts type_ends read → Owes s f over within v value_starts goes_on value
-        → Owes s f over within (inside (optional (rootless (member t v) (addition fits' (member t v))))) (either is_listing is_closed) no_lexeme (inside_at (listing_at fits (named_at (component_at read value))))
+  module _ {s f : Type 0} {t : Grammar TypeTree} {v : Grammar Tree} {value_starts : Lexeme → Bool}
+      {read : Reader TypeTree} {value : Reader Tree} where
+    rule_members : Owes s f over within t type_starts type_ends read
+        → Owes s f over within v value_starts goes_on value
+        →
+        Owes s f over within (inside (optional (rootless (member t v) (addition fits' (member t v))))) (either is_listing is_closed) no_lexeme (inside_at (listing_at fits (named_at (component_at read value))))
     rule_members kt kv =
         rule_inside_loose (loose_read (listing_at fits (named_at (component_at read value))) (listing_same fits (named_at (component_at read value)))
         (loose_optional (rule_rootless (rule_member kt kv) (rule_addition over within fits fits' grows past room (rule_member kt kv) member_fits) refl refl refl))) refl
 
   module _ {s f : Type 0} {t : Grammar TypeTree} {read : Reader TypeTree} where
-    rule_alternatives : Owes s f over within t type_starts type_ends read → Owes s f over within (inside (extensible (alternative t) (addition fits' (alternative t)))) is_ident no_lexeme (inside_at (alternatives_at fits read))
+    rule_alternatives : Owes s f over within t type_starts type_ends read
+        →
+        Owes s f over within (inside (extensible (alternative t) (addition fits' (alternative t)))) is_ident no_lexeme (inside_at (alternatives_at fits read))
     rule_alternatives kt =
         rule_inside (rule_read (alternatives_at fits read) (alternatives_same fits read)
         (rule_extensible (rule_alternative kt) (rule_addition over within fits fits' grows past room (rule_alternative kt) alternative_fits) refl refl refl)) refl
 
   -- n: how many more things may be open for the reader, and m for the grammar
-  module _ (s f : Type 0) (n m : ℕ) (fit : s → m ≡ over Nesting + n) (deep : f → within Nesting → m ≤ n) (t : Grammar TypeTree) (v : Grammar Tree) (value_starts : Lexeme → Bool) (read read0 : Reader TypeTree) (value value0 : Reader Tree)
-      (kt : IsOpenable n → Owes s f over within t type_starts type_ends read) (kv : IsOpenable n → Owes s f over within v value_starts goes_on value) (kt0 : Owes ⊥ f over within t type_starts type_ends read0) (kv0 : Owes ⊥ f over within v value_starts goes_on value0) where
+  module _ (s f : Type 0) (n m : ℕ) (fit : s → m ≡ over Nesting + n) (deep : f → within Nesting → m ≤ n)
+      (t : Grammar TypeTree) (v : Grammar Tree) (value_starts : Lexeme → Bool) (read read0 : Reader TypeTree)
+      (value value0 : Reader Tree) (kt : IsOpenable n → Owes s f over within t type_starts type_ends read)
+      (kv : IsOpenable n → Owes s f over within v value_starts goes_on value)
+      (kt0 : Owes ⊥ f over within t type_starts type_ends read0)
+      (kv0 : Owes ⊥ f over within v value_starts goes_on value0) where
     rule_body : Owes s f over within (members fits' m t v) is_lbrace no_lexeme (body_at fits n read value)
     rule_body =
         rule_read (body_at fits n read value) (body_same fits n read value)
@@ -383,13 +427,16 @@ module _ (over : Limit → ℕ) (within : Limit → Type 0) (fits fits' : ℕ �
     abbrev first_form : Grammar FormTree
     first_form = simple fits' m ⇒ a_simple
 
-    rule_form : Owes s f over within (choice fits' m t ∣ first_form) (either is_choice_word simple_starts) (either none is_lbrace) (pick is_choice_word (choice_read fits n read) (form_read fits n read value))
+    rule_form :
+        Owes s f over within (choice fits' m t ∣ first_form) (either is_choice_word simple_starts) (either none is_lbrace) (pick is_choice_word (choice_read fits n read) (form_read fits n read value))
     rule_form = rule_pick rule_choice (rule_made a_simple (rule_simple over within fits fits' grows past tags tag_rule room s f n m fit deep)) simple_no_choice
 
     one_turned : Same (ref ∣ (choice fits' m t ∣ first_form)) (one_type fits' m t)
     one_turned = record { to = record { is = λ x u h. to_is x u h; on = λ u h. to_on u h }; back = record { is = λ x u h. back_is x u h; on = λ u h. back_on u h } }
       where
-        to_is : (x : FormTree) (u : List Lexeme) → (ref ∣ (choice fits' m t ∣ first_form)).Is x u → (one_type fits' m t).Is x u
+        to_is : (x : FormTree) (u : List Lexeme)
+            → (ref ∣ (choice fits' m t ∣ first_form)).Is x u
+            → (one_type fits' m t).Is x u
         to_is x u (inl h) = inr (inl h)
         to_is x u (inr (inl h)) = inr (inr h)
         to_is x u (inr (inr h)) = inl h
@@ -399,7 +446,9 @@ module _ (over : Limit → ℕ) (within : Limit → Type 0) (fits fits' : ℕ �
         to_on u (inr (inl h)) = inr (inr h)
         to_on u (inr (inr h)) = inl h
 
-        back_is : (x : FormTree) (u : List Lexeme) → (one_type fits' m t).Is x u → (ref ∣ (choice fits' m t ∣ first_form)).Is x u
+        back_is : (x : FormTree) (u : List Lexeme)
+            → (one_type fits' m t).Is x u
+            → (ref ∣ (choice fits' m t ∣ first_form)).Is x u
         back_is x u (inl h) = inr (inr h)
         back_is x u (inr (inl h)) = inl h
         back_is x u (inr (inr h)) = inr (inl h)
@@ -420,7 +469,8 @@ module _ (over : Limit → ℕ) (within : Limit → Type 0) (fits fits' : ℕ �
     rule_of : Owes s f over within (opens m (behind (Word words.Of) t)) is_of_word type_ends (of_at fits n read)
     rule_of = rule_read (of_at fits n read) (of_same fits n read) (rule_opens (Word words.Of) is_of_word refl of_word_one t n m fit deep (λ q. (kt0.finds q).part) kt)
 
-    pub rule_step : Owes s f over within (type_with fits' tags m t v) type_starts type_ends (type_step fits n read value)
+    pub rule_step :
+        Owes s f over within (type_with fits' tags m t v) type_starts type_ends (type_step fits n read value)
     rule_step =
         rule_tests type_starts type_ends (λ t e. e) type_ends_are (rule_same (type_with fits' tags m t v) (type_is_split fits' tags m t v) (rule_read (type_step fits n read value) (type_same fits n read value)
         (rule_pick rule_tagged

@@ -28,22 +28,40 @@ use Rattle.type_syntax.proofs.TypeGrows.{types_grow}
 le_same : (us : List Lexeme) → length us ≤ length us
 le_same us = omega arith
 
-none_owed : {A : Type 0} (f : Type 0) (over : Limit → ℕ) (within : Limit → Type 0) (starts ends : Lexeme → Bool) → Owes {A = A} ⊥ f over within cut_off starts ends stop
+none_owed : {A : Type 0} (f : Type 0) (over : Limit → ℕ) (within : Limit → Type 0) (starts ends : Lexeme → Bool)
+    → Owes {A = A} ⊥ f over within cut_off starts ends stop
 none_owed f over within starts ends = record { sound = λ q. absurd q; finds = λ q. cut_off_finds within starts ends stop le_same; solid = cut_off_solid }
 
 -- fits is the reader's test on numbers, fits' the grammar's
-module _ (over : Limit → ℕ) (within : Limit → Type 0) (fits fits' : ℕ → Bool) (grows : (n : ℕ) → fits n ≡ true → fits' n ≡ true) (past : Past (over Integer) ((n : ℕ) → fits' n ≡ true)) (tags : ℕ → Bool) (tag_rule : TagRule over within fits tags) (room : (n : ℕ) → fits' n ≡ true → within Integer → fits n ≡ true)
-    (constraints : Rules over within (constraint fits') is_open no_lexeme (constraint_at fits)) (sizes : Rules over within (size fits') is_size no_lexeme (size_at fits)) (value_starts : Lexeme → Bool) (solid : (n : ℕ) → IsSolid (value fits' n)) where
+module _ (over : Limit → ℕ) (within : Limit → Type 0) (fits fits' : ℕ → Bool)
+    (grows : (n : ℕ) → fits n ≡ true → fits' n ≡ true) (past : Past (over Integer) ((n : ℕ) → fits' n ≡ true))
+    (tags : ℕ → Bool) (tag_rule : TagRule over within fits tags)
+    (room : (n : ℕ) → fits' n ≡ true → within Integer → fits n ≡ true)
+    (constraints : Rules over within (constraint fits') is_open no_lexeme (constraint_at fits))
+    (sizes : Rules over within (size fits') is_size no_lexeme (size_at fits)) (value_starts : Lexeme → Bool)
+    (solid : (n : ℕ) → IsSolid (value fits' n)) where
   abbrev ValuesSound : Type 0 → Type 0
   ValuesSound s = s → (n m : ℕ) → m ≡ over Nesting + n → SoundReader over (value fits' m) (value_at fits n)
 
   abbrev ValuesFound : Type 0 → Type 0
   ValuesFound f = f → (n m : ℕ) → (within Nesting → m ≤ n) → Finds within (value fits' m) value_starts goes_on (value_at fits n)
 
-  values : (s f : Type 0) → ValuesSound s → ValuesFound f → (n m : ℕ) → (s → m ≡ over Nesting + n) → (f → within Nesting → m ≤ n) → Owes s f over within (value fits' m) value_starts goes_on (value_at fits n)
+  values : (s f : Type 0)
+      → ValuesSound s
+      → ValuesFound f
+      → (n m : ℕ)
+      → (s → m ≡ over Nesting + n)
+      → (f → within Nesting → m ≤ n)
+      → Owes s f over within (value fits' m) value_starts goes_on (value_at fits n)
   values s f vs vf n m fit deep = record { sound = λ q. vs q n m (fit q); finds = λ q. vf q n m (deep q); solid = solid m }
 
-  types : (s f : Type 0) → ValuesSound s → ValuesFound f → (n m : ℕ) → (s → m ≡ over Nesting + n) → (f → within Nesting → m ≤ n) → Owes s f over within (type fits' tags m) type_starts type_ends (type_at fits n)
+  types : (s f : Type 0)
+      → ValuesSound s
+      → ValuesFound f
+      → (n m : ℕ)
+      → (s → m ≡ over Nesting + n)
+      → (f → within Nesting → m ≤ n)
+      → Owes s f over within (type fits' tags m) type_starts type_ends (type_at fits n)
   unfolding type_at
   types s f vs vf zero zero fit deep =
       rule_step over within fits fits' grows past tags tag_rule room constraints sizes s f zero zero fit deep cut_off cut_off value_starts stop stop stop stop (λ o. absurd o) (λ o. absurd o) (none_owed f over within type_starts type_ends) (none_owed f over within value_starts goes_on)
@@ -80,7 +98,11 @@ at_same : (P : ℕ → Type 0) (n m : ℕ) → m ≡ n → P n → P m
 at_same P n m e h = subst P (sym e) h
 
 -- where less is within the limits, more is a way out
-finds_weaker : {A : Type 0} (within within' : Limit → Type 0) (g : Grammar A) (starts ends : Lexeme → Bool) (read : Reader A) → ((l : Limit) → within l → within' l) → Finds within' g starts ends read → Finds within g starts ends read
+finds_weaker : {A : Type 0} (within within' : Limit → Type 0) (g : Grammar A) (starts ends : Lexeme → Bool)
+    (read : Reader A)
+    → ((l : Limit) → within l → within' l)
+    → Finds within' g starts ends read
+    → Finds within g starts ends read
 finds_weaker {A} within within' g starts ends read less f = record {
   nil = f.nil;
   part = f.part;
@@ -104,23 +126,28 @@ module _ (laws : PartLaws) where
   let_values = laws.values
 
   -- of what is read under the limits
-  sound_at : (over : Limit → ℕ) (b : Limits) → ((n : ℕ) → small n ≡ true → b.number n ≡ true) → Past (over Integer) ((n : ℕ) → b.number n ≡ true)
-      → ((n : ℕ) → tag_small n ≡ true → b.tag n ≡ true) → Past (over TagLimit) ((n : ℕ) → b.tag n ≡ true)
+  sound_at : (over : Limit → ℕ) (b : Limits)
+      → ((n : ℕ) → small n ≡ true → b.number n ≡ true)
+      → Past (over Integer) ((n : ℕ) → b.number n ≡ true)
+      → ((n : ℕ) → tag_small n ≡ true → b.tag n ≡ true)
+      → Past (over TagLimit) ((n : ℕ) → b.tag n ≡ true)
       → ((n m : ℕ) → m ≡ over Nesting + n → SoundReader over (value b.number m) (value_at small n))
-      → (n m : ℕ) → m ≡ over Nesting + n → Owes (Unit {0}) ⊥ over (λ l. ⊥) (type b.number b.tag m) type_starts type_ends (type_at small n)
+      → (n m : ℕ)
+      → m ≡ over Nesting + n
+      → Owes (Unit {0}) ⊥ over (λ l. ⊥) (type b.number b.tag m) type_starts type_ends (type_at small n)
   sound_at over b grows past grows_tags past_tags vs n m e =
       types over (λ l. ⊥) small b.number grows past b.tag (record { grows = λ n t. grows_tags n (small_tags n t); past = past_tags; room = λ n t w. absurd w }) (λ n t w. absurd w)
       (any_rules (laws.constraints over (bounded 0) b grows past)) (any_rules (laws.sizes over (bounded 0) b grows past)) (starts b.number) (let_values.solid b.number) (Unit {0}) ⊥
       (λ q. vs) (λ q. absurd q) n m (λ q. e) (λ q. absurd q)
     where
-      any_rules : {A : Type 0} {g : Grammar A} {starts ends : Lexeme → Bool} {read : Reader A} → Rules over (λ l. Within l b (bounded 0)) g starts ends read → Rules over (λ l. ⊥) g starts ends read
+      any_rules : {A : Type 0} {g : Grammar A} {starts ends : Lexeme → Bool} {read : Reader A}
+          → Rules over (λ l. Within l b (bounded 0)) g starts ends read
+          → Rules over (λ l. ⊥) g starts ends read
       any_rules {A} {g} {starts} {ends} {read} k = record { sound = k.sound; finds = λ q. finds_weaker (λ l. ⊥) (λ l. Within l b (bounded 0)) g starts ends read (λ l w. absurd w) (k.finds tt); solid = k.solid }
 
-  pub types_read : (n : ℕ) → Owes (Unit {0}) ⊥ nowhere (λ l. ⊥) (type small tag_small n) type_starts type_ends (type_at small n)
+  pub types_read : (n : ℕ)
+      → Owes (Unit {0}) ⊥ nowhere (λ l. ⊥) (type small tag_small n) type_starts type_ends (type_at small n)
   types_read n = sound_at nowhere (bounded n) (λ n e. e) tt (λ n e. e) tt (λ n m e. at_same (λ (k : ℕ). SoundReader nowhere (value small k) (value_at small n)) n m (omega (arith, e)) (let_values.sound n)) n n (omega arith)
-
-  pub values_read : (n : ℕ) → Owes (Unit {0}) ⊥ nowhere (λ l. ⊥) (value small n) (starts small) goes_on (value_at small n)
-  values_read n = record { sound = λ q. let_values.sound n; finds = λ q. absurd q; solid = let_values.solid small n }
 
   pub type_sound : (n : ℕ) → SoundReader nowhere (type small tag_small n) (type_at small n)
   type_sound n = (types_read n).sound tt
@@ -141,7 +168,10 @@ module _ (laws : PartLaws) where
       (λ n m e. at_same (λ (k : ℕ). SoundReader deeper (value small k) (value_at small n)) (suc n) m (omega (arith, e)) (let_values.sound_deeper n)) n (suc n) (omega arith)).sound tt
 
   -- a are the reader's limits, b the grammar's
-  pub type_owed : (a b : Limits) → Allows a b → Owes ⊥ (Unit {0}) nowhere (λ l. Within l b a) (type b.number b.tag b.nesting) type_starts type_ends (type_at a.number a.nesting)
+  pub type_owed : (a b : Limits)
+      → Allows a b
+      →
+      Owes ⊥ (Unit {0}) nowhere (λ l. Within l b a) (type b.number b.tag b.nesting) type_starts type_ends (type_at a.number a.nesting)
   type_owed a b allows =
       types nowhere (λ l. Within l b a) a.number b.number allows.number tt b.tag (record { grows = allows.tag; past = tt; room = λ n e w. allows.own n (w n e) }) (λ n e w. w n e)
       (laws.constraints nowhere a b allows.number tt) (laws.sizes nowhere a b allows.number tt) (starts b.number) (let_values.solid b.number) ⊥ (Unit {0}) (λ q. absurd q)
@@ -153,5 +183,9 @@ module _ (laws : PartLaws) where
       deeper_within n m d Integer w = w
       deeper_within n m d TagLimit w = w
 
-  pub type_grows : (a b : Limits) → ((n : ℕ) → a.number n ≡ true → b.number n ≡ true) → ((n : ℕ) → a.tag n ≡ true → b.tag n ≡ true) → (n : ℕ) → Grows (type a.number a.tag n) (type b.number b.tag n)
+  pub type_grows : (a b : Limits)
+      → ((n : ℕ) → a.number n ≡ true → b.number n ≡ true)
+      → ((n : ℕ) → a.tag n ≡ true → b.tag n ≡ true)
+      → (n : ℕ)
+      → Grows (type a.number a.tag n) (type b.number b.tag n)
   type_grows a b grows grows_tags = types_grow a.number b.number grows a.tag b.tag grows_tags (laws.constraints_grow a.number b.number grows) (laws.sizes_grow a.number b.number grows) (let_values.grows a.number b.number grows)

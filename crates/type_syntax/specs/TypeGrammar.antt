@@ -120,7 +120,3 @@ module _ (fits : ℕ → Bool) where
   abbrev pub type : (ℕ → Bool) → ℕ → Grammar TypeTree
   type tags zero = type_with tags zero cut_off cut_off
   type tags (suc n) = type_with tags (suc n) (type tags n) (value fits n)
-
--- the types within limits
-abbrev pub types : Limited TypeTree
-types a = type a.number a.tag a.nesting

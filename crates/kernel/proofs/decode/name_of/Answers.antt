@@ -2,7 +2,10 @@ use Rattle.std.proofs.Common.{rules, Result, Ok, Err, IsOk, MatchResult}
 use Rattle.kernel.proofs.Tokens.{name_utf8}
 use Rattle.kernel.proofs.decode.name_of.Goals as goal
 
-is_ok : {A E : Type 0} (r : Result A E) (P : A → Type 0) (Q : E → Type 0) → MatchResult r P Q → ((e : E) → Q e → ⊥) → IsOk r
+is_ok : {A E : Type 0} (r : Result A E) (P : A → Type 0) (Q : E → Type 0)
+    → MatchResult r P Q
+    → ((e : E) → Q e → ⊥)
+    → IsOk r
 is_ok (Ok x) P Q h never = search rules
 is_ok (Err e) P Q h never = absurd (never e h)
 

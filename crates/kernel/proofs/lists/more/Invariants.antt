@@ -6,7 +6,8 @@ use Rattle.kernel.proofs.lists.more.Given as goal
 
 abbrev pub invariant-loop-after : goal.invariant-loop-after
 invariant-loop-after g l = record {
-  read : with_root (map g.P.Part.view l.root.items) (more_at (g.P.Part.reader l.part) (g.Q.Part.reader l.addition) (length (lexemes l.text l.rest)) (lexemes l.text l.rest)) ≡ with_root (map g.P.Part.view l.fn.root.items) (more_at (g.P.Part.reader l.part) (g.Q.Part.reader l.addition) (length (lexemes l.text l.fn.tokens)) (lexemes l.text l.fn.tokens));
+  read :
+      with_root (map g.P.Part.view l.root.items) (more_at (g.P.Part.reader l.part) (g.Q.Part.reader l.addition) (length (lexemes l.text l.rest)) (lexemes l.text l.rest)) ≡ with_root (map g.P.Part.view l.fn.root.items) (more_at (g.P.Part.reader l.part) (g.Q.Part.reader l.addition) (length (lexemes l.text l.fn.tokens)) (lexemes l.text l.fn.tokens));
   tokens : AreTokens l.text l.rest;
 }
 

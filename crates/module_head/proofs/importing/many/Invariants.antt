@@ -9,7 +9,8 @@ use Rattle.module_head.proofs.importing.many.Given as goal
 
 abbrev pub invariant-loop-alloc : goal.invariant-loop-alloc
 invariant-loop-alloc l = record {
-  read : with_front (map import_of l.imports.items) (many_at begins_symbol (import_from_at small) (length (lexemes l.text l.rest)) (lexemes l.text l.rest)) ≡ many_at begins_symbol (import_from_at small) (length (lexemes l.text l.fn.tokens)) (lexemes l.text l.fn.tokens);
+  read :
+      with_front (map import_of l.imports.items) (many_at begins_symbol (import_from_at small) (length (lexemes l.text l.rest)) (lexemes l.text l.rest)) ≡ many_at begins_symbol (import_from_at small) (length (lexemes l.text l.fn.tokens)) (lexemes l.text l.fn.tokens);
   tokens : AreTokens l.text l.rest;
 }
 

@@ -9,7 +9,8 @@ use Rattle.module_head.proofs.importing.more_arcs.Given as goal
 
 abbrev pub invariant-loop-rest : goal.invariant-loop-rest
 invariant-loop-rest l = record {
-  read : made (λ (xs : List (Unit {0})). tt) (many_at begins_arc (arc_at small) (length (lexemes l.text l.rest)) (lexemes l.text l.rest)) ≡ more_arcs_at small (lexemes l.text l.fn.tokens);
+  read :
+      made (λ (xs : List (Unit {0})). tt) (many_at begins_arc (arc_at small) (length (lexemes l.text l.rest)) (lexemes l.text l.rest)) ≡ more_arcs_at small (lexemes l.text l.fn.tokens);
   tokens : AreTokens l.text l.rest;
 }
 

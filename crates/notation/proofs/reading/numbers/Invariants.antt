@@ -8,7 +8,8 @@ use Rattle.notation.proofs.reading.numbers.Given as goal
 
 abbrev pub invariant-loop-number : goal.invariant-loop-number
 invariant-loop-number l = record {
-  read : with_front l.numbers.items (numbers_at small (lexemes l.text l.rest)) ≡ with_front (l.first ∷ l.second ∷ []) (numbers_at small (lexemes l.text l.fn.tokens));
+  read :
+      with_front l.numbers.items (numbers_at small (lexemes l.text l.rest)) ≡ with_front (l.first ∷ l.second ∷ []) (numbers_at small (lexemes l.text l.fn.tokens));
   tokens : AreTokens l.text l.rest;
 }
 

@@ -7,7 +7,8 @@ use Rattle.notation.proofs.unions.by_or.Given as goal
 
 abbrev pub invariant-loop-after : goal.invariant-loop-after
 invariant-loop-after g l = record {
-  read : with_front (map g.P.Part.view l.parts.items) (many_at is_or (or_then_at (g.P.Part.reader l.part)) (length (lexemes l.text l.rest)) (lexemes l.text l.rest)) ≡ by_or_at (g.P.Part.reader l.part) (lexemes l.text l.fn.tokens);
+  read :
+      with_front (map g.P.Part.view l.parts.items) (many_at is_or (or_then_at (g.P.Part.reader l.part)) (length (lexemes l.text l.rest)) (lexemes l.text l.rest)) ≡ by_or_at (g.P.Part.reader l.part) (lexemes l.text l.fn.tokens);
   tokens : AreTokens l.text l.rest;
 }
 

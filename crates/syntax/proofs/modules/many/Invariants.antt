@@ -9,7 +9,8 @@ use Rattle.syntax.proofs.modules.many.Given as goal
 
 abbrev pub invariant-loop-alloc : goal.invariant-loop-alloc
 invariant-loop-alloc l = record {
-  read : with_front (map assignment_of l.assignments.items) (many_at begins_assignment (assignment_at small l.depth) (length (lexemes l.text l.rest)) (lexemes l.text l.rest)) ≡ many_at begins_assignment (assignment_at small l.depth) (length (lexemes l.text l.fn.tokens)) (lexemes l.text l.fn.tokens);
+  read :
+      with_front (map assignment_of l.assignments.items) (many_at begins_assignment (assignment_at small l.depth) (length (lexemes l.text l.rest)) (lexemes l.text l.rest)) ≡ many_at begins_assignment (assignment_at small l.depth) (length (lexemes l.text l.fn.tokens)) (lexemes l.text l.fn.tokens);
   tokens : AreTokens l.text l.rest;
 }
 

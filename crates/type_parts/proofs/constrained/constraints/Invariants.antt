@@ -10,7 +10,8 @@ use Rattle.type_parts.proofs.constrained.constraints.Given as goal
 
 abbrev pub invariant-loop-alloc : goal.invariant-loop-alloc
 invariant-loop-alloc l = record {
-  read : with_front (map constraint_of l.constraints.items) (many_at is_open (constraint_at small) (length (lexemes l.text l.rest)) (lexemes l.text l.rest)) ≡ many_at is_open (constraint_at small) (length (lexemes l.text l.fn.tokens)) (lexemes l.text l.fn.tokens);
+  read :
+      with_front (map constraint_of l.constraints.items) (many_at is_open (constraint_at small) (length (lexemes l.text l.rest)) (lexemes l.text l.rest)) ≡ many_at is_open (constraint_at small) (length (lexemes l.text l.fn.tokens)) (lexemes l.text l.fn.tokens);
   tokens : AreTokens l.text l.rest;
 }
 

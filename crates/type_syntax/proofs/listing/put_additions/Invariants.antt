@@ -7,6 +7,7 @@ use Rattle.type_syntax.proofs.listing.put_additions.Given as goal
 
 abbrev pub invariant-loop-addition : goal.invariant-loop-addition
 invariant-loop-addition l = record {
-  members : Taken (map type_member_of l.members.items) (map type_member_of l.fn.members.items) (map (addition_of named_component) l.yielded) l.number;
+  members :
+      Taken (map type_member_of l.members.items) (map type_member_of l.fn.members.items) (map (addition_of named_component) l.yielded) l.number;
   number : l.number ≤ length l.yielded;
 }
