@@ -74,6 +74,7 @@ impl<T: Drop> From<AllocFailed<T>> for NameFault {
 pub fn spot(alloc: Global, within: &str, name: &str, at: usize) -> Result<Spot, AllocError>
     ensures within { IfOk result (λ s. module_told s ≡ within.now) }
     ensures name { IfOk result (λ s. name_told s ≡ name.now) }
+    ensures at { IfOk result (λ s. s.at ≡ at) }
 {
     Ok(Spot {
         module: String::from_str(alloc, within)?,
