@@ -1,5 +1,6 @@
 -- What it takes for a value that holds others to be of a kind, part by part.
-use Rattle.std.specs.Prelude.{◌≡◌, ℕ, ◌++◌, false, List, Option, Some, None, slice_get}
+use Rattle.std.specs.Prelude.{◌≡◌, ℕ, ◌+◌, ◌*◌, ◌<◌, ◌++◌, Bool, false, List, Option, Some, None}
+use Rattle.std.specs.Prelude.{get_or, slice_get}
 use Rattle.asn_base.specs.Abstract.{AbstractValue, fields, list, alternative, Row}
 use Rattle.asn_base.specs.Types.{Alternative, Kind, a_sequence, a_set, a_sequence_of, a_set_of, a_choice, addition}
 use Rattle.asn_base.specs.Types.{Component, Resolved}
@@ -37,3 +38,11 @@ IsDue g c (Some v) = ⊥
 abbrev pub StandsIn : ℕ → Component → Option AbstractValue → Type 0
 StandsIn g c None = ⊥
 StandsIn g c (Some v) = IsOfGroup g c
+
+-- two have the same bits but for zeros at the end
+abbrev pub AreAlikeBits : List Bool → List Bool → Type 0
+AreAlikeBits a b = (i : ℕ) → get_or a i false ≡ get_or b i false
+
+-- the eight bits from 8 * j on are the same, where bits behind the end are zeros
+abbrev pub HaveSameOctet : List Bool → List Bool → ℕ → Type 0
+HaveSameOctet a b j = (k : ℕ) → k < 8 → get_or a (8 * j + k) false ≡ get_or b (8 * j + k) false

@@ -1,6 +1,6 @@
 //! Whether a value is one of a kind that holds no other values (X.680, 18 to 24, 32, 33, 41 and 51).
 
-ghost use Rattle.asn_base.specs.Abstract.{abstract, bits_of};
+ghost use Rattle.asn_base.specs.Abstract.{abstract};
 ghost use Rattle.asn_base.specs.Names.{IsMember};
 ghost use Rattle.asn_base.specs.Seen.{constraint_of, item_of, kind_of, range_of};
 ghost use Rattle.asn_base.specs.Typed.{Fits, HasNumber, IsAllowed, IsAllowedSize, IsInRange, IsInSome, IsObjectIdentifier, IsRelativeOid};
@@ -8,10 +8,11 @@ ghost use Rattle.std.specs.Int.Digits.{AllBelowBase};
 ghost use Rattle.std.specs.List.{AllByRecursion};
 ghost use Rattle.std.specs.Prelude.{◌≡◌, ◌≤◌, ◌<◌, ◌↔◌, ◌++◌, IsTrue, IsUtf8, chars, ◌^◌, length, map};
 
+use crate::bits::bit_count;
 use crate::constraint::{Constraint, Range};
 use crate::law::{abstract_values, integer_within_limit};
 use crate::schema::{Core, Item, Items};
-use crate::value::{BitString, Value};
+use crate::value::Value;
 
 /// Whether the range has the number.
 fn is_in_range(range: &Range, number: i128) -> bool
@@ -75,15 +76,6 @@ fn has_number(items: &Items, number: i128) -> bool
     ensures { IsTrue result ↔ HasNumber (map item_of items.now.root.items ++ map item_of items.now.additions.items) number }
 {
     has_item(items.root.as_slice(), number) || has_item(items.additions.as_slice(), number)
-}
-
-/// How many bits it has.
-fn bit_count(bits: &BitString) -> u128
-    ensures count { result ≡ length (bits_of bits.now) }
-    ensures small { result < 2 ^ 127 }
-{
-    let octets = bits.octets.len() as u128;
-    8 * octets - u128::from(bits.unused)
 }
 
 /// Whether the code stands in the alphabet.
