@@ -145,27 +145,27 @@ leaf_decided (fits_restricted {o = a} l m) (fits_restricted {o = b} l' m') = pla
 
 -- ---- values that hold others
 
-back : {s : List Resolved} {t : ℕ} {tags : List Tag} {k : Kind} {v w : AbstractValue} → Is s t tags k → Alike s t v w → AlikeBy s k v w
+pub back : {s : List Resolved} {t : ℕ} {tags : List Tag} {k : Kind} {v w : AbstractValue} → Is s t tags k → Alike s t v w → AlikeBy s k v w
 back i (alike j a) = by_at (same_kind i j) a
 
-un_sequence : {s : List Resolved} {e : Bool} {cs : List Component} {vs ws : Row} → AlikeBy s (a_sequence e cs) (fields vs) (fields ws) → AlikeComponents s cs vs ws
+pub un_sequence : {s : List Resolved} {e : Bool} {cs : List Component} {vs ws : Row} → AlikeBy s (a_sequence e cs) (fields vs) (fields ws) → AlikeComponents s cs vs ws
 un_sequence (equal l) = absurd l
 un_sequence (alike_sequence a) = a
 
-un_set : {s : List Resolved} {e : Bool} {cs : List Component} {vs ws : Row} → AlikeBy s (a_set e cs) (fields vs) (fields ws) → AlikeComponents s cs vs ws
+pub un_set : {s : List Resolved} {e : Bool} {cs : List Component} {vs ws : Row} → AlikeBy s (a_set e cs) (fields vs) (fields ws) → AlikeComponents s cs vs ws
 un_set (equal l) = absurd l
 un_set (alike_set a) = a
 
-un_sequence_of : {s : List Resolved} {u : ℕ} {c : Constraint} {vs ws : Row} → AlikeBy s (a_sequence_of c u) (list vs) (list ws) → AlikeElements s u vs ws
+pub un_sequence_of : {s : List Resolved} {u : ℕ} {c : Constraint} {vs ws : Row} → AlikeBy s (a_sequence_of c u) (list vs) (list ws) → AlikeElements s u vs ws
 un_sequence_of (equal l) = absurd l
 un_sequence_of (alike_sequence_of a) = a
 
-un_set_of : {s : List Resolved} {u : ℕ} {c : Constraint} {vs ws : Row} → AlikeBy s (a_set_of c u) (list vs) (list ws) → AlikeInAnyOrder s u vs ws
+pub un_set_of : {s : List Resolved} {u : ℕ} {c : Constraint} {vs ws : Row} → AlikeBy s (a_set_of c u) (list vs) (list ws) → AlikeInAnyOrder s u vs ws
 un_set_of (equal l) = absurd l
 un_set_of (alike_set_of a) = a
 
 -- the same alternative, and alike
-un_choice : {s : List Resolved} {i j : ℕ} {e : Bool} {root more : List Alternative} {b : Alternative} {v w : AbstractValue} → slice_get (root ++ more) i ≡ Some b → AlikeBy s (a_choice root e more) (alternative i v) (alternative j w) → (i ≡ j) × Alike s b.type v w
+pub un_choice : {s : List Resolved} {i j : ℕ} {e : Bool} {root more : List Alternative} {b : Alternative} {v w : AbstractValue} → slice_get (root ++ more) i ≡ Some b → AlikeBy s (a_choice root e more) (alternative i v) (alternative j w) → (i ≡ j) × Alike s b.type v w
 un_choice g (equal l) = absurd l
 un_choice {s} {v = v} {w = w} g (alike_choice h a) = (refl, subst (λ t. Alike s t v w) (same_alternative g h) a)
 
@@ -175,7 +175,7 @@ un_absent (both_absent a) = a
 un_present : {s : List Resolved} {c : Component} {cs : List Component} {v w : AbstractValue} {vs ws : Row} → AlikeComponents s (c ∷ cs) (present v vs) (present w ws) → Alike s c.type v w × AlikeComponents s cs vs ws
 un_present (both_present e a) = (e, a)
 
-un_element : {s : List Resolved} {u : ℕ} {v w : AbstractValue} {vs ws : Row} → AlikeElements s u (present v vs) (present w ws) → Alike s u v w × AlikeElements s u vs ws
+pub un_element : {s : List Resolved} {u : ℕ} {v w : AbstractValue} {vs ws : Row} → AlikeElements s u (present v vs) (present w ws) → Alike s u v w × AlikeElements s u vs ws
 un_element (alike_element e a) = (e, a)
 
 abbrev default_in : Presence → AbstractValue

@@ -11,7 +11,7 @@ use Rattle.asn_base.proofs.Levels.{value_of_at}
 
 -- ---- the kind of the type
 
-to_parts : {s : List Resolved} {n : ℕ} {k : Kind} {v : AbstractValue} → ValueOf s n k v → Fits k v ⊎ Holds s n k v
+pub to_parts : {s : List Resolved} {n : ℕ} {k : Kind} {v : AbstractValue} → ValueOf s n k v → Fits k v ⊎ Holds s n k v
 to_parts (of_leaf f) = inl f
 to_parts (of_sequence a g) = inr (a, g)
 to_parts (of_set a g) = inr (a, g)
@@ -28,7 +28,7 @@ from_parts (a_choice root e more) (alternative i v) h = of_choice h.1 h.2
 from_parts k v h = absurd h
 
 -- what is known of the kind
-in_kind : {s : List Resolved} {n t : ℕ} {r : Resolved} {v : AbstractValue} → slice_get s t ≡ Some r → ValueIn s (suc n) t v → ValueOf s n r.kind v
+pub in_kind : {s : List Resolved} {n t : ℕ} {r : Resolved} {v : AbstractValue} → slice_get s t ≡ Some r → ValueIn s (suc n) t v → ValueOf s n r.kind v
 in_kind {r = r} e (value_in i a) = value_of_at (same_kind (at e) i) a
   where
     at : {s : List Resolved} {t : ℕ} {r : Resolved} → slice_get s t ≡ Some r → Is s t r.tags r.kind
@@ -113,7 +113,7 @@ all_components s n cs vs i e f a = a.1 (subst (λ q. AreComponents s n q (row_of
 pub not_mandatory : {s : List Resolved} {n t : ℕ} → MayBeAbsent s n t mandatory → ⊥
 not_mandatory a = elim a [ ]
 
-in_default : {s : List Resolved} {n t : ℕ} {d : AbstractValue} → MayBeAbsent s n t (default d) → ValueIn s n t d
+pub in_default : {s : List Resolved} {n t : ℕ} {d : AbstractValue} → MayBeAbsent s n t (default d) → ValueIn s n t d
 in_default (where_default v) = v
 
 pub by_default : {s : List Resolved} {n t : ℕ} {d : AbstractValue} {p : Presence} {r : Bool} → p ≡ default d → IsTrue r ↔ ValueIn s n t d → IsTrue r ↔ MayBeAbsent s n t p
@@ -128,7 +128,7 @@ member_count (v ∷ vs) = ap suc (member_count vs)
 abbrev pub ElementsFrom : List Resolved → ℕ → ℕ → List AbstractValue → ℕ → Type 0
 ElementsFrom s n u vs i = AreElements s n u (row_of_list vs) ↔ AreElements s n u (row_of_list (drop i vs))
 
-split_elements : {s : List Resolved} {n u : ℕ} {v : AbstractValue} {vs : Row} → AreElements s n u (present v vs) → ValueIn s n u v × AreElements s n u vs
+pub split_elements : {s : List Resolved} {n u : ℕ} {v : AbstractValue} {vs : Row} → AreElements s n u (present v vs) → ValueIn s n u v × AreElements s n u vs
 split_elements (one_element v a) = (v, a)
 
 pub opened_elements : (s : List Resolved) (n u : ℕ) (vs : List AbstractValue) (i : ℕ) {v : AbstractValue} {vs' : List AbstractValue} → drop i vs ≡ v ∷ vs' → ElementsFrom s n u vs i → AreElements s n u (row_of_list vs) ↔ (ValueIn s n u v × AreElements s n u (row_of_list vs'))

@@ -1,11 +1,12 @@
 -- What it takes for a value that holds others to be of a kind, part by part.
-use Rattle.std.specs.Prelude.{◌≡◌, ℕ, ◌+◌, ◌*◌, ◌<◌, ◌++◌, Bool, false, List, Option, Some, None}
+use Rattle.std.specs.Prelude.{◌≡◌, ℕ, ◌+◌, ◌*◌, ◌<◌, ◌++◌, Bool, false, suc, List, [], ◌∷◌, Option, Some, None}
 use Rattle.std.specs.Prelude.{get_or, slice_get}
-use Rattle.asn_base.specs.Abstract.{AbstractValue, fields, list, alternative, Row}
-use Rattle.asn_base.specs.Types.{Alternative, Kind, a_sequence, a_set, a_sequence_of, a_set_of, a_choice, addition}
+use Rattle.asn_base.specs.Abstract.{AbstractValue, fields, list, alternative, Row, end, present}
+use Rattle.asn_base.specs.Types.{Alternative, Kind, a_sequence, a_set, a_sequence_of, a_set_of, a_choice, default, addition}
 use Rattle.asn_base.specs.Types.{Component, Resolved}
 use Rattle.asn_base.specs.Typed.{IsAllowedSize, members, IsOfGroup, HasOfGroup, LacksOfGroup, GroupsAreWhole, ValueIn, MayBeAbsent}
 use Rattle.asn_base.specs.Typed.{AreComponents, AreElements}
+use Rattle.asn_base.specs.Same.{Alike}
 
 -- the value is that of the alternative with its number
 abbrev pub IsChosen : List Resolved → ℕ → List Alternative → ℕ → AbstractValue → Type 0
@@ -46,3 +47,43 @@ AreAlikeBits a b = (i : ℕ) → get_or a i false ≡ get_or b i false
 -- the eight bits from 8 * j on are the same, where bits behind the end are zeros
 abbrev pub HaveSameOctet : List Bool → List Bool → ℕ → Type 0
 HaveSameOctet a b j = (k : ℕ) → k < 8 → get_or a (8 * j + k) false ≡ get_or b (8 * j + k) false
+
+-- a value that holds no others
+abbrev pub IsFlat : AbstractValue → Type 0
+IsFlat (fields vs) = ⊥
+IsFlat (list vs) = ⊥
+IsFlat (alternative i v) = ⊥
+IsFlat v = Unit {0}
+
+-- the component's default is alike to the value
+abbrev pub HasDefaultAlike : List Resolved → Component → AbstractValue → Type 0
+HasDefaultAlike s c v = (d : AbstractValue) × (c.presence ≡ default d) × Alike s c.type d v
+
+-- two values of a component are alike, where an absent one counts as its default
+abbrev pub AlikeAt : List Resolved → Component → Option AbstractValue → Option AbstractValue → Type 0
+AlikeAt s c None None = Unit {0}
+AlikeAt s c None (Some w) = HasDefaultAlike s c w
+AlikeAt s c (Some v) None = HasDefaultAlike s c v
+AlikeAt s c (Some v) (Some w) = Alike s c.type v w
+
+-- two values of the alternative with this number are alike
+abbrev pub AlikeChosen : List Resolved → List Alternative → ℕ → AbstractValue → AbstractValue → Type 0
+AlikeChosen s as' i v w = (a : Alternative) × (slice_get as' i ≡ Some a) × Alike s a.type v w
+
+-- so many members of the row are alike to x
+pub data Count (s : List Resolved) (u : ℕ) (x : AbstractValue) : Row → ℕ → Type 0 where
+  no_more : Count s u x end 0
+  counted : {v : AbstractValue} {vs : Row} {n : ℕ} → Alike s u x v → Count s u x vs n → Count s u x (present v vs) (suc n)
+  passed : {v : AbstractValue} {vs : Row} {n : ℕ}
+      → (Alike s u x v → ⊥)
+      → Count s u x vs n
+      → Count s u x (present v vs) n
+
+-- as many members of one row as of the other are alike to x
+abbrev pub IsAsOften : List Resolved → ℕ → AbstractValue → Row → Row → Type 0
+IsAsOften s u x vs ws = (n : ℕ) × Count s u x vs n × Count s u x ws n
+
+-- so is each member of a row
+abbrev pub AreAsOften : List Resolved → ℕ → List AbstractValue → Row → Row → Type 0
+AreAsOften s u [] vs ws = Unit {0}
+AreAsOften s u (x ∷ xs) vs ws = IsAsOften s u x vs ws × AreAsOften s u xs vs ws

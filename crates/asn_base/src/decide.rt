@@ -186,7 +186,7 @@ fn is_chosen(
 }
 
 /// The type of the alternative with this number.
-fn chosen_type(alternatives: &Alternatives, index: usize) -> Option<TypeId>
+pub(crate) fn chosen_type(alternatives: &Alternatives, index: usize) -> Option<TypeId>
     ensures { MatchOption result
         (slice_get (map alternative_of alternatives.now.root.items ++ map alternative_of alternatives.now.additions.items) index ≡ None)
         (λ t. (a : Alternative)

@@ -1,4 +1,4 @@
-use Rattle.std.proofs.Common.{arith, ◌≡◌, ◌*◌, ◌≤◌, length, refl}
+use Rattle.std.proofs.Common.{arith, ◌≡◌, ◌*◌, ◌≤◌, length}
 use Rattle.asn_base.specs.Abstract.{bits_of}
 use Rattle.asn_base.proofs.Leaves.{yes, bits_length}
 use Rattle.asn_base.proofs.BitSteps.{all_octets}

@@ -1,4 +1,4 @@
-use Rattle.std.proofs.Common.{◌≡◌, length, false, get_or, sym, ap, ◌∙◌}
+use Rattle.std.proofs.Common.{false, get_or, sym, ap, ◌∙◌}
 use Rattle.asn_base.specs.Abstract.{bits_of}
 use Rattle.asn_base.proofs.BitSteps.{all_same}
 use Rattle.asn_base.proofs.bits.are_equal_bits.Goals as goal

@@ -12,10 +12,10 @@ returns c =
     let few : c.args.bits.now.unused < 8 = c.args.bits.now.few_unused in
     let l : c.args.octet < length c.args.bits.now.octets.items = omega (arith, many, c.if-octet-count.false) in
     let within : 8 * c.args.octet + c.args.place < 8 * length c.args.bits.now.octets.items - c.args.bits.now.unused =
-        elim c.else-octet-count-2.branch [
-          | else-octet-count-2-via-then-octet-count-2+else-place-bits w ↦ omega (arith, many, few, w.if-place-bits.false, w.if-octet-count-2.true)
-          | else-octet-count-2-via-else-octet-count-2 w ↦ omega (arith, many, few, c.requires, w.if-octet-count-2.false)
-        ] in
+    elim c.else-octet-count-2.branch [
+      | else-octet-count-2-via-then-octet-count-2+else-place-bits w ↦ omega (arith, many, few, w.if-place-bits.false, w.if-octet-count-2.true)
+      | else-octet-count-2-via-else-octet-count-2 w ↦ omega (arith, many, few, c.requires, w.if-octet-count-2.false)
+    ] in
     let zero_for = get_or_default_zero o c.args.octet c.index.result.now l in
     c.bit_of_octet.ensures
     ∙ ap (λ x. get_or (bits_of_octet x) c.args.place false) (c.index.ensures ∙ zero_for)

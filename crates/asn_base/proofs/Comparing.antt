@@ -1,0 +1,387 @@
+-- Whether two values are alike, part by part.
+use Rattle.std.proofs.Common.{arith, ◌≡◌, ℕ, zero, suc, ◌+◌, ◌-◌, ◌<◌, Bool, false, List, [], ◌∷◌, ◌++◌, length, replicate, drop, get_or, refl, sym, subst, ap, ◌∙◌}
+use Rattle.std.specs.Prelude.{◌↔◌, IsTrue, Option, Some, None, slice_get}
+use Rattle.std.proofs.lemmas.Bool.{eqb-true, eq-eqb}
+use Rattle.std.proofs.Math.Dec.{eqb}
+use Rattle.asn_base.specs.declared.schema.Core.{Core}
+use Rattle.asn_base.specs.declared.schema.Core.TheVariants as cores
+use Rattle.asn_base.specs.Abstract.{AbstractValue, bits, fields, list, alternative, Row, row_of_options, row_of_list}
+use Rattle.asn_base.specs.Decided.{IsFlat, AreAlikeBits, HasDefaultAlike, AlikeChosen, IsChosen, AlikeAt, Count, counted, passed, no_more, IsAsOften, AreAsOften, IsComponent}
+use Rattle.asn_base.specs.Seen.{kind_of}
+use Rattle.asn_base.specs.Types.{Constraint, NamedBit, Alternative, Kind, a_named_bit_string, a_sequence, a_set, a_sequence_of, a_set_of, a_choice, Presence, default, Component, Resolved, Is}
+use Rattle.asn_base.specs.Typed.{Fits, fits_boolean, fits_integer, fits_enumerated, fits_bits, fits_named_bits, fits_octets, fits_null, fits_oid, fits_relative_oid, fits_utf8, fits_restricted, ValueIn, ValueOf, of_leaf, of_sequence, of_set, of_sequence_of, of_set_of, of_choice, MayBeAbsent, AreComponents, AreElements}
+use Rattle.asn_base.specs.Same.{IsLeaf, Alike, alike, AlikeBy, equal, zeros, alike_sequence, alike_set, alike_sequence_of, alike_set_of, alike_choice, AlikeComponents, no_components, both_absent, both_present, first_default, second_default, AlikeElements, no_elements, alike_element, AlikeInAnyOrder}
+use Rattle.asn_base.proofs.AlikeOrNot.{back, un_sequence, un_set, un_sequence_of, un_set_of, un_choice, un_element}
+use Rattle.asn_base.proofs.Counts.{one_count, all_often, all_paired, as_many_members}
+use Rattle.asn_base.proofs.Leaves.{onward}
+use Rattle.asn_base.proofs.Levels.{value_at}
+use Rattle.asn_base.proofs.Parts.{first_and_rest, in_kind, in_default, split_elements, member_count}
+use Rattle.asn_base.proofs.Sameness.{alike_sym}
+
+-- ---- values that hold no others
+
+fits_flat : {k : Kind} {v : AbstractValue} → Fits k v → IsFlat v
+fits_flat fits_boolean = tt
+fits_flat (fits_integer l a) = tt
+fits_flat (fits_enumerated l a) = tt
+fits_flat (fits_bits a) = tt
+fits_flat fits_named_bits = tt
+fits_flat (fits_octets b a) = tt
+fits_flat fits_null = tt
+fits_flat (fits_oid a) = tt
+fits_flat (fits_relative_oid a) = tt
+fits_flat (fits_utf8 a z) = tt
+fits_flat (fits_restricted a z) = tt
+
+fits_leaf : {k : Kind} {v : AbstractValue} → Fits k v → IsLeaf k
+fits_leaf fits_boolean = tt
+fits_leaf (fits_integer l a) = tt
+fits_leaf (fits_enumerated l a) = tt
+fits_leaf (fits_bits a) = tt
+fits_leaf fits_named_bits = tt
+fits_leaf (fits_octets b a) = tt
+fits_leaf fits_null = tt
+fits_leaf (fits_oid a) = tt
+fits_leaf (fits_relative_oid a) = tt
+fits_leaf (fits_utf8 a z) = tt
+fits_leaf (fits_restricted a z) = tt
+
+abbrev IsNamed : Kind → Type 0
+IsNamed (a_named_bit_string ns) = Unit {0}
+IsNamed k = ⊥
+
+alike_equal : {s : List Resolved} {k : Kind} {v w : AbstractValue} → (IsNamed k → ⊥) → IsLeaf k → AlikeBy s k v w → v ≡ w
+alike_equal n l (equal m) = refl
+alike_equal n l (zeros a b e) = absurd (n tt)
+alike_equal n l (alike_sequence a) = absurd l
+alike_equal n l (alike_set a) = absurd l
+alike_equal n l (alike_sequence_of a) = absurd l
+alike_equal n l (alike_set_of a) = absurd l
+alike_equal n l (alike_choice g a) = absurd l
+
+pub plain : (s : List Resolved) {k : Kind} {v w : AbstractValue} {r : Bool} → (IsNamed k → ⊥) → (IsFlat v → IsTrue r ↔ (v ≡ w)) → Fits k v → IsTrue r ↔ AlikeBy s k v w
+plain s {k} {v} n f x = onward (f (fits_flat x)) (λ e. subst (AlikeBy s k v) e (equal (fits_leaf x))) (alike_equal n (fits_leaf x))
+
+pub not_named : (core : Core) → ((bs : _) → core ≡ cores.NamedBits bs → ⊥) → IsNamed (kind_of core) → ⊥
+not_named cores.Boolean h n = n
+not_named (cores.Integer x) h n = n
+not_named (cores.Enumerated x) h n = n
+not_named (cores.BitString x) h n = n
+not_named (cores.NamedBits x) h n = h x refl
+not_named (cores.OctetString x) h n = n
+not_named cores.Null h n = n
+not_named cores.ObjectIdentifier h n = n
+not_named cores.RelativeOid h n = n
+not_named (cores.Utf8String x) h n = n
+not_named (cores.RestrictedString x y z) h n = n
+not_named (cores.Sequence x y) h n = n
+not_named (cores.Set x y) h n = n
+not_named (cores.SequenceOf x y) h n = n
+not_named (cores.SetOf x y) h n = n
+not_named (cores.Choice x) h n = n
+
+zero_bits : (m i : ℕ) → get_or (replicate m false) i false ≡ false
+zero_bits zero i = refl
+zero_bits (suc m) zero = refl
+zero_bits (suc m) (suc i) = zero_bits m i
+
+with_zeros : (a : List Bool) (m i : ℕ) → get_or (a ++ replicate m false) i false ≡ get_or a i false
+with_zeros [] m i = zero_bits m i
+with_zeros (x ∷ a) m zero = refl
+with_zeros (x ∷ a) m (suc i) = with_zeros a m i
+
+same_bits : {s : List Resolved} {ns : List NamedBit} {a b : List Bool} → AlikeBy s (a_named_bit_string ns) (bits a) (bits b) → AreAlikeBits a b
+same_bits (equal l) = λ i. refl
+same_bits {a = a} {b = b} (zeros m n e) = λ i. sym (with_zeros a m i) ∙ ap (λ q. get_or q i false) e ∙ with_zeros b n i
+
+zeros_for : (a b : List Bool) → AreAlikeBits a b → (m : ℕ) × (n : ℕ) × (a ++ replicate m false ≡ b ++ replicate n false)
+zeros_for [] [] f = (0, 0, refl)
+zeros_for [] (y ∷ b) f = let z = zeros_for [] b (λ i. f (suc i)) in let h : false ≡ y = f 0 in (suc z.0, z.1, ap (λ q. false ∷ q) z.2 ∙ ap (λ q. q ∷ (b ++ replicate z.1 false)) h)
+zeros_for (x ∷ a) [] f = let z = zeros_for a [] (λ i. f (suc i)) in let h : x ≡ false = f 0 in (z.0, suc z.1, ap (λ q. q ∷ (a ++ replicate z.0 false)) h ∙ ap (λ q. false ∷ q) z.2)
+zeros_for (x ∷ a) (y ∷ b) f = let z = zeros_for a b (λ i. f (suc i)) in let h : x ≡ y = f 0 in (z.0, z.1, ap (λ q. q ∷ (a ++ replicate z.0 false)) h ∙ ap (λ q. y ∷ q) z.2)
+
+-- what is asked of a comparison
+abbrev pub Compares : List Resolved → ℕ → Kind → AbstractValue → AbstractValue → Bool → Type 0
+Compares s n k v w r = ValueOf s n k v → ValueOf s n k w → IsTrue r ↔ AlikeBy s k v w
+
+pub named_alike : (s : List Resolved) {k : Kind} {v w : AbstractValue} {ns : List NamedBit} {a b : List Bool} {r : Bool} → k ≡ a_named_bit_string ns → v ≡ bits a → w ≡ bits b → IsTrue r ↔ AreAlikeBits a b → IsTrue r ↔ AlikeBy s k v w
+named_alike s {k} {v} {w} {ns} {a} {b} {r} e f g h =
+    subst (λ q. IsTrue r ↔ AlikeBy s q v w) (sym e)
+    (subst (λ q. IsTrue r ↔ AlikeBy s (a_named_bit_string ns) q w) (sym f)
+    (subst (λ q. IsTrue r ↔ AlikeBy s (a_named_bit_string ns) (bits a) q) (sym g)
+    (onward h (λ x. let z = zeros_for a b x in zeros z.0 z.1 z.2) same_bits)))
+
+-- ---- kinds
+
+record OfRow (s : List Resolved) (n : ℕ) (cs : List Component) (v : AbstractValue) : Type 0 where
+  row : Row
+  is : v ≡ fields row
+  are : AreComponents s n cs row
+
+record OfList (s : List Resolved) (n u : ℕ) (v : AbstractValue) : Type 0 where
+  row : Row
+  is : v ≡ list row
+  are : AreElements s n u row
+
+record OfAlternative (s : List Resolved) (n : ℕ) (as' : List Alternative) (v : AbstractValue) : Type 0 where
+  number : ℕ
+  inner : AbstractValue
+  is : v ≡ alternative number inner
+  chosen : IsChosen s n as' number inner
+
+in_sequence : {s : List Resolved} {n : ℕ} {e : Bool} {cs : List Component} {v : AbstractValue} → ValueOf s n (a_sequence e cs) v → OfRow s n cs v
+in_sequence (of_leaf f) = elim f [ ]
+in_sequence (of_sequence {vs = vs} a g) = record { row = vs; is = refl; are = a }
+
+in_set : {s : List Resolved} {n : ℕ} {e : Bool} {cs : List Component} {v : AbstractValue} → ValueOf s n (a_set e cs) v → OfRow s n cs v
+in_set (of_leaf f) = elim f [ ]
+in_set (of_set {vs = vs} a g) = record { row = vs; is = refl; are = a }
+
+in_list : {s : List Resolved} {n u : ℕ} {c : Constraint} {v : AbstractValue} → ValueOf s n (a_sequence_of c u) v → OfList s n u v
+in_list (of_leaf f) = elim f [ ]
+in_list (of_sequence_of {vs = vs} a z) = record { row = vs; is = refl; are = a }
+
+in_bag : {s : List Resolved} {n u : ℕ} {c : Constraint} {v : AbstractValue} → ValueOf s n (a_set_of c u) v → OfList s n u v
+in_bag (of_leaf f) = elim f [ ]
+in_bag (of_set_of {vs = vs} a z) = record { row = vs; is = refl; are = a }
+
+in_choice : {s : List Resolved} {n : ℕ} {e : Bool} {root more : List Alternative} {v : AbstractValue} → ValueOf s n (a_choice root e more) v → OfAlternative s n (root ++ more) v
+in_choice (of_leaf f) = elim f [ ]
+in_choice (of_choice {i = i} {a = a} {v = v} g x) = record { number = i; inner = v; is = refl; chosen = (a, g, x) }
+
+-- of two values that are known by equations
+at_both : (s : List Resolved) (k : Kind) {v v' w w' : AbstractValue} {r : Bool} → v ≡ v' → w ≡ w' → IsTrue r ↔ AlikeBy s k v' w' → IsTrue r ↔ AlikeBy s k v w
+at_both s k {v} {v'} {w} {w'} {r} f g a = subst (λ q. IsTrue r ↔ AlikeBy s k q w) (sym f) (subst (λ q. IsTrue r ↔ AlikeBy s k v' q) (sym g) a)
+
+pub sequences : (s : List Resolved) (n : ℕ) {k : Kind} {e : Bool} {cs : List Component} {v w : AbstractValue} {r : Bool} → k ≡ a_sequence e cs → ((vs ws : Row) → v ≡ fields vs → w ≡ fields ws → AreComponents s n cs vs → AreComponents s n cs ws → IsTrue r ↔ AlikeComponents s cs vs ws) → Compares s n k v w r
+sequences s n {e = e} {cs = cs} {v = v} {w = w} {r = r} same f = subst (λ q. Compares s n q v w r) (sym same) (λ a b.
+    let x = in_sequence a in
+    let y = in_sequence b in
+    at_both s (a_sequence e cs) x.is y.is (onward (f x.row y.row x.is y.is x.are y.are) alike_sequence un_sequence))
+
+pub sets : (s : List Resolved) (n : ℕ) {k : Kind} {e : Bool} {cs : List Component} {v w : AbstractValue} {r : Bool} → k ≡ a_set e cs → ((vs ws : Row) → v ≡ fields vs → w ≡ fields ws → AreComponents s n cs vs → AreComponents s n cs ws → IsTrue r ↔ AlikeComponents s cs vs ws) → Compares s n k v w r
+sets s n {e = e} {cs = cs} {v = v} {w = w} {r = r} same f = subst (λ q. Compares s n q v w r) (sym same) (λ a b.
+    let x = in_set a in
+    let y = in_set b in
+    at_both s (a_set e cs) x.is y.is (onward (f x.row y.row x.is y.is x.are y.are) alike_set un_set))
+
+pub lists_of : (s : List Resolved) (n : ℕ) {k : Kind} {c : Constraint} {u : ℕ} {v w : AbstractValue} {r : Bool} → k ≡ a_sequence_of c u → ((vs ws : Row) → v ≡ list vs → w ≡ list ws → AreElements s n u vs → AreElements s n u ws → IsTrue r ↔ AlikeElements s u vs ws) → Compares s n k v w r
+lists_of s n {c = c} {u = u} {v = v} {w = w} {r = r} same f = subst (λ q. Compares s n q v w r) (sym same) (λ a b.
+    let x = in_list a in
+    let y = in_list b in
+    at_both s (a_sequence_of c u) x.is y.is (onward (f x.row y.row x.is y.is x.are y.are) alike_sequence_of un_sequence_of))
+
+pub bags_of : (s : List Resolved) (n : ℕ) {k : Kind} {c : Constraint} {u : ℕ} {v w : AbstractValue} {r : Bool} → k ≡ a_set_of c u → ((vs ws : Row) → v ≡ list vs → w ≡ list ws → AreElements s n u vs → AreElements s n u ws → IsTrue r ↔ AlikeInAnyOrder s u vs ws) → Compares s n k v w r
+bags_of s n {c = c} {u = u} {v = v} {w = w} {r = r} same f = subst (λ q. Compares s n q v w r) (sym same) (λ a b.
+    let x = in_bag a in
+    let y = in_bag b in
+    at_both s (a_set_of c u) x.is y.is (onward (f x.row y.row x.is y.is x.are y.are) alike_set_of un_set_of))
+
+to_choice : {s : List Resolved} {e : Bool} {root more : List Alternative} {i j : ℕ} {v w : AbstractValue} → (i ≡ j) × AlikeChosen s (root ++ more) i v w → AlikeBy s (a_choice root e more) (alternative i v) (alternative j w)
+to_choice {s} {e} {root} {more} {i} {v = v} {w = w} p = subst (λ q. AlikeBy s (a_choice root e more) (alternative i v) (alternative q w)) p.0 (alike_choice p.1.1 p.1.2)
+
+pub choices : (s : List Resolved) (n : ℕ) {k : Kind} {e : Bool} {root more : List Alternative} {v w : AbstractValue} {r : Bool} → k ≡ a_choice root e more → ((i j : ℕ) (x y : AbstractValue) → v ≡ alternative i x → w ≡ alternative j y → IsChosen s n (root ++ more) i x → IsChosen s n (root ++ more) j y → IsTrue r ↔ ((i ≡ j) × AlikeChosen s (root ++ more) i x y)) → Compares s n k v w r
+choices s n {e = e} {root = root} {more = more} {v = v} {w = w} {r = r} same f = subst (λ q. Compares s n q v w r) (sym same) (λ a b.
+    let x = in_choice a in
+    let y = in_choice b in
+    at_both s (a_choice root e more) x.is y.is (onward (f x.number y.number x.inner y.inner x.is y.is x.chosen y.chosen) to_choice (λ c. let u = un_choice x.chosen.1 c in (u.0, (x.chosen.0, x.chosen.1, u.1)))))
+
+type_at : {o : Option Alternative} {a b : Alternative} → o ≡ Some a → o ≡ Some b → b.type ≡ a.type
+type_at e f = ap type_in (sym f ∙ e)
+  where
+    type_in : Option Alternative → ℕ
+    type_in None = 0
+    type_in (Some a) = a.type
+
+pub chosen_alike : (s : List Resolved) (n : ℕ) (as' : List Alternative) (i t : ℕ) {v w : AbstractValue} {r : Bool} (a : Alternative) → slice_get as' i ≡ Some a → a.type ≡ t → (ValueIn s n t v → ValueIn s n t w → IsTrue r ↔ Alike s t v w) → IsChosen s n as' i v → IsChosen s n as' i w → IsTrue r ↔ AlikeChosen s as' i v w
+chosen_alike s n as' i t {v} {w} a g h f x y =
+    onward (f (value_at (type_at g x.1 ∙ h) x.2) (value_at (type_at g y.1 ∙ h) y.2))
+    (λ l. (a, g, subst (λ q. Alike s q v w) (sym h) l))
+    (λ p. subst (λ q. Alike s q v w) (type_at g p.1 ∙ h) p.2)
+
+pub none_alike_chosen : (s : List Resolved) (n : ℕ) (as' : List Alternative) (i : ℕ) {v : AbstractValue} → slice_get as' i ≡ None → IsChosen s n as' i v → ⊥
+none_alike_chosen s n as' i g p = let h = sym g ∙ p.1 in cc
+
+pub of_type : (s : List Resolved) (n t : ℕ) (r : Resolved) {v w : AbstractValue} {b : Bool} → 0 < n → slice_get s t ≡ Some r → Compares s (n - 1) r.kind v w b → ValueIn s n t v → ValueIn s n t w → IsTrue b ↔ Alike s t v w
+of_type s n t r {v} {w} l e f x y =
+    let m : n ≡ suc (n - 1) = omega arith in
+    let at : Is s t r.tags r.kind = record { found = e } in
+    onward (f (in_kind e (subst (λ q. ValueIn s q t v) m x)) (in_kind e (subst (λ q. ValueIn s q t w) m y))) (alike at) (back at)
+
+-- ---- components
+
+split_alike : {s : List Resolved} {c : Component} {cs : List Component} (o p : Option AbstractValue) (os ps : List (Option AbstractValue)) → AlikeComponents s (c ∷ cs) (row_of_options (o ∷ os)) (row_of_options (p ∷ ps)) → AlikeAt s c o p × AlikeComponents s cs (row_of_options os) (row_of_options ps)
+split_alike None None os ps (both_absent a) = (tt, a)
+split_alike None (Some w) os ps (first_default {d = d} q e a) = ((d, q, e), a)
+split_alike (Some v) None os ps (second_default {d = d} q e a) = ((d, q, alike_sym e), a)
+split_alike (Some v) (Some w) os ps (both_present e a) = (e, a)
+
+join_alike : {s : List Resolved} {c : Component} {cs : List Component} (o p : Option AbstractValue) (os ps : List (Option AbstractValue)) → AlikeAt s c o p → AlikeComponents s cs (row_of_options os) (row_of_options ps) → AlikeComponents s (c ∷ cs) (row_of_options (o ∷ os)) (row_of_options (p ∷ ps))
+join_alike None None os ps e a = both_absent a
+join_alike None (Some w) os ps e a = first_default e.1 e.2 a
+join_alike (Some v) None os ps e a = second_default e.1 (alike_sym e.2) a
+join_alike (Some v) (Some w) os ps e a = both_present e a
+
+-- what two rows of components come down to, from a place on
+pub record FieldsLeft (s : List Resolved) (n : ℕ) (cs : List Component) (vs ws : List (Option AbstractValue)) (ds : List Component) (os ps : List (Option AbstractValue)) : Type 0 where
+  pub first : AreComponents s n ds (row_of_options os)
+  pub second : AreComponents s n ds (row_of_options ps)
+  pub left : AlikeComponents s cs (row_of_options vs) (row_of_options ws) ↔ AlikeComponents s ds (row_of_options os) (row_of_options ps)
+
+abbrev pub FieldsFrom : List Resolved → ℕ → List Component → List (Option AbstractValue) → List (Option AbstractValue) → ℕ → Type 0
+FieldsFrom s n cs vs ws i =
+    AreComponents s n cs (row_of_options vs) → AreComponents s n cs (row_of_options ws) → FieldsLeft s n cs vs ws (drop i cs) (drop i vs) (drop i ws)
+
+pub fields_start : (s : List Resolved) (n : ℕ) (cs : List Component) (vs ws : List (Option AbstractValue)) → FieldsFrom s n cs vs ws 0
+fields_start s n cs vs ws a b = record { first = a; second = b; left = (λ x. x, λ x. x) }
+
+pub record OpenedFields (s : List Resolved) (n : ℕ) (cs : List Component) (vs ws : List (Option AbstractValue)) (c : Component) (o p : Option AbstractValue) (ds : List Component) (os ps : List (Option AbstractValue)) : Type 0 where
+  pub one : IsComponent s n c o
+  pub other : IsComponent s n c p
+  pub first : AreComponents s n ds (row_of_options os)
+  pub second : AreComponents s n ds (row_of_options ps)
+  pub left : AlikeComponents s cs (row_of_options vs) (row_of_options ws) ↔ (AlikeAt s c o p × AlikeComponents s ds (row_of_options os) (row_of_options ps))
+
+fields_left_at : {s : List Resolved} {n : ℕ} {cs : List Component} {vs ws : List (Option AbstractValue)} {ds ds' : List Component} {os os' ps ps' : List (Option AbstractValue)} → ds ≡ ds' → os ≡ os' → ps ≡ ps' → FieldsLeft s n cs vs ws ds os ps → FieldsLeft s n cs vs ws ds' os' ps'
+fields_left_at {s} {n} {cs} {vs} {ws} {ds} {ds'} {os} {os'} {ps} {ps'} e f g a =
+    subst (λ q. FieldsLeft s n cs vs ws q os' ps') e (subst (λ q. FieldsLeft s n cs vs ws ds q ps') f (subst (λ q. FieldsLeft s n cs vs ws ds os q) g a))
+
+pub opened_fields : {s : List Resolved} {n : ℕ} {cs : List Component} {vs ws : List (Option AbstractValue)} {ds : List Component} {os ps : List (Option AbstractValue)} {c : Component} {o p : Option AbstractValue} {ds' : List Component} {os' ps' : List (Option AbstractValue)} → ds ≡ c ∷ ds' → os ≡ o ∷ os' → ps ≡ p ∷ ps' → FieldsLeft s n cs vs ws ds os ps → OpenedFields s n cs vs ws c o p ds' os' ps'
+opened_fields {o = o} {p = p} {os' = os'} {ps' = ps'} e f g a =
+    let b = fields_left_at e f g a in
+    let x = (first_and_rest o os').0 b.first in
+    let y = (first_and_rest p ps').0 b.second in
+    record { one = x.0; other = y.0; first = x.1; second = y.1; left = onward b.left (split_alike o p os' ps') (λ q. join_alike o p os' ps' q.0 q.1) }
+
+pub fields_next : {s : List Resolved} {n : ℕ} {cs : List Component} {vs ws : List (Option AbstractValue)} {c : Component} {o p : Option AbstractValue} {ds : List Component} {os ps : List (Option AbstractValue)} → OpenedFields s n cs vs ws c o p ds os ps → AlikeAt s c o p → FieldsLeft s n cs vs ws ds os ps
+fields_next a e = record { first = a.first; second = a.second; left = onward a.left (λ q. q.1) (λ q. (e, q)) }
+
+pub fields_end : {s : List Resolved} {n : ℕ} {cs : List Component} {vs ws : List (Option AbstractValue)} {ds : List Component} {os ps : List (Option AbstractValue)} → ds ≡ [] → os ≡ [] → ps ≡ [] → FieldsLeft s n cs vs ws ds os ps → AlikeComponents s cs (row_of_options vs) (row_of_options ws)
+fields_end e f g a = (fields_left_at e f g a).left.1 no_components
+
+pub default_alike : (s : List Resolved) (n : ℕ) (c : Component) {v d : AbstractValue} {r : Bool} → c.presence ≡ default d → (ValueIn s n c.type d → ValueIn s n c.type v → IsTrue r ↔ Alike s c.type d v) → MayBeAbsent s n c.type c.presence → ValueIn s n c.type v → IsTrue r ↔ HasDefaultAlike s c v
+default_alike s n c {v} {d} e f a b =
+    onward (f (in_default (subst (MayBeAbsent s n c.type) e a)) b) (λ x. (d, e, x)) (λ p. subst (λ q. Alike s c.type q v) (same_default p.1 e) p.2)
+  where
+    same_default : {p : Presence} {d e : AbstractValue} → p ≡ default d → p ≡ default e → d ≡ e
+    same_default a b = let h = sym a ∙ b in cc
+
+-- ---- elements
+
+pub record ElementsLeft (s : List Resolved) (n u : ℕ) (vs ws os ps : List AbstractValue) : Type 0 where
+  pub first : AreElements s n u (row_of_list os)
+  pub second : AreElements s n u (row_of_list ps)
+  pub left : AlikeElements s u (row_of_list vs) (row_of_list ws) ↔ AlikeElements s u (row_of_list os) (row_of_list ps)
+
+elements_left_at : {s : List Resolved} {n u : ℕ} {vs ws os os' ps ps' : List AbstractValue} → os ≡ os' → ps ≡ ps' → ElementsLeft s n u vs ws os ps → ElementsLeft s n u vs ws os' ps'
+elements_left_at {s} {n} {u} {vs} {ws} {os} {os'} {ps} {ps'} f g a = subst (λ q. ElementsLeft s n u vs ws q ps') f (subst (λ q. ElementsLeft s n u vs ws os q) g a)
+
+abbrev pub PairsFrom : List Resolved → ℕ → ℕ → List AbstractValue → List AbstractValue → ℕ → Type 0
+PairsFrom s n u vs ws i = AreElements s n u (row_of_list vs) → AreElements s n u (row_of_list ws) → ElementsLeft s n u vs ws (drop i vs) (drop i ws)
+
+pub pairs_start : (s : List Resolved) (n u : ℕ) (vs ws : List AbstractValue) → PairsFrom s n u vs ws 0
+pairs_start s n u vs ws a b = record { first = a; second = b; left = (λ x. x, λ x. x) }
+
+pub record OpenedElements (s : List Resolved) (n u : ℕ) (vs ws : List AbstractValue) (v w : AbstractValue) (os ps : List AbstractValue) : Type 0 where
+  pub one : ValueIn s n u v
+  pub other : ValueIn s n u w
+  pub first : AreElements s n u (row_of_list os)
+  pub second : AreElements s n u (row_of_list ps)
+  pub left : AlikeElements s u (row_of_list vs) (row_of_list ws) ↔ (Alike s u v w × AlikeElements s u (row_of_list os) (row_of_list ps))
+
+pub opened_pairs : {s : List Resolved} {n u : ℕ} {vs ws os ps : List AbstractValue} {v w : AbstractValue} {os' ps' : List AbstractValue} → os ≡ v ∷ os' → ps ≡ w ∷ ps' → ElementsLeft s n u vs ws os ps → OpenedElements s n u vs ws v w os' ps'
+opened_pairs f g a =
+    let b = elements_left_at f g a in
+    let x = split_elements b.first in
+    let y = split_elements b.second in
+    record { one = x.0; other = y.0; first = x.1; second = y.1; left = onward b.left un_element (λ q. alike_element q.0 q.1) }
+
+pub pairs_next : {s : List Resolved} {n u : ℕ} {vs ws : List AbstractValue} {v w : AbstractValue} {os ps : List AbstractValue} → OpenedElements s n u vs ws v w os ps → Alike s u v w → ElementsLeft s n u vs ws os ps
+pairs_next a e = record { first = a.first; second = a.second; left = onward a.left (λ q. q.1) (λ q. (e, q)) }
+
+pub pairs_end : {s : List Resolved} {n u : ℕ} {vs ws os ps : List AbstractValue} → os ≡ [] → ps ≡ [] → ElementsLeft s n u vs ws os ps → AlikeElements s u (row_of_list vs) (row_of_list ws)
+pairs_end f g a = (elements_left_at f g a).left.1 no_elements
+
+pub as_many_pairs : {s : List Resolved} {u : ℕ} (vs ws : List AbstractValue) → AlikeElements s u (row_of_list vs) (row_of_list ws) → length vs ≡ length ws
+as_many_pairs [] [] a = refl
+as_many_pairs [] (w ∷ ws) a = elim a [ ]
+as_many_pairs (v ∷ vs) [] a = elim a [ ]
+as_many_pairs (v ∷ vs) (w ∷ ws) a = ap suc (as_many_pairs vs ws (un_element a).1)
+
+-- ---- in any order
+
+pub record OftenLeft (s : List Resolved) (n u : ℕ) (vs ws os : List AbstractValue) : Type 0 where
+  pub first : AreElements s n u (row_of_list os)
+  pub left : AreAsOften s u vs (row_of_list vs) (row_of_list ws) ↔ AreAsOften s u os (row_of_list vs) (row_of_list ws)
+
+often_left_at : {s : List Resolved} {n u : ℕ} {vs ws os os' : List AbstractValue} → os ≡ os' → OftenLeft s n u vs ws os → OftenLeft s n u vs ws os'
+often_left_at {s} {n} {u} {vs} {ws} e a = subst (λ q. OftenLeft s n u vs ws q) e a
+
+abbrev pub OftenFrom : List Resolved → ℕ → ℕ → List AbstractValue → List AbstractValue → ℕ → Type 0
+OftenFrom s n u vs ws i = AreElements s n u (row_of_list vs) → AreElements s n u (row_of_list ws) → OftenLeft s n u vs ws (drop i vs)
+
+pub often_start : (s : List Resolved) (n u : ℕ) (vs ws : List AbstractValue) → OftenFrom s n u vs ws 0
+often_start s n u vs ws a b = record { first = a; left = (λ x. x, λ x. x) }
+
+pub record OpenedOften (s : List Resolved) (n u : ℕ) (vs ws : List AbstractValue) (v : AbstractValue) (os : List AbstractValue) : Type 0 where
+  pub one : ValueIn s n u v
+  pub first : AreElements s n u (row_of_list os)
+  pub left : AreAsOften s u vs (row_of_list vs) (row_of_list ws) ↔ (IsAsOften s u v (row_of_list vs) (row_of_list ws) × AreAsOften s u os (row_of_list vs) (row_of_list ws))
+
+pub opened_often : {s : List Resolved} {n u : ℕ} {vs ws os : List AbstractValue} {v : AbstractValue} {os' : List AbstractValue} → os ≡ v ∷ os' → OftenLeft s n u vs ws os → OpenedOften s n u vs ws v os'
+opened_often e a =
+    let b = often_left_at e a in
+    let x = split_elements b.first in
+    record { one = x.0; first = x.1; left = b.left }
+
+pub often_next : {s : List Resolved} {n u : ℕ} {vs ws : List AbstractValue} {v : AbstractValue} {os : List AbstractValue} → OpenedOften s n u vs ws v os → IsAsOften s u v (row_of_list vs) (row_of_list ws) → OftenLeft s n u vs ws os
+often_next a e = record { first = a.first; left = onward a.left (λ q. q.1) (λ q. (e, q)) }
+
+pub often_end : {s : List Resolved} {n u : ℕ} {vs ws os : List AbstractValue} → os ≡ [] → length vs ≡ length ws → AreElements s n u (row_of_list vs) → AreElements s n u (row_of_list ws) → OftenLeft s n u vs ws os → AlikeInAnyOrder s u (row_of_list vs) (row_of_list ws)
+often_end {vs = vs} {ws = ws} e l a b f = all_paired vs a b (member_count vs ∙ l ∙ sym (member_count ws)) ((often_left_at e f).left.1 tt)
+
+pub not_often : {s : List Resolved} {n u : ℕ} {vs ws : List AbstractValue} {v : AbstractValue} {os : List AbstractValue} → AreElements s n u (row_of_list vs) → OpenedOften s n u vs ws v os → (IsAsOften s u v (row_of_list vs) (row_of_list ws) → ⊥) → AlikeInAnyOrder s u (row_of_list vs) (row_of_list ws) → ⊥
+not_often {vs = vs} a o f b = f (o.left.0 (all_often vs a a b)).0
+
+pub as_many_in_any : {s : List Resolved} {u : ℕ} (vs ws : List AbstractValue) → AlikeInAnyOrder s u (row_of_list vs) (row_of_list ws) → length vs ≡ length ws
+as_many_in_any vs ws a = sym (member_count vs) ∙ as_many_members a ∙ member_count ws
+
+pub equal_counts : (s : List Resolved) (u : ℕ) (x : AbstractValue) (vs ws : Row) (m n : ℕ) → Count s u x vs m → Count s u x ws n → IsTrue (eqb m n) ↔ IsAsOften s u x vs ws
+equal_counts s u x vs ws m n a b = (
+  λ t. (n, subst (λ q. Count s u x vs q) (eqb-true m n t) a, b),
+  λ p. eq-eqb m n (one_count a p.1 ∙ one_count p.2 b),
+)
+
+-- ---- counting
+
+pub record Counting (s : List Resolved) (n u : ℕ) (x : AbstractValue) (vs os : List AbstractValue) (found : ℕ) : Type 0 where
+  pub rest : AreElements s n u (row_of_list os)
+  pub whole : (m : ℕ) → Count s u x (row_of_list os) m → Count s u x (row_of_list vs) (found + m)
+
+abbrev pub CountFrom : List Resolved → ℕ → ℕ → AbstractValue → List AbstractValue → ℕ → ℕ → Type 0
+CountFrom s n u x vs found i = ValueIn s n u x → AreElements s n u (row_of_list vs) → Counting s n u x vs (drop i vs) found
+
+pub count_start : (s : List Resolved) (n u : ℕ) (x : AbstractValue) (vs : List AbstractValue) → CountFrom s n u x vs 0 0
+count_start s n u x vs a b = record { rest = b; whole = λ m c. subst (λ q. Count s u x (row_of_list vs) q) (let e : m ≡ 0 + m = omega arith in e) c }
+
+counting_at : {s : List Resolved} {n u : ℕ} {x : AbstractValue} {vs os os' : List AbstractValue} {found : ℕ} → os ≡ os' → Counting s n u x vs os found → Counting s n u x vs os' found
+counting_at {s} {n} {u} {x} {vs} {found = found} e a = subst (λ q. Counting s n u x vs q found) e a
+
+pub one_of : {s : List Resolved} {n u : ℕ} {x v : AbstractValue} {vs os os' : List AbstractValue} {found : ℕ} → os ≡ v ∷ os' → Counting s n u x vs os found → ValueIn s n u v
+one_of e a = (split_elements (counting_at e a).rest).0
+
+pub count_one : {s : List Resolved} {n u : ℕ} {x v : AbstractValue} {vs os os' : List AbstractValue} {found : ℕ} → os ≡ v ∷ os' → Counting s n u x vs os found → Alike s u x v → Counting s n u x vs os' (found + 1)
+count_one {s} {n} {u} {x} {v} {vs} {os} {os'} {found} e a h =
+    let b = counting_at e a in
+    record {
+      rest = (split_elements b.rest).1;
+      whole = λ m c. subst (λ q. Count s u x (row_of_list vs) q) (let f : found + suc m ≡ (found + 1) + m = omega arith in f) (b.whole (suc m) (counted h c));
+    }
+
+pub count_none : {s : List Resolved} {n u : ℕ} {x v : AbstractValue} {vs os os' : List AbstractValue} {found : ℕ} → os ≡ v ∷ os' → Counting s n u x vs os found → (Alike s u x v → ⊥) → Counting s n u x vs os' found
+count_none e a h =
+    let b = counting_at e a in
+    record { rest = (split_elements b.rest).1; whole = λ m c. b.whole m (passed h c) }
+
+pub count_end : {s : List Resolved} {n u : ℕ} {x : AbstractValue} {vs os : List AbstractValue} {found : ℕ} → os ≡ [] → Counting s n u x vs os found → Count s u x (row_of_list vs) found
+count_end {s} {n} {u} {x} {vs} {found = found} e a = subst (λ q. Count s u x (row_of_list vs) q) (let f : found + 0 ≡ found = omega arith in f) ((counting_at e a).whole 0 no_more)

@@ -1,0 +1,396 @@
+//! Whether two values of a type are the same (X.680, 22.7, 25.6 and 28).
+
+ghost use Rattle.asn_base.specs.Abstract.{AbstractValue, Row, abstract, alternative, fields, list, row_of_list, row_of_options};
+ghost use Rattle.asn_base.specs.Decided.{AlikeAt, AlikeChosen, Count, HasDefaultAlike, IsAsOften, IsChosen, IsComponent};
+ghost use Rattle.asn_base.specs.Same.{Alike, AlikeBy, AlikeComponents, AlikeElements, AlikeInAnyOrder, Same};
+ghost use Rattle.asn_base.specs.Seen.{alternative_of, component_of, kind_of};
+ghost use Rattle.asn_base.specs.Typed.{AreComponents, AreElements, ValueIn, ValueOf};
+ghost use Rattle.std.specs.Prelude.{◌≡◌, ◌↔◌, ◌++◌, ℕ, IsTrue, None, length, map, option_map};
+
+use crate::decide::{chosen_type, is_value_without_nodes};
+use crate::flat::are_alike_leaves;
+use crate::law::abstract_values;
+use crate::schema::{Alternatives, Component, Core, Presence, Schema, TypeId};
+use crate::value::Value;
+
+/// Whether both are values of the type, the limit on nodes apart, and the same: equal up to the order in a SET OF,
+/// trailing zeros under named bits, and an absent component taken as its DEFAULT, at every level. It takes no memory.
+/// A SET OF of n members costs at most 2 * n * n comparisons of two members, and one where numbers of members differ
+/// none; all else is compared once, and none longer than the shorter of the two, but for zeros under named bits.
+pub fn same(first: &Value, second: &Value, schema: &Schema, id: TypeId) -> bool
+    ensures { IsTrue result ↔ Same schema.now id.index (abstract first.now) (abstract second.now) }
+{
+    is_value_without_nodes(first, schema, id)
+        && is_value_without_nodes(second, schema, id)
+        && are_alike(first, second, schema, 64, id)
+}
+
+/// Whether two values of the type with at most this many levels are alike.
+#[cycle(alike)]
+fn are_alike(first: &Value, second: &Value, schema: &Schema, levels: u8, id: TypeId) -> bool
+    ensures { ValueIn schema.now levels id.index (abstract first.now)
+        → ValueIn schema.now levels id.index (abstract second.now)
+        → (IsTrue result ↔ Alike schema.now id.index (abstract first.now) (abstract second.now)) }
+{
+    if levels == 0 || !schema.has(id) {
+        return false;
+    }
+    let core = &schema.get(id).core;
+    are_alike_by(core, first, second, schema, levels - 1)
+}
+
+/// Whether two values of the kind are alike, whose members have at most this many levels.
+#[cycle(alike)]
+fn are_alike_by(core: &Core, first: &Value, second: &Value, schema: &Schema, levels: u8) -> bool
+    ensures { ValueOf schema.now levels (kind_of core.now) (abstract first.now)
+        → ValueOf schema.now levels (kind_of core.now) (abstract second.now)
+        → (IsTrue result ↔ AlikeBy schema.now (kind_of core.now) (abstract first.now) (abstract second.now)) }
+{
+    match core {
+        Core::Sequence(_, components) => are_alike_rows(
+            components.as_slice(),
+            first,
+            second,
+            schema,
+            levels,
+        ),
+        Core::Set(_, components) => are_alike_rows(
+            components.as_slice(),
+            first,
+            second,
+            schema,
+            levels,
+        ),
+        Core::SequenceOf(_, element) => are_alike_lists(*element, first, second, schema, levels),
+        Core::SetOf(_, element) => are_alike_bags(*element, first, second, schema, levels),
+        Core::Choice(alternatives) => are_alike_choices(
+            alternatives,
+            first,
+            second,
+            schema,
+            levels,
+        ),
+        _ => are_alike_leaves(core, first, second),
+    }
+}
+
+/// Whether two values of a SEQUENCE or SET are alike.
+#[cycle(alike)]
+fn are_alike_rows(
+    components: &[Component],
+    first: &Value,
+    second: &Value,
+    schema: &Schema,
+    levels: u8,
+) -> bool
+    ensures { (vs ws : Row)
+        → abstract first.now ≡ fields vs
+        → abstract second.now ≡ fields ws
+        → AreComponents schema.now levels (map component_of components.now) vs
+        → AreComponents schema.now levels (map component_of components.now) ws
+        → (IsTrue result ↔ AlikeComponents schema.now (map component_of components.now) vs ws) }
+{
+    abstract_values();
+    match first {
+        Value::Fields(some) => match second {
+            Value::Fields(others) => are_alike_fields(
+                components,
+                some.as_slice(),
+                others.as_slice(),
+                schema,
+                levels,
+            ),
+            _ => false,
+        },
+        _ => false,
+    }
+}
+
+/// Whether two values of a SEQUENCE OF are alike.
+#[cycle(alike)]
+fn are_alike_lists(
+    element: TypeId,
+    first: &Value,
+    second: &Value,
+    schema: &Schema,
+    levels: u8,
+) -> bool
+    ensures { (vs ws : Row)
+        → abstract first.now ≡ list vs
+        → abstract second.now ≡ list ws
+        → AreElements schema.now levels element.index vs
+        → AreElements schema.now levels element.index ws
+        → (IsTrue result ↔ AlikeElements schema.now element.index vs ws) }
+{
+    abstract_values();
+    match first {
+        Value::List(some) => match second {
+            Value::List(others) => are_alike_in_order(
+                element,
+                some.as_slice(),
+                others.as_slice(),
+                schema,
+                levels,
+            ),
+            _ => false,
+        },
+        _ => false,
+    }
+}
+
+/// Whether two values of a SET OF are alike.
+#[cycle(alike)]
+fn are_alike_bags(
+    element: TypeId,
+    first: &Value,
+    second: &Value,
+    schema: &Schema,
+    levels: u8,
+) -> bool
+    ensures { (vs ws : Row)
+        → abstract first.now ≡ list vs
+        → abstract second.now ≡ list ws
+        → AreElements schema.now levels element.index vs
+        → AreElements schema.now levels element.index ws
+        → (IsTrue result ↔ AlikeInAnyOrder schema.now element.index vs ws) }
+{
+    abstract_values();
+    match first {
+        Value::List(some) => match second {
+            Value::List(others) => are_alike_in_any(
+                element,
+                some.as_slice(),
+                others.as_slice(),
+                schema,
+                levels,
+            ),
+            _ => false,
+        },
+        _ => false,
+    }
+}
+
+/// Whether two values of a CHOICE are alike.
+#[cycle(alike)]
+fn are_alike_choices(
+    alternatives: &Alternatives,
+    first: &Value,
+    second: &Value,
+    schema: &Schema,
+    levels: u8,
+) -> bool
+    ensures { (i j : ℕ) (v w : AbstractValue)
+        → abstract first.now ≡ alternative i v
+        → abstract second.now ≡ alternative j w
+        → IsChosen schema.now levels
+        (map alternative_of alternatives.now.root.items ++ map alternative_of alternatives.now.additions.items) i v
+        → IsChosen schema.now levels
+        (map alternative_of alternatives.now.root.items ++ map alternative_of alternatives.now.additions.items) j w
+        → (IsTrue result
+        ↔ (i ≡ j)
+        × AlikeChosen schema.now
+        (map alternative_of alternatives.now.root.items ++ map alternative_of alternatives.now.additions.items)
+        i v w) }
+{
+    abstract_values();
+    match first {
+        Value::Alt(index, one) => match second {
+            Value::Alt(other_index, other) => {
+                index == other_index
+                    && is_alike_chosen(alternatives, *index, one, other, schema, levels)
+            }
+            _ => false,
+        },
+        _ => false,
+    }
+}
+
+/// Whether two values of an alternative are alike.
+#[cycle(alike)]
+fn is_alike_chosen(
+    alternatives: &Alternatives,
+    index: usize,
+    first: &Value,
+    second: &Value,
+    schema: &Schema,
+    levels: u8,
+) -> bool
+    ensures { IsChosen schema.now levels
+        (map alternative_of alternatives.now.root.items ++ map alternative_of alternatives.now.additions.items)
+        index (abstract first.now)
+        → IsChosen schema.now levels
+        (map alternative_of alternatives.now.root.items ++ map alternative_of alternatives.now.additions.items)
+        index (abstract second.now)
+        → (IsTrue result
+        ↔ AlikeChosen schema.now
+        (map alternative_of alternatives.now.root.items ++ map alternative_of alternatives.now.additions.items)
+        index (abstract first.now) (abstract second.now)) }
+{
+    match chosen_type(alternatives, index) {
+        Some(id) => are_alike(first, second, schema, levels, id),
+        None => false,
+    }
+}
+
+/// Whether the components of two values are alike.
+#[cycle(alike)]
+fn are_alike_fields(
+    components: &[Component],
+    first: &[Option<Value>],
+    second: &[Option<Value>],
+    schema: &Schema,
+    levels: u8,
+) -> bool
+    ensures { AreComponents schema.now levels (map component_of components.now) (row_of_options (map (option_map abstract) first.now))
+        → AreComponents schema.now levels (map component_of components.now) (row_of_options (map (option_map abstract) second.now))
+        → (IsTrue result
+        ↔ AlikeComponents schema.now (map component_of components.now)
+        (row_of_options (map (option_map abstract) first.now))
+        (row_of_options (map (option_map abstract) second.now))) }
+{
+    if components.len() != first.len() {
+        return false;
+    }
+    if components.len() != second.len() {
+        return false;
+    }
+    for i in 0..components.len() {
+        if !are_alike_at(&components[i], &first[i], &second[i], schema, levels) {
+            return false;
+        }
+    }
+    true
+}
+
+/// Whether two values of a component are alike, where an absent one counts as its default.
+#[cycle(alike)]
+fn are_alike_at(
+    component: &Component,
+    first: &Option<Value>,
+    second: &Option<Value>,
+    schema: &Schema,
+    levels: u8,
+) -> bool
+    ensures { IsComponent schema.now levels (component_of component.now) (option_map abstract first.now)
+        → IsComponent schema.now levels (component_of component.now) (option_map abstract second.now)
+        → (IsTrue result
+        ↔ AlikeAt schema.now (component_of component.now)
+        (option_map abstract first.now)
+        (option_map abstract second.now)) }
+{
+    match first {
+        Some(one) => match second {
+            Some(other) => are_alike(one, other, schema, levels, component.ty),
+            None => is_default_alike(component, one, schema, levels),
+        },
+        None => match second {
+            Some(other) => is_default_alike(component, other, schema, levels),
+            None => true,
+        },
+    }
+}
+
+/// Whether the component's default is alike to the value.
+#[cycle(alike)]
+fn is_default_alike(component: &Component, value: &Value, schema: &Schema, levels: u8) -> bool
+    ensures { IsComponent schema.now levels (component_of component.now) None
+        → ValueIn schema.now levels component.now.ty.index (abstract value.now)
+        → (IsTrue result ↔ HasDefaultAlike schema.now (component_of component.now) (abstract value.now)) }
+{
+    match &component.presence {
+        Presence::Default(default) => are_alike(default, value, schema, levels, component.ty),
+        _ => false,
+    }
+}
+
+/// Whether the elements of two values are alike, each to the one at its place.
+#[cycle(alike)]
+fn are_alike_in_order(
+    element: TypeId,
+    first: &[Value],
+    second: &[Value],
+    schema: &Schema,
+    levels: u8,
+) -> bool
+    ensures { AreElements schema.now levels element.index (row_of_list (map abstract first.now))
+        → AreElements schema.now levels element.index (row_of_list (map abstract second.now))
+        → (IsTrue result
+        ↔ AlikeElements schema.now element.index
+        (row_of_list (map abstract first.now))
+        (row_of_list (map abstract second.now))) }
+{
+    if first.len() != second.len() {
+        return false;
+    }
+    for i in 0..first.len() {
+        if !are_alike(&first[i], &second[i], schema, levels, element) {
+            return false;
+        }
+    }
+    true
+}
+
+/// Whether the elements of two values are alike, in any order: as many, and each of the first is alike to as many of
+/// the first as of the second.
+#[cycle(alike)]
+fn are_alike_in_any(
+    element: TypeId,
+    first: &[Value],
+    second: &[Value],
+    schema: &Schema,
+    levels: u8,
+) -> bool
+    ensures { AreElements schema.now levels element.index (row_of_list (map abstract first.now))
+        → AreElements schema.now levels element.index (row_of_list (map abstract second.now))
+        → (IsTrue result
+        ↔ AlikeInAnyOrder schema.now element.index
+        (row_of_list (map abstract first.now))
+        (row_of_list (map abstract second.now))) }
+{
+    if first.len() != second.len() {
+        return false;
+    }
+    for i in 0..first.len() {
+        if !is_as_often(element, &first[i], first, second, schema, levels) {
+            return false;
+        }
+    }
+    true
+}
+
+/// Whether as many of the first are alike to the value as of the second.
+#[cycle(alike)]
+fn is_as_often(
+    element: TypeId,
+    value: &Value,
+    first: &[Value],
+    second: &[Value],
+    schema: &Schema,
+    levels: u8,
+) -> bool
+    ensures { ValueIn schema.now levels element.index (abstract value.now)
+        → AreElements schema.now levels element.index (row_of_list (map abstract first.now))
+        → AreElements schema.now levels element.index (row_of_list (map abstract second.now))
+        → (IsTrue result
+        ↔ IsAsOften schema.now element.index (abstract value.now)
+        (row_of_list (map abstract first.now))
+        (row_of_list (map abstract second.now))) }
+{
+    count(element, value, first, schema, levels) == count(element, value, second, schema, levels)
+}
+
+/// How many elements are alike to the value.
+#[cycle(alike)]
+fn count(element: TypeId, value: &Value, elements: &[Value], schema: &Schema, levels: u8) -> usize
+    ensures { ValueIn schema.now levels element.index (abstract value.now)
+        → AreElements schema.now levels element.index (row_of_list (map abstract elements.now))
+        → Count schema.now element.index (abstract value.now) (row_of_list (map abstract elements.now)) result }
+{
+    let mut found = 0;
+    for i in 0..elements.len() {
+        if are_alike(value, &elements[i], schema, levels, element) {
+            found += 1;
+        }
+    }
+    found
+}
