@@ -1,13 +1,14 @@
 //! The laws of encodings (X.690, 8 to 11).
 
-ghost use Rattle.std.specs.Prelude.{◌≡◌, ◌⊎◌, ℕ, ◌*◌, ◌^◌, ◌<◌, ◌≤◌, List, [], ◌++◌, length};
+ghost use Rattle.std.specs.Prelude.{◌≡◌, ◌⊎◌, ℕ, false, ◌*◌, ◌^◌, ◌<◌, ◌≤◌, List, [], ◌++◌, length};
 ghost use Rattle.asn_base.specs.Abstract.{AbstractValue};
 ghost use Rattle.asn_base.specs.Accepted.{IsAccepted};
-ghost use Rattle.asn_base.specs.Schemas.{IsSchema};
+ghost use Rattle.asn_base.specs.Schemas.{IsSchema, IsSound};
 ghost use Rattle.asn_base.specs.Tags.{AllTagged, AllTellable, HasFewTags};
-ghost use Rattle.asn_base.specs.Same.{Same};
-ghost use Rattle.asn_base.specs.Typed.{IsValue, IsValueWithoutNodes, ValueIn, nodes};
-ghost use Rattle.asn_base.specs.Types.{Resolved};
+ghost use Rattle.asn_base.specs.Same.{AlikeBy, Same};
+ghost use Rattle.asn_base.specs.Typed.{Fits, IsValue, IsValueWithoutNodes, ValueIn, nodes};
+ghost use Rattle.asn_base.specs.Types.{Kind, Resolved};
+ghost use Rattle.encodings.specs.Contents.{Contents};
 ghost use Rattle.encodings.specs.Encoding.{Ber, Der, EncodesBy, Says, Shortest};
 ghost use Rattle.encodings.specs.Reading.{Encodes};
 ghost use Rattle.encodings.specs.Levels.{levels};
@@ -146,6 +147,20 @@ pub fn level_laws()
         → HasFewTags s
         → IsValueWithoutNodes s t v
         → levels d ≤ 400 }
+{}
+
+/// Each value of a kind that holds no others has contents by the distinguished rules, and one only: as it stands, or under
+/// named bits without its trailing zeros.
+pub fn leaf_laws()
+    ensures some { (s : List Resolved) (k : Kind) (v : AbstractValue)
+        → IsSound s k
+        → Fits k v
+        → (w : AbstractValue) × (x : List ℕ) × AlikeBy s k v w × Contents Distinguished k w false x }
+    ensures one { (s : List Resolved) (k : Kind) (v w : AbstractValue) (x y : List ℕ)
+        → AlikeBy s k v w
+        → Contents Distinguished k v false x
+        → Contents Distinguished k w false y
+        → y ≡ x }
 {}
 
 /// Each value of a type of a schema has an encoding by the distinguished rules, unless its strings are longer than the

@@ -1,0 +1,7 @@
+use Rattle.std.proofs.Common.{◌≡◌, ◌++◌, map, drop}
+use Rattle.asn_base.specs.Seen.{alternative_of, component_of, types_of}
+use Rattle.codec_code.specs.Routines.{heads, fields_from, ranked_from, calls}
+use Rattle.codec_code.proofs.routine.push_heads.Given as goal
+
+abbrev pub invariant-loop-i : goal.invariant-loop-i
+invariant-loop-i l = l.out.items ++ heads (drop l.i l.tags) l.row ≡ l.fn.out.items ++ heads l.tags l.row

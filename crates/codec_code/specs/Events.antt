@@ -1,0 +1,109 @@
+-- What a routine tells when a value is written: headers that open and close, contents octets between them, components
+-- that are left out, and where the members of a SET or SET OF end. And what octets these stand for.
+use Rattle.std.specs.Prelude.{◌≡◌, ℕ, ◌<◌, Bool, true, List, [], ◌∷◌, ◌++◌, length, map}
+use Rattle.std.specs.List.{concat, AllByRecursion}
+use Rattle.std.specs.List.Sorted.{IsPermutation}
+use Rattle.asn_base.specs.declared.tag.Tag.{Tag}
+use Rattle.encodings.specs.Header.{Octets, Encodings}
+use Rattle.encodings.specs.Fewest.{shortest_header}
+use Rattle.encodings.specs.Orders.{Ascending, AtMost}
+use Rattle.codec_code.specs.declared.step.RowKind.{RowKind}
+use Rattle.codec_code.specs.declared.step.RowKind.TheVariants.{Set, SetOf}
+
+pub data Event : Type 0 where
+  -- a header, round what is told up to where it closes
+  opens : Tag → (constructed : Bool) → RowKind → Event
+  puts : Octets → Event
+  closes : Event
+  -- a component that isn't written: with a DEFAULT it is the same as that, without one it is absent
+  leaves_out : (with_default : Bool) → Event
+  -- behind each member of a SET OF, and behind each component of a SET that is written, with its rank
+  parts : (rank : ℕ) → Event
+
+-- by what members of a SET OF and of a SET are put in order
+pub data Order : Type 0 where
+  by_octets : Order
+  by_rank : Order
+
+abbrev pub row_of_order : Order → RowKind
+row_of_order by_octets = SetOf
+row_of_order by_rank = Set
+
+-- parts of an encoding, one after the other
+mutual
+  pub data Tree : Type 0 where
+    done : Tree
+    piece : Octets → Tree → Tree
+    lacking : (with_default : Bool) → Tree → Tree
+    -- a header with what stands in it, and what follows
+    within : Tag → (constructed : Bool) → RowKind → Tree → Tree → Tree
+    -- the header of a SET or SET OF with its members, and what follows
+    ordered : Tag → Order → Members → Tree → Tree
+
+  pub data Members : Type 0 where
+    no_member : Members
+    no_component : (with_default : Bool) → Members → Members
+    member : (rank : ℕ) → Tree → Members → Members
+
+abbrev mutual
+  -- the events that tell a tree
+  pub flat : Tree → List Event
+  flat done = []
+  flat (piece x t) = puts x ∷ flat t
+  flat (lacking d t) = leaves_out d ∷ flat t
+  flat (within g c k i t) = opens g c k ∷ (flat i ++ closes ∷ flat t)
+  flat (ordered g o ms t) = opens g true (row_of_order o) ∷ (flats ms ++ closes ∷ flat t)
+
+  pub flats : Members → List Event
+  flats no_member = []
+  flats (no_component d ms) = leaves_out d ∷ flats ms
+  flats (member r i ms) = flat i ++ parts r ∷ flats ms
+
+-- an encoding, and the rank of its component
+pub record Part : Type 0 where
+  pub rank : ℕ
+  pub octets : Octets
+
+-- the ranks ascend
+abbrev pub RanksAscend : List Part → Type 0
+RanksAscend [] = Unit {0}
+RanksAscend (p ∷ ps) = AllByRecursion (λ q. p.rank < q.rank) ps × RanksAscend ps
+
+abbrev pub encodings_of : List Part → Encodings
+encodings_of = map (λ p. p.octets)
+
+-- a SET OF in ascending order of the encodings, compared as octets (X.690, 11.6), a SET in that of the tags (10.3)
+abbrev pub InOrder : Order → List Part → Type 0
+InOrder by_octets ps = Ascending AtMost (encodings_of ps)
+InOrder by_rank ps = RanksAscend ps
+
+-- the same parts in their order
+pub record Arranged (o : Order) (ps qs : List Part) : Type 0 where
+  pub same : IsPermutation ps qs
+  pub in_order : InOrder o qs
+
+abbrev mutual
+  -- Octets that a tree stands for: each header in the fewest octets, members of a SET or SET OF in their order.
+  pub StandsFor : Tree → Octets → Type 0
+  StandsFor done o = o ≡ []
+  StandsFor (piece x t) o = (y : Octets) × StandsFor t y × (o ≡ x ++ y)
+  StandsFor (lacking d t) o = StandsFor t o
+  StandsFor (within g c k i t) o =
+      (x : Octets) × (y : Octets) × StandsFor i x × StandsFor t y × (o ≡ shortest_header g c (length x) ++ (x ++ y))
+  StandsFor (ordered g a ms t) o =
+      (ps : List Part) × (qs : List Part) × (x : Octets) × (y : Octets)
+      × PartsOf ms ps × Arranged a ps qs × (x ≡ concat (encodings_of qs)) × StandsFor t y
+      × (o ≡ shortest_header g true (length x) ++ (x ++ y))
+
+  -- the parts of the members that are written
+  pub PartsOf : Members → List Part → Type 0
+  PartsOf no_member ps = ps ≡ []
+  PartsOf (no_component d ms) ps = PartsOf ms ps
+  PartsOf (member r i ms) ps =
+      (x : Octets) × (qs : List Part) × StandsFor i x × PartsOf ms qs × (ps ≡ record { rank = r; octets = x } ∷ qs)
+
+-- octets that events stand for
+pub record Writes (es : List Event) (o : Octets) : Type 0 where
+  pub tree : Tree
+  pub told : es ≡ flat tree
+  pub octets : StandsFor tree o

@@ -1,0 +1,161 @@
+-- What a routine stands for when a value is written, step by step.
+use Rattle.std.specs.Prelude.{◌≡◌, ℕ, ◌<◌, zero, suc, Bool, true, false, List, [], ◌∷◌, ◌++◌, drop, Option, Some, None}
+use Rattle.std.specs.Prelude.{slice_get}
+use Rattle.asn_base.specs.declared.schema.TypeId.{TypeId}
+use Rattle.asn_base.specs.declared.tag.Tag.{Tag}
+use Rattle.asn_base.specs.Abstract.{AbstractValue, fields, list, alternative, Row, end, absent, present}
+use Rattle.asn_base.specs.Types.{TypeNumber, any_number, any_size, default, Component, Kind, a_boolean, an_integer}
+use Rattle.asn_base.specs.Types.{an_enumerated, a_bit_string, a_named_bit_string, an_octet_string, a_null}
+use Rattle.asn_base.specs.Types.{an_object_identifier, a_relative_oid, a_utf8_string, a_restricted_string, Resolved, Is}
+use Rattle.asn_base.specs.Same.{AlikeBy, Same}
+use Rattle.asn_base.specs.Schemas.{components}
+use Rattle.encodings.specs.Header.{Octets}
+use Rattle.encodings.specs.Rules.{Distinguished}
+use Rattle.encodings.specs.Contents.{Contents}
+use Rattle.codec_code.specs.declared.step.LeafKind.{LeafKind}
+use Rattle.codec_code.specs.declared.step.LeafKind.TheVariants as leaves
+use Rattle.codec_code.specs.declared.step.Need.{Need}
+use Rattle.codec_code.specs.declared.step.Need.TheVariants.{Mandatory, Optional, Default, Addition}
+use Rattle.codec_code.specs.declared.step.Head.{Head as Head'}
+use Rattle.codec_code.specs.declared.step.Field.{Field as Field'}
+use Rattle.codec_code.specs.declared.step.Step.{Step}
+use Rattle.codec_code.specs.declared.step.Step.TheVariants.{Head, Leaf, Field, Ranked, Each, EachSorted, Pick, Call, Rest}
+use Rattle.codec_code.specs.declared.step.Step.TheVariants.{End}
+use Rattle.codec_code.specs.Events.{Event, opens, puts, closes, leaves_out, parts}
+use Rattle.codec_code.specs.Routines.{routine_at}
+
+-- the kind whose contents these are, without constraints, items and names, which contents octets don't depend on
+abbrev pub plain : LeafKind → Kind
+plain leaves.Boolean = a_boolean
+plain leaves.Integer = an_integer any_number
+plain leaves.Enumerated = an_enumerated [] false []
+plain leaves.BitString = a_bit_string any_size
+plain leaves.NamedBits = a_named_bit_string []
+plain leaves.OctetString = an_octet_string any_size
+plain leaves.Null = a_null
+plain leaves.ObjectIdentifier = an_object_identifier
+plain leaves.RelativeOid = a_relative_oid
+plain leaves.Utf8String = a_utf8_string any_size
+plain (leaves.RestrictedString k) = a_restricted_string k [] any_size
+
+-- x are contents octets of the value by the distinguished rules: of what is alike and has such contents, under named
+-- bits that without trailing zeros (X.690, 11.2.2)
+pub record HasContents (k : LeafKind) (v : AbstractValue) (x : Octets) : Type 0 where
+  pub trimmed : AbstractValue
+  pub same : AlikeBy [] (plain k) v trimmed
+  pub contents : Contents Distinguished (plain k) trimmed false x
+
+-- the component at a place: none there, absent, or a value
+abbrev pub component_at : Row → ℕ → Option (Option AbstractValue)
+component_at end i = None
+component_at (absent ws) zero = Some None
+component_at (present w ws) zero = Some (Some w)
+component_at (absent ws) (suc i) = component_at ws i
+component_at (present w ws) (suc i) = component_at ws i
+
+-- component i of type t has a DEFAULT, and w is the same
+pub record IsDefaultAt (s : List Resolved) (t : TypeNumber) (i : ℕ) (w : AbstractValue) : Type 0 where
+  pub tags : List Tag
+  pub kind : Kind
+  pub is : Is s t tags kind
+  pub component : Component
+  pub stands : slice_get (components kind) i ≡ Some component
+  pub value : AbstractValue
+  pub has_default : component.presence ≡ default value
+  pub same : Same s component.type w value
+
+abbrev pub may_be_absent : Need → Bool
+may_be_absent Mandatory = false
+may_be_absent n = true
+
+abbrev pub has_default : Need → Bool
+has_default Default = true
+has_default n = false
+
+-- a component that isn't written: absent, or the same as its DEFAULT (11.5)
+pub data IsLeftOut (s : List Resolved) (t : TypeNumber) (f : Field') (ws : Row) : Type 0 where
+  is_absent : may_be_absent f.need ≡ true → component_at ws f.place ≡ Some None → IsLeftOut s t f ws
+  is_default : {w : AbstractValue}
+      → component_at ws f.place ≡ Some (Some w)
+      → IsDefaultAt s t f.place w
+      → IsLeftOut s t f ws
+
+-- a component that is written
+pub record IsWritten (s : List Resolved) (t : TypeNumber) (f : Field') (ws : Row) (w : AbstractValue) : Type 0 where
+  pub stands : component_at ws f.place ≡ Some (Some w)
+  pub no_default : IsDefaultAt s t f.place w → ⊥
+
+mutual
+  -- these steps, of the routine of type t, tell these events of a value
+  pub data Steps (s : List Resolved) : TypeNumber → List Step → AbstractValue → List Event → Type 0 where
+    finished : {t : TypeNumber} {v : AbstractValue} → Steps s t [] v []
+    head : {t : TypeNumber} {h : Head'} {ss : List Step} {v : AbstractValue} {es : List Event}
+        → Steps s t ss v es
+        → Steps s t (Head h ∷ ss) v (opens h.tag h.constructed h.row ∷ es)
+    ending : {t : TypeNumber} {ss : List Step} {v : AbstractValue} {es : List Event}
+        → Steps s t ss v es
+        → Steps s t (End ∷ ss) v (closes ∷ es)
+    rest : {t : TypeNumber} {ss : List Step} {v : AbstractValue} {es : List Event}
+        → Steps s t ss v es
+        → Steps s t (Rest ∷ ss) v es
+    leaf : {t : TypeNumber} {k : LeafKind} {x : Octets} {ss : List Step} {v : AbstractValue} {es : List Event}
+        → HasContents k v x
+        → Steps s t ss v es
+        → Steps s t (Leaf k ∷ ss) v (puts x ∷ es)
+    left_out : {t : TypeNumber} {f : Field'} {ss : List Step} {ws : Row} {es : List Event}
+        → IsLeftOut s t f ws
+        → Steps s t ss (fields ws) es
+        → Steps s t (Field f ∷ ss) (fields ws) (leaves_out (has_default f.need) ∷ es)
+    written : {t : TypeNumber} {f : Field'} {ss : List Step} {ws : Row} {w : AbstractValue} {xs es all : List Event}
+        → IsWritten s t f ws w
+        → Steps s f.ty.index (routine_at s f.ty.index) w xs
+        → Steps s t ss (fields ws) es
+        → all ≡ xs ++ es
+        → Steps s t (Field f ∷ ss) (fields ws) all
+    ranked_left_out : {t : TypeNumber} {f : Field'} {r : ℕ} {ss : List Step} {ws : Row} {es : List Event}
+        → IsLeftOut s t f ws
+        → Steps s t ss (fields ws) es
+        → Steps s t (Ranked f r ∷ ss) (fields ws) (leaves_out (has_default f.need) ∷ es)
+    ranked_written : {t : TypeNumber} {f : Field'} {r : ℕ} {ss : List Step} {ws : Row} {w : AbstractValue}
+        {xs es all : List Event}
+        → IsWritten s t f ws w
+        → Steps s f.ty.index (routine_at s f.ty.index) w xs
+        → Steps s t ss (fields ws) es
+        → all ≡ xs ++ parts r ∷ es
+        → Steps s t (Ranked f r ∷ ss) (fields ws) all
+    each : {t : TypeNumber} {u : TypeId} {ss : List Step} {ws : Row} {xs es all : List Event}
+        → Elements s u.index ws xs
+        → Steps s t ss (list ws) es
+        → all ≡ xs ++ es
+        → Steps s t (Each u ∷ ss) (list ws) all
+    each_sorted : {t : TypeNumber} {u : TypeId} {ss : List Step} {ws : Row} {xs es all : List Event}
+        → Parts s u.index ws xs
+        → Steps s t ss (list ws) es
+        → all ≡ xs ++ es
+        → Steps s t (EachSorted u ∷ ss) (list ws) all
+    -- the alternative's call, and then what stands behind all calls
+    pick : {t : TypeNumber} {n i : ℕ} {u : TypeId} {ss : List Step} {w : AbstractValue} {xs es all : List Event}
+        → i < n
+        → slice_get ss i ≡ Some (Call u)
+        → Steps s u.index (routine_at s u.index) w xs
+        → Steps s t (drop n ss) (alternative i w) es
+        → all ≡ xs ++ es
+        → Steps s t (Pick n ∷ ss) (alternative i w) all
+
+  -- a type's routine tells these events of elements, one after the other
+  pub data Elements (s : List Resolved) : TypeNumber → Row → List Event → Type 0 where
+    no_element : {u : TypeNumber} → Elements s u end []
+    element : {u : TypeNumber} {w : AbstractValue} {ws : Row} {xs es all : List Event}
+        → Steps s u (routine_at s u) w xs
+        → Elements s u ws es
+        → all ≡ xs ++ es
+        → Elements s u (present w ws) all
+
+  -- the same where each is a part
+  pub data Parts (s : List Resolved) : TypeNumber → Row → List Event → Type 0 where
+    no_part : {u : TypeNumber} → Parts s u end []
+    part : {u : TypeNumber} {w : AbstractValue} {ws : Row} {xs es all : List Event}
+        → Steps s u (routine_at s u) w xs
+        → Parts s u ws es
+        → all ≡ xs ++ parts 0 ∷ es
+        → Parts s u (present w ws) all

@@ -1,0 +1,100 @@
+//! Codec programs as values.
+
+ghost use Rattle.asn_base.specs.Schemas.{IsSchema};
+ghost use Rattle.codec_code.specs.Routines.{routine_at, starts_of, steps_at, table_of};
+ghost use Rattle.std.specs.Prelude.{◌≡◌, ◌-◌, ◌<◌, ◌≤◌, ◌↔◌, IsTrue, drop, length, slice_get, take};
+
+use crate::build::Table;
+use crate::step::{Coding, Step};
+use asn_base::schema::{Schema, TypeId};
+use std::marker::Model;
+
+/// The codec programs of a schema's types. It keeps the schema, by which contracts name its types, and lends none.
+#[derive(Drop)]
+pub struct Code {
+    schema: Schema,
+    steps: Vec<Step>,
+    starts: Vec<usize>,
+}
+
+impl Model for Code {
+    ghost use Rattle.std.specs.Prelude.{List, ◌≡◌};
+    ghost use Rattle.asn_base.specs.Types.{Resolved};
+    ghost use Rattle.std.specs.Coded.{codes};
+    ghost use Rattle.asn_base.specs.Codes.{abstract_value_code};
+
+    ghost Value = { List Resolved };
+
+    ghost coded = { Prim.hlevel (codes, abstract_value_code) };
+
+    ghost view = { λ c. c.schema };
+
+    ghost use Rattle.codec_code.specs.Routines.{starts_of, table_of};
+
+    ghost invariant = { λ c. (c.steps.items ≡ table_of c.schema) × (c.starts.items ≡ starts_of c.schema) };
+}
+
+impl Code {
+    pub(crate) fn of(schema: Schema, table: Table) -> Self
+        requires steps { table.steps.items ≡ table_of schema }
+        requires starts { table.starts.items ≡ starts_of schema }
+        ensures { result ≡ schema }
+    {
+        Code { schema, steps: table.steps, starts: table.starts }
+    }
+
+    /// What the types of its schema keep.
+    pub fn accepted(&self)
+        ensures { IsSchema self.now }
+    {
+        self.schema.accepted();
+    }
+
+    /// Whether it has the type.
+    pub fn has(&self, id: TypeId) -> bool
+        ensures { IsTrue result ↔ id.index < length self.now }
+    {
+        self.schema.has(id)
+    }
+
+    /// The routine of the type, for encodings with tags. There are no steps where there is no such type; for the packed
+    /// encodings there are none yet.
+    pub fn steps(&self, id: TypeId, coding: Coding) -> &[Step]
+        ensures { result.now ≡ steps_at self.now coding id.index }
+    {
+        match coding {
+            Coding::Tagged => routine(&self.schema, self.steps.as_slice(), self.starts.as_slice(), id),
+            Coding::Per => &[],
+        }
+    }
+}
+
+/// The routine of the type, in the table.
+#[tactic(auto, using(crate::proofs::Table::is_order, crate::proofs::Table::is_within, crate::proofs::Table::is_routine, crate::proofs::Table::no_start, crate::proofs::Table::no_end))]
+fn routine<'a>(schema: &Schema, steps: &'a [Step], starts: &[usize], id: TypeId) -> &'a [Step]
+    requires steps { steps.now ≡ table_of schema.now }
+    requires starts { starts.now ≡ starts_of schema.now }
+    ensures { result.now ≡ routine_at schema.now id.index }
+{
+    match start(starts, id.index) {
+        Some(from) => match start(starts, id.index + 1) {
+            Some(to) => part(steps, from, to),
+            None => &[],
+        },
+        None => &[],
+    }
+}
+
+fn start(starts: &[usize], at: usize) -> Option<usize>
+    ensures { result ≡ slice_get starts.now at }
+{
+    if at < starts.len() { Some(starts[at]) } else { None }
+}
+
+fn part(steps: &[Step], from: usize, to: usize) -> &[Step]
+    requires order { from ≤ to }
+    requires within { to ≤ length steps.now }
+    ensures { result.now ≡ take (to - from) (drop from steps.now) }
+{
+    &steps[from..to]
+}

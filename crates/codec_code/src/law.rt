@@ -1,0 +1,1 @@
+//! What routines stand for.

@@ -1,0 +1,16 @@
+//! Codec programs: for each type of a schema a routine of steps, which writers and readers run.
+#![tactic(auto)]
+
+mod build;
+mod code;
+
+mod fault;
+pub mod law;
+mod order;
+mod routine;
+mod step;
+
+pub use code::Code;
+pub use build::compile;
+pub use fault::Fault;
+pub use step::{Coding, Field, Head, LeafKind, Need, RowKind, Step};
