@@ -101,9 +101,3 @@ abbrev mutual
   PartsOf (no_component d ms) ps = PartsOf ms ps
   PartsOf (member r i ms) ps =
       (x : Octets) × (qs : List Part) × StandsFor i x × PartsOf ms qs × (ps ≡ record { rank = r; octets = x } ∷ qs)
-
--- octets that events stand for
-pub record Writes (es : List Event) (o : Octets) : Type 0 where
-  pub tree : Tree
-  pub told : es ≡ flat tree
-  pub octets : StandsFor tree o

@@ -1,1 +1,34 @@
 //! What routines stand for.
+
+ghost use Rattle.asn_base.specs.Abstract.{AbstractValue};
+ghost use Rattle.asn_base.specs.Schemas.{IsSchema};
+ghost use Rattle.asn_base.specs.Typed.{IsValueWithoutNodes};
+ghost use Rattle.asn_base.specs.Types.{Resolved};
+ghost use Rattle.codec_code.specs.Events.{Event};
+ghost use Rattle.codec_code.specs.Meaning.{Tells};
+ghost use Rattle.codec_code.specs.Routines.{routine_at};
+ghost use Rattle.codec_code.specs.Steps.{Steps};
+ghost use Rattle.std.specs.Prelude.{List, ℕ};
+
+use asn_base::law::{alike_values, sameness};
+use encodings::{header_laws, leaf_laws};
+
+/// The routine of each type stands for it: of a value of the type it tells events, and whatever octets these stand for
+/// are the value's encoding by the distinguished rules, which is the only one (`encodings::schema_laws`).
+pub fn routine_laws()
+    // It tells some.
+    ensures some { (s : List Resolved) (t : ℕ) (v : AbstractValue)
+        → IsSchema s
+        → IsValueWithoutNodes s t v
+        → (es : List Event) × Steps s t (routine_at s t) v es }
+    ensures tells { (s : List Resolved) (t : ℕ) (v : AbstractValue) (es : List Event)
+        → IsSchema s
+        → IsValueWithoutNodes s t v
+        → Steps s t (routine_at s t) v es
+        → Tells s t v es }
+{
+    sameness();
+    alike_values();
+    header_laws();
+    leaf_laws();
+}

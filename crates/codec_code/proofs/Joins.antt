@@ -1,0 +1,48 @@
+-- Trees one after the other.
+use Rattle.std.proofs.Common.{◌≡◌, ℕ, true, List, [], ◌∷◌, ◌++◌, length, refl, sym, ap, ◌∙◌, append_assoc}
+use Rattle.std.specs.List.{concat}
+use Rattle.encodings.specs.Fewest.{shortest_header}
+use Rattle.codec_code.specs.Events.{Event, opens, puts, closes, leaves_out, row_of_order, Tree, done, piece, lacking, within, ordered, flat, flats, StandsFor}
+
+abbrev pub join : Tree → Tree → Tree
+join done u = u
+join (piece x t) u = piece x (join t u)
+join (lacking d t) u = lacking d (join t u)
+join (within g c k i t) u = within g c k i (join t u)
+join (ordered g o ms t) u = ordered g o ms (join t u)
+
+pub flat_join : (t u : Tree) → flat (join t u) ≡ flat t ++ flat u
+flat_join done u = refl
+flat_join (piece x t) u = ap (λ q. puts x ∷ q) (flat_join t u)
+flat_join (lacking d t) u = ap (λ q. leaves_out d ∷ q) (flat_join t u)
+flat_join (within g c k i t) u = ap (λ q. opens g c k ∷ q) (ap (λ q. flat i ++ closes ∷ q) (flat_join t u) ∙ sym (append_assoc (flat i) (closes ∷ flat t) (flat u)))
+flat_join (ordered g o ms t) u = ap (λ q. opens g true (row_of_order o) ∷ q) (ap (λ q. flats ms ++ closes ∷ q) (flat_join t u) ∙ sym (append_assoc (flats ms) (closes ∷ flat t) (flat u)))
+
+pub record Joined (t u : Tree) (o : List ℕ) : Type 0 where
+  pub first : List ℕ
+  pub second : List ℕ
+  pub one : StandsFor t first
+  pub two : StandsFor u second
+  pub whole : o ≡ first ++ second
+
+behind_header : (d x y z : List ℕ) → d ++ (x ++ (y ++ z)) ≡ (d ++ (x ++ y)) ++ z
+behind_header d x y z = ap (λ q. d ++ q) (sym (append_assoc x y z)) ∙ sym (append_assoc d (x ++ y) z)
+
+pub joined : (t u : Tree) (o : List ℕ) → StandsFor (join t u) o → Joined t u o
+joined done u o h = record { first = []; second = o; one = refl; two = h; whole = refl }
+joined (piece x t) u o h =
+    let p = joined t u h.0 h.1 in
+    record { first = x ++ p.first; second = p.second; one = (p.first, p.one, refl); two = p.two; whole = h.2 ∙ ap (λ q. x ++ q) p.whole ∙ sym (append_assoc x p.first p.second) }
+joined (lacking d t) u o h =
+    let p = joined t u o h in
+    record { first = p.first; second = p.second; one = p.one; two = p.two; whole = p.whole }
+joined (within g c k i t) u o h =
+    let p = joined t u h.1 h.3 in
+    let d = shortest_header g c (length h.0) in
+    record { first = d ++ (h.0 ++ p.first); second = p.second; one = (h.0, p.first, h.2, p.one, refl); two = p.two;
+      whole = h.4 ∙ ap (λ q. d ++ (h.0 ++ q)) p.whole ∙ behind_header d h.0 p.first p.second }
+joined (ordered g o' ms t) u o h =
+    let p = joined t u h.3 h.7 in
+    let d = shortest_header g true (length h.2) in
+    record { first = d ++ (h.2 ++ p.first); second = p.second; one = (h.0, h.1, h.2, p.first, h.4, h.5, h.6, p.one, refl); two = p.two;
+      whole = h.8 ∙ ap (λ q. d ++ (h.2 ++ q)) p.whole ∙ behind_header d h.2 p.first p.second }

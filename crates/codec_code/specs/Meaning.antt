@@ -1,0 +1,13 @@
+-- What it means that a routine stands for its type when a value is written.
+use Rattle.std.specs.Prelude.{◌≡◌, ℕ, ◌<◌, ◌^◌, List, length}
+use Rattle.asn_base.specs.Abstract.{AbstractValue}
+use Rattle.asn_base.specs.Types.{TypeNumber, Resolved}
+use Rattle.encodings.specs.Header.{Octets}
+use Rattle.encodings.specs.Encoding.{Der}
+use Rattle.codec_code.specs.Events.{Event, Tree, flat, StandsFor}
+
+-- the events tell a tree, and whatever octets this stands for encode the value by the distinguished rules
+pub record Tells (s : List Resolved) (t : TypeNumber) (v : AbstractValue) (es : List Event) : Type 0 where
+  pub tree : Tree
+  pub told : es ≡ flat tree
+  pub der : (o : Octets) → StandsFor tree o → length o < 2 ^ 64 → Der s t v 0 o
