@@ -1,6 +1,6 @@
 -- What the steps of each part of a routine tell.
-use Rattle.std.proofs.Common.{◌≡◌, ℕ, zero, suc, ◌<◌, List, [], ◌∷◌, ◌++◌, length, refl, ap, ◌∙◌}
-use Rattle.std.specs.Prelude.{Bool, true, false, Option, Some, None, slice_get, drop, replicate}
+use Rattle.std.proofs.Common.{◌≡◌, ℕ, zero, suc, ◌<◌, List, [], ◌∷◌, ◌++◌, refl, ap, ◌∙◌}
+use Rattle.std.specs.Prelude.{Bool, true, false, Some, slice_get, drop, replicate}
 use Rattle.asn_base.specs.declared.tag.Tag.{Tag}
 use Rattle.asn_base.specs.declared.schema.TypeId.{TypeId}
 use Rattle.asn_base.specs.Abstract.{AbstractValue, fields, list, alternative, Row}

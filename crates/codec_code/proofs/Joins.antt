@@ -1,8 +1,7 @@
 -- Trees one after the other.
 use Rattle.std.proofs.Common.{◌≡◌, ℕ, true, List, [], ◌∷◌, ◌++◌, length, refl, sym, ap, ◌∙◌, append_assoc}
-use Rattle.std.specs.List.{concat}
 use Rattle.encodings.specs.Fewest.{shortest_header}
-use Rattle.codec_code.specs.Events.{Event, opens, puts, closes, leaves_out, row_of_order, Tree, done, piece, lacking, within, ordered, flat, flats, StandsFor}
+use Rattle.codec_code.specs.Events.{opens, puts, closes, leaves_out, row_of_order, Tree, done, piece, lacking, within, ordered, flat, flats, StandsFor}
 
 abbrev pub join : Tree → Tree → Tree
 join done u = u
@@ -39,10 +38,20 @@ joined (lacking d t) u o h =
 joined (within g c k i t) u o h =
     let p = joined t u h.1 h.3 in
     let d = shortest_header g c (length h.0) in
-    record { first = d ++ (h.0 ++ p.first); second = p.second; one = (h.0, p.first, h.2, p.one, refl); two = p.two;
-      whole = h.4 ∙ ap (λ q. d ++ (h.0 ++ q)) p.whole ∙ behind_header d h.0 p.first p.second }
+    record {
+      first = d ++ (h.0 ++ p.first);
+      second = p.second;
+      one = (h.0, p.first, h.2, p.one, refl);
+      two = p.two;
+      whole = h.4 ∙ ap (λ q. d ++ (h.0 ++ q)) p.whole ∙ behind_header d h.0 p.first p.second;
+    }
 joined (ordered g o' ms t) u o h =
     let p = joined t u h.3 h.7 in
     let d = shortest_header g true (length h.2) in
-    record { first = d ++ (h.2 ++ p.first); second = p.second; one = (h.0, h.1, h.2, p.first, h.4, h.5, h.6, p.one, refl); two = p.two;
-      whole = h.8 ∙ ap (λ q. d ++ (h.2 ++ q)) p.whole ∙ behind_header d h.2 p.first p.second }
+    record {
+      first = d ++ (h.2 ++ p.first);
+      second = p.second;
+      one = (h.0, h.1, h.2, p.first, h.4, h.5, h.6, p.one, refl);
+      two = p.two;
+      whole = h.8 ∙ ap (λ q. d ++ (h.2 ++ q)) p.whole ∙ behind_header d h.2 p.first p.second;
+    }

@@ -7,14 +7,13 @@ use Rattle.asn_base.specs.Types.{Constraint, Item, NamedBit, any_number, any_siz
 use Rattle.asn_base.specs.Typed.{Fits, fits_boolean, fits_integer, fits_enumerated, fits_bits, fits_named_bits, fits_octets, fits_null, fits_oid, fits_relative_oid, fits_utf8, fits_restricted}
 use Rattle.asn_base.specs.Same.{AlikeBy, equal, zeros}
 use Rattle.encodings.specs.Rules.{Distinguished}
-use Rattle.encodings.specs.Contents.{Contents, of_false, of_true, of_integer, of_enumerated, of_bits, of_named_bits, of_octets, of_null, of_oid, of_relative_oid, of_utf8, of_restricted}
+use Rattle.encodings.specs.Contents.{Contents, of_integer, of_enumerated, of_bits, of_named_bits, of_octets, of_utf8, of_restricted}
 use Rattle.codec_code.specs.declared.step.LeafKind.{LeafKind}
 use Rattle.codec_code.specs.declared.step.LeafKind.TheVariants as leaves
 use Rattle.codec_code.specs.declared.step.RowKind.TheVariants.{Leaf as LeafRow}
-use Rattle.codec_code.specs.declared.step.Step.{Step}
 use Rattle.codec_code.specs.declared.step.Step.TheVariants.{Leaf}
 use Rattle.codec_code.specs.Routines.{body, row_of}
-use Rattle.codec_code.specs.Steps.{plain, HasContents}
+use Rattle.codec_code.specs.Steps.{HasContents}
 use Rattle.std.specs.Prelude.{◌∷◌}
 
 pub record LeafHeld (s : List Resolved) (k : Kind) (v : AbstractValue) (x : List ℕ) : Type 0 where

@@ -1,5 +1,5 @@
 -- A permutation as insertions.
-use Rattle.std.proofs.Common.{◌≡◌, ℕ, zero, suc, ◌+◌, ◌<◌, List, [], ◌∷◌, length, map, refl, arith, length-append, ap}
+use Rattle.std.proofs.Common.{◌≡◌, ℕ, zero, suc, ◌+◌, ◌<◌, List, [], ◌∷◌, length, refl, arith, length-append}
 use Rattle.std.specs.Prelude.{slice_set, slice_index_or}
 use Rattle.std.specs.List.{swap, concat, AllByRecursion}
 use Rattle.std.specs.List.Sorted.{IsPermutation}

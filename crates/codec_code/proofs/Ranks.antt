@@ -1,10 +1,8 @@
 -- Ranks that ascend are tags in their canonical order.
-use Rattle.std.proofs.Common.{◌≡◌, ℕ, zero, suc, ◌+◌, ◌<◌, ◌≤◌, ◌⊎◌, inl, inr, ⊎_elim, Bool, true, false, nat_lt, List, [], ◌∷◌, ◌++◌, length, refl, sym, ap, subst, ◌∙◌, arith, append_assoc}
+use Rattle.std.proofs.Common.{◌≡◌, ℕ, zero, suc, ◌+◌, ◌<◌, ◌≤◌, ◌⊎◌, inl, inr, ⊎_elim, Bool, true, false, nat_lt, List, [], ◌∷◌, length, refl, sym, ap, ◌∙◌, arith}
 use Rattle.std.specs.Prelude.{◌&&◌, ◌||◌, ◌==◌, if◌then◌else◌, Option, Some, None}
 use Rattle.std.specs.List.{AllByRecursion}
 use Rattle.std.proofs.lemmas.Bool.{ltb-true, ltb-false, lt-ltb, eqb-true, eq-eqb}
-use Rattle.asn_base.specs.declared.tag.Class.{Class}
-use Rattle.asn_base.specs.declared.tag.Class.TheVariants.{Universal, Application, Context, Private}
 use Rattle.asn_base.specs.declared.tag.Tag.{Tag}
 use Rattle.asn_base.specs.Tags.{class_rank, TagBefore}
 use Rattle.asn_base.specs.Types.{Component, Resolved}
@@ -12,7 +10,7 @@ use Rattle.encodings.specs.Rules.{Distinguished}
 use Rattle.encodings.specs.Orders.{Ascending, ascending_none, ascending_one, ascending_more, BeginsWith, InTagOrder}
 use Rattle.encodings.specs.Encoding.{Framed, innermost, outer}
 use Rattle.codec_code.specs.Events.{Part, encodings_of, RanksAscend}
-use Rattle.codec_code.specs.Routines.{before, both_before, tags_at, stands_before, rank}
+use Rattle.codec_code.specs.Routines.{before, both_before, tags_at, rank}
 
 bool_cases : (b : Bool) → (b ≡ true) ⊎ (b ≡ false)
 bool_cases true = inl refl
@@ -50,14 +48,14 @@ before_is : (g f : Tag) → before g f ≡ true → TagBefore g f
 before_is g f e = ⊎_elim
     (λ l. inl (ltb-true (class_rank g.class) (class_rank f.class) l))
     (λ r. let p = and_cases (class_rank g.class == class_rank f.class) (nat_lt g.number f.number) r in
-      inr (eqb-true (class_rank g.class) (class_rank f.class) p.0, ltb-true g.number f.number p.1))
+    inr (eqb-true (class_rank g.class) (class_rank f.class) p.0, ltb-true g.number f.number p.1))
     (or_cases (nat_lt (class_rank g.class) (class_rank f.class)) ((class_rank g.class == class_rank f.class) && nat_lt g.number f.number) e)
 
 is_before : (g f : Tag) → TagBefore g f → before g f ≡ true
 is_before g f h = ⊎_elim
     (λ l. or_first (nat_lt (class_rank g.class) (class_rank f.class)) ((class_rank g.class == class_rank f.class) && nat_lt g.number f.number) (lt-ltb (class_rank g.class) (class_rank f.class) l))
     (λ r. or_second (nat_lt (class_rank g.class) (class_rank f.class)) ((class_rank g.class == class_rank f.class) && nat_lt g.number f.number)
-      (and_both (class_rank g.class == class_rank f.class) (nat_lt g.number f.number) (eq-eqb (class_rank g.class) (class_rank f.class) r.0) (lt-ltb g.number f.number r.1)))
+    (and_both (class_rank g.class == class_rank f.class) (nat_lt g.number f.number) (eq-eqb (class_rank g.class) (class_rank f.class) r.0) (lt-ltb g.number f.number r.1)))
     h
 
 -- a tag that isn't before another one stands behind it, or is the same
@@ -68,8 +66,10 @@ record NotBefore (g f : Tag) : Type 0 where
 not_before : (g f : Tag) → before g f ≡ false → NotBefore g f
 not_before g f e =
     let p = or_none (nat_lt (class_rank g.class) (class_rank f.class)) ((class_rank g.class == class_rank f.class) && nat_lt g.number f.number) e in
-    record { classes = ltb-false (class_rank g.class) (class_rank f.class) p.0;
-      numbers = λ q. ltb-false g.number f.number (and_second (class_rank g.class == class_rank f.class) (nat_lt g.number f.number) (eq-eqb (class_rank g.class) (class_rank f.class) q) p.1) }
+    record {
+      classes = ltb-false (class_rank g.class) (class_rank f.class) p.0;
+      numbers = λ q. ltb-false g.number f.number (and_second (class_rank g.class == class_rank f.class) (nat_lt g.number f.number) (eq-eqb (class_rank g.class) (class_rank f.class) q) p.1);
+    }
 
 less_or_equal : (m n : ℕ) → m ≤ n → (m < n) ⊎ (n ≡ m)
 less_or_equal zero zero h = inr refl
@@ -82,8 +82,8 @@ still_before : (h f g : Tag) → TagBefore h f → NotBefore g f → TagBefore h
 still_before h f g a n = ⊎_elim
     (λ l. inl (let k = n.classes in omega arith))
     (λ r. ⊎_elim (λ l. inl (let e = r.0 in omega arith))
-      (λ e. inr (r.0 ∙ sym e, let k = n.numbers e in let l = r.1 in omega arith))
-      (less_or_equal (class_rank f.class) (class_rank g.class) n.classes))
+    (λ e. inr (r.0 ∙ sym e, let k = n.numbers e in let l = r.1 in omega arith))
+    (less_or_equal (class_rank f.class) (class_rank g.class) n.classes))
     a
 
 abbrev one_if : Bool → ℕ

@@ -1,22 +1,20 @@
 -- The routine of a type tells some events of each value.
-use Rattle.std.proofs.Common.{◌≡◌, ℕ, zero, suc, ◌+◌, ◌<◌, ◌≤◌, ◌⊎◌, inl, inr, ⊎_elim, Bool, true, false, List, [], ◌∷◌, ◌++◌, length, refl, sym, ap, subst, ◌∙◌, arith, append_assoc}
-use Rattle.std.specs.Prelude.{Option, Some, None, slice_get, drop, replicate}
+use Rattle.std.proofs.Common.{◌≡◌, ℕ, zero, suc, ◌+◌, ◌<◌, ◌⊎◌, inl, inr, ⊎_elim, Bool, true, false, List, [], ◌∷◌, ◌++◌, length, refl, sym, ap, subst, ◌∙◌, arith, append_assoc}
+use Rattle.std.specs.Prelude.{Some, slice_get}
 use Rattle.std.specs.List.{AllByRecursion}
 use Rattle.asn_base.specs.declared.tag.Tag.{Tag}
-use Rattle.asn_base.specs.Abstract.{AbstractValue, null, fields, list, alternative, Row, end, absent, present}
+use Rattle.asn_base.specs.Abstract.{AbstractValue, null, fields, alternative, Row}
 use Rattle.asn_base.specs.Types.{Alternative, Kind, Presence, mandatory, optional, default, addition, Component, Resolved, Is}
 use Rattle.asn_base.specs.Typed.{ValueIn, value_in, ValueOf, of_leaf, of_sequence, of_set, of_sequence_of, of_set_of, of_choice, Fits, MayBeAbsent, where_optional, where_default, where_addition, AreComponents, no_component, component_absent, component_present, AreElements, no_element as no_value, one_element}
 use Rattle.asn_base.specs.Same.{Alike, AlikeBy}
-use Rattle.asn_base.specs.Schemas.{HasValue, IsSound, IsSchema, components}
+use Rattle.asn_base.specs.Schemas.{HasValue, IsSound, IsSchema}
 use Rattle.encodings.specs.Rules.{Distinguished}
 use Rattle.encodings.specs.Contents.{Contents}
 use Rattle.codec_code.specs.declared.step.RowKind.{RowKind}
-use Rattle.codec_code.specs.declared.step.RowKind.TheVariants.{Wrap}
-use Rattle.codec_code.specs.declared.step.Need.{Need}
 use Rattle.codec_code.specs.declared.step.Step.{Step}
 use Rattle.codec_code.specs.declared.step.Step.TheVariants.{Field as FieldStep, Ranked as RankedStep}
-use Rattle.codec_code.specs.Events.{Event, parts}
-use Rattle.codec_code.specs.Routines.{id_of, heads, body, calls, ends, fields_from, ranked_from, rest_if, row_of, routine_at, need_of, field_of, rank}
+use Rattle.codec_code.specs.Events.{Event}
+use Rattle.codec_code.specs.Routines.{heads, body, ends, fields_from, ranked_from, rest_if, row_of, routine_at, need_of, field_of}
 use Rattle.codec_code.specs.Steps.{Steps, finished, head, ending, rest, leaf, left_out, written, ranked_left_out, ranked_written, each, each_sorted, pick, Elements, no_element, element, Parts, no_part, part, IsLeftOut, is_absent, is_default, IsWritten, IsDefaultAt, component_at, may_be_absent}
 use Rattle.codec_code.proofs.Leaves.{LeafStep, leaf_step}
 use Rattle.codec_code.proofs.Told.{Placed, DefaultIn, default_in, default_from, routine_is}
@@ -99,8 +97,8 @@ module _ (s : List Resolved) (schema : IsSchema s)
   is_default_or_not : {n : ℕ} (c : Component) (v : AbstractValue) → HasValue s c → ValueIn s n c.type v → DefaultIn s c v ⊎ (DefaultIn s c v → ⊥)
   is_default_or_not {n} c v h b = ⊎_elim
       (λ p. ⊎_elim (λ a. inl (default_from s turn follow levels h b p.1 a))
-        (λ no' . inr (λ q. no' (subst (Alike s c.type v) (ap value_in_presence (sym q.has ∙ p.1)) q.same.are_alike)))
-        (decide 64 n c.type v p.0 b (h p.0 p.1).shaped))
+      (λ no'. inr (λ q. no' (subst (Alike s c.type v) (ap value_in_presence (sym q.has ∙ p.1)) q.same.are_alike)))
+      (decide 64 n c.type v p.0 b (h p.0 p.1).shaped))
       (λ none'. inr (λ q. none' q.d q.has))
       (default_or_not c.presence)
 
@@ -115,21 +113,24 @@ module _ (s : List Resolved) (schema : IsSchema s)
     inside {tags = tags} {k = k} {v = v} i (of_leaf f) = tell_leaf (length tags) (leaf_step f) (contents k v (schema.sound _ _ _ i) f)
     inside {t = t} {tags = tags} i (of_sequence {e = e} {cs = cs} {vs = vs} a g) =
         subst (λ q. Telling s t q (fields vs)) (sym (append_assoc (fields_from 0 cs) (rest_if e) (ends (length tags))))
-          (of_members vs 0 (schema.sound _ _ _ i).defaults a
-            (λ j. ap (component_at vs) (let z : 0 + j ≡ j = omega arith in z))
-            (λ j c h. record { tags = tags; kind = _; is = i; at = ap (slice_get cs) (let z : 0 + j ≡ j = omega arith in z) ∙ h })
-            (tell_rest e (tell_ends (length tags))))
+        (of_members vs 0 (schema.sound _ _ _ i).defaults a
+        (λ j. ap (component_at vs) (let z : 0 + j ≡ j = omega arith in z))
+        (λ j c h. record { tags = tags; kind = _; is = i; at = ap (slice_get cs) (let z : 0 + j ≡ j = omega arith in z) ∙ h })
+        (tell_rest e (tell_ends (length tags))))
     inside {t = t} {tags = tags} i (of_set {e = e} {cs = cs} {vs = vs} a g) =
         subst (λ q. Telling s t q (fields vs)) (sym (append_assoc (ranked_from s cs 0 cs) (rest_if e) (ends (length tags))))
-          (of_ranked cs vs 0 (schema.sound _ _ _ i).0.defaults a
-            (λ j. ap (component_at vs) (let z : 0 + j ≡ j = omega arith in z))
-            (λ j c h. record { tags = tags; kind = _; is = i; at = ap (slice_get cs) (let z : 0 + j ≡ j = omega arith in z) ∙ h })
-            (tell_rest e (tell_ends (length tags))))
+        (of_ranked cs vs 0 (schema.sound _ _ _ i).0.defaults a
+        (λ j. ap (component_at vs) (let z : 0 + j ≡ j = omega arith in z))
+        (λ j c h. record { tags = tags; kind = _; is = i; at = ap (slice_get cs) (let z : 0 + j ≡ j = omega arith in z) ∙ h })
+        (tell_rest e (tell_ends (length tags))))
     inside {tags = tags} i (of_sequence_of a z) = record { events = _; steps = each (of_elements a).steps (tell_ends (length tags)).steps refl }
     inside {tags = tags} i (of_set_of a z) = record { events = _; steps = each_sorted (of_parts a).steps (tell_ends (length tags)).steps refl }
     inside {t = t} {tags = tags} i (of_choice {i = j} {root = root} {more = more} {a = a} {v = w} g b) =
-        record { events = _; steps = pick (in_list (root ++ more) j a g) (calls_at (root ++ more) (ends (length tags)) j a g) (some b).steps
-          (subst (λ q. Telling s t q (alternative j w)) (sym (calls_over (root ++ more) (ends (length tags)))) (tell_ends (length tags))).steps refl }
+        record {
+          events = _;
+          steps = pick (in_list (root ++ more) j a g) (calls_at (root ++ more) (ends (length tags)) j a g) (some b).steps
+              (subst (λ q. Telling s t q (alternative j w)) (sym (calls_over (root ++ more) (ends (length tags)))) (tell_ends (length tags))).steps refl;
+        }
 
     of_members : {n t : ℕ} {cs : List Component} {vs : Row} (ws : Row) (i : ℕ) → AllByRecursion (HasValue s) cs → AreComponents s n cs vs
         → ((j : ℕ) → component_at ws (i + j) ≡ component_at vs j)
@@ -137,12 +138,15 @@ module _ (s : List Resolved) (schema : IsSchema s)
         → {ss : List Step} → Telling s t ss (fields ws) → Telling s t (fields_from i cs ++ ss) (fields ws)
     of_members ws i h no_component at placed d = d
     of_members {n} {t} ws i h (component_absent {c = c} m a) at placed d =
-        record { events = _; steps = left_out (is_absent (absent_need m) (ap (component_at ws) (let z : i ≡ i + 0 = omega arith in z) ∙ at 0))
-          (of_members ws (suc i) h.1 a (λ j. ap (component_at ws) (sym (next_place i j)) ∙ at (suc j)) (λ j q e. subst (λ z. Placed s t z q) (next_place i j) (placed (suc j) q e)) d).steps }
+        record {
+          events = _;
+          steps = left_out (is_absent (absent_need m) (ap (component_at ws) (let z : i ≡ i + 0 = omega arith in z) ∙ at 0))
+              (of_members ws (suc i) h.1 a (λ j. ap (component_at ws) (sym (next_place i j)) ∙ at (suc j)) (λ j q e. subst (λ z. Placed s t z q) (next_place i j) (placed (suc j) q e)) d).steps;
+        }
     of_members {n} {t} ws i h (component_present {c = c} {v = v} b a) at placed d =
         tell_field c (left_or_written (subst (λ z. Placed s t z c) (let z : i + 0 ≡ i = omega arith in z) (placed 0 c refl)) (ap (component_at ws) (let z : i ≡ i + 0 = omega arith in z) ∙ at 0) (is_default_or_not c v h.0 b))
-          (some b)
-          (of_members ws (suc i) h.1 a (λ j. ap (component_at ws) (sym (next_place i j)) ∙ at (suc j)) (λ j q e. subst (λ z. Placed s t z q) (next_place i j) (placed (suc j) q e)) d)
+        (some b)
+        (of_members ws (suc i) h.1 a (λ j. ap (component_at ws) (sym (next_place i j)) ∙ at (suc j)) (λ j q e. subst (λ z. Placed s t z q) (next_place i j) (placed (suc j) q e)) d)
 
     of_ranked : {n t : ℕ} (all : List Component) {cs : List Component} {vs : Row} (ws : Row) (i : ℕ) → AllByRecursion (HasValue s) cs → AreComponents s n cs vs
         → ((j : ℕ) → component_at ws (i + j) ≡ component_at vs j)
@@ -150,12 +154,15 @@ module _ (s : List Resolved) (schema : IsSchema s)
         → {ss : List Step} → Telling s t ss (fields ws) → Telling s t (ranked_from s all i cs ++ ss) (fields ws)
     of_ranked all ws i h no_component at placed d = d
     of_ranked {n} {t} all ws i h (component_absent {c = c} m a) at placed d =
-        record { events = _; steps = ranked_left_out (is_absent (absent_need m) (ap (component_at ws) (let z : i ≡ i + 0 = omega arith in z) ∙ at 0))
-          (of_ranked all ws (suc i) h.1 a (λ j. ap (component_at ws) (sym (next_place i j)) ∙ at (suc j)) (λ j q e. subst (λ z. Placed s t z q) (next_place i j) (placed (suc j) q e)) d).steps }
+        record {
+          events = _;
+          steps = ranked_left_out (is_absent (absent_need m) (ap (component_at ws) (let z : i ≡ i + 0 = omega arith in z) ∙ at 0))
+              (of_ranked all ws (suc i) h.1 a (λ j. ap (component_at ws) (sym (next_place i j)) ∙ at (suc j)) (λ j q e. subst (λ z. Placed s t z q) (next_place i j) (placed (suc j) q e)) d).steps;
+        }
     of_ranked {n} {t} all ws i h (component_present {c = c} {v = v} b a) at placed d =
         tell_ranked c (left_or_written (subst (λ z. Placed s t z c) (let z : i + 0 ≡ i = omega arith in z) (placed 0 c refl)) (ap (component_at ws) (let z : i ≡ i + 0 = omega arith in z) ∙ at 0) (is_default_or_not c v h.0 b))
-          (some b)
-          (of_ranked all ws (suc i) h.1 a (λ j. ap (component_at ws) (sym (next_place i j)) ∙ at (suc j)) (λ j q e. subst (λ z. Placed s t z q) (next_place i j) (placed (suc j) q e)) d)
+        (some b)
+        (of_ranked all ws (suc i) h.1 a (λ j. ap (component_at ws) (sym (next_place i j)) ∙ at (suc j)) (λ j q e. subst (λ z. Placed s t z q) (next_place i j) (placed (suc j) q e)) d)
 
     of_elements : {n u : ℕ} {vs : Row} → AreElements s n u vs → TellingElements s u vs
     of_elements no_value = record { events = []; steps = no_element }

@@ -1,5 +1,5 @@
 -- Routines in one table.
-use Rattle.std.proofs.Common.{◌≡◌, ℕ, zero, suc, ◌+◌, ◌-◌, ◌<◌, ◌≤◌, List, [], ◌∷◌, ◌++◌, length, map, take, drop, refl, sym, ap, subst, ◌∙◌, ⊎_elim, inl, inr, ◌⊎◌, arith, append_assoc, append-nil, length-append}
+use Rattle.std.proofs.Common.{◌≡◌, ℕ, zero, suc, ◌+◌, ◌-◌, ◌<◌, ◌≤◌, List, [], ◌∷◌, ◌++◌, length, take, drop, refl, sym, ap, subst, ◌∙◌, ⊎_elim, inl, inr, ◌⊎◌, arith, append_assoc, length-append}
 use Rattle.std.specs.Prelude.{flat_map, Some, None, slice_get}
 use Rattle.asn_base.specs.Types.{Resolved}
 use Rattle.codec_code.specs.declared.step.Step.{Step}
@@ -32,17 +32,23 @@ pub stands : (s : List Resolved) (n : ℕ) (rs : List Resolved) (t : ℕ) (r : R
 stands s n [] t r e = absurd (cc)
 stands s n (q ∷ rs) zero r e =
     let same : q ≡ r = some_same e in
-    record { front = []; behind = flat_map (routine_of s) rs;
+    record {
+      front = [];
+      behind = flat_map (routine_of s) rs;
       whole = ap (λ k. routine_of s k ++ flat_map (routine_of s) rs) same;
       from = ap Some (let z : n ≡ n + 0 = omega arith in z);
-      to = starts_first s (n + length (routine_of s q)) rs ∙ ap (λ k. Some (n + length (routine_of s k))) same ∙ ap Some (let z : n + length (routine_of s r) ≡ n + 0 + length (routine_of s r) = omega arith in z) }
+      to = starts_first s (n + length (routine_of s q)) rs ∙ ap (λ k. Some (n + length (routine_of s k))) same ∙ ap Some (let z : n + length (routine_of s r) ≡ n + 0 + length (routine_of s r) = omega arith in z);
+    }
 stands s n (q ∷ rs) (suc t) r e =
     let p = stands s (n + length (routine_of s q)) rs t r e in
     let l = length-append (routine_of s q) p.front in
-    record { front = routine_of s q ++ p.front; behind = p.behind;
+    record {
+      front = routine_of s q ++ p.front;
+      behind = p.behind;
       whole = ap (λ k. routine_of s q ++ k) p.whole ∙ sym (append_assoc (routine_of s q) p.front (routine_of s r ++ p.behind));
       from = p.from ∙ ap Some (omega (arith, l));
-      to = p.to ∙ ap Some (omega (arith, l)) }
+      to = p.to ∙ ap Some (omega (arith, l));
+    }
 
 -- a type that the schema has
 pub found : (s : List Resolved) (t : ℕ) → t < length s → (r : Resolved) × (slice_get s t ≡ Some r)
@@ -97,17 +103,20 @@ between_there s t a b h f g' =
     let m = length-append (routine_of s r) p.behind in
     let d : drop a (table_of s) ≡ routine_of s r ++ p.behind = ap (λ k. drop k (table_of s)) i ∙ ap (drop (length p.front)) p.whole ∙ drop_front p.front (routine_of s r ++ p.behind) in
     let n : b - a ≡ length (routine_of s r) = omega (arith, i, j) in
-    record { order = omega (arith, i, j); within = omega (arith, j, w, l, m);
+    record {
+      order = omega (arith, i, j);
+      within = omega (arith, j, w, l, m);
       is = ap (λ k. take k (drop a (table_of s))) n ∙ ap (take (length (routine_of s r))) d ∙ take_front (routine_of s r) p.behind
-        ∙ sym (ap (λ o. elim o [ None ↦ [] | Some k ↦ routine_of s k ]) q.1) }
+          ∙ sym (ap (λ o. elim o [ None ↦ [] | Some k ↦ routine_of s k ]) q.1);
+    }
 
 between : (steps : List Step) (starts : List ℕ) (s : List Resolved) (t a b : ℕ) → steps ≡ table_of s → starts ≡ starts_of s → slice_get starts t ≡ Some a → slice_get starts (t + 1) ≡ Some b → Between steps s t a b
 between steps starts s t a b d e f g =
     let f' : slice_get (starts_of s) t ≡ Some a = ap (λ k. slice_get k t) (sym e) ∙ f in
     let g' : slice_get (starts_of s) (t + 1) ≡ Some b = ap (λ k. slice_get k (t + 1)) (sym e) ∙ g in
     ⊎_elim (λ l. subst (λ k. Between k s t a b) (sym d) (between_there s t a b l f' g'))
-      (λ n. absurd (none_some (sym g' ∙ starts_end s 0 s (t + 1) (omega arith))))
-      (less t (length s))
+    (λ n. absurd (none_some (sym g' ∙ starts_end s 0 s (t + 1) (omega arith))))
+    (less t (length s))
 
 pub is_order : (steps : List Step) (starts : List ℕ) (s : List Resolved) (t a b : ℕ) → steps ≡ table_of s → starts ≡ starts_of s → slice_get starts t ≡ Some a → slice_get starts (t + 1) ≡ Some b → a ≤ b
 is_order steps starts s t a b d e f g = (between steps starts s t a b d e f g).order

@@ -1,30 +1,27 @@
 -- What is told of a value, as a tree whose octets are an encoding of it.
-use Rattle.std.proofs.Common.{◌≡◌, ℕ, zero, suc, ◌+◌, ◌<◌, ◌≤◌, ◌^◌, Bool, true, false, List, [], ◌∷◌, ◌++◌, length, refl, sym, ap, subst, ◌∙◌, arith, append_assoc, append-nil, length-append}
+use Rattle.std.proofs.Common.{◌≡◌, ℕ, suc, ◌<◌, ◌^◌, Bool, true, false, List, [], ◌∷◌, ◌++◌, length, refl, sym, ap, subst, ◌∙◌, arith, append-nil}
 use Rattle.std.specs.Prelude.{Option, Some, None, slice_get, IsSomeAnd}
-use Rattle.std.specs.List.{concat, AllByRecursion}
+use Rattle.std.specs.List.{concat}
 use Rattle.asn_base.specs.declared.tag.Tag.{Tag}
-use Rattle.asn_base.specs.Abstract.{AbstractValue, fields, list, Row, end, absent, present}
+use Rattle.asn_base.specs.Abstract.{AbstractValue, fields, Row, end, absent, present}
 use Rattle.asn_base.specs.Types.{Kind, Presence, mandatory, optional, default, addition, Component, Resolved, Is}
 use Rattle.asn_base.specs.Tags.{is_mandatory}
-use Rattle.asn_base.specs.Typed.{ValueIn, value_in, ValueOf, of_leaf, Fits, MayBeAbsent, where_optional, where_default, where_addition, AreComponents, no_component, component_absent, component_present, AreElements, no_element as no_value, one_element, members}
+use Rattle.asn_base.specs.Typed.{ValueIn, value_in, ValueOf, MayBeAbsent, where_optional, where_default, where_addition, AreComponents, no_component, component_absent, component_present, AreElements, no_element as no_value, one_element, members}
 use Rattle.asn_base.specs.Same.{Alike, alike, AlikeBy, AlikeComponents, no_components, both_absent, both_present, second_default, AlikeElements, no_elements, alike_element, AlikeInAnyOrder, none_left, pair, Same, Inserted as RowInserted, here as row_here, there as row_there}
 use Rattle.asn_base.specs.Schemas.{HasValue, HasTag, components}
 use Rattle.encodings.specs.Rules.{Distinguished}
-use Rattle.encodings.specs.Contents.{Contents}
 use Rattle.encodings.specs.Header.{HeaderBy}
 use Rattle.encodings.specs.Fewest.{shortest_header}
 use Rattle.encodings.specs.Orders.{Permutes, permutes_none, permutes_more, Inserted, here, there}
-use Rattle.encodings.specs.Encoding.{Says, says, Holds, leaf, Members, no_member, left_out, member, Elements, no_element, element, IsDefault, Framed}
+use Rattle.encodings.specs.Encoding.{Says, says, Holds, Members, no_member, left_out, member, Elements, no_element, element}
 use Rattle.codec_code.specs.declared.step.RowKind.{RowKind}
-use Rattle.codec_code.specs.declared.step.RowKind.TheVariants.{Set, SetOf}
-use Rattle.codec_code.specs.declared.step.Field.{Field as Field'}
 use Rattle.codec_code.specs.declared.step.Step.{Step}
 use Rattle.codec_code.specs.Events.{Event, opens, closes, leaves_out, Order, by_octets, by_rank, row_of_order, Tree, done, within, ordered, Members as Group, flat, flats, Part, encodings_of, Arranged, StandsFor, PartsOf}
 use Rattle.codec_code.specs.Routines.{heads, body, ends, row_of, is_constructed, routine_of, routine_at, need_of, field_of, rank, tags_at, outermost}
-use Rattle.codec_code.specs.Steps.{Steps, IsDefaultAt, IsLeftOut, is_absent, is_default, IsWritten, component_at, has_default}
+use Rattle.codec_code.specs.Steps.{Steps, IsDefaultAt, is_absent, is_default, component_at, has_default}
 use Rattle.codec_code.proofs.Wrapped.{opened, closed_by, wrapped, flat_wrapped, Behind, framed_in}
 use Rattle.codec_code.proofs.Inversion.{Held, not_held, held, heads_in}
-use Rattle.codec_code.proofs.Ranks.{rank_at, rank_same, HasRank, framed_begins}
+use Rattle.codec_code.proofs.Ranks.{rank_same, HasRank, framed_begins}
 
 -- the octets are an encoding of what is alike
 pub record Encoded (s : List Resolved) (n t : ℕ) (v : AbstractValue) (o : List ℕ) : Type 0 where
@@ -111,12 +108,14 @@ whole s header {t = t} {tags = tags} {k = k} {v = v} i es d h =
     let r = row_of k in
     let p = heads_in tags r (body s k ++ ends (length tags)) (subst (λ q. Steps s t q v es) (routine_is s t tags k i) d) in
     let w = h p.0 p.1 in
-    record { tree = wrapped tags (made_of r w.content) (bare_of w.content);
+    record {
+      tree = wrapped tags (made_of r w.content) (bare_of w.content);
       is = p.2 ∙ ap (λ q. opened tags r ++ q) w.is ∙ flat_wrapped tags r (made_of r w.content) (bare_of w.content) (events_of w.content) (with_tag tags r w.content w.suits) (without_tag tags r w.content w.suits);
       holds = λ o ot lt.
-        let b = framed_in header tags (is_constructed r) (made_of r w.content) (bare_of w.content) (Means w.content) (one_behind tags r w.content w.suits) (none_behind tags r w.content w.suits) o ot in
-        let x = w.holds b.contents b.are (let m = b.more in omega (arith, m)) in
-        record { w = x.w; value = value_in {v = x.w} i x.value; same = alike {w = x.w} i x.same; is = says {w = x.w} {x = b.contents} i x.is (b.framed lt) } }
+          let b = framed_in header tags (is_constructed r) (made_of r w.content) (bare_of w.content) (Means w.content) (one_behind tags r w.content w.suits) (none_behind tags r w.content w.suits) o ot in
+          let x = w.holds b.contents b.are (let m = b.more in omega (arith, m)) in
+          record { w = x.w; value = value_in {v = x.w} i x.value; same = alike {w = x.w} i x.same; is = says {w = x.w} {x = b.contents} i x.is (b.framed lt) };
+    }
 
 -- ---- components
 
@@ -168,7 +167,7 @@ present_in {s = s} {t = t} {i = i} p at (not_held fs (is_default e a) d f) =
 present_in {s = s} {c = c} p at (held w xs fs a b d f) =
     let e = some_some (sym a.stands ∙ at) in
     stood xs fs (λ q. subst (λ z. DefaultIn s c z → ⊥) e (λ z. a.no_default (record { tags = p.tags; kind = p.kind; is = p.is; component = c; stands = p.at; value = z.d; has_default = z.has; same = z.same })) q)
-      (subst (λ z. Steps s c.type (routine_at s c.type) z xs) e b) d f
+    (subst (λ z. Steps s c.type (routine_at s c.type) z xs) e b) d f
 
 pub absent_in : {s : List Resolved} {t i : ℕ} (c : Component) {mark : List Event} {ss : List Step} {ws : Row} {es : List Event} → component_at ws i ≡ Some None → Held s t (field_of i c) mark ss ws es → (fs : List Event) × Steps s t ss (fields ws) fs × (es ≡ leaves_out (has_default (need_of c.presence)) ∷ fs)
 absent_in c at (not_held fs a d f) = (fs, d, f)
@@ -205,10 +204,12 @@ module _ (s : List Resolved)
   pub row_omitted : {n : ℕ} {c : Component} {cs : List Component} {v : AbstractValue} {vs : Row} {xs : List (List ℕ)} → HasValue s c → ValueIn s n c.type v → DefaultIn s c v → RowIn s n cs vs xs → RowIn s n (c ∷ cs) (present v vs) xs
   row_omitted {n} {c} {v = v} h b d r =
       let x = d.same.are_alike in
-      record { row = absent r.row;
+      record {
+        row = absent r.row;
         values = component_absent (subst (MayBeAbsent s n c.type) (sym d.has) (where_default (levels 64 n c.type v d.d x b (h d.d d.has).shaped))) r.values;
         same = second_default d.has x r.same;
-        are = left_out (ap mandatory_is d.has) r.are }
+        are = left_out (ap mandatory_is d.has) r.are;
+      }
 
   -- being alike to the default is being the same
   pub default_from : {n : ℕ} {c : Component} {v d : AbstractValue} → HasValue s c → ValueIn s n c.type v → c.presence ≡ default d → Alike s c.type v d → DefaultIn s c v
@@ -217,8 +218,12 @@ module _ (s : List Resolved)
 
   pub row_stood : {n : ℕ} {c : Component} {cs : List Component} {v : AbstractValue} {vs : Row} {x : List ℕ} {xs : List (List ℕ)} → HasValue s c → ValueIn s n c.type v → (DefaultIn s c v → ⊥) → Encoded s n c.type v x → RowIn s n cs vs xs → RowIn s n (c ∷ cs) (present v vs) (x ∷ xs)
   row_stood {c = c} {v = v} h b differs e r =
-      record { row = present e.w r.row; values = component_present e.value r.values; same = both_present e.same r.same;
-        are = member e.is (λ z q. differs (default_from h b q.1 (follow c.type v e.w q.0 e.same q.2))) r.are }
+      record {
+        row = present e.w r.row;
+        values = component_present e.value r.values;
+        same = both_present e.same r.same;
+        are = member e.is (λ z q. differs (default_from h b q.1 (follow c.type v e.w q.0 e.same q.2))) r.are;
+      }
 
 -- ---- the tag of a component of a SET
 

@@ -39,8 +39,8 @@ flat_wrapped (g ∷ g' ∷ gs) k made b inner f h =
     let n = length (g' ∷ gs) in
     let os = opened (g' ∷ gs) k in
     let e : os ++ (inner ++ closed_by (suc n)) ≡ (os ++ (inner ++ closed_by n)) ++ closes ∷ [] =
-      sym (append_assoc os (inner ++ closed_by n) (closes ∷ [])
-      ∙ ap (λ q. os ++ q) (append_assoc inner (closed_by n) (closes ∷ []) ∙ ap (λ q. inner ++ q) (replicate_last n))) in
+    sym (append_assoc os (inner ++ closed_by n) (closes ∷ [])
+    ∙ ap (λ q. os ++ q) (append_assoc inner (closed_by n) (closes ∷ []) ∙ ap (λ q. inner ++ q) (replicate_last n))) in
     ap (λ q. opens g true Wrap ∷ q) (e ∙ ap (λ q. q ++ closes ∷ []) (flat_wrapped (g' ∷ gs) k made b inner f (λ z. absurd (cc))))
 
 pub record Framed_in (tags : List Tag) (c : Bool) (P : List ℕ → Type 0) (o : List ℕ) : Type 0 where
@@ -63,13 +63,21 @@ module _ (header : (t : Tag) (c : Bool) (n : ℕ) → n < 2 ^ 64 → HeaderBy Di
       let p = f g o s in
       let d = shortest_header g c (length p.0) in
       let n : length o ≡ length d + length p.0 = ap length p.2 ∙ length-append d p.0 in
-      record { contents = p.0; are = p.1; more = omega (arith, n);
-        framed = λ lt. subst (λ q. Framed Distinguished (g ∷ []) c p.0 q) (sym p.2) (innermost (header g c (length p.0) (omega (arith, n)))) }
+      record {
+        contents = p.0;
+        are = p.1;
+        more = omega (arith, n);
+        framed = λ lt. subst (λ q. Framed Distinguished (g ∷ []) c p.0 q) (sym p.2) (innermost (header g c (length p.0) (omega (arith, n))));
+      }
   framed_in (g ∷ g' ∷ gs) c made b P f h o s =
       let y = s.0 in
       let d = shortest_header g true (length y) in
       let p = framed_in (g' ∷ gs) c made b P f (λ z. absurd (cc)) y s.2 in
       let e : o ≡ d ++ y = s.4 ∙ ap (λ q. d ++ (y ++ q)) s.3 ∙ ap (λ q. d ++ q) (append-nil y) in
       let n : length o ≡ length d + length y = ap length e ∙ length-append d y in
-      record { contents = p.contents; are = p.are; more = (let m = p.more in omega (arith, m, n));
-        framed = λ lt. let k : length y < 2 ^ 64 = omega (arith, n) in subst (λ q. Framed Distinguished (g ∷ g' ∷ gs) c p.contents q) (sym e) (outer (p.framed k) (header g true (length y) k)) }
+      record {
+        contents = p.contents;
+        are = p.are;
+        more = (let m = p.more in omega (arith, m, n));
+        framed = λ lt. let k : length y < 2 ^ 64 = omega (arith, n) in subst (λ q. Framed Distinguished (g ∷ g' ∷ gs) c p.contents q) (sym e) (outer (p.framed k) (header g true (length y) k));
+      }

@@ -1,5 +1,5 @@
 -- The routine of each type (X.690, 8.1 and 8.9 to 8.14).
-use Rattle.std.specs.Prelude.{◌≡◌, ℕ, suc, ◌+◌, Bool, true, false, ◌&&◌, ◌||◌, ◌==◌, nat_lt, if◌then◌else◌, List, []}
+use Rattle.std.specs.Prelude.{ℕ, suc, ◌+◌, Bool, true, false, ◌&&◌, ◌||◌, ◌==◌, nat_lt, if◌then◌else◌, List, []}
 use Rattle.std.specs.Prelude.{◌∷◌, ◌++◌, length, map, flat_map, replicate, Option, Some, None, slice_get}
 use Rattle.asn_base.specs.declared.tag.Tag.{Tag}
 use Rattle.asn_base.specs.declared.schema.TypeId.{TypeId}
@@ -10,7 +10,6 @@ use Rattle.asn_base.specs.Types.{an_octet_string, a_null, an_object_identifier, 
 use Rattle.asn_base.specs.Types.{a_restricted_string, a_sequence, a_set, a_sequence_of, a_set_of, a_choice, Resolved}
 use Rattle.codec_code.specs.declared.step.RowKind.{RowKind}
 use Rattle.codec_code.specs.declared.step.RowKind.TheVariants as rows
-use Rattle.codec_code.specs.declared.step.LeafKind.{LeafKind}
 use Rattle.codec_code.specs.declared.step.LeafKind.TheVariants as leaves
 use Rattle.codec_code.specs.declared.step.Need.{Need}
 use Rattle.codec_code.specs.declared.step.Need.TheVariants.{Mandatory, Optional, Default, Addition}

@@ -15,7 +15,7 @@ use Rattle.encodings.specs.Contents.{Contents}
 use Rattle.codec_code.specs.declared.step.LeafKind.{LeafKind}
 use Rattle.codec_code.specs.declared.step.LeafKind.TheVariants as leaves
 use Rattle.codec_code.specs.declared.step.Need.{Need}
-use Rattle.codec_code.specs.declared.step.Need.TheVariants.{Mandatory, Optional, Default, Addition}
+use Rattle.codec_code.specs.declared.step.Need.TheVariants.{Mandatory, Default}
 use Rattle.codec_code.specs.declared.step.Head.{Head as Head'}
 use Rattle.codec_code.specs.declared.step.Field.{Field as Field'}
 use Rattle.codec_code.specs.declared.step.Step.{Step}

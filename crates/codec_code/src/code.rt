@@ -1,12 +1,16 @@
 //! Codec programs as values.
 
+ghost use Rattle.asn_base.specs.Abstract.{abstract};
 ghost use Rattle.asn_base.specs.Schemas.{IsSchema};
+ghost use Rattle.asn_base.specs.Typed.{IsValue};
 ghost use Rattle.codec_code.specs.Routines.{routine_at, starts_of, steps_at, table_of};
 ghost use Rattle.std.specs.Prelude.{◌≡◌, ◌-◌, ◌<◌, ◌≤◌, ◌↔◌, IsTrue, drop, length, slice_get, take};
 
 use crate::build::Table;
 use crate::step::{Coding, Step};
+use asn_base::decide::is_value;
 use asn_base::schema::{Schema, TypeId};
+use asn_base::value::Value;
 use std::marker::Model;
 
 /// The codec programs of a schema's types. It keeps the schema, by which contracts name its types, and lends none.
@@ -40,7 +44,11 @@ impl Code {
         requires starts { table.starts.items ≡ starts_of schema }
         ensures { result ≡ schema }
     {
-        Code { schema, steps: table.steps, starts: table.starts }
+        Code {
+            schema,
+            steps: table.steps,
+            starts: table.starts,
+        }
     }
 
     /// What the types of its schema keep.
@@ -57,13 +65,25 @@ impl Code {
         self.schema.has(id)
     }
 
+    /// Whether the value is one of the type; false where there is no such type. It takes no memory.
+    pub fn is_value(&self, id: TypeId, value: &Value) -> bool
+        ensures { IsTrue result ↔ IsValue self.now id.index (abstract value.now) }
+    {
+        is_value(value, &self.schema, id)
+    }
+
     /// The routine of the type, for encodings with tags. There are no steps where there is no such type; for the packed
     /// encodings there are none yet.
     pub fn steps(&self, id: TypeId, coding: Coding) -> &[Step]
         ensures { result.now ≡ steps_at self.now coding id.index }
     {
         match coding {
-            Coding::Tagged => routine(&self.schema, self.steps.as_slice(), self.starts.as_slice(), id),
+            Coding::Tagged => routine(
+                &self.schema,
+                self.steps.as_slice(),
+                self.starts.as_slice(),
+                id,
+            ),
             Coding::Per => &[],
         }
     }
@@ -88,7 +108,11 @@ fn routine<'a>(schema: &Schema, steps: &'a [Step], starts: &[usize], id: TypeId)
 fn start(starts: &[usize], at: usize) -> Option<usize>
     ensures { result ≡ slice_get starts.now at }
 {
-    if at < starts.len() { Some(starts[at]) } else { None }
+    if at < starts.len() {
+        Some(starts[at])
+    } else {
+        None
+    }
 }
 
 fn part(steps: &[Step], from: usize, to: usize) -> &[Step]

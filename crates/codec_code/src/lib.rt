@@ -3,14 +3,13 @@
 
 mod build;
 mod code;
-
 mod fault;
 pub mod law;
 mod order;
 mod routine;
 mod step;
 
-pub use code::Code;
 pub use build::compile;
+pub use code::Code;
 pub use fault::Fault;
 pub use step::{Coding, Field, Head, LeafKind, Need, RowKind, Step};

@@ -43,11 +43,7 @@ fn outermost_of(types: &[Resolved], id: TypeId) -> Option<Tag>
 fn first_of(tags: &[Tag]) -> Option<Tag>
     ensures { result ≡ outermost tags.now }
 {
-    if tags.is_empty() {
-        None
-    } else {
-        Some(tags[0])
-    }
+    if tags.is_empty() { None } else { Some(tags[0]) }
 }
 
 /// Whether the outermost tag of the first type stands before that of the second.

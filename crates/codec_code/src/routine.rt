@@ -13,7 +13,11 @@ use asn_base::tag::Tag;
 
 /// The steps of a type behind those that stand.
 #[tactic(auto, unfolding(crate::specs::Routines::routine_of))]
-pub(crate) fn push_routine(out: &mut Vec<Step>, types: &[Resolved], ty: &Resolved) -> Result<(), Fault>
+pub(crate) fn push_routine(
+    out: &mut Vec<Step>,
+    types: &[Resolved],
+    ty: &Resolved,
+) -> Result<(), Fault>
     ensures { OnOk result (out.new.items ≡ out.old.items ++ routine_of (types_of types.now) (resolved_of ty.now)) }
 {
     push_heads(out, ty.tags.as_slice(), row(&ty.core))?;
@@ -27,7 +31,8 @@ fn row(core: &Core) -> RowKind
     ensures { result ≡ row_of (kind_of core.now) }
 {
     match core {
-        Core::Boolean | Core::Integer(_) | Core::Enumerated(_) | Core::BitString(_) => RowKind::Leaf,
+        Core::Boolean | Core::Integer(_) | Core::Enumerated(_) | Core::BitString(_) =>
+            RowKind::Leaf,
         Core::NamedBits(_) | Core::OctetString(_) | Core::Null => RowKind::Leaf,
         Core::ObjectIdentifier | Core::RelativeOid => RowKind::Leaf,
         Core::Utf8String(_) | Core::RestrictedString(_, _, _) => RowKind::Leaf,
@@ -57,7 +62,11 @@ fn push_heads(out: &mut Vec<Step>, tags: &[Tag], row: RowKind) -> Result<(), Fau
     ensures { OnOk result (out.new.items ≡ out.old.items ++ heads tags.now row) }
 {
     for i in 0..tags.len() {
-        let row = if i + 1 == tags.len() { row } else { RowKind::Wrap };
+        let row = if i + 1 == tags.len() {
+            row
+        } else {
+            RowKind::Wrap
+        };
         out.push(Step::Head(header(tags[i], row)))?;
     }
     Ok(())
@@ -68,7 +77,11 @@ fn header(tag: Tag, row: RowKind) -> Head
     ensures constructed { result.constructed ≡ is_constructed row }
     ensures row { result.row ≡ row }
 {
-    Head { tag, constructed: is_wide(row), row }
+    Head {
+        tag,
+        constructed: is_wide(row),
+        row,
+    }
 }
 
 fn push_ends(out: &mut Vec<Step>, tags: usize) -> Result<(), Fault>
@@ -106,7 +119,10 @@ fn push_body(out: &mut Vec<Step>, types: &[Resolved], core: &Core) -> Result<(),
         Core::ObjectIdentifier => push_one(out, Step::Leaf(LeafKind::ObjectIdentifier)),
         Core::RelativeOid => push_one(out, Step::Leaf(LeafKind::RelativeOid)),
         Core::Utf8String(_) => push_one(out, Step::Leaf(LeafKind::Utf8String)),
-        Core::RestrictedString(kind, _, _) => push_one(out, Step::Leaf(LeafKind::RestrictedString(*kind))),
+        Core::RestrictedString(kind, _, _) => push_one(
+            out,
+            Step::Leaf(LeafKind::RestrictedString(*kind)),
+        ),
     }
 }
 
@@ -141,7 +157,11 @@ fn need_for(presence: &Presence) -> Need
 fn component(place: usize, component: &Component) -> Field
     ensures { result ≡ field_of place (component_of component.now) }
 {
-    Field { place, need: need_for(&component.presence), ty: component.ty }
+    Field {
+        place,
+        need: need_for(&component.presence),
+        ty: component.ty,
+    }
 }
 
 /// The components of a SEQUENCE.
@@ -155,7 +175,11 @@ fn push_fields(out: &mut Vec<Step>, components: &[Component]) -> Result<(), Faul
 }
 
 /// The components of a SET. They are at most 320, so that counting those before each takes no more steps than that.
-fn push_ranked(out: &mut Vec<Step>, types: &[Resolved], components: &[Component]) -> Result<(), Fault>
+fn push_ranked(
+    out: &mut Vec<Step>,
+    types: &[Resolved],
+    components: &[Component],
+) -> Result<(), Fault>
     ensures { OnOk result (out.new.items ≡ out.old.items
         ++ ranked_from (types_of types.now) (map component_of components.now) 0 (map component_of components.now)) }
 {
@@ -179,7 +203,11 @@ fn push_choice(out: &mut Vec<Step>, alternatives: &Alternatives) -> Result<(), F
     push_calls(out, additions)
 }
 
-fn push_pick(out: &mut Vec<Step>, root: &[Alternative], additions: &[Alternative]) -> Result<(), Fault>
+fn push_pick(
+    out: &mut Vec<Step>,
+    root: &[Alternative],
+    additions: &[Alternative],
+) -> Result<(), Fault>
     ensures { OnOk result (out.new.items ≡ out.old.items ++ Pick (length root.now + length additions.now) ∷ []) }
 {
     out.push(Step::Pick(root.len() + additions.len()))?;

@@ -8,4 +8,4 @@ abbrev pub invariant-loop-i : goal.invariant-loop-i
 invariant-loop-i l =
     (l.steps.items ++ flat_map (routine_of (types_of l.types)) (types_of (drop l.i l.types)) ≡ table_of (types_of l.types))
     × (l.starts.items ++ starts_from (types_of l.types) (length l.steps.items) (types_of (drop l.i l.types))
-      ≡ starts_of (types_of l.types))
+    ≡ starts_of (types_of l.types))

@@ -14,5 +14,8 @@ returns-clause-tells c = λ s t v es i a d.
     let q = c.sameness.ensures in
     let l = c.alike_values.ensures in
     let p = tells s i (q.alike_turned s) (q.alike_joined s) (l.groups s) (l.levels s) c.header_laws.ensures.is a es d in
-    record { tree = p.tree; told = p.is;
-      der = λ o ot lt. let e = p.holds o ot lt in (e.w, record { first = a; second = e.value; are_alike = e.same }, e.is) }
+    record {
+      tree = p.tree;
+      told = p.is;
+      der = λ o ot lt. let e = p.holds o ot lt in (e.w, record { first = a; second = e.value; are_alike = e.same }, e.is);
+    }

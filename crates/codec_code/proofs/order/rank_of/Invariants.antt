@@ -6,5 +6,5 @@ use Rattle.codec_code.proofs.order.rank_of.Given as goal
 abbrev pub invariant-loop-i : goal.invariant-loop-i
 invariant-loop-i l =
     (l.before + rank (types_of l.types) (map component_of (drop l.i l.components)) l.id.index
-      ≡ rank (types_of l.types) (map component_of l.components) l.id.index)
+    ≡ rank (types_of l.types) (map component_of l.components) l.id.index)
     × (l.before ≤ l.i)

@@ -1,6 +1,6 @@
 use Rattle.std.proofs.Common.{◌≡◌, ◌++◌, map, drop}
-use Rattle.asn_base.specs.Seen.{alternative_of, component_of, types_of}
-use Rattle.codec_code.specs.Routines.{heads, fields_from, ranked_from, calls}
+use Rattle.asn_base.specs.Seen.{alternative_of}
+use Rattle.codec_code.specs.Routines.{calls}
 use Rattle.codec_code.proofs.routine.push_calls.Given as goal
 
 abbrev pub invariant-loop-i : goal.invariant-loop-i
