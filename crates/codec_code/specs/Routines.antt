@@ -17,8 +17,8 @@ use Rattle.codec_code.specs.declared.step.Coding.{Coding}
 use Rattle.codec_code.specs.declared.step.Coding.TheVariants.{Tagged, Per}
 use Rattle.codec_code.specs.declared.step.Field.{Field as Field'}
 use Rattle.codec_code.specs.declared.step.Step.{Step}
-use Rattle.codec_code.specs.declared.step.Step.TheVariants.{Head, Leaf, Field, Ranked, Each, EachSorted, Pick, Call, Rest}
-use Rattle.codec_code.specs.declared.step.Step.TheVariants.{End}
+use Rattle.codec_code.specs.declared.step.Step.TheVariants.{Head, Leaf, Field, Ranked, Each, EachSorted, Pick}
+use Rattle.codec_code.specs.declared.step.Step.TheVariants.{Call, Rest, End}
 
 abbrev pub id_of : TypeNumber → TypeId
 id_of t = record { index = t }
@@ -102,6 +102,9 @@ rest_if extensible = if extensible then Rest ∷ [] else []
 abbrev pub calls : List Alternative → List Step
 calls = map (λ a. Call (id_of a.type))
 
+abbrev pub choice_of : List Alternative → List Step
+choice_of as' = Pick (length as') ∷ calls as'
+
 -- ---- routines
 
 -- the steps within the headers
@@ -121,7 +124,7 @@ body s (a_sequence e cs) = fields_from 0 cs ++ rest_if e
 body s (a_set e cs) = ranked_from s cs 0 cs ++ rest_if e
 body s (a_sequence_of c u) = Each (id_of u) ∷ []
 body s (a_set_of c u) = EachSorted (id_of u) ∷ []
-body s (a_choice root e more) = Pick (length (root ++ more)) ∷ calls (root ++ more)
+body s (a_choice root e more) = choice_of (root ++ more)
 
 unfoldable pub routine_of : List Resolved → Resolved → List Step
 routine_of s r = heads r.tags (row_of r.kind) ++ (body s r.kind ++ ends (length r.tags))

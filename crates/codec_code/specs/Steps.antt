@@ -19,8 +19,8 @@ use Rattle.codec_code.specs.declared.step.Need.TheVariants.{Mandatory, Default}
 use Rattle.codec_code.specs.declared.step.Head.{Head as Head'}
 use Rattle.codec_code.specs.declared.step.Field.{Field as Field'}
 use Rattle.codec_code.specs.declared.step.Step.{Step}
-use Rattle.codec_code.specs.declared.step.Step.TheVariants.{Head, Leaf, Field, Ranked, Each, EachSorted, Pick, Call, Rest}
-use Rattle.codec_code.specs.declared.step.Step.TheVariants.{End}
+use Rattle.codec_code.specs.declared.step.Step.TheVariants.{Head, Leaf, Field, Ranked, Each, EachSorted, Pick}
+use Rattle.codec_code.specs.declared.step.Step.TheVariants.{Call, Rest, End}
 use Rattle.codec_code.specs.Events.{Event, opens, puts, closes, leaves_out, parts}
 use Rattle.codec_code.specs.Routines.{routine_at}
 

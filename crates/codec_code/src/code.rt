@@ -65,6 +65,13 @@ impl Code {
         self.schema.has(id)
     }
 
+    /// How many types it has.
+    pub(crate) fn count(&self) -> usize
+        ensures { result ≡ length self.now }
+    {
+        self.schema.types().len()
+    }
+
     /// Whether the value is one of the type; false where there is no such type. It takes no memory.
     pub fn is_value(&self, id: TypeId, value: &Value) -> bool
         ensures { IsTrue result ↔ IsValue self.now id.index (abstract value.now) }

@@ -1,7 +1,7 @@
 //! From a type to its steps.
 
 ghost use Rattle.asn_base.specs.Seen.{alternative_of, component_of, kind_of, presence_of, resolved_of, types_of};
-ghost use Rattle.codec_code.specs.Routines.{body, calls, ends, field_of, fields_from, heads, is_constructed, need_of, ranked_from, rest_if, routine_of, row_of};
+ghost use Rattle.codec_code.specs.Routines.{body, calls, choice_of, ends, field_of, fields_from, heads, is_constructed, need_of, ranked_from, rest_if, routine_of, row_of};
 ghost use Rattle.codec_code.specs.declared.step.Step.TheVariants.{Pick};
 ghost use Rattle.std.specs.Prelude.{◌≡◌, ◌+◌, ◌++◌, ◌∷◌, [], OnOk, length, map};
 
@@ -193,8 +193,8 @@ fn push_ranked(
 /// A call for each alternative, the root's first.
 fn push_choice(out: &mut Vec<Step>, alternatives: &Alternatives) -> Result<(), Fault>
     ensures { OnOk result (out.new.items ≡ out.old.items
-        ++ Pick (length (map alternative_of alternatives.now.root.items ++ map alternative_of alternatives.now.additions.items))
-        ∷ calls (map alternative_of alternatives.now.root.items ++ map alternative_of alternatives.now.additions.items)) }
+        ++ choice_of (map alternative_of alternatives.now.root.items
+        ++ map alternative_of alternatives.now.additions.items)) }
 {
     let root = alternatives.root.as_slice();
     let additions = alternatives.additions.as_slice();

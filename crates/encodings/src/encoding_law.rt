@@ -149,8 +149,8 @@ pub fn level_laws()
         → levels d ≤ 400 }
 {}
 
-/// Each value of a kind that holds no others has contents by the distinguished rules, and one only: as it stands, or under
-/// named bits without its trailing zeros.
+/// Each value of a kind that holds no others has contents by the distinguished rules, and one only: as it stands, or
+/// under named bits without its trailing zeros.
 pub fn leaf_laws()
     ensures some { (s : List Resolved) (k : Kind) (v : AbstractValue)
         → IsSound s k
