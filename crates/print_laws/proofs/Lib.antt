@@ -1,0 +1,9 @@
+pub mod Pieces
+pub mod Tokens
+pub mod Numerals
+pub mod Names
+pub mod Digits
+pub mod Strings
+pub mod Octets
+pub mod Printing
+pub mod Reading

@@ -1,0 +1,31 @@
+-- What a part of a text says, wherever it stands.
+use Rattle.std.specs.Prelude.{◌≡◌, ℕ, ◌+◌, Bool, not, ◌||◌, ◌==◌, List, ◌++◌, length, drop, slice_index, IsTrue}
+use Rattle.std.specs.Char.{is_ascii_alphanumeric}
+use Rattle.std.specs.List.{AllByRecursion}
+use Rattle.text.specs.declared.token.Token.{Token}
+use Rattle.text.specs.declared.token.TokenKind.TheVariants as kinds
+use Rattle.text.specs.Items.{IsOfKind}
+use Rattle.text.specs.Text.{Holds, IsSmall}
+use Rattle.grammar.specs.Lexeme.{Lexeme, lexemes}
+
+-- from place i to before place j stand tokens that say these lexemes, and none is a number above the limit
+pub record Lexes (x : List ℕ) (i j : ℕ) (ls : List Lexeme) : Type 0 where
+  pub tokens : List Token
+  pub holds : Holds x i j tokens
+  pub says : lexemes x tokens ≡ ls
+  pub small : AllByRecursion (IsSmall x) tokens
+
+-- wherever these octets stand, and what follows is such, they are these lexemes
+abbrev pub Speaks : (List ℕ → Type 0) → List ℕ → List Lexeme → Type 0
+Speaks Follows w ls = (x z : List ℕ) (i : ℕ) → drop i x ≡ w ++ z → Follows z → Lexes x i (i + length w) ls
+
+-- no name, number or string goes on here: neither a letter, a digit, a hyphen, a quote nor a colon follows
+unfoldable pub ends : ℕ → Bool
+ends c = not (is_ascii_alphanumeric c || (c == 45) || (c == 34) || (c == 58))
+
+abbrev pub Ends : List ℕ → Type 0
+Ends z = IsTrue (ends (slice_index z 0))
+
+-- an identifier by itself
+abbrev pub IsIdentifierToken : List ℕ → Type 0
+IsIdentifierToken w = IsOfKind w kinds.Identifier 0 (length w)

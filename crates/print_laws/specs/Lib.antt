@@ -1,0 +1,3 @@
+pub use Rattle.value_text.specs.Print
+pub mod Lexing
+pub mod Back
