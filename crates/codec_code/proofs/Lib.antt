@@ -8,3 +8,4 @@ pub mod Ranks
 pub mod Told
 pub mod Stands
 pub mod Some
+pub mod Defaults

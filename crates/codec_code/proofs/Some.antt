@@ -17,7 +17,8 @@ use Rattle.codec_code.specs.Events.{Event}
 use Rattle.codec_code.specs.Routines.{heads, body, ends, fields_from, ranked_from, rest_if, row_of, routine_at, need_of, field_of}
 use Rattle.codec_code.specs.Steps.{Steps, finished, head, ending, rest, leaf, left_out, written, ranked_left_out, ranked_written, each, each_sorted, pick, Elements, no_element, element, Parts, no_part, part, IsLeftOut, is_absent, is_default, IsWritten, IsDefaultAt, component_at, may_be_absent}
 use Rattle.codec_code.proofs.Leaves.{LeafStep, leaf_step}
-use Rattle.codec_code.proofs.Told.{Placed, DefaultIn, default_in, default_from, routine_is}
+use Rattle.codec_code.specs.Steps.{IsTheDefault as DefaultIn}
+use Rattle.codec_code.proofs.Told.{Placed, needs_default, default_in, default_from, routine_is}
 use Rattle.codec_code.proofs.Stands.{calls_at, calls_over}
 
 pub record Telling (s : List Resolved) (t : ℕ) (ss : List Step) (v : AbstractValue) : Type 0 where
@@ -53,11 +54,11 @@ absent_need (where_default v) = refl
 absent_need where_addition = refl
 
 default_at : {s : List Resolved} {t i : ℕ} {c : Component} {v : AbstractValue} → Placed s t i c → DefaultIn s c v → IsDefaultAt s t i v
-default_at {c = c} p d = record { tags = p.tags; kind = p.kind; is = p.is; component = c; stands = p.at; value = d.d; has_default = d.has; same = d.same }
+default_at {c = c} p d = record { tags = p.tags; kind = p.kind; is = p.is; component = c; stands = p.at; is_the_default = d }
 
 left_or_written : {s : List Resolved} {t i : ℕ} {c : Component} {v : AbstractValue} {ws : Row} → Placed s t i c → component_at ws i ≡ Some (Some v) → (DefaultIn s c v ⊎ (DefaultIn s c v → ⊥)) → IsLeftOut s t (field_of i c) ws ⊎ IsWritten s t (field_of i c) ws v
-left_or_written p at (inl d) = inl (is_default at (default_at p d))
-left_or_written p at (inr n) = inr (record { stands = at; no_default = λ a. n (default_in p a) })
+left_or_written p at (inl d) = inl (is_default (needs_default d.has_default) at (default_at p d))
+left_or_written p at (inr n) = inr (record { stands = at; no_default = λ h a. n (default_in p a) })
 
 tell_field : {s : List Resolved} {t i : ℕ} (c : Component) {v : AbstractValue} {ss : List Step} {ws : Row} → IsLeftOut s t (field_of i c) ws ⊎ IsWritten s t (field_of i c) ws v → Telling s c.type (routine_at s c.type) v → Telling s t ss (fields ws) → Telling s t (FieldStep (field_of i c) ∷ ss) (fields ws)
 tell_field c (inl l) one d = record { events = _; steps = left_out l d.steps }
@@ -97,9 +98,9 @@ module _ (s : List Resolved) (schema : IsSchema s)
   is_default_or_not : {n : ℕ} (c : Component) (v : AbstractValue) → HasValue s c → ValueIn s n c.type v → DefaultIn s c v ⊎ (DefaultIn s c v → ⊥)
   is_default_or_not {n} c v h b = ⊎_elim
       (λ p. ⊎_elim (λ a. inl (default_from s turn follow levels h b p.1 a))
-      (λ no'. inr (λ q. no' (subst (Alike s c.type v) (ap value_in_presence (sym q.has ∙ p.1)) q.same.are_alike)))
+      (λ no'. inr (λ q. no' (subst (Alike s c.type v) (ap value_in_presence (sym q.has_default ∙ p.1)) q.same.are_alike)))
       (decide 64 n c.type v p.0 b (h p.0 p.1).shaped))
-      (λ none'. inr (λ q. none' q.d q.has))
+      (λ none'. inr (λ q. none' q.value q.has_default))
       (default_or_not c.presence)
 
   next_place : (i j : ℕ) → i + suc j ≡ suc i + j

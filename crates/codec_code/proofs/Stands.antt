@@ -20,12 +20,13 @@ use Rattle.codec_code.specs.declared.step.Step.TheVariants.{Call}
 use Rattle.codec_code.specs.Events.{Event, puts, leaves_out, parts, by_octets, by_rank, Tree, done, piece, lacking, Members as Group, no_member as no_part, no_component as lacking_part, member as part, flat, flats, Part, encodings_of, StandsFor, PartsOf}
 use Rattle.codec_code.specs.Routines.{id_of, body, calls, ends, fields_from, ranked_from, rest_if, is_constructed, routine_at, need_of, rank}
 use Rattle.codec_code.specs.Steps.{Steps, component_at, has_default, Elements as ElementSteps, no_element as no_steps, element as element_steps, Parts as PartSteps, no_part as no_part_steps, part as part_steps}
+use Rattle.codec_code.specs.Steps.{IsTheDefault as DefaultIn}
 use Rattle.codec_code.proofs.Joins.{join, flat_join, joined}
 use Rattle.codec_code.proofs.Inversion.{field_in, ranked_in, leaf_in as leaf_step_in, each_in, sorted_in, pick_in, rest_in, ended}
 use Rattle.codec_code.proofs.Leaves.{LeafStep, leaf_step}
 use Rattle.codec_code.proofs.Permuted.{permutes_from, all_from, permuted_length}
 use Rattle.codec_code.proofs.Ranks.{HasRank, ordered_all}
-use Rattle.codec_code.proofs.Told.{Told, Inside, plain, grouped, whole, Placed, Present, omitted, stood, present_in, absent_in, DefaultIn, RowIn, row_none, row_absent, row_omitted, row_stood, has_rank, Rows, rows_none, rows_more, elements_in, set_in}
+use Rattle.codec_code.proofs.Told.{Told, Inside, plain, grouped, whole, Placed, Present, omitted, stood, present_in, absent_in, RowIn, row_none, row_absent, row_omitted, row_stood, has_rank, Rows, rows_none, rows_more, elements_in, set_in}
 
 pub none_lacking : {s : List Resolved} {cs : List Component} (e : Bool) → UnknownIf s cs e 0 []
 none_lacking false = closed

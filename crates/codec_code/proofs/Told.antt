@@ -18,7 +18,7 @@ use Rattle.codec_code.specs.declared.step.RowKind.{RowKind}
 use Rattle.codec_code.specs.declared.step.Step.{Step}
 use Rattle.codec_code.specs.Events.{Event, opens, closes, leaves_out, Order, by_octets, by_rank, row_of_order, Tree, done, within, ordered, Members as Group, flat, flats, Part, encodings_of, Arranged, StandsFor, PartsOf}
 use Rattle.codec_code.specs.Routines.{heads, body, ends, row_of, is_constructed, routine_of, routine_at, need_of, field_of, rank, tags_at, outermost}
-use Rattle.codec_code.specs.Steps.{Steps, IsDefaultAt, is_absent, is_default, component_at, has_default}
+use Rattle.codec_code.specs.Steps.{Steps, IsDefaultAt, IsTheDefault as DefaultIn, is_absent, is_default, component_at, has_default}
 use Rattle.codec_code.proofs.Wrapped.{opened, closed_by, wrapped, flat_wrapped, Behind, framed_in}
 use Rattle.codec_code.proofs.Inversion.{Held, not_held, held, heads_in}
 use Rattle.codec_code.proofs.Ranks.{rank_same, HasRank, framed_begins}
@@ -138,15 +138,16 @@ placed_once {i = i} p a =
     let e : components a.kind ≡ components p.kind = ap kind_in (sym a.is.found ∙ p.is.found) in
     some_same (sym a.stands ∙ ap (λ q. slice_get q i) e ∙ p.at)
 
-pub record DefaultIn (s : List Resolved) (c : Component) (v : AbstractValue) : Type 0 where
-  pub d : AbstractValue
-  pub has : c.presence ≡ default d
-  pub same : Same s c.type v d
-
 pub default_in : {s : List Resolved} {t i : ℕ} {c : Component} {w : AbstractValue} → Placed s t i c → IsDefaultAt s t i w → DefaultIn s c w
 default_in {s} {w = w} p a =
     let e = placed_once p a in
-    record { d = a.value; has = ap (λ q. q.presence) (sym e) ∙ a.has_default; same = subst (λ q. Same s q.type w a.value) e a.same }
+    subst (λ q. DefaultIn s q w) e a.is_the_default
+
+abbrev default_needed : Presence → Bool
+default_needed p = has_default (need_of p)
+
+pub needs_default : {p : Presence} {d : AbstractValue} → p ≡ default d → has_default (need_of p) ≡ true
+needs_default e = ap default_needed e
 
 pub data Present (s : List Resolved) (t i : ℕ) (c : Component) (v : AbstractValue) (mark : List Event) (ss : List Step) (ws : Row) (es : List Event) : Type 0 where
   omitted : (fs : List Event) → DefaultIn s c v → Steps s t ss (fields ws) fs → es ≡ leaves_out (has_default (need_of c.presence)) ∷ fs → Present s t i c v mark ss ws es
@@ -162,11 +163,11 @@ some_some e = cc
 
 pub present_in : {s : List Resolved} {t i : ℕ} {c : Component} {v : AbstractValue} {mark : List Event} {ss : List Step} {ws : Row} {es : List Event} → Placed s t i c → component_at ws i ≡ Some (Some v) → Held s t (field_of i c) mark ss ws es → Present s t i c v mark ss ws es
 present_in {v = v} p at (not_held fs (is_absent m e) d f) = absurd (nothing_there _ v e at)
-present_in {s = s} {t = t} {i = i} p at (not_held fs (is_default e a) d f) =
+present_in {s = s} {t = t} {i = i} p at (not_held fs (is_default n e a) d f) =
     omitted fs (default_in p (subst (IsDefaultAt s t i) (some_some (sym e ∙ at)) a)) d f
 present_in {s = s} {c = c} p at (held w xs fs a b d f) =
     let e = some_some (sym a.stands ∙ at) in
-    stood xs fs (λ q. subst (λ z. DefaultIn s c z → ⊥) e (λ z. a.no_default (record { tags = p.tags; kind = p.kind; is = p.is; component = c; stands = p.at; value = z.d; has_default = z.has; same = z.same })) q)
+    stood xs fs (λ q. subst (λ z. DefaultIn s c z → ⊥) e (λ z. a.no_default (needs_default z.has_default) (record { tags = p.tags; kind = p.kind; is = p.is; component = c; stands = p.at; is_the_default = z })) q)
     (subst (λ z. Steps s c.type (routine_at s c.type) z xs) e b) d f
 
 pub absent_in : {s : List Resolved} {t i : ℕ} (c : Component) {mark : List Event} {ss : List Step} {ws : Row} {es : List Event} → component_at ws i ≡ Some None → Held s t (field_of i c) mark ss ws es → (fs : List Event) × Steps s t ss (fields ws) fs × (es ≡ leaves_out (has_default (need_of c.presence)) ∷ fs)
@@ -206,15 +207,15 @@ module _ (s : List Resolved)
       let x = d.same.are_alike in
       record {
         row = absent r.row;
-        values = component_absent (subst (MayBeAbsent s n c.type) (sym d.has) (where_default (levels 64 n c.type v d.d x b (h d.d d.has).shaped))) r.values;
-        same = second_default d.has x r.same;
-        are = left_out (ap mandatory_is d.has) r.are;
+        values = component_absent (subst (MayBeAbsent s n c.type) (sym d.has_default) (where_default (levels 64 n c.type v d.value x b (h d.value d.has_default).shaped))) r.values;
+        same = second_default d.has_default x r.same;
+        are = left_out (ap mandatory_is d.has_default) r.are;
       }
 
   -- being alike to the default is being the same
   pub default_from : {n : ℕ} {c : Component} {v d : AbstractValue} → HasValue s c → ValueIn s n c.type v → c.presence ≡ default d → Alike s c.type v d → DefaultIn s c v
   default_from {n} {c} {v} {d} h b e a =
-      record { d = d; has = e; same = record { first = levels n 64 c.type d v (turn c.type v d a) (h d e).shaped b; second = (h d e).shaped; are_alike = a } }
+      record { value = d; has_default = e; same = record { first = levels n 64 c.type d v (turn c.type v d a) (h d e).shaped b; second = (h d e).shaped; are_alike = a } }
 
   pub row_stood : {n : ℕ} {c : Component} {cs : List Component} {v : AbstractValue} {vs : Row} {x : List ℕ} {xs : List (List ℕ)} → HasValue s c → ValueIn s n c.type v → (DefaultIn s c v → ⊥) → Encoded s n c.type v x → RowIn s n cs vs xs → RowIn s n (c ∷ cs) (present v vs) (x ∷ xs)
   row_stood {c = c} {v = v} h b differs e r =

@@ -3,6 +3,7 @@ use Rattle.std.specs.Prelude.{ℕ, suc, ◌+◌, Bool, true, false, ◌&&◌, �
 use Rattle.std.specs.Prelude.{◌∷◌, ◌++◌, length, map, flat_map, replicate, Option, Some, None, slice_get}
 use Rattle.asn_base.specs.declared.tag.Tag.{Tag}
 use Rattle.asn_base.specs.declared.schema.TypeId.{TypeId}
+use Rattle.asn_base.specs.Schemas.{components}
 use Rattle.asn_base.specs.Tags.{class_rank}
 use Rattle.asn_base.specs.Types.{TypeNumber, Presence, mandatory, optional, default, addition, Component, Alternative}
 use Rattle.asn_base.specs.Types.{Kind, a_boolean, an_integer, an_enumerated, a_bit_string, a_named_bit_string}
@@ -96,6 +97,10 @@ ranked_from s all i (c ∷ cs) = Ranked (field_of i c) (rank s all c.type) ∷ r
 
 abbrev pub rest_if : Bool → List Step
 rest_if extensible = if extensible then Rest ∷ [] else []
+
+-- the component at a place of a type
+abbrev pub component_in : List Resolved → TypeNumber → ℕ → Option Component
+component_in s t i = elim (slice_get s t) [ None ↦ None | Some r ↦ slice_get (components r.kind) i ]
 
 -- ---- alternatives
 

@@ -53,16 +53,20 @@ component_at (present w ws) zero = Some (Some w)
 component_at (absent ws) (suc i) = component_at ws i
 component_at (present w ws) (suc i) = component_at ws i
 
--- component i of type t has a DEFAULT, and w is the same
+-- the component has a DEFAULT, and w is the same
+pub record IsTheDefault (s : List Resolved) (c : Component) (w : AbstractValue) : Type 0 where
+  pub value : AbstractValue
+  pub has_default : c.presence ≡ default value
+  pub same : Same s c.type w value
+
+-- component i of type t is such
 pub record IsDefaultAt (s : List Resolved) (t : TypeNumber) (i : ℕ) (w : AbstractValue) : Type 0 where
   pub tags : List Tag
   pub kind : Kind
   pub is : Is s t tags kind
   pub component : Component
   pub stands : slice_get (components kind) i ≡ Some component
-  pub value : AbstractValue
-  pub has_default : component.presence ≡ default value
-  pub same : Same s component.type w value
+  pub is_the_default : IsTheDefault s component w
 
 abbrev pub may_be_absent : Need → Bool
 may_be_absent Mandatory = false
@@ -76,6 +80,7 @@ has_default n = false
 pub data IsLeftOut (s : List Resolved) (t : TypeNumber) (f : Field') (ws : Row) : Type 0 where
   is_absent : may_be_absent f.need ≡ true → component_at ws f.place ≡ Some None → IsLeftOut s t f ws
   is_default : {w : AbstractValue}
+      → has_default f.need ≡ true
       → component_at ws f.place ≡ Some (Some w)
       → IsDefaultAt s t f.place w
       → IsLeftOut s t f ws
@@ -83,7 +88,7 @@ pub data IsLeftOut (s : List Resolved) (t : TypeNumber) (f : Field') (ws : Row) 
 -- a component that is written
 pub record IsWritten (s : List Resolved) (t : TypeNumber) (f : Field') (ws : Row) (w : AbstractValue) : Type 0 where
   pub stands : component_at ws f.place ≡ Some (Some w)
-  pub no_default : IsDefaultAt s t f.place w → ⊥
+  pub no_default : has_default f.need ≡ true → IsDefaultAt s t f.place w → ⊥
 
 mutual
   -- these steps, of the routine of type t, tell these events of a value

@@ -4,9 +4,11 @@ ghost use Rattle.asn_base.specs.Abstract.{abstract};
 ghost use Rattle.asn_base.specs.Schemas.{IsSchema};
 ghost use Rattle.asn_base.specs.Typed.{IsValue};
 ghost use Rattle.codec_code.specs.Routines.{routine_at, starts_of, steps_at, table_of};
+ghost use Rattle.codec_code.specs.Steps.{IsDefaultAt};
 ghost use Rattle.std.specs.Prelude.{◌≡◌, ◌-◌, ◌<◌, ◌≤◌, ◌↔◌, IsTrue, drop, length, slice_get, take};
 
 use crate::build::Table;
+use crate::default::is_default_at;
 use crate::step::{Coding, Step};
 use asn_base::decide::is_value;
 use asn_base::schema::{Schema, TypeId};
@@ -77,6 +79,14 @@ impl Code {
         ensures { IsTrue result ↔ IsValue self.now id.index (abstract value.now) }
     {
         is_value(value, &self.schema, id)
+    }
+
+    /// Whether the component at this place of the type, from 0 in order of definition, has a DEFAULT that the value is the
+    /// same as; false where there is no such component, or it has none. It takes no memory.
+    pub fn is_default(&self, id: TypeId, place: usize, value: &Value) -> bool
+        ensures { IsTrue result ↔ IsDefaultAt self.now id.index place (abstract value.now) }
+    {
+        is_default_at(&self.schema, id, place, value)
     }
 
     /// The routine of the type, for encodings with tags. There are no steps where there is no such type; for the packed

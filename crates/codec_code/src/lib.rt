@@ -3,6 +3,7 @@
 
 mod build;
 mod code;
+mod default;
 mod fault;
 pub mod law;
 mod lines;

@@ -1,0 +1,65 @@
+//! Whether a value is the same as a component's DEFAULT (X.690, 11.5).
+
+ghost use Rattle.asn_base.specs.Abstract.{abstract};
+ghost use Rattle.asn_base.specs.Schemas.{components};
+ghost use Rattle.asn_base.specs.Seen.{component_of, kind_of};
+ghost use Rattle.codec_code.specs.Routines.{component_in};
+ghost use Rattle.codec_code.specs.Steps.{IsDefaultAt, IsTheDefault};
+ghost use Rattle.std.specs.Prelude.{◌≡◌, ◌↔◌, IsTrue, MatchOption, None, Some, map};
+
+use asn_base::same::same;
+use asn_base::schema::{Component, Core, Presence, Schema, TypeId};
+use asn_base::value::Value;
+
+/// Whether the component at this place of the type has a DEFAULT that the value is the same as.
+#[tactic(auto, using(crate::proofs::Defaults::of_none))]
+pub(crate) fn is_default_at(schema: &Schema, id: TypeId, place: usize, value: &Value) -> bool
+    ensures { IsTrue result ↔ IsDefaultAt schema.now id.index place (abstract value.now) }
+{
+    match component_at(schema, id, place) {
+        Some(component) => is_the_default(schema, component, value),
+        None => false,
+    }
+}
+
+/// The component at this place of the type, if there is one.
+fn component_at(schema: &Schema, id: TypeId, place: usize) -> Option<&Component>
+    ensures { MatchOption result (component_in schema.now id.index place ≡ None)
+        (λ c. component_in schema.now id.index place ≡ Some (component_of c.now)) }
+{
+    let types = schema.types();
+    if id.index >= types.len() {
+        return None;
+    }
+    let components = components_of(&types[id.index].core);
+    if place < components.len() {
+        Some(&components[place])
+    } else {
+        None
+    }
+}
+
+fn components_of(core: &Core) -> &[Component]
+    ensures { map component_of result.now ≡ components (kind_of core.now) }
+{
+    match core {
+        Core::Sequence(_, components) => components.as_slice(),
+        Core::Set(_, components) => components.as_slice(),
+        Core::Boolean | Core::Integer(_) | Core::Enumerated(_) | Core::BitString(_) => &[],
+        Core::NamedBits(_) | Core::OctetString(_) | Core::Null => &[],
+        Core::ObjectIdentifier | Core::RelativeOid => &[],
+        Core::Utf8String(_) | Core::RestrictedString(_, _, _) => &[],
+        Core::SequenceOf(_, _) | Core::SetOf(_, _) | Core::Choice(_) => &[],
+    }
+}
+
+/// Whether the component has a DEFAULT that the value is the same as.
+#[tactic(auto, using(crate::proofs::Defaults::of_default, crate::proofs::Defaults::of_mandatory, crate::proofs::Defaults::of_optional, crate::proofs::Defaults::of_addition))]
+fn is_the_default(schema: &Schema, component: &Component, value: &Value) -> bool
+    ensures { IsTrue result ↔ IsTheDefault schema.now (component_of component.now) (abstract value.now) }
+{
+    match &component.presence {
+        Presence::Default(default) => same(value, default, schema, component.ty),
+        Presence::Mandatory | Presence::Optional | Presence::Addition(_) => false,
+    }
+}
