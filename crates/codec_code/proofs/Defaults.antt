@@ -40,14 +40,16 @@ type_there i (Some r) c e = (r, refl, e)
 
 pub of_component : (b : Bool) (s : List Resolved) (t i : ℕ) (c : Component) (w : AbstractValue) → component_in s t i ≡ Some c → IsTrue b ↔ IsTheDefault s c w → IsTrue b ↔ IsDefaultAt s t i w
 of_component b s t i c w e h =
-    let r = type_there i (slice_get s t) c e in
-    ((λ z. record { tags = r.0.tags; kind = r.0.kind; is = record { found = r.1 }; component = c; stands = r.2; is_the_default = h.0 z }),
-     λ a. h.1 (subst (λ q. IsTheDefault s q w) (some_same (sym (component_is a) ∙ e)) a.is_the_default))
+    let r = type_there i (slice_get s t) c e in (
+      (λ z. record { tags = r.0.tags; kind = r.0.kind; is = record { found = r.1 }; component = c; stands = r.2; is_the_default = h.0 z }),
+      λ a. h.1 (subst (λ q. IsTheDefault s q w) (some_same (sym (component_is a) ∙ e)) a.is_the_default),
+    )
 
 pub of_default : (b : Bool) (s : List Resolved) (c : Component) (w d : AbstractValue) → c.presence ≡ default d → IsTrue b ↔ Same s c.type w d → IsTrue b ↔ IsTheDefault s c w
-of_default b s c w d e h =
-    ((λ z. record { value = d; has_default = e; same = h.0 z }),
-     λ a. h.1 (subst (λ q. Same s c.type w q) (ap value_in (sym a.has_default ∙ e)) a.same))
+of_default b s c w d e h = (
+  (λ z. record { value = d; has_default = e; same = h.0 z }),
+  λ a. h.1 (subst (λ q. Same s c.type w q) (ap value_in (sym a.has_default ∙ e)) a.same),
+)
 
 pub of_mandatory : (s : List Resolved) (c : Component) (w : AbstractValue) → c.presence ≡ mandatory → IsTrue false ↔ IsTheDefault s c w
 of_mandatory s c w e = ((λ z. absurd (never z)), λ a. absurd (let f : mandatory ≡ default a.value = sym e ∙ a.has_default in cc))

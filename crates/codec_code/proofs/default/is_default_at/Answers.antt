@@ -6,4 +6,4 @@ use Rattle.codec_code.proofs.default.is_default_at.Goals as goal
 pub returns-in-Some : goal.returns-in-Some
 returns-in-Some c =
     of_component c.is_the_default.result c.args.schema.now c.args.id.index c.args.place (component_of c.in-Some.component.now)
-        (abstract c.args.value.now) c.in-Some.ensures c.is_the_default.ensures
+    (abstract c.args.value.now) c.in-Some.ensures c.is_the_default.ensures
