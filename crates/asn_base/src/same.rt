@@ -347,7 +347,7 @@ fn are_alike_in_any(
         (row_of_list (map abstract first.now))
         (row_of_list (map abstract second.now))) }
 {
-    if first.len() != second.len() {
+    if second.len() != first.len() {
         return false;
     }
     for i in 0..first.len() {

@@ -73,9 +73,9 @@ pub are_alike_in_order-returns : goal.are_alike_in_order-returns
 are_alike_in_order-returns t c = λ a b.
     yes (pairs_end (drop_end abstract c.args.first.now c.loop-i.i c.loop-i-test.false) (drop_end abstract c.args.second.now c.loop-i.i (omega arith)) (c.loop-i.invariant a b))
 
-pub are_alike_in_any-returns-then-first-second : goal.are_alike_in_any-returns-then-first-second
-are_alike_in_any-returns-then-first-second t c = λ a b.
-    no (λ h. c.if-first-second.true (sym (length_mapped abstract c.args.first.now) ∙ as_many_in_any (map abstract c.args.first.now) (map abstract c.args.second.now) h ∙ length_mapped abstract c.args.second.now))
+pub are_alike_in_any-returns-then-second-first : goal.are_alike_in_any-returns-then-second-first
+are_alike_in_any-returns-then-second-first t c = λ a b.
+    no (λ h. c.if-second-first.true (sym (sym (length_mapped abstract c.args.first.now) ∙ as_many_in_any (map abstract c.args.first.now) (map abstract c.args.second.now) h ∙ length_mapped abstract c.args.second.now)))
 
 pub are_alike_in_any-returns-then-not-is_as_often : goal.are_alike_in_any-returns-then-not-is_as_often
 are_alike_in_any-returns-then-not-is_as_often t c = λ a b.
@@ -89,7 +89,7 @@ are_alike_in_any-loop-i-preserved t c = λ a b.
 
 pub are_alike_in_any-returns : goal.are_alike_in_any-returns
 are_alike_in_any-returns t c = λ a b.
-    let many = length_mapped abstract c.args.first.now ∙ c.if-first-second.false ∙ sym (length_mapped abstract c.args.second.now) in
+    let many = length_mapped abstract c.args.first.now ∙ sym c.if-second-first.false ∙ sym (length_mapped abstract c.args.second.now) in
     yes (often_end (drop_end abstract c.args.first.now c.loop-i.i c.loop-i-test.false) many a b (c.loop-i.invariant a b))
 
 pub is_as_often-returns : goal.is_as_often-returns
