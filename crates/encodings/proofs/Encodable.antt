@@ -72,23 +72,23 @@ all_ordered all a no_member = tt
 all_ordered all a (left_out m ms) = all_ordered all a.1 ms
 all_ordered {cs = c ∷ cs} all a (member {x = x} m nd ms) = (one_ordered all c.type x (says_first all m) a.0 ms, all_ordered all a.1 ms)
 
-none_lacking : {s : List Resolved} {cs : List Component} (e : Bool) → UnknownIf s cs e 0 []
+pub none_lacking : {s : List Resolved} {cs : List Component} (e : Bool) → UnknownIf s cs e 0 []
 none_lacking false = closed
 none_lacking true = extensible no_unknown
 
-merged_alone : (zs : List (List ℕ)) → Merges zs [] zs
+pub merged_alone : (zs : List (List ℕ)) → Merges zs [] zs
 merged_alone [] = merges_none
 merged_alone (z ∷ zs) = merges_first (merged_alone zs)
 
 -- ---- absent components
 
-abbrev mandatory_is : Presence → Bool
+abbrev pub mandatory_is : Presence → Bool
 mandatory_is mandatory = true
 mandatory_is optional = false
 mandatory_is (default d) = false
 mandatory_is (addition o g) = false
 
-not_mandatory : {s : List Resolved} {n t : ℕ} {p : Presence} → MayBeAbsent s n t p → (c : Component) → c.presence ≡ p → is_mandatory c ≡ false
+pub not_mandatory : {s : List Resolved} {n t : ℕ} {p : Presence} → MayBeAbsent s n t p → (c : Component) → c.presence ≡ p → is_mandatory c ≡ false
 not_mandatory where_optional c e = ap mandatory_is e
 not_mandatory (where_default v) c e = ap mandatory_is e
 not_mandatory where_addition c e = ap mandatory_is e

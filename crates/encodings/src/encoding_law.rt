@@ -8,6 +8,7 @@ ghost use Rattle.asn_base.specs.Tags.{AllTagged, AllTellable, HasFewTags};
 ghost use Rattle.asn_base.specs.Same.{AlikeBy, Same};
 ghost use Rattle.asn_base.specs.Typed.{Fits, IsValue, IsValueWithoutNodes, ValueIn, nodes};
 ghost use Rattle.asn_base.specs.Types.{Kind, Resolved};
+ghost use Rattle.encodings.specs.Account.{Account, Tells};
 ghost use Rattle.encodings.specs.Contents.{Contents};
 ghost use Rattle.encodings.specs.Encoding.{Ber, Der, EncodesBy, Says, Shortest};
 ghost use Rattle.encodings.specs.Reading.{Encodes};
@@ -209,6 +210,31 @@ pub fn message_laws()
         → length o ≤ 16777216
         → IsValue s t w }
 {}
+
+/// An account of an encoding tells its octets, and they are a shortest one: whatever the order in SET and SET OF, none by
+/// the basic rules has fewer.
+pub fn account_laws()
+    // A type, a value and an account have one list of octets.
+    ensures one { (s : List Resolved) (t : ℕ) (v : AbstractValue) (o p : List ℕ) (a : Account)
+        → Tells s t v o a
+        → Tells s t v p a
+        → p ≡ o }
+    // They are an encoding by the distinguished rules, but for the order in sets.
+    ensures unsorted { (s : List Resolved) (t : ℕ) (v : AbstractValue) (o : List ℕ) (a : Account)
+        → IsSchema s
+        → IsValueWithoutNodes s t v
+        → Tells s t v o a
+        → EncodesBy Unsorted s t v 0 o }
+    ensures shortest { (s : List Resolved) (t : ℕ) (v : AbstractValue) (o : List ℕ) (a : Account)
+        → IsSchema s
+        → IsValueWithoutNodes s t v
+        → Tells s t v o a
+        → Shortest s t v o }
+{
+    sameness();
+    alike_values();
+    unsorted_laws();
+}
 
 /// The laws together, of a schema with any kinds of types.
 pub fn schema_laws()
