@@ -93,13 +93,13 @@ not_mandatory where_optional c e = ap mandatory_is e
 not_mandatory (where_default v) c e = ap mandatory_is e
 not_mandatory where_addition c e = ap mandatory_is e
 
-default_or_not : (p : Presence) → ((d : AbstractValue) × (p ≡ default d)) ⊎ ((d : AbstractValue) → p ≡ default d → ⊥)
+pub default_or_not : (p : Presence) → ((d : AbstractValue) × (p ≡ default d)) ⊎ ((d : AbstractValue) → p ≡ default d → ⊥)
 default_or_not mandatory = inr (λ d e. cc)
 default_or_not optional = inr (λ d e. cc)
 default_or_not (default d) = inl (d, refl)
 default_or_not (addition o g) = inr (λ d e. cc)
 
-abbrev default_in : Presence → AbstractValue
+abbrev pub default_in : Presence → AbstractValue
 default_in mandatory = null
 default_in optional = null
 default_in (default d) = d

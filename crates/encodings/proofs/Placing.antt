@@ -2,11 +2,10 @@
 use Rattle.std.proofs.Common.{arith, ◌≡◌, ℕ, zero, suc, ◌<◌, List, [], ◌∷◌, length, map, refl, sym, ap, ◌∙◌}
 use Rattle.std.specs.Prelude.{Option, Some, None, slice_get}
 use Rattle.std.specs.List.{AllByRecursion}
-use Rattle.std.proofs.lemmas.Option.{slice_get_within}
 use Rattle.encodings.specs.Orders.{Inserted, here, there, Permutes, permutes_none, permutes_more}
-use Rattle.encodings.specs.Account.{ArePlaces, StandAt}
+use Rattle.encodings.specs.Account.{StandAt}
 
-abbrev some_or : {A : Type 0} → A → Option A → A
+abbrev pub some_or : {A : Type 0} → A → Option A → A
 some_or d None = d
 some_or d (Some x) = x
 
@@ -86,12 +85,12 @@ placed [] (x ∷ xs) zs l one h = absurd (omega arith)
 placed (j ∷ p) [] zs l one h = absurd (omega arith)
 placed (j ∷ p) (x ∷ xs) zs l one h =
     placed_more (h 0 j refl) (all_by_place (λ k. k ≡ j → ⊥) p (λ i k e f. apart i (e ∙ ap Some f)))
-      (placed p xs zs (let e = l in omega arith) (λ i k m e f. (let g = one (suc i) (suc k) m e f in omega arith)) (λ i k e. h (suc i) k e))
+    (placed p xs zs (let e = l in omega arith) (λ i k m e f. (let g = one (suc i) (suc k) m e f in omega arith)) (λ i k e. h (suc i) k e))
   where
     apart : (i : ℕ) → slice_get p i ≡ Some j → ⊥
     apart i e = let g = one 0 (suc i) j refl e in omega arith
 
-same_some : {i k : ℕ} → Some i ≡ Some k → i ≡ k
+pub same_some : {i k : ℕ} → Some i ≡ Some k → i ≡ k
 same_some {i} e = ap (some_or i) e
 
 pub standing_permutes : {p q : List ℕ} {xs zs : List (List ℕ)} → StandAt p q xs zs → Permutes xs zs
@@ -117,6 +116,6 @@ found_at (i ∷ p) (suc j) h = found_at p j (omega arith)
 pub one_standing : {p q : List ℕ} {xs zs ys : List (List ℕ)} → StandAt p q xs zs → StandAt p q xs ys → ys ≡ zs
 one_standing {p} {q} {xs} {zs} {ys} a b =
     same_lists zs ys (b.as_many ∙ sym a.as_many)
-      (λ j h. (let f = found_at q j (let l = a.as_many in let m = a.are_places.each_place in omega arith) in
-      let e = a.are_places.back f.0 j f.1 in
-      b.each f.0 j e ∙ sym (a.each f.0 j e)))
+    (λ j h. (let f = found_at q j (let l = a.as_many in let m = a.are_places.each_place in omega arith) in
+    let e = a.are_places.back f.0 j f.1 in
+    b.each f.0 j e ∙ sym (a.each f.0 j e)))

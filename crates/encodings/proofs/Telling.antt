@@ -1,20 +1,18 @@
 -- What an account tells is an encoding by the distinguished rules but for the order in sets, and the only one that it tells.
-use Rattle.std.proofs.Common.{arith, ◌≡◌, ℕ, suc, Bool, true, List, [], ◌∷◌, ◌++◌, length, refl, sym, ap, subst, ◌∙◌}
-use Rattle.std.specs.Prelude.{Some, slice_get}
+use Rattle.std.proofs.Common.{arith, ◌≡◌, ℕ, suc, Bool, true, List, [], ◌∷◌, refl, sym, ap, subst, ◌∙◌}
 use Rattle.std.specs.List.{concat, AllByRecursion}
 use Rattle.std.proofs.lemmas.List.{append-nil}
 use Rattle.asn_base.specs.declared.tag.Tag.{Tag}
 use Rattle.asn_base.specs.Abstract.{AbstractValue, fields, list, alternative, Row, end, absent, present}
-use Rattle.asn_base.specs.Types.{Constraint, Alternative, Kind, a_sequence, a_set, a_sequence_of, a_set_of, a_choice, default, Component, Resolved, Is}
+use Rattle.asn_base.specs.Types.{Kind, a_sequence, Component, Resolved, Is}
 use Rattle.asn_base.specs.Typed.{IsAllowedSize, GroupsAreWhole, members, ValueIn, value_in, ValueOf, of_leaf, of_sequence, of_set, of_sequence_of, of_set_of, of_choice, MayBeAbsent, where_default, AreComponents, no_component, component_absent, component_present, AreElements, no_element as no_value, one_element, Fits, fits_named_bits}
 use Rattle.asn_base.specs.Same.{IsLeaf, Inserted, here, there, Alike, alike, AlikeBy, equal, zeros, alike_sequence, alike_set, alike_sequence_of, alike_set_of, alike_choice, AlikeComponents, no_components, both_absent, both_present, second_default, AlikeElements, no_elements, alike_element, AlikeInAnyOrder, none_left, pair}
 use Rattle.asn_base.specs.Schemas.{HasValue, IsSound, IsSchema}
-use Rattle.encodings.specs.Rules.{Rules, Unsorted, Distinguished}
+use Rattle.encodings.specs.Rules.{Unsorted, Distinguished}
 use Rattle.encodings.specs.Header.{HeaderBy}
 use Rattle.encodings.specs.Orders.{Inserted as ListInserted, here as list_here, there as list_there, Permutes, permutes_none, permutes_more}
-use Rattle.encodings.specs.Contents.{Contents}
-use Rattle.encodings.specs.Encoding.{Framed, bare, innermost, outer, IsDefault, Says, says, Holds, leaf, sequence, set, sequence_of, set_of, choice, Members, no_member, left_out, member, Elements, no_element, element, EncodesBy}
-use Rattle.encodings.specs.Account.{Numbers, Account, header, Inside, leaf_row, wrap_row, seq_row, seqof_row, set_row, setof_row, Rows, no_row, absent_row, default_row, written, HeaderTold, Headed, headed_bare, headed_innermost, headed_outer, StandAt, Tells, tells, TellsInside, leaf_told, sequence_told, set_told, sequence_of_told, set_of_told, choice_told, TellsMembers, no_member_told, absent_told, absent_default_told, default_told, member_told, TellsElements, no_element_told, element_told}
+use Rattle.encodings.specs.Encoding.{Framed, bare, innermost, outer, Says, says, Holds, leaf, sequence, set, sequence_of, set_of, choice, Members, no_member, left_out, member, Elements, no_element, element, EncodesBy}
+use Rattle.encodings.specs.Account.{Account, header, Inside, leaf_row, wrap_row, seq_row, seqof_row, set_row, setof_row, Rows, no_row, absent_row, default_row, written, Headed, headed_bare, headed_innermost, headed_outer, StandAt, Tells, tells, TellsInside, leaf_told, sequence_told, set_told, sequence_of_told, set_of_told, choice_told, TellsMembers, no_member_told, absent_told, absent_default_told, default_told, member_told, TellsElements, no_element_told, element_told}
 use Rattle.encodings.proofs.LeafLaws.{leaf_form}
 use Rattle.encodings.proofs.Frames.{frames_only}
 use Rattle.encodings.proofs.Least.{same_tags, same_kind, alike_by_at, alternative_type, leaves_best}

@@ -212,7 +212,7 @@ pub fn message_laws()
 {}
 
 /// An account of an encoding tells its octets, and they are a shortest one: whatever the order in SET and SET OF, none by
-/// the basic rules has fewer.
+/// the basic rules has fewer. Each encoding by the distinguished rules has one.
 pub fn account_laws()
     // A type, a value and an account have one list of octets.
     ensures one { (s : List Resolved) (t : ℕ) (v : AbstractValue) (o p : List ℕ) (a : Account)
@@ -230,6 +230,11 @@ pub fn account_laws()
         → IsValueWithoutNodes s t v
         → Tells s t v o a
         → Shortest s t v o }
+    // Each encoding by the distinguished rules has an account.
+    ensures exists { (s : List Resolved) (t : ℕ) (v : AbstractValue) (o : List ℕ)
+        → IsSchema s
+        → Der s t v 0 o
+        → (a : Account) × Tells s t v o a }
 {
     sameness();
     alike_values();

@@ -1,0 +1,6 @@
+//! Accounts of encodings: header by header, how their octets are made up.
+#![tactic(auto)]
+
+pub mod account;
+pub mod law;
+pub mod row;
