@@ -1,10 +1,24 @@
 //! Laws of accounts, for the crates above.
 
-ghost use Rattle.std.specs.Prelude.{◌≡◌, List};
-ghost use Rattle.encodings.specs.Account.{Account};
-ghost use Rattle.octet_account.specs.Flat.{FlatRow, AreRows};
+ghost use Rattle.std.specs.Prelude.{◌≡◌, ◌≤◌, ℕ, List, length};
+ghost use Rattle.asn_base.specs.Abstract.{AbstractValue};
+ghost use Rattle.asn_base.specs.Schemas.{IsSchema};
+ghost use Rattle.asn_base.specs.Typed.{IsValueWithoutNodes};
+ghost use Rattle.asn_base.specs.Types.{Resolved};
+ghost use Rattle.encodings.specs.Account.{Account, Tells};
+ghost use Rattle.octet_account.specs.Flat.{FlatRow, AreRows, IsWithin};
 
 /// Rows are those of one account.
 pub fn one_account()
     ensures { (a b : Account) (rs : List FlatRow) → AreRows a rs → AreRows b rs → a ≡ b }
+{}
+
+/// The account of a value's encoding, of at most 16,777,216 octets, keeps the bounds of accounts.
+pub fn accounts_within_bounds()
+    ensures { (s : List Resolved) (t : ℕ) (v : AbstractValue) (o : List ℕ) (a : Account)
+        → IsSchema s
+        → IsValueWithoutNodes s t v
+        → length o ≤ 16777216
+        → Tells s t v o a
+        → IsWithin 400 a }
 {}
