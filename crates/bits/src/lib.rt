@@ -1,0 +1,5 @@
+//! Lists of bits.
+#![tactic(auto)]
+
+pub mod buffer;
+mod octets;
