@@ -2,12 +2,14 @@
 
 ghost use Rattle.asn_base.specs.Abstract.{abstract, row_of_list, row_of_options};
 ghost use Rattle.asn_base.specs.Decided.{Holds, IsChosen, IsComponent};
+ghost use Rattle.asn_base.specs.Depths.{AreKnown, AreOf, IsDepth, IsOf};
 ghost use Rattle.asn_base.specs.Seen.{alternative_of, component_of, constraint_of, kind_of};
 ghost use Rattle.asn_base.specs.Typed.{AreComponents, AreElements, GroupsAreWhole, IsAllowedSize, IsValue, IsValueWithoutNodes, ValueIn, members};
 ghost use Rattle.asn_base.specs.Types.{Alternative};
-ghost use Rattle.std.specs.Prelude.{◌≡◌, ◌↔◌, ◌++◌, IsTrue, MatchOption, None, Some, length, map, option_map, slice_get};
+ghost use Rattle.std.specs.Prelude.{◌≡◌, ◌↔◌, ◌++◌, ◌-◌, IfSome, IsTrue, MatchOption, None, Some, length, map, option_map, slice_get};
 
 use crate::constraint::Constraint;
+use crate::depths::depth_of;
 use crate::groups::are_whole;
 use crate::law::abstract_values;
 use crate::leaf::{fits, is_allowed_size};
@@ -31,24 +33,40 @@ pub fn is_value(value: &Value, schema: &Schema, id: TypeId) -> bool
 pub fn is_value_without_nodes(value: &Value, schema: &Schema, id: TypeId) -> bool
     ensures { IsTrue result ↔ IsValueWithoutNodes schema.now id.index (abstract value.now) }
 {
-    is_within(value, schema, 64, id)
+    is_within(value, schema, schema.depths(), 64, id)
 }
 
 /// Whether it is a value of the type with at most this many levels, the limit on nodes apart.
 #[cycle(within)]
-fn is_within(value: &Value, schema: &Schema, levels: u8, id: TypeId) -> bool
+pub(crate) fn is_within(
+    value: &Value,
+    schema: &Schema,
+    depths: &Option<Vec<Vec<u8>>>,
+    levels: u8,
+    id: TypeId,
+) -> bool
+    requires { AreKnown schema.now (levels - 1) depths.now }
     ensures { IsTrue result ↔ ValueIn schema.now levels id.index (abstract value.now) }
 {
     if levels == 0 || !schema.has(id) {
         return false;
     }
     let core = &schema.get(id).core;
-    fits(core, value) || holds(core, value, schema, levels - 1)
+    fits(core, value) || holds(core, value, schema, depths, levels - 1, id)
 }
 
 /// Whether it is a value of the kind that holds others, each with at most this many levels.
 #[cycle(within)]
-fn holds(core: &Core, value: &Value, schema: &Schema, levels: u8) -> bool
+fn holds(
+    core: &Core,
+    value: &Value,
+    schema: &Schema,
+    depths: &Option<Vec<Vec<u8>>>,
+    levels: u8,
+    id: TypeId,
+) -> bool
+    requires known { AreKnown schema.now levels depths.now }
+    requires of { IsOf schema.now id.index (kind_of core.now) }
     ensures { IsTrue result ↔ Holds schema.now levels (kind_of core.now) (abstract value.now) }
 {
     abstract_values();
@@ -58,7 +76,9 @@ fn holds(core: &Core, value: &Value, schema: &Schema, levels: u8) -> bool
                 components.as_slice(),
                 values.as_slice(),
                 schema,
+                depths,
                 levels,
+                id,
             ),
             _ => false,
         },
@@ -67,20 +87,43 @@ fn holds(core: &Core, value: &Value, schema: &Schema, levels: u8) -> bool
                 components.as_slice(),
                 values.as_slice(),
                 schema,
+                depths,
                 levels,
+                id,
             ),
             _ => false,
         },
         Core::SequenceOf(size, element) => match value {
-            Value::List(values) => are_elements(size, *element, values.as_slice(), schema, levels),
+            Value::List(values) => are_elements(
+                size,
+                *element,
+                values.as_slice(),
+                schema,
+                depths,
+                levels,
+            ),
             _ => false,
         },
         Core::SetOf(size, element) => match value {
-            Value::List(values) => are_elements(size, *element, values.as_slice(), schema, levels),
+            Value::List(values) => are_elements(
+                size,
+                *element,
+                values.as_slice(),
+                schema,
+                depths,
+                levels,
+            ),
             _ => false,
         },
         Core::Choice(alternatives) => match value {
-            Value::Alt(index, inner) => is_chosen(alternatives, *index, inner, schema, levels),
+            Value::Alt(index, inner) => is_chosen(
+                alternatives,
+                *index,
+                inner,
+                schema,
+                depths,
+                levels,
+            ),
             _ => false,
         },
         _ => false,
@@ -93,8 +136,12 @@ fn are_fields(
     components: &[Component],
     values: &[Option<Value>],
     schema: &Schema,
+    depths: &Option<Vec<Vec<u8>>>,
     levels: u8,
+    id: TypeId,
 ) -> bool
+    requires known { AreKnown schema.now levels depths.now }
+    requires of { AreOf schema.now id.index (map component_of components.now) }
     ensures { IsTrue result
         ↔ AreComponents schema.now levels (map component_of components.now) (row_of_options (map (option_map abstract) values.now))
         × GroupsAreWhole (map component_of components.now) (row_of_options (map (option_map abstract) values.now)) }
@@ -102,7 +149,7 @@ fn are_fields(
     if components.len() != values.len() {
         return false;
     }
-    are_components(components, values, schema, levels) && are_whole(components, values)
+    are_components(components, values, schema, depths, levels, id) && are_whole(components, values)
 }
 
 /// Whether these are the components of a value, of whole groups or not.
@@ -111,14 +158,19 @@ fn are_components(
     components: &[Component],
     values: &[Option<Value>],
     schema: &Schema,
+    depths: &Option<Vec<Vec<u8>>>,
     levels: u8,
+    id: TypeId,
 ) -> bool
-    requires { length components.now ≡ length values.now }
+    requires long { length components.now ≡ length values.now }
+    requires known { AreKnown schema.now levels depths.now }
+    requires of { AreOf schema.now id.index (map component_of components.now) }
     ensures { IsTrue result
         ↔ AreComponents schema.now levels (map component_of components.now) (row_of_options (map (option_map abstract) values.now)) }
 {
     for i in 0..components.len() {
-        if !is_component(&components[i], &values[i], schema, levels) {
+        let depth = depth_of(depths, id, i);
+        if !is_component(&components[i], &values[i], schema, depths, levels, depth) {
             return false;
         }
     }
@@ -127,15 +179,27 @@ fn are_components(
 
 /// Whether it is a value of the component, or none where that may be.
 #[cycle(within)]
-fn is_component(component: &Component, value: &Option<Value>, schema: &Schema, levels: u8) -> bool
+fn is_component(
+    component: &Component,
+    value: &Option<Value>,
+    schema: &Schema,
+    depths: &Option<Vec<Vec<u8>>>,
+    levels: u8,
+    depth: Option<u8>,
+) -> bool
+    requires known { AreKnown schema.now levels depths.now }
+    requires depth { IfSome depth (IsDepth schema.now levels (component_of component.now)) }
     ensures { IsTrue result ↔ IsComponent schema.now levels (component_of component.now) (option_map abstract value.now) }
 {
     match value {
-        Some(value) => is_within(value, schema, levels, component.ty),
+        Some(value) => is_within(value, schema, depths, levels, component.ty),
         None => match &component.presence {
             Presence::Mandatory => false,
             Presence::Optional => true,
-            Presence::Default(default) => is_within(default, schema, levels, component.ty),
+            Presence::Default(default) => match depth {
+                Some(least) => least <= levels,
+                None => is_within(default, schema, depths, levels, component.ty),
+            },
             Presence::Addition(_) => true,
         },
     }
@@ -148,8 +212,10 @@ fn are_elements(
     element: TypeId,
     values: &[Value],
     schema: &Schema,
+    depths: &Option<Vec<Vec<u8>>>,
     levels: u8,
 ) -> bool
+    requires known { AreKnown schema.now levels depths.now }
     ensures { IsTrue result
         ↔ AreElements schema.now levels element.index (row_of_list (map abstract values.now))
         × IsAllowedSize (constraint_of size.now) (members (row_of_list (map abstract values.now))) }
@@ -158,7 +224,7 @@ fn are_elements(
         return false;
     }
     for i in 0..values.len() {
-        if !is_within(&values[i], schema, levels, element) {
+        if !is_within(&values[i], schema, depths, levels, element) {
             return false;
         }
     }
@@ -172,15 +238,17 @@ fn is_chosen(
     index: usize,
     value: &Value,
     schema: &Schema,
+    depths: &Option<Vec<Vec<u8>>>,
     levels: u8,
 ) -> bool
+    requires known { AreKnown schema.now levels depths.now }
     ensures { IsTrue result
         ↔ IsChosen schema.now levels
         (map alternative_of alternatives.now.root.items ++ map alternative_of alternatives.now.additions.items)
         index (abstract value.now) }
 {
     match chosen_type(alternatives, index) {
-        Some(id) => is_within(value, schema, levels, id),
+        Some(id) => is_within(value, schema, depths, levels, id),
         None => false,
     }
 }

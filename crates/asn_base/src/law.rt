@@ -95,6 +95,11 @@ pub fn alike_values()
         → Alike s t v w ⊎ (Alike s t v w → ⊥) }
 {}
 
+/// A value with some levels is one with more.
+pub fn levels_grow()
+    ensures { (s : List Resolved) (t m n : ℕ) (v : AbstractValue) → m ≤ n → ValueIn s m t v → ValueIn s n t v }
+{}
+
 /// Being the same is an equivalence on the values of a type, the limit on nodes apart.
 pub fn sameness()
     ensures itself { (s : List Resolved) (t : ℕ) (v : AbstractValue) → IsValueWithoutNodes s t v → Same s t v v }

@@ -4,7 +4,7 @@ ghost use Rattle.asn_base.specs.Abstract.{AbstractValue, Row, abstract, alternat
 ghost use Rattle.asn_base.specs.Decided.{AlikeAt, AlikeChosen, Count, HasDefaultAlike, IsAsOften, IsChosen, IsComponent};
 ghost use Rattle.asn_base.specs.Same.{Alike, AlikeBy, AlikeComponents, AlikeElements, AlikeInAnyOrder, Same};
 ghost use Rattle.asn_base.specs.Seen.{alternative_of, component_of, kind_of};
-ghost use Rattle.asn_base.specs.Typed.{AreComponents, AreElements, ValueIn, ValueOf};
+ghost use Rattle.asn_base.specs.Typed.{AreComponents, AreElements, IsValueWithoutNodes, ValueIn, ValueOf};
 ghost use Rattle.std.specs.Prelude.{◌≡◌, ◌↔◌, ◌++◌, ℕ, IsTrue, None, length, map, option_map};
 
 use crate::decide::{chosen_type, is_value_without_nodes};
@@ -23,6 +23,16 @@ pub fn same(first: &Value, second: &Value, schema: &Schema, id: TypeId) -> bool
     is_value_without_nodes(first, schema, id)
         && is_value_without_nodes(second, schema, id)
         && are_alike(first, second, schema, 64, id)
+}
+
+/// The same for two that are known to be values of the type, which it doesn't look at again: so a short one is compared
+/// with a long DEFAULT in the time of the short one, but for zeros under named bits.
+pub fn same_values(first: &Value, second: &Value, schema: &Schema, id: TypeId) -> bool
+    requires first { IsValueWithoutNodes schema.now id.index (abstract first.now) }
+    requires second { IsValueWithoutNodes schema.now id.index (abstract second.now) }
+    ensures { IsTrue result ↔ Same schema.now id.index (abstract first.now) (abstract second.now) }
+{
+    are_alike(first, second, schema, 64, id)
 }
 
 /// Whether two values of the type with at most this many levels are alike.

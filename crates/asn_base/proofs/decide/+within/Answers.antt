@@ -1,10 +1,13 @@
 use Rattle.std.proofs.Common.{arith, ◌<◌, ◌≤◌, length, map, sym, subst, ap, ◌∙◌}
-use Rattle.std.specs.Prelude.{option_map}
+use Rattle.std.proofs.Common.{rules}
+use Rattle.std.specs.Prelude.{IfSome, option_map}
 use Rattle.asn_base.specs.Abstract.{abstract}
 use Rattle.asn_base.specs.Seen.{component_of}
 use Rattle.asn_base.proofs.Leaves.{drop_is, drop_end, yes, no}
 use Rattle.asn_base.specs.Seen.{presence_of, constraint_of}
+use Rattle.asn_base.specs.Depths.{IsDepth}
 use Rattle.asn_base.specs.Typed.{IsAllowedSize}
+use Rattle.asn_base.proofs.DepthLaws.{component_at, known_at, by_depth, at_most}
 use Rattle.asn_base.proofs.Parts.{opened, next_component, no_first, all_components, opened_elements, all_elements, as_many, length_mapped, member_count, absent_at, may_optional, may_addition, by_default, in_leaf, in_holder}
 use Rattle.asn_base.proofs.decide.+within.Goals as goal
 
@@ -53,8 +56,20 @@ are_fields-returns-then-components-values t c =
 pub is_component-returns-in-Optional : goal.is_component-returns-in-Optional
 is_component-returns-in-Optional t c = absent_at c.args.schema.now c.args.levels (component_of c.args.component.now) (ap (option_map abstract) c.in-None.is) (yes (may_optional (ap presence_of c.in-Optional.is)))
 
-pub is_component-returns-in-Default : goal.is_component-returns-in-Default
-is_component-returns-in-Default t c = absent_at c.args.schema.now c.args.levels (component_of c.args.component.now) (ap (option_map abstract) c.in-None.is) (by_default (ap presence_of c.in-Default.is) c.is_within-in-Default.ensures)
+pub are_components-is_component-requires : goal.are_components-is_component-requires
+are_components-is_component-requires t c =
+    let there = component_at component_of c.args.components.now c.loop-i.i c.index-components-i.result c.loop-i-test.true c.index-components-i.is in
+    let k = known_at c.args.schema.now c.args.levels c.args.id.index c.loop-i.i (map component_of c.args.components.now) (component_of c.index-components-i.result) c.args.depths.now c.requires.known c.requires.of there in
+    (search rules, (c.requires.known, subst (λ q. IfSome q (IsDepth c.args.schema.now c.args.levels (component_of c.index-components-i.result))) (sym c.depth_of-depth.ensures) k))
+
+pub is_component-returns-in-Some-depth : goal.is_component-returns-in-Some-depth
+is_component-returns-in-Some-depth t c =
+    let k = subst (λ q. IfSome q (IsDepth c.args.schema.now c.args.levels (component_of c.args.component.now))) c.in-Some-depth.is c.requires.depth in
+    absent_at c.args.schema.now c.args.levels (component_of c.args.component.now) (ap (option_map abstract) c.in-None.is)
+    (by_depth c.args.schema.now c.args.levels (component_of c.args.component.now) c.in-Some-depth.least (ap presence_of c.in-Default.is) k (at_most c.in-Some-depth.least c.args.levels))
+
+pub is_component-returns-in-None-depth : goal.is_component-returns-in-None-depth
+is_component-returns-in-None-depth t c = absent_at c.args.schema.now c.args.levels (component_of c.args.component.now) (ap (option_map abstract) c.in-None.is) (by_default (ap presence_of c.in-Default.is) c.is_within-in-None-depth.ensures)
 
 pub is_component-returns-in-Addition : goal.is_component-returns-in-Addition
 is_component-returns-in-Addition t c = absent_at c.args.schema.now c.args.levels (component_of c.args.component.now) (ap (option_map abstract) c.in-None.is) (yes (may_addition (ap presence_of c.in-Addition.is)))

@@ -1,0 +1,172 @@
+//! The levels of defaults, found once for a schema.
+
+ghost use Rattle.asn_base.specs.Depths.{AreDepths, AreKnown, AreOf, IsDepth, IsDepthRow, NoneAbove, depth_at, in_row, rows_of};
+ghost use Rattle.asn_base.specs.Schemas.{components};
+ghost use Rattle.asn_base.specs.Seen.{component_of, kind_of};
+ghost use Rattle.std.specs.Prelude.{◌≡◌, ◌+◌, ◌<◌, ◌≤◌, ℕ, IfOk, IfSome, IsSome, false, map, option_map};
+
+use crate::copy::add;
+use crate::decide::is_within;
+use crate::schema::{Component, Core, Presence, Schema, TypeId};
+use std::alloc::{AllocError, Global};
+
+/// The number at a place of a table, 1 where it has none.
+fn depth(rows: &[Vec<u8>], ty: usize, place: usize) -> u8
+    ensures { result ≡ depth_at (rows_of rows.now) ty place }
+{
+    if ty >= rows.len() {
+        return 1;
+    }
+    let row = rows[ty].as_slice();
+    if place >= row.len() {
+        return 1;
+    }
+    row[place]
+}
+
+/// The levels of the default of a type's component, where there is a table.
+pub(crate) fn depth_of(table: &Option<Vec<Vec<u8>>>, id: TypeId, place: usize) -> Option<u8>
+    ensures { result ≡ option_map (λ v. depth_at (rows_of v.items) id.index place) table.now }
+{
+    match table {
+        Some(rows) => Some(depth(rows.as_slice(), id.index, place)),
+        None => None,
+    }
+}
+
+/// The levels of a component's default, told up to one more than before.
+fn next_depth(
+    component: &Component,
+    id: TypeId,
+    place: usize,
+    schema: &Schema,
+    table: &Option<Vec<Vec<u8>>>,
+    levels: u8,
+) -> u8
+    requires few { levels < 64 }
+    requires known { AreKnown schema.now levels table.now }
+    requires some { IsSome table.now }
+    requires before { IfSome table.now (λ v. IsDepth schema.now levels (component_of component.now)
+        (depth_at (rows_of v.items) id.index place)) }
+    ensures { IsDepth schema.now (levels + 1) (component_of component.now) result }
+{
+    let Presence::Default(default) = &component.presence else {
+        return 1;
+    };
+    let Some(before) = depth_of(table, id, place) else {
+        return 1;
+    };
+    if before <= levels {
+        return before;
+    }
+    if is_within(default, schema, table, levels + 1, component.ty) {
+        return levels + 1;
+    }
+    levels + 2
+}
+
+/// The components of a SEQUENCE or SET, none of other kinds.
+fn components_of(core: &Core) -> &[Component]
+    ensures { map component_of result.now ≡ components (kind_of core.now) }
+{
+    match core {
+        Core::Sequence(_, components) => components.as_slice(),
+        Core::Set(_, components) => components.as_slice(),
+        _ => &[],
+    }
+}
+
+/// The row of a type, told up to one more than before.
+fn next_row(
+    alloc: Global,
+    components: &[Component],
+    id: TypeId,
+    schema: &Schema,
+    table: &Option<Vec<Vec<u8>>>,
+    levels: u8,
+) -> Result<Vec<u8>, AllocError>
+    requires few { levels < 64 }
+    requires known { AreKnown schema.now levels table.now }
+    requires some { IsSome table.now }
+    requires of { AreOf schema.now id.index (map component_of components.now) }
+    ensures { IfOk result (λ row. IsDepthRow schema.now (levels + 1) (map component_of components.now) row.items) }
+{
+    let mut row = Vec::new(alloc);
+    for i in 0..components.len() {
+        let one = next_depth(&components[i], id, i, schema, table, levels);
+        add(&mut row, one)?;
+    }
+    Ok(row)
+}
+
+/// The table, told up to one more than before.
+fn next_rows(
+    alloc: Global,
+    schema: &Schema,
+    table: &Option<Vec<Vec<u8>>>,
+    levels: u8,
+) -> Result<Vec<Vec<u8>>, AllocError>
+    requires few { levels < 64 }
+    requires known { AreKnown schema.now levels table.now }
+    requires some { IsSome table.now }
+    ensures { IfOk result (λ rows. AreDepths schema.now (levels + 1) (rows_of rows.items)) }
+{
+    let types = schema.types();
+    let mut rows = Vec::new(alloc);
+    for i in 0..types.len() {
+        let components = components_of(&types[i].core);
+        let one = next_row(
+            alloc,
+            components,
+            TypeId { index: i },
+            schema,
+            table,
+            levels,
+        )?;
+        add(&mut rows, one)?;
+    }
+    Ok(rows)
+}
+
+/// Whether a number of the row is above the most.
+fn row_above(row: &[u8], most: u8) -> bool
+    requires { 0 < most }
+    ensures { result ≡ false → (j : ℕ) → in_row row.now j ≤ most }
+{
+    for i in 0..row.len() {
+        if row[i] > most {
+            return true;
+        }
+    }
+    false
+}
+
+/// Whether a number of the table is above the most.
+fn is_above(rows: &[Vec<u8>], most: u8) -> bool
+    requires { 0 < most }
+    ensures { result ≡ false → NoneAbove most (rows_of rows.now) }
+{
+    for i in 0..rows.len() {
+        if row_above(rows[i].as_slice(), most) {
+            return true;
+        }
+    }
+    false
+}
+
+/// The levels of all defaults: first those with one level, then with two, each by the table of the fewer. It goes over
+/// the defaults once for each level of the deepest.
+pub(crate) fn found(alloc: Global, schema: &Schema) -> Result<Option<Vec<Vec<u8>>>, AllocError>
+    ensures { IfOk result (AreKnown schema.now 63) }
+{
+    let mut table = Some(Vec::new(alloc));
+    for levels in 0..63 {
+        let rows = next_rows(alloc, schema, &table, levels)?;
+        let above = is_above(rows.as_slice(), levels + 1);
+        table = Some(rows);
+        if !above {
+            return Ok(table);
+        }
+    }
+    Ok(table)
+}
