@@ -19,11 +19,11 @@ pub(crate) struct Table {
 }
 
 /// The codec programs of a schema's types. `Memory`: more memory was asked for and refused; nothing else is refused.
-pub fn compile(alloc: Global, schema: Schema) -> Result<Code, Fault>
-    ensures { IfOk result (λ code. code ≡ schema) }
+pub fn compile(alloc: Global, schema: &Schema) -> Result<Code, Fault>
+    ensures { IfOk result (λ code. code ≡ schema.now) }
 {
     let table = all_routines(alloc, schema.types())?;
-    Ok(Code::of(schema, table))
+    Ok(Code::of(schema.copy(alloc)?, table))
 }
 
 fn all_routines(alloc: Global, types: &[Resolved]) -> Result<Table, Fault>

@@ -15,7 +15,7 @@ use asn_base::schema::{Schema, TypeId};
 use asn_base::value::Value;
 use std::marker::Model;
 
-/// The codec programs of a schema's types. It keeps the schema, by which contracts name its types, and lends none.
+/// The codec programs of a schema's types. It keeps a copy of the schema, by which contracts name its types, and lends none.
 #[derive(Drop)]
 pub struct Code {
     schema: Schema,
