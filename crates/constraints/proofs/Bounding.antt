@@ -1,0 +1,164 @@
+-- What is answered of types for which limits are noted.
+use Rattle.std.proofs.Common.{◌≡◌, ◌⊎◌, ◌↔◌, inl, inr, ℕ, zero, suc, ◌<◌, ◌≤◌, ℤ, List, [], ◌∷◌, Option, Some, None, Bool, true, false, length, refl, sym, ap, ◌∙◌, subst, arith, option_map}
+use Rattle.std.specs.Prelude.{IsSomeAnd, MatchOption}
+use Rattle.std.proofs.lemmas.Option.{slice_get_within, slice_get_past}
+use Rattle.std.specs.Borrow.{Bor}
+use Rattle.asn_base.specs.Names.{IsMember, is_first}
+use Rattle.asn_base.specs.Schemas.{IsLeast, IsGreatest}
+use Rattle.asn_base.specs.Types.{Bounds}
+use Rattle.asn_base.specs.Typed.{IsInSome}
+use Rattle.trees.specs.Types.{a_restricted_string}
+use Rattle.type_table.specs.Walks.{onward, follow}
+use Rattle.type_table.specs.Table.{Type', Kind, simple, walk, next, behind_of}
+use Rattle.resolve.specs.Program.{Program}
+use Rattle.range_ends.specs.Ends.{IsOfKind}
+use Rattle.constraints.specs.Constraints.{has_alphabet}
+use Rattle.constraints.specs.Allowed.{IsCounted, IsInRoot, IsAllowed, AreVisible, AreCharacters}
+use Rattle.constraints.specs.Bounded.{AreBounded, HasCharacters}
+use Rattle.constraints.specs.declared.limit.Limit.{Limit}
+use Rattle.constraints.specs.proving.Columns.{IsLeft, IsLimitOf, AreAllNoted, limit_noted}
+use Rattle.asn_base.specs.declared.constraint.Bounds.{Bounds as Bounds'}
+use Rattle.asn_base.specs.Seen.{bounds_of}
+use Rattle.constraints.proofs.Noting.{noted_is}
+use Rattle.constraints.proofs.Trails.{kind_once}
+
+le_or : (a b : ℕ) → (a < b) ⊎ (b ≤ a)
+le_or a zero = inr (omega arith)
+le_or zero (suc b) = inl (omega arith)
+le_or (suc a) (suc b) =
+    elim (le_or a b) [
+      | inl h ↦ inl (omega (arith, h))
+      | inr h ↦ inr (omega (arith, h))
+    ]
+
+there_by : (ts : List Type') (i c s : ℕ) → walk ts s i ≡ Some c → c < length ts → (i < length ts) ⊎ (length ts ≤ i) → i < length ts
+there_by ts i c s e l (inl h) = h
+there_by ts i c zero e l (inr h) = let q : i ≡ c = cc in omega (arith, q, l)
+there_by ts i c (suc s) e l (inr h) =
+    let f : next ts i ≡ None = ap behind_of (slice_get_past ts i h) in
+    let g : None ≡ Some c = sym (ap (λ o. onward o (λ j. follow (next ts) s j)) f) ∙ e in
+    absurd cc
+
+-- what has a kind is there
+kind_there : (ts : List Type') (i : ℕ) (k : Kind) → IsOfKind ts i k → i < length ts
+kind_there ts i k u =
+    there_by ts i u.core u.leads.steps u.leads.leads (slice_get_within ts u.core u.type u.there) (le_or i (length ts))
+
+some_member : (cs : List ℕ) → 0 < length cs → (c : ℕ) × IsMember c cs
+some_member [] l = absurd (omega (arith, l))
+some_member (c ∷ cs) l = (c, is_first)
+
+characters_by : (p : Program) (k : Kind) (i : ℕ) (l : Limit) → IsLeft p k i l → HasCharacters p k i
+characters_by p (simple (a_restricted_string s)) i l f =
+    let m = some_member l.codes (f.some.codes refl) in
+    (m.0, (f.codes m.0).0 m.1)
+characters_by p k i l f = tt
+
+pub limit_there : (p : Program) (at : List (Option ℕ)) (limits : List Limit) (i : ℕ) →
+    AreAllNoted p at limits →
+    i < length p.types →
+    (l : Limit) × (limit_noted at limits i ≡ Some l) × IsLimitOf p i l
+limit_there p at limits i a l = noted_is p at limits i a.noted (a.all i l)
+
+pub bounded_by : (p : Program) (at : List (Option ℕ)) (limits : List Limit) → AreAllNoted p at limits → AreBounded p
+bounded_by p at limits a = record {
+  fitting = λ i n k M c w. (limit_there p at limits i a (slice_get_within p.types i w.type w.there)).2.good.fitting 0 i n k M c refl w;
+  last = λ i r. (limit_there p at limits i a (slice_get_within p.types i r.listed.type r.listed.there)).2.good.last r;
+  numbers = λ i k u. (
+      let f = (limit_there p at limits i a (kind_there p.types i k u)).2.left k u in
+      (f.some.number.0, (f.numbers f.some.number.0).0 f.some.number.1));
+  characters = λ i k u. (
+      let m = limit_there p at limits i a (kind_there p.types i k u) in
+      characters_by p k i m.0 (m.2.left k u));
+}
+
+-- ---- what is seen
+
+same_least : (P Q : ℤ → Type 0) (o : Option ℤ) → ((z : ℤ) → (P z ↔ Q z)) → IsLeast P o → IsLeast Q o
+same_least P Q None s l = λ m h. l m (λ z i. h z ((s z).0 i))
+same_least P Q (Some z) s l = ((s z).0 l.0, λ y i. l.1 y ((s y).1 i))
+
+same_greatest : (P Q : ℤ → Type 0) (o : Option ℤ) → ((z : ℤ) → (P z ↔ Q z)) → IsGreatest P o → IsGreatest Q o
+same_greatest P Q None s l = λ m h. l m (λ z i. h z ((s z).0 i))
+same_greatest P Q (Some z) s l = ((s z).0 l.0, λ y i. l.1 y ((s y).1 i))
+
+pub visible_is : (p : Program) (k : Kind) (i : ℕ) (l : Limit) (b : Bounds) →
+    IsLeft p k i l →
+    IsLeast (λ z. IsInSome z l.numbers) b.least →
+    IsGreatest (λ z. IsInSome z l.numbers) b.greatest →
+    b.extensible ≡ l.extensible →
+    AreVisible p k i b
+visible_is p k i l b f least greatest e = record {
+  least = same_least (λ z. IsInSome z l.numbers) (IsInRoot p k i) b.least f.numbers least;
+  greatest = same_greatest (λ z. IsInSome z l.numbers) (IsInRoot p k i) b.greatest f.numbers greatest;
+  extensible = (λ h. f.extensible.0 (sym e ∙ h), λ h. e ∙ f.extensible.1 h);
+}
+
+pub characters_are : (p : Program) (k : Kind) (i : ℕ) (l : Limit) →
+    has_alphabet k ≡ true →
+    IsLeft p k i l →
+    AreCharacters p k i l.codes
+characters_are p (simple (a_restricted_string s)) i l h f = f.codes
+characters_are p k i l h f = absurd cc
+
+-- ---- what is allowed
+
+pub allowed_by : (p : Program) (k : Kind) (i : ℕ) (l : Limit) (z : ℤ) →
+    IsLeft p k i l →
+    IsInSome z l.numbers ⊎ ((l.extensible ≡ true) × IsCounted k z) →
+    IsAllowed p k i z
+allowed_by p k i l z f (inl m) = inl ((f.numbers z).0 m)
+allowed_by p k i l z f (inr m) = inr (m.1, f.extensible.0 m.0)
+
+pub allowed_back : (p : Program) (k : Kind) (i : ℕ) (l : Limit) (z : ℤ) →
+    IsLeft p k i l →
+    IsAllowed p k i z →
+    IsInSome z l.numbers ⊎ ((l.extensible ≡ true) × IsCounted k z)
+allowed_back p k i l z f (inl m) = inl ((f.numbers z).1 m)
+allowed_back p k i l z f (inr m) = inr (f.extensible.1 m.1, m.0)
+
+pub limit_some : (p : Program) (at : List (Option ℕ)) (limits : List Limit) (i : ℕ) (r : Option (Bor Limit)) →
+    AreAllNoted p at limits →
+    i < length p.types →
+    option_map (λ l. l.now) r ≡ limit_noted at limits i →
+    IsSomeAnd r (λ l. (k : Kind) → IsOfKind p.types i k → IsLeft p k i l.now)
+limit_some p at limits i None a l e =
+    let n = limit_there p at limits i a l in
+    let q : None ≡ Some n.0 = e ∙ n.1 in
+    absurd cc
+limit_some p at limits i (Some r) a l e =
+    let n = limit_there p at limits i a l in
+    let q : Some r.now ≡ Some n.0 = e ∙ n.1 in
+    let s : r.now ≡ n.0 = cc in
+    λ k u. subst (IsLeft p k i) (sym s) (n.2.left k u)
+
+-- ---- answers for the kind that is found
+
+pub has_not : (ts : List Type') (i : ℕ) (f : Kind → Bool) (h : Kind) →
+    IsOfKind ts i h →
+    f h ≡ false →
+    (k : Kind) → IsOfKind ts i k → f k ≡ false
+has_not ts i f h u e k v = subst (λ j. f j ≡ false) (kind_once ts i h k u v) e
+
+pub has_it : (ts : List Type') (i : ℕ) (f : Kind → Bool) (h : Kind) →
+    IsOfKind ts i h →
+    f h ≡ true →
+    (k : Kind) → IsOfKind ts i k → f k ≡ true
+has_it ts i f h u e k v = subst (λ j. f j ≡ true) (kind_once ts i h k u v) e
+
+pub seen_is : (p : Program) (i : ℕ) (f : Kind → Bool) (h : Kind) (r : Option Bounds') →
+    IsOfKind p.types i h →
+    f h ≡ true →
+    IsSomeAnd r (λ b. (k : Kind) → IsOfKind p.types i k → AreVisible p k i (bounds_of b)) →
+    (k : Kind) → IsOfKind p.types i k → MatchOption r (f k ≡ false) (λ b. (f k ≡ true) × AreVisible p k i (bounds_of b))
+seen_is p i f h None u e s k v = absurd s
+seen_is p i f h (Some b) u e s k v = (has_it p.types i f h u e k v, s k v)
+
+pub left_allows : (p : Program) (i : ℕ) (h : Kind) (l : Limit) (z : ℤ) (A : Type 0) →
+    IsOfKind p.types i h →
+    ((k : Kind) → IsOfKind p.types i k → IsLeft p k i l) →
+    (A ↔ (IsInSome z l.numbers ⊎ ((l.extensible ≡ true) × IsCounted h z))) →
+    (k : Kind) → IsOfKind p.types i k → (A ↔ IsAllowed p k i z)
+left_allows p i h l z A u f a k v =
+    subst (λ j. A ↔ IsAllowed p j i z) (kind_once p.types i h k u v)
+    (λ x. allowed_by p h i l z (f h u) (a.0 x), λ x. a.1 (allowed_back p h i l z (f h u) x))

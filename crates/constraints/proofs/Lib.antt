@@ -1,0 +1,8 @@
+mod Letters
+mod Senses
+mod Narrowing
+mod Trails
+mod Leaving
+mod Noting
+mod Bounding
+mod Excluding

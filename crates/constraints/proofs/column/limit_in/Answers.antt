@@ -1,0 +1,38 @@
+use Rattle.std.proofs.Common.{◌<◌, map, length, sym, subst}
+use Rattle.std.proofs.lemmas.List.{length-map}
+use Rattle.trees.specs.Constraints.{constraint_of}
+use Rattle.type_table.specs.Seen.{type_of, kind_of}
+use Rattle.constraints.specs.proving.Limits.{Narrows, IsLimitFault}
+use Rattle.constraints.specs.proving.Columns.{IsFault}
+use Rattle.constraints.proofs.Noting.{all_members}
+use Rattle.constraints.proofs.Leaving.{limit_is, fault_is}
+use Rattle.constraints.proofs.column.limit_in.Goals as goal
+
+pub returns-in-Ok-limit_of : goal.returns-in-Ok-limit_of
+returns-in-Ok-limit_of c =
+    let p = c.args.linked.now in
+    let k = kind_of c.core_at-shape.result.now in
+    let M = c.home-home.result.module.now in
+    let w = c.written_at-written.result.now in
+    let n = subst (λ q. Narrows q k M (map constraint_of c.deref.result.now) (length c.deref.result.now) c.in-Ok.start c.in-Ok-limit_of.limit)
+    (sym c.requires.same) c.in-Ok-limit_of.ensures.0 in
+    let m = subst (λ xs. Narrows p k M (map constraint_of xs) (length xs) c.in-Ok.start c.in-Ok-limit_of.limit) c.deref.ensures.value n in
+    let o = subst (λ l. Narrows p k M (map constraint_of w.constraints.items) l c.in-Ok.start c.in-Ok-limit_of.limit)
+    (sym (length-map w.constraints.items constraint_of)) m in
+    limit_is p c.args.ty k M c.home-home.result.name.now (type_of w) c.in-Ok.start c.in-Ok-limit_of.limit c.whole.ensures
+    c.core_at-shape.ensures c.written_at-written.ensures (c.home-home.ensures (type_of w) c.written_at-written.ensures) c.in-Ok.ensures
+    (λ x m. all_members (λ y. y < 128) c.in-Ok.start.codes x c.in_order.ensures.below_128 m) o c.in-Ok-limit_of.ensures.1
+
+pub returns-in-Err-limit_of : goal.returns-in-Err-limit_of
+returns-in-Err-limit_of c =
+    let p = c.args.linked.now in
+    let k = kind_of c.core_at-shape.result.now in
+    let M = c.home-home.result.module.now in
+    let w = c.written_at-written.result.now in
+    let n = subst (λ q. IsLimitFault q k M (map constraint_of c.deref.result.now) c.in-Ok.start c.in-Err-limit_of.wrong)
+    (sym c.requires.same) c.in-Err-limit_of.ensures in
+    let m = subst (λ xs. IsLimitFault p k M (map constraint_of xs) c.in-Ok.start c.in-Err-limit_of.wrong) c.deref.ensures.value n in
+    subst (IsFault p) (sym c.fault_at.ensures)
+    (fault_is p c.args.ty k M c.home-home.result.name.now (type_of w) c.in-Ok.start c.in-Err-limit_of.wrong c.whole.ensures
+    c.core_at-shape.ensures c.written_at-written.ensures (c.home-home.ensures (type_of w) c.written_at-written.ensures) c.in-Ok.ensures
+    (λ x i. all_members (λ y. y < 128) c.in-Ok.start.codes x c.in_order.ensures.below_128 i) m)

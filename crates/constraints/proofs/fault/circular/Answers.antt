@@ -1,0 +1,19 @@
+use Rattle.std.proofs.Common.{sym, subst}
+use Rattle.names.specs.Faults.{module_told}
+use Rattle.names.specs.Sources.{value_of}
+use Rattle.resolve.specs.Program.{IsAssignment}
+use Rattle.constraints.proofs.fault.circular.Goals as goal
+
+pub returns-in-Ok : goal.returns-in-Ok
+returns-in-Ok c =
+    let p = c.args.linked.now in
+    let v = value_of c.value_at-written.result.now in
+    let b = subst (λ M. IsAssignment p v.assignment M c.assigned-home.result.name.now) (sym c.in-Ok.ensures.within) c.assigned-home.ensures in
+    record {
+      number = c.args.value;
+      value = v;
+      there = c.value_at-written.ensures;
+      stands = subst (IsAssignment p v.assignment (module_told c.in-Ok.spot)) (sym c.in-Ok.ensures.name) b;
+      ty = c.requires.round.0;
+      round = c.requires.round.1;
+    }

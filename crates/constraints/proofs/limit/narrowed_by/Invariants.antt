@@ -1,0 +1,9 @@
+use Rattle.std.proofs.Common.{map}
+use Rattle.trees.specs.Constraints.{constraint_of}
+use Rattle.type_table.specs.Seen.{kind_of}
+use Rattle.constraints.specs.proving.Limits.{Narrows}
+use Rattle.constraints.proofs.limit.narrowed_by.Given as goal
+
+abbrev pub invariant-loop-constraint : goal.invariant-loop-constraint
+invariant-loop-constraint l =
+    Narrows l.scope (kind_of l.shape) l.within (map constraint_of l.constraints) l.constraint-index l.fn.start l.limit

@@ -1,0 +1,64 @@
+-- What all constraints of a type together leave: those that are written on it and those of the types behind its
+-- references and tags (X.680, clauses 49.1 and 50.8), and what the packed encoding sees of it (X.691, clause 10.3).
+use Rattle.std.specs.Prelude.{◌≡◌, ◌⊎◌, ◌↔◌, ℕ, ℤ, true, List, Some, slice_get, IsTrue}
+use Rattle.asn_base.specs.declared.strings.StringKind.{StringKind}
+use Rattle.asn_base.specs.Schemas.{IsNumber, IsSize, IsLeast, IsGreatest, is_character}
+use Rattle.asn_base.specs.Names.{IsMember}
+use Rattle.asn_base.specs.Types.{Bounds}
+use Rattle.trees.specs.Values.{Name}
+use Rattle.trees.specs.Constraints.{ConstraintTree}
+use Rattle.trees.specs.Types.{an_integer, a_restricted_string}
+use Rattle.names.specs.Modules.{StandsIn}
+use Rattle.type_table.specs.Table.{Type', Kind, simple, walk}
+use Rattle.resolve.specs.Program.{Program, IsAssignment}
+use Rattle.constraints.specs.Constraints.{AllowsNumber, AllowsCharacter, has_marker}
+
+-- type i bears constraint c, which is read in module M: it is written on the type, or on one behind its references and
+-- tags
+pub record Bears (p : Program) (i : ℕ) (M : Name) (c : ConstraintTree) : Type 0 where
+  pub steps : ℕ
+  pub behind : ℕ
+  pub type : Type'
+  pub assigns : Name
+  pub leads : walk p.types steps i ≡ Some behind
+  pub there : slice_get p.types behind ≡ Some type
+  pub written : StandsIn type.constraints c
+  pub stands : IsAssignment p type.assignment M assigns
+
+-- what is counted of a value of kind k: its number, or its size, which is not negative
+abbrev pub IsCounted : Kind → ℤ → Type 0
+IsCounted (simple (an_integer ns)) z = IsNumber z
+IsCounted k z = IsSize z
+
+-- number or size z is in the root of type i, whose kind is k: each constraint allows it
+pub record IsInRoot (p : Program) (k : Kind) (i : ℕ) (z : ℤ) : Type 0 where
+  pub counted : IsCounted k z
+  pub allowed : (M : Name) (c : ConstraintTree) → Bears p i M c → AllowsNumber p k M c z
+
+-- an extension marker stands in a constraint that type i bears
+pub record IsExtensible (p : Program) (i : ℕ) : Type 0 where
+  pub within : Name
+  pub constraint : ConstraintTree
+  pub bears : Bears p i within constraint
+  pub marked : has_marker constraint ≡ true
+
+-- number or size z is allowed: it is in the root, or any is
+abbrev pub IsAllowed : Program → Kind → ℕ → ℤ → Type 0
+IsAllowed p k i z = IsInRoot p k i z ⊎ (IsCounted k z × IsExtensible p i)
+
+-- the character of code c is one of those of string type i, whose characters are those of s: each constraint allows it
+pub record IsInAlphabet (p : Program) (s : StringKind) (i : ℕ) (c : ℕ) : Type 0 where
+  pub character : IsTrue (is_character s c)
+  pub allowed : (M : Name) (t : ConstraintTree) → Bears p i M t → AllowsCharacter t c
+
+-- what the packed encoding sees of the numbers or sizes of type i: the least and the greatest of the root, and whether
+-- it is extensible
+pub record AreVisible (p : Program) (k : Kind) (i : ℕ) (b : Bounds) : Type 0 where
+  pub least : IsLeast (IsInRoot p k i) b.least
+  pub greatest : IsGreatest (IsInRoot p k i) b.greatest
+  pub extensible : b.extensible ≡ true ↔ IsExtensible p i
+
+-- these are the codes of the characters that may stand in a value of type i, one of four string types
+abbrev pub AreCharacters : Program → Kind → ℕ → List ℕ → Type 0
+AreCharacters p (simple (a_restricted_string s)) i codes = (c : ℕ) → (IsMember c codes ↔ IsInAlphabet p s i c)
+AreCharacters p k i codes = ⊥

@@ -1,0 +1,104 @@
+-- Programs in which every constraint has a meaning and leaves something, and how a type breaks that.
+use Rattle.std.specs.Prelude.{◌≡◌, ◌⊎◌, ◌<◌, ℕ, ℤ, true, false, List, Some, slice_get}
+use Rattle.asn_base.specs.Schemas.{IsNumber, IsSize}
+use Rattle.trees.specs.Values.{Name}
+use Rattle.trees.specs.Constraints.{ConstraintTree, values_in, sizes_in, chars_in}
+use Rattle.trees.specs.Types.{a_restricted_string}
+use Rattle.names.specs.Modules.{StandsIn}
+use Rattle.type_table.specs.Table.{Type', Kind, simple, walk}
+use Rattle.resolve.specs.Program.{Program, IsAssignment}
+use Rattle.range_ends.specs.Ends.{IsOfKind}
+use Rattle.range_ends.specs.Ranges.{HasNoEnd, GoesRound, IsReversed}
+use Rattle.range_ends.specs.Characters.{HasNoCharacter, IsTurned}
+use Rattle.constraints.specs.Constraints.{takes, is_marked, IsFitting}
+use Rattle.constraints.specs.Allowed.{IsInRoot, IsInAlphabet}
+use Rattle.constraints.specs.Constraints.{has_marker}
+
+-- constraint n of type i, which is of kind k behind its references and tags, is c, and is read in module M
+pub record IsWritten (p : Program) (i n : ℕ) (k : Kind) (M : Name) (c : ConstraintTree) : Type 0 where
+  pub type : Type'
+  pub assigns : Name
+  pub there : slice_get p.types i ≡ Some type
+  pub written : slice_get type.constraints n ≡ Some c
+  pub kind : IsOfKind p.types i k
+  pub stands : IsAssignment p type.assignment M assigns
+
+-- constraint n of type i is c
+pub record IsListed (p : Program) (i n : ℕ) (c : ConstraintTree) : Type 0 where
+  pub type : Type'
+  pub there : slice_get p.types i ≡ Some type
+  pub written : slice_get type.constraints n ≡ Some c
+
+-- a constraint of type i stands behind one with an extension marker: of the same type, or of one behind it
+pub record IsReconstrained (p : Program) (i : ℕ) : Type 0 where
+  pub number : ℕ
+  pub constraint : ConstraintTree
+  pub listed : IsListed p i number constraint
+  pub steps : ℕ
+  pub behind : ℕ
+  pub leads : walk p.types steps i ≡ Some behind
+  pub other : ℕ
+  pub earlier : ConstraintTree
+  pub stood : IsListed p behind other earlier
+  pub before : ((steps ≡ 0) × (other < number)) ⊎ (0 < steps)
+  pub marked : has_marker earlier ≡ true
+
+-- the kind is one of four string types, of whose characters the constraints of type i leave one
+abbrev pub HasCharacters : Program → Kind → ℕ → Type 0
+HasCharacters p (simple (a_restricted_string s)) i = (c : ℕ) × IsInAlphabet p s i c
+HasCharacters p k i = Unit {0}
+
+-- what constraints have to be
+pub record AreBounded (p : Program) : Type 0 where
+  pub fitting : (i n : ℕ) (k : Kind) (M : Name) (c : ConstraintTree) → IsWritten p i n k M c → IsFitting p k M c
+  -- what an extension marker stands in is the last constraint (narrower than X.680)
+  pub last : (i : ℕ) → IsReconstrained p i → ⊥
+  -- a number or size is left in each root, and a character in each alphabet
+  pub numbers : (i : ℕ) (k : Kind) → IsOfKind p.types i k → (z : ℤ) × IsInRoot p k i z
+  pub characters : (i : ℕ) (k : Kind) → IsOfKind p.types i k → HasCharacters p k i
+
+-- ---- how type i breaks that
+
+-- a constraint of type i has property P, which speaks of its kind, of the module in which it is read, and of it
+pub record HasConstraint (p : Program) (i : ℕ) (P : Kind → Name → ConstraintTree → Type 0) : Type 0 where
+  pub number : ℕ
+  pub kind : Kind
+  pub within : Name
+  pub constraint : ConstraintTree
+  pub written : IsWritten p i number kind within constraint
+  pub such : P kind within constraint
+
+-- some element of the list has the property
+abbrev pub HasSuch : {A : Type 0} → List A → (A → Type 0) → Type 0
+HasSuch {A} xs P = (x : A) × StandsIn xs x × P x
+
+-- the type doesn't take the constraint, or an end in it is no number, no size or no character
+abbrev pub IsMisfit : Program → Kind → Name → ConstraintTree → Type 0
+IsMisfit p k M (values_in r) = (takes k (values_in r) ≡ false) ⊎ HasSuch r.ranges (HasNoEnd p k M IsNumber)
+IsMisfit p k M (sizes_in r) = (takes k (sizes_in r) ≡ false) ⊎ HasSuch r.ranges (HasNoEnd p k M IsSize)
+IsMisfit p k M (chars_in xs) = (takes k (chars_in xs) ≡ false) ⊎ HasSuch xs HasNoCharacter
+
+-- an end in it leads to value v, which leads back to itself
+abbrev pub IsRound : Program → ℕ → Kind → Name → ConstraintTree → Type 0
+IsRound p v k M (values_in r) = HasSuch r.ranges (GoesRound p k M v)
+IsRound p v k M (sizes_in r) = HasSuch r.ranges (GoesRound p k M v)
+IsRound p v k M (chars_in xs) = ⊥
+
+-- the lower end of a range in it is above the upper one
+abbrev pub IsTurnedRound : Program → Kind → Name → ConstraintTree → Type 0
+IsTurnedRound p k M (values_in r) = HasSuch r.ranges (IsReversed p k M IsNumber)
+IsTurnedRound p k M (sizes_in r) = HasSuch r.ranges (IsReversed p k M IsSize)
+IsTurnedRound p k M (chars_in xs) = HasSuch xs IsTurned
+
+abbrev pub IsMisplaced : Kind → Name → ConstraintTree → Type 0
+IsMisplaced k M c = is_marked k c ≡ false
+
+-- all constraints of type i, and of the types behind it, have a meaning, and they leave no number, size or character
+pub record IsEmpty (p : Program) (i : ℕ) : Type 0 where
+  pub kind : Kind
+  pub is : IsOfKind p.types i kind
+  pub fitting : (steps j n : ℕ) (M : Name) (c : ConstraintTree) →
+      walk p.types steps i ≡ Some j →
+      IsWritten p j n kind M c →
+      IsFitting p kind M c
+  pub nothing : ((z : ℤ) → IsInRoot p kind i z → ⊥) ⊎ (HasCharacters p kind i → ⊥)

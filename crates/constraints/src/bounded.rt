@@ -1,0 +1,258 @@
+//! Tagged modules whose constraints have a meaning.
+
+ghost use Rattle.std.specs.Prelude.{ℕ, ℤ, IsTrue, ◌↔◌, ◌≡◌, ◌⊎◌, ◌<◌, false, true, pos, length, MatchOption, MatchResult, IsSomeAnd};
+ghost use Rattle.asn_base.specs.declared.strings.StringKind.{StringKind};
+ghost use Rattle.asn_base.specs.Schemas.{IsLeast, IsGreatest};
+ghost use Rattle.asn_base.specs.Seen.{bounds_of};
+ghost use Rattle.asn_base.specs.Typed.{IsInSome};
+ghost use Rattle.trees.specs.Types.{a_restricted_string};
+ghost use Rattle.type_table.specs.Seen.{kind_of};
+ghost use Rattle.type_table.specs.Table.{Kind, simple};
+ghost use Rattle.range_ends.specs.Ends.{IsOfKind};
+ghost use Rattle.constraints.specs.Constraints.{is_integer as is_integer', has_alphabet as has_alphabet', has_visible_size as has_visible_size'};
+ghost use Rattle.constraints.specs.Allowed.{IsAllowed, IsCounted, IsInAlphabet, AreVisible, AreCharacters};
+ghost use Rattle.constraints.specs.Bounded.{AreBounded};
+ghost use Rattle.constraints.specs.Faults.{Stands};
+ghost use Rattle.constraints.specs.proving.Columns.{AreAllNoted, IsLeft};
+
+use crate::column::{Column, column_of, core_at};
+use crate::fault::{BoundFault, told};
+use crate::limit::Limit;
+use crate::meaning::{has_alphabet, has_size, is_integer};
+use asn_base::constraint::Bounds;
+use asn_base::schema::TypeId;
+use range_ends::Scope;
+use ranges::Codes;
+use resolve::Linked;
+use std::alloc::Global;
+use std::marker::Model;
+use tagging::Tagged;
+use trees::Simple;
+use type_table::Shape;
+
+/// Tagged modules in which every constraint has a meaning and leaves something. It borrows the modules, so the numbers of
+/// types are theirs.
+#[derive(Drop)]
+pub struct Bounded<'a> {
+    tagged: &'a Tagged<'a>,
+    column: Column,
+}
+
+impl<'a> Model for Bounded<'a> {
+    ghost use Rattle.std.specs.Coded.{codes};
+    ghost use Rattle.resolve.specs.Codes.{tree_code};
+    ghost use Rattle.resolve.specs.Program.{Program};
+
+    ghost coded = { Prim.hlevel (codes, tree_code) };
+
+    ghost Value = { Program };
+
+    ghost view = { λ b. b.tagged.now };
+
+    ghost use Rattle.constraints.specs.proving.Columns.{AreAllNoted};
+
+    ghost invariant = { λ b. AreAllNoted b.tagged.now b.column.at.items b.column.limits.items };
+}
+
+impl<'a> Bounded<'a> {
+    /// The tagged modules.
+    pub fn tagged(&self) -> &'a Tagged<'a>
+        ensures { result.now ≡ self.now }
+    {
+        self.tagged
+    }
+
+    /// The linked modules.
+    pub fn linked(&self) -> &'a Linked
+        ensures { result.now ≡ self.now }
+    {
+        self.tagged.linked()
+    }
+
+    /// Whether the number is that of one of the types.
+    pub fn has(&self, ty: TypeId) -> bool
+        ensures { IsTrue result ↔ ty.index < length self.now.types }
+    {
+        self.tagged.has(ty)
+    }
+
+    /// What all modules whose constraints are bounded keep.
+    pub fn whole(&self)
+        ensures { AreBounded self.now }
+    {
+        let _tagged = self.tagged;
+    }
+
+    /// What the constraints of a type leave.
+    fn limit(&self, ty: usize) -> Option<&Limit>
+        requires { ty < length self.now.types }
+        ensures { IsSomeAnd result (λ l. (k : Kind) → IsOfKind self.now.types ty k → IsLeft self.now k ty l.now) }
+    {
+        self.column.limit(ty)
+    }
+
+    /// What a type is behind its references and tags.
+    fn shape(&self, ty: usize) -> &'a Shape
+        requires { ty < length self.now.types }
+        ensures { IsOfKind self.now.types ty (kind_of result.now) }
+    {
+        core_at(self.tagged.linked(), ty)
+    }
+}
+
+/// Tagged modules with what their constraints leave (X.680, clauses 49 to 51), or a fault that stands in them, with its
+/// module, the name of the assignment and the place: `Circular`, `Empty`, `WrongKind`, `Reconstrained`, `LowerAboveUpper`,
+/// `MarkerPlace`, or `Memory`.
+pub fn bound<'a>(alloc: Global, tagged: &'a Tagged<'a>) -> Result<Bounded<'a>, BoundFault>
+    ensures { MatchResult result
+        (λ b. (b ≡ tagged.now) × AreBounded tagged.now)
+        (Stands tagged.now) }
+{
+    let linked = tagged.linked();
+    let scope = match Scope::of(alloc, linked) {
+        Ok(scope) => scope,
+        Err(_) => return Err(BoundFault::Memory),
+    };
+    match column_of(alloc, &scope) {
+        Ok(column) => Ok(Bounded { tagged, column }),
+        Err(fault) => Err(told(alloc, linked, fault)),
+    }
+}
+
+/// The least and the greatest number or size that is left, and whether an extension marker stands.
+fn seen(limit: &Limit) -> Bounds
+    requires { 0 < length limit.now.numbers }
+    ensures least { IsLeast (λ z. IsInSome z limit.now.numbers) result.least }
+    ensures greatest { IsGreatest (λ z. IsInSome z limit.now.numbers) result.greatest }
+    ensures extensible { result.extensible ≡ limit.now.extensible }
+{
+    Bounds {
+        least: limit.numbers.least(),
+        greatest: limit.numbers.greatest(),
+        extensible: limit.extensible,
+    }
+}
+
+/// What the packed encoding sees of the numbers or sizes of a type.
+fn visible(bounded: &Bounded<'_>, ty: usize) -> Option<Bounds>
+    requires { ty < length bounded.now.types }
+    ensures { IsSomeAnd result (λ b. (k : Kind) → IsOfKind bounded.now.types ty k → AreVisible bounded.now k ty (bounds_of b)) }
+{
+    let _shape = bounded.shape(ty);
+    match bounded.limit(ty) {
+        None => None,
+        Some(limit) => Some(seen(limit)),
+    }
+}
+
+/// Whether the packed encoding sees the size of a type.
+fn has_visible_size(shape: &Shape) -> bool
+    ensures { result ≡ has_visible_size' (kind_of shape.now) }
+{
+    match shape {
+        Shape::Simple(Simple::Utf8String) => false,
+        _ => has_size(shape),
+    }
+}
+
+/// Whether a number may be counted: any of an INTEGER, and no size below 0.
+fn counted(shape: &Shape, number: i128) -> bool
+    ensures { IsTrue result ↔ IsCounted (kind_of shape.now) number }
+{
+    is_integer(shape) || 0 <= number
+}
+
+/// Whether a number is left, or any that may be counted.
+fn leaves(limit: &Limit, shape: &Shape, number: i128) -> bool
+    ensures { IsTrue result ↔ (IsInSome number limit.now.numbers
+        ⊎ ((limit.now.extensible ≡ true) × IsCounted (kind_of shape.now) number)) }
+{
+    limit.numbers.has(number) || (limit.extensible && counted(shape, number))
+}
+
+/// What the packed encoding sees of the numbers of an INTEGER type (X.691, clauses 10.3 and 12.1): the least and the greatest
+/// that its constraints leave, None where there is no bound, and whether an extension marker stands in them. None for any
+/// other type. It takes no memory.
+pub fn range(bounded: &Bounded<'_>, ty: TypeId) -> Option<Bounds>
+    requires { ty.index < length bounded.now.types }
+    ensures { (k : Kind) → IsOfKind bounded.now.types ty.index k → MatchOption result
+        (is_integer' k ≡ false)
+        (λ b. (is_integer' k ≡ true) × AreVisible bounded.now k ty.index (bounds_of b)) }
+{
+    if is_integer(bounded.shape(ty.index)) {
+        visible(bounded, ty.index)
+    } else {
+        None
+    }
+}
+
+/// What the packed encoding sees of the sizes of a BIT STRING without named bits, an OCTET STRING, one of the four restricted
+/// strings, or a SEQUENCE OF or SET OF (X.691, clauses 10.3, 16, 17, 20, 22 and 30): as [`range`], in bits, octets, characters or
+/// elements, from 0 where no constraint stands. None for any other type; the size of a UTF8String is not seen. It takes no
+/// memory.
+pub fn size(bounded: &Bounded<'_>, ty: TypeId) -> Option<Bounds>
+    requires { ty.index < length bounded.now.types }
+    ensures { (k : Kind) → IsOfKind bounded.now.types ty.index k → MatchOption result
+        (has_visible_size' k ≡ false)
+        (λ b. (has_visible_size' k ≡ true) × AreVisible bounded.now k ty.index (bounds_of b)) }
+{
+    if has_visible_size(bounded.shape(ty.index)) {
+        visible(bounded, ty.index)
+    } else {
+        None
+    }
+}
+
+/// The characters of one of the four restricted strings that its constraints leave (X.691, clause 30.5), by their codes; all of
+/// its characters where no constraint stands. None for any other type. It takes no memory: the codes are the bits of a
+/// `u128`.
+pub fn alphabet(bounded: &Bounded<'_>, ty: TypeId) -> Option<Codes>
+    requires { ty.index < length bounded.now.types }
+    ensures { (k : Kind) → IsOfKind bounded.now.types ty.index k → MatchOption result
+        (has_alphabet' k ≡ false)
+        (AreCharacters bounded.now k ty.index) }
+{
+    if !has_alphabet(bounded.shape(ty.index)) {
+        return None;
+    }
+    match bounded.limit(ty.index) {
+        None => None,
+        Some(limit) => Some(limit.codes.copy()),
+    }
+}
+
+/// Whether a number may be the value of an INTEGER type: its constraints allow it, or they have an extension marker. It takes
+/// no memory.
+pub fn allows_number(bounded: &Bounded<'_>, ty: TypeId, number: i128) -> bool
+    requires { ty.index < length bounded.now.types }
+    ensures { (k : Kind) → IsOfKind bounded.now.types ty.index k →
+        (IsTrue result ↔ IsAllowed bounded.now k ty.index number) }
+{
+    match bounded.limit(ty.index) {
+        None => false,
+        Some(limit) => leaves(limit, bounded.shape(ty.index), number),
+    }
+}
+
+/// Whether a value of a type that is no INTEGER may have this size, in bits, octets, characters or elements: the constraints
+/// of the type allow it, or they have an extension marker. It takes no memory.
+pub fn allows_size(bounded: &Bounded<'_>, ty: TypeId, size: usize) -> bool
+    requires { ty.index < length bounded.now.types }
+    ensures { (k : Kind) → IsOfKind bounded.now.types ty.index k →
+        (IsTrue result ↔ IsAllowed bounded.now k ty.index (pos size)) }
+{
+    allows_number(bounded, ty, size as i128)
+}
+
+/// Whether the character of this code may stand in a value of one of the four restricted strings: it is one of that type's
+/// characters, and constraints allow it. It takes no memory.
+pub fn allows_character(bounded: &Bounded<'_>, ty: TypeId, code: u32) -> bool
+    requires { ty.index < length bounded.now.types }
+    ensures { (s : StringKind) → IsOfKind bounded.now.types ty.index (simple (a_restricted_string s)) →
+        (IsTrue result ↔ IsInAlphabet bounded.now s ty.index code) }
+{
+    match bounded.limit(ty.index) {
+        None => false,
+        Some(limit) => limit.codes.has(code),
+    }
+}

@@ -1,0 +1,304 @@
+//! What the constraints of all types leave, found once.
+
+ghost use Rattle.std.specs.Prelude.{◌≡◌, ◌<◌, ℕ, IfOk, IfErr, OnOk, Some, length, map, slice_get, option_map, MatchResult};
+ghost use Rattle.type_table.specs.Seen.{kind_of, type_of, types_of};
+ghost use Rattle.type_table.specs.Table.{IsLinked, behind as behind', next};
+ghost use Rattle.range_ends.specs.Ends.{IsOfKind};
+ghost use Rattle.constraints.specs.proving.Columns.{AreNoted, AreAllNoted, IsNoted, IsTrail, IsFault, IsStartOf, IsLimitOf, IsShared, fault_of, limit_noted, number_noted};
+
+use crate::limit::{Limit, first_limit, limit_of};
+use crate::meaning::{Rule, Wrong};
+use asn_base::schema::TypeId;
+use range_ends::Scope;
+use resolve::Linked;
+use std::alloc::{AllocError, Global};
+use type_table::{Shape, Written};
+
+/// What is wrong with the constraints of a type.
+#[derive(Clone, Copy)]
+pub(crate) enum Fault {
+    /// There was not enough memory.
+    Memory,
+    /// An end leads to this value, by its number, whose notation leads back to the value itself.
+    Circular(usize),
+    /// The type breaks the rule, at the place.
+    At(Rule, usize, usize),
+}
+
+/// The type behind the reference or tag that a type is.
+fn behind(written: &Written) -> Option<usize>
+    ensures { result ≡ behind' (kind_of written.now.shape) }
+{
+    match &written.shape {
+        Shape::Reference(ty) => Some(*ty),
+        Shape::Tagged(_, _, ty) => Some(*ty),
+        _ => None,
+    }
+}
+
+/// The types from one on through references and tags, up to the first for which a limit is noted.
+fn trail(
+    alloc: Global,
+    types: &[Written],
+    at: &[Option<usize>],
+    start: usize,
+) -> Result<Vec<usize>, AllocError>
+    requires linked { IsLinked (types_of types.now) }
+    requires long { length at.now ≡ length types.now }
+    requires there { start < length types.now }
+    ensures { IfOk result (λ v. IsTrail (types_of types.now) at.now start v.items) }
+{
+    let mut all = Vec::new(alloc);
+    let mut ty = start;
+    for step in 0..types.len() {
+        if at[ty].is_some() {
+            return Ok(all);
+        }
+        all.push(ty)?;
+        match behind(&types[ty]) {
+            None => return Ok(all),
+            Some(next) => ty = next,
+        }
+    }
+    Ok(all)
+}
+
+/// The limits of types: for each the number of its limit, where that is noted.
+#[derive(Drop)]
+pub(crate) struct Column {
+    pub at: Vec<Option<usize>>,
+    pub limits: Vec<Limit>,
+}
+
+/// The fault of a type that something wrong with its constraints makes.
+fn fault_at(wrong: Wrong, ty: usize) -> Fault
+    ensures { result ≡ fault_of wrong ty }
+{
+    match wrong {
+        Wrong::Memory => Fault::Memory,
+        Wrong::Circular(value) => Fault::Circular(value),
+        Wrong::At(rule, at) => Fault::At(rule, ty, at),
+    }
+}
+
+impl Column {
+    /// The number of the limit of a type, where it is noted.
+    fn number(&self, ty: usize) -> Option<usize>
+        ensures { result ≡ number_noted self.now.at.items ty }
+    {
+        match self.at.get(ty) {
+            None => None,
+            Some(noted) => *noted,
+        }
+    }
+
+    /// The limit of a type, where it is noted.
+    pub(crate) fn limit(&self, ty: usize) -> Option<&Limit>
+        ensures { option_map (λ l. l.now) result ≡ limit_noted self.now.at.items self.now.limits.items ty }
+    {
+        match self.at.get(ty) {
+            None => None,
+            Some(None) => None,
+            Some(Some(number)) => self.limits.get(*number),
+        }
+    }
+}
+
+/// A type as it is written.
+pub(crate) fn written_at(linked: &Linked, ty: usize) -> &Written
+    requires { ty < length linked.now.types }
+    ensures { slice_get linked.now.types ty ≡ Some (type_of result.now) }
+{
+    &linked.types()[ty]
+}
+
+/// What a type is behind its references and tags.
+pub(crate) fn core_at(linked: &Linked, ty: usize) -> &Shape
+    requires { ty < length linked.now.types }
+    ensures { IsOfKind linked.now.types ty (kind_of result.now) }
+{
+    let core = linked.core(TypeId { index: ty });
+    let written = written_at(linked, core.index);
+    &written.shape
+}
+
+/// What is left before the constraints that are written on a type.
+fn start_of(alloc: Global, linked: &Linked, column: &Column, ty: usize) -> Result<Limit, AllocError>
+    requires there { ty < length linked.now.types }
+    requires noted { AreNoted linked.now column.now.at.items column.now.limits.items }
+    requires behind { (j : ℕ) → next linked.now.types ty ≡ Some j → IsNoted column.now.at.items j }
+    ensures { IfOk result (IsStartOf linked.now ty) }
+{
+    let written = written_at(linked, ty);
+    match behind(written) {
+        None => match first_limit(alloc, &written.shape) {
+            Ok(first) => Ok(first),
+            Err(fault) => Err(fault),
+        },
+        Some(next) => match column.limit(next) {
+            None => first_limit(alloc, &written.shape),
+            Some(limit) => match limit.copy(alloc) {
+                Ok(copy) => Ok(copy),
+                Err(fault) => Err(fault),
+            },
+        },
+    }
+}
+
+/// The limit of a type of linked modules, where that of the type behind it is noted.
+fn limit_in(
+    alloc: Global,
+    linked: &Linked,
+    scope: &Scope<'_>,
+    column: &Column,
+    ty: usize,
+) -> Result<Limit, Fault>
+    requires same { linked.now ≡ scope.now }
+    requires there { ty < length linked.now.types }
+    requires noted { AreNoted linked.now column.now.at.items column.now.limits.items }
+    requires behind { (j : ℕ) → next linked.now.types ty ≡ Some j → IsNoted column.now.at.items j }
+    ensures { MatchResult result (IsLimitOf linked.now ty) (IsFault linked.now) }
+{
+    linked.whole();
+    let start = match start_of(alloc, linked, column, ty) {
+        Ok(start) => start,
+        Err(_) => return Err(Fault::Memory),
+    };
+    start.codes.in_order();
+    let shape = core_at(linked, ty);
+    let home = linked.home(TypeId { index: ty });
+    let written = written_at(linked, ty);
+    match limit_of(
+        alloc,
+        scope,
+        shape,
+        home.module,
+        start,
+        &written.constraints,
+        written.at,
+    ) {
+        Ok(limit) => Ok(limit),
+        Err(wrong) => Err(fault_at(wrong, ty)),
+    }
+}
+
+/// The limit of a type, where that of the type behind it is noted.
+fn limit_at(alloc: Global, scope: &Scope<'_>, column: &Column, ty: usize) -> Result<Limit, Fault>
+    requires there { ty < length scope.now.types }
+    requires noted { AreNoted scope.now column.now.at.items column.now.limits.items }
+    requires behind { (j : ℕ) → next scope.now.types ty ≡ Some j → IsNoted column.now.at.items j }
+    ensures { MatchResult result (IsLimitOf scope.now ty) (IsFault scope.now) }
+{
+    limit_in(alloc, scope.linked(), scope, column, ty)
+}
+
+/// Whether a type is a reference or a tag without constraints, and the type behind it.
+fn shared(linked: &Linked, ty: usize) -> Option<usize>
+    requires { ty < length linked.now.types }
+    ensures { (j : ℕ) → result ≡ Some j → IsShared linked.now.types ty j }
+{
+    let written = written_at(linked, ty);
+    if written.constraints.is_empty() {
+        behind(written)
+    } else {
+        None
+    }
+}
+
+/// Notes the limit of a type, where that of the type behind it is noted.
+fn note(alloc: Global, scope: &Scope<'_>, column: &mut Column, ty: usize) -> Result<(), Fault>
+    requires there { ty < length scope.now.types }
+    requires noted { AreNoted scope.now column.old.at.items column.old.limits.items }
+    requires behind { (j : ℕ) → next scope.now.types ty ≡ Some j → IsNoted column.old.at.items j }
+    ensures noted { OnOk result (AreNoted scope.now column.new.at.items column.new.limits.items) }
+    ensures it { OnOk result (IsNoted column.new.at.items ty) }
+    ensures kept { OnOk result ((i : ℕ) → IsNoted column.old.at.items i → IsNoted column.new.at.items i) }
+    ensures fault { IfErr result (IsFault scope.now) }
+{
+    match shared(scope.linked(), ty) {
+        Some(next) => match column.number(next) {
+            None => Ok(()),
+            Some(number) => {
+                column.at[ty] = Some(number);
+                Ok(())
+            }
+        },
+        None => {
+            let limit = match limit_at(alloc, scope, column, ty) {
+                Ok(limit) => limit,
+                Err(fault) => return Err(fault),
+            };
+            let number = column.limits.len();
+            match column.limits.push(limit) {
+                Ok(()) => {}
+                Err(_) => return Err(Fault::Memory),
+            }
+            column.at[ty] = Some(number);
+            Ok(())
+        }
+    }
+}
+
+/// Notes the limits of the types of a trail, the last one first.
+fn note_trail(
+    alloc: Global,
+    scope: &Scope<'_>,
+    column: &mut Column,
+    start: usize,
+    trail: &[usize],
+) -> Result<(), Fault>
+    requires noted { AreNoted scope.now column.old.at.items column.old.limits.items }
+    requires trail { IsTrail scope.now.types column.old.at.items start trail.now }
+    ensures noted { OnOk result (AreNoted scope.now column.new.at.items column.new.limits.items) }
+    ensures it { OnOk result (IsNoted column.new.at.items start) }
+    ensures kept { OnOk result ((i : ℕ) → IsNoted column.old.at.items i → IsNoted column.new.at.items i) }
+    ensures fault { IfErr result (IsFault scope.now) }
+{
+    for step in 0..trail.len() {
+        let ty = trail[trail.len() - 1 - step];
+        match note(alloc, scope, column, ty) {
+            Ok(()) => {}
+            Err(fault) => return Err(fault),
+        }
+    }
+    Ok(())
+}
+
+/// Nothing is noted.
+fn nothing_noted(alloc: Global, count: usize) -> Result<Vec<Option<usize>>, AllocError>
+    ensures { IfOk result (λ at. (length at.items ≡ count) × ((i a : ℕ) → slice_get at.items i ≡ Some (Some a) → ⊥)) }
+{
+    let mut at = Vec::new(alloc);
+    for step in 0..count {
+        at.push(None)?;
+    }
+    Ok(at)
+}
+
+/// The limits of all types.
+pub(crate) fn column_of(alloc: Global, scope: &Scope<'_>) -> Result<Column, Fault>
+    ensures { MatchResult result
+        (λ c. AreAllNoted scope.now c.at.items c.limits.items)
+        (IsFault scope.now) }
+{
+    let types = scope.linked().types();
+    let at = match nothing_noted(alloc, types.len()) {
+        Ok(at) => at,
+        Err(_) => return Err(Fault::Memory),
+    };
+    let mut column = Column {
+        at,
+        limits: Vec::new(alloc),
+    };
+    for ty in 0..types.len() {
+        let found = match trail(alloc, types, &column.at, ty) {
+            Ok(found) => found,
+            Err(_) => return Err(Fault::Memory),
+        };
+        match note_trail(alloc, scope, &mut column, ty, &found) {
+            Ok(()) => {}
+            Err(fault) => return Err(fault),
+        }
+    }
+    Ok(column)
+}

@@ -1,0 +1,114 @@
+//! What can be wrong with constraints.
+
+ghost use Rattle.std.specs.Prelude.{◌≡◌, ◌<◌, ℕ, length, Some, slice_get};
+ghost use Rattle.names.specs.Faults.{module_told, name_told};
+ghost use Rattle.names.specs.Sources.{value_of};
+ghost use Rattle.resolve.specs.Program.{Program, IsAssignment};
+ghost use Rattle.tagging.specs.Faults.{StandsIn};
+ghost use Rattle.constraints.specs.Faults.{Stands};
+ghost use Rattle.constraints.specs.proving.Columns.{Breaks, IsFault, IsRoundAt};
+
+use crate::column::{Fault, written_at};
+use crate::meaning::Rule;
+use asn_base::schema::TypeId;
+use names::ValueAt;
+use names::fault::spot;
+use resolve::Linked;
+use std::alloc::Global;
+use thiserror::Error;
+use trees::Spot;
+
+/// What is wrong, with the module, the name of the assignment where it stands, and the place in the module's text.
+#[derive(Debug, Drop, Error)]
+pub enum BoundFault {
+    /// There was not enough memory.
+    #[error("1 Memory")]
+    Memory,
+    /// An end of a range leads to this value, whose notation leads back to the value itself.
+    #[error("33 Circular: {0}")]
+    Circular(Spot),
+    /// The constraint at the place and those before it leave no number, no size or no character (X.680, clause 49.1).
+    #[error("50 Empty: {0}")]
+    Empty(Spot),
+    /// The type doesn't take the constraint at the place; or an end of a range at the place is no number, is a size below
+    /// 0, or is not one character (X.680, clauses 51.2, 51.4, 51.5 and 51.7).
+    #[error("51 WrongKind: {0}")]
+    WrongKind(Spot),
+    /// The constraint at the place stands behind one with an extension marker. X.680 allows it; this compiler leaves it
+    /// out.
+    #[error("52 Reconstrained: {0}")]
+    Reconstrained(Spot),
+    /// The lower end of a range, at the place, is above its upper end (X.680, clause 51.4.3).
+    #[error("53 LowerAboveUpper: {0}")]
+    LowerAboveUpper(Spot),
+    /// An extension marker stands where this compiler doesn't take it: behind several values or ranges, or in the SIZE of
+    /// a character string, in the constraint at the place.
+    #[error("55 MarkerPlace: {0}")]
+    MarkerPlace(Spot),
+}
+
+/// The fault at a spot that a type breaks a rule.
+fn fault_of(rule: Rule, spot: Spot) -> BoundFault
+    ensures { (p : Program) (i : ℕ) →
+        Breaks p rule i →
+        StandsIn p i (module_told spot) (name_told spot) →
+        Stands p result }
+{
+    match rule {
+        Rule::Empty => BoundFault::Empty(spot),
+        Rule::WrongKind => BoundFault::WrongKind(spot),
+        Rule::Reconstrained => BoundFault::Reconstrained(spot),
+        Rule::LowerAboveUpper => BoundFault::LowerAboveUpper(spot),
+        Rule::MarkerPlace => BoundFault::MarkerPlace(spot),
+    }
+}
+
+/// The fault that a type breaks a rule.
+fn broken(alloc: Global, linked: &Linked, rule: Rule, ty: usize, at: usize) -> BoundFault
+    requires there { ty < length linked.now.types }
+    requires breaks { Breaks linked.now rule ty }
+    ensures { Stands linked.now result }
+{
+    let home = linked.home(TypeId { index: ty });
+    let _written = written_at(linked, ty);
+    match spot(alloc, home.module, home.name, at) {
+        Ok(spot) => fault_of(rule, spot),
+        Err(_) => BoundFault::Memory,
+    }
+}
+
+/// A value that is assigned.
+fn value_at(linked: &Linked, value: usize) -> &ValueAt
+    requires { value < length linked.now.values }
+    ensures { slice_get linked.now.values value ≡ Some (value_of result.now) }
+{
+    &linked.values()[value]
+}
+
+/// The fault that an end leads to a value, which leads back to itself.
+fn circular(alloc: Global, linked: &Linked, value: usize) -> BoundFault
+    requires there { value < length linked.now.values }
+    requires round { IsRoundAt linked.now value }
+    ensures { Stands linked.now result }
+{
+    linked.whole();
+    let written = value_at(linked, value);
+    let home = linked.assigned(written.assignment);
+    let at = linked.assignments()[written.assignment].name.at;
+    match spot(alloc, home.module, home.name, at) {
+        Ok(spot) => BoundFault::Circular(spot),
+        Err(_) => BoundFault::Memory,
+    }
+}
+
+/// What is wrong with the constraints of linked modules, with the names that it is told by.
+pub(crate) fn told(alloc: Global, linked: &Linked, fault: Fault) -> BoundFault
+    requires { IsFault linked.now fault }
+    ensures { Stands linked.now result }
+{
+    match fault {
+        Fault::Memory => BoundFault::Memory,
+        Fault::Circular(value) => circular(alloc, linked, value),
+        Fault::At(rule, ty, at) => broken(alloc, linked, rule, ty, at),
+    }
+}

@@ -1,0 +1,15 @@
+//! Constraints of tagged types: which numbers, sizes and characters they allow, and what the packed encoding sees of them.
+#![tactic(auto)]
+
+mod bounded;
+mod characters;
+mod column;
+mod fault;
+pub mod law;
+mod limit;
+mod meaning;
+
+pub use bounded::{
+    Bounded, allows_character, allows_number, allows_size, alphabet, bound, range, size,
+};
+pub use fault::BoundFault;

@@ -1,0 +1,192 @@
+//! What the constraints of a type leave.
+
+ghost use Rattle.std.specs.Prelude.{◌≡◌, ◌↔◌, ℕ, ℤ, IfOk, MatchResult, map, length, true, false, MatchBool};
+ghost use Rattle.trees.specs.Constraints.{constraint_of};
+ghost use Rattle.type_table.specs.Seen.{kind_of};
+ghost use Rattle.constraints.specs.proving.Limits.{IsFirst, IsSame, Narrows, IsNarrowed, AreWrong, HasCodes, LeavesNothing, LeavesSome, IsLimitFault, InAny, AmongAny, floor as floor'};
+ghost use Rattle.asn_base.specs.Names.{IsMember};
+ghost use Rattle.asn_base.specs.Typed.{IsInSome};
+ghost use Rattle.constraints.specs.Allowed.{IsCounted};
+
+use crate::meaning::{Meaning, Rule, Wrong, has_alphabet, is_integer, meaning_of};
+use asn_base::constraint::Range;
+use range_ends::Scope;
+use ranges::law::bounds;
+use ranges::{Codes, Ranges};
+use std::alloc::{AllocError, Global};
+use trees::{ConstraintSyntax, Simple};
+use type_table::Shape;
+
+/// What constraints leave of the numbers or sizes of a type and, of one of the four restricted strings, of its characters; and
+/// whether an extension marker stands in one.
+#[derive(Drop)]
+pub(crate) struct Limit {
+    pub numbers: Ranges,
+    pub codes: Codes,
+    pub extensible: bool,
+}
+
+/// The characters of a type.
+fn first_codes(shape: &Shape) -> Codes
+    ensures { HasCodes (kind_of shape.now) result }
+{
+    match shape {
+        Shape::Simple(Simple::Restricted(kind)) => Codes::of(*kind),
+        _ => Codes::none(),
+    }
+}
+
+/// The least number of a type without constraints: the least size is 0.
+fn floor(shape: &Shape) -> Option<i128>
+    ensures { result ≡ floor' (kind_of shape.now) }
+{
+    if is_integer(shape) { None } else { Some(0) }
+}
+
+/// All numbers or sizes of a type.
+fn first_numbers(alloc: Global, shape: &Shape) -> Result<Ranges, AllocError>
+    ensures { IfOk result (λ ns. (z : ℤ) → IsInSome z ns ↔ IsCounted (kind_of shape.now) z) }
+{
+    let mut all = Vec::new(alloc);
+    all.push(Range {
+        least: floor(shape),
+        greatest: None,
+    })?;
+    match Ranges::union_of(alloc, all) {
+        Ok(numbers) => Ok(numbers),
+        Err(fault) => Err(fault),
+    }
+}
+
+/// What is left where no constraint stands.
+pub(crate) fn first_limit(alloc: Global, shape: &Shape) -> Result<Limit, AllocError>
+    ensures { IfOk result (IsFirst (kind_of shape.now)) }
+{
+    let numbers = first_numbers(alloc, shape)?;
+    Ok(Limit {
+        numbers,
+        codes: first_codes(shape),
+        extensible: false,
+    })
+}
+
+impl Limit {
+    /// The same once more.
+    pub(crate) fn copy(&self, alloc: Global) -> Result<Limit, AllocError>
+        ensures { IfOk result (λ l. IsSame self.now l) }
+    {
+        Ok(Limit {
+            numbers: self.numbers.copy(alloc)?,
+            codes: self.codes.copy(),
+            extensible: self.extensible,
+        })
+    }
+}
+
+/// What one constraint more leaves of numbers or sizes.
+fn fewer_numbers(
+    alloc: Global,
+    numbers: Ranges,
+    more: &Option<Ranges>,
+) -> Result<Ranges, AllocError>
+    ensures { IfOk result (λ ns. (z : ℤ) → IsInSome z ns ↔ (IsInSome z numbers × InAny more.now z)) }
+{
+    match more {
+        None => Ok(numbers),
+        Some(more) => numbers.meet(alloc, more),
+    }
+}
+
+/// What it leaves of characters.
+fn fewer_codes(codes: Codes, more: &Option<Codes>) -> Codes
+    ensures { (c : ℕ) → IsMember c result ↔ (IsMember c codes × AmongAny more.now c) }
+{
+    match more {
+        None => codes,
+        Some(more) => codes.meet(more),
+    }
+}
+
+/// What one constraint more leaves.
+fn narrowed(alloc: Global, limit: Limit, meaning: &Meaning) -> Result<Limit, AllocError>
+    ensures { IfOk result (IsNarrowed limit meaning.now) }
+{
+    let Limit {
+        numbers,
+        codes,
+        extensible,
+    } = limit;
+    let numbers = fewer_numbers(alloc, numbers, &meaning.numbers)?;
+    Ok(Limit {
+        numbers,
+        codes: fewer_codes(codes, &meaning.codes),
+        extensible: extensible || meaning.marker,
+    })
+}
+
+/// Whether nothing is left.
+fn is_empty(shape: &Shape, limit: &Limit) -> bool
+    ensures { MatchBool result
+        (LeavesNothing (kind_of shape.now) limit.now)
+        (LeavesSome (kind_of shape.now) limit.now) }
+{
+    bounds();
+    let _ranges = limit.numbers.ranges();
+    limit.numbers.is_empty() || (has_alphabet(shape) && limit.codes.is_empty())
+}
+
+/// What constraints of a type of a shape, read in a module, leave of what was left before them; or what is wrong with one of
+/// them.
+fn narrowed_by(
+    alloc: Global,
+    scope: &Scope<'_>,
+    shape: &Shape,
+    within: &str,
+    start: Limit,
+    constraints: &[ConstraintSyntax],
+) -> Result<Limit, Wrong>
+    ensures { MatchResult result
+        (Narrows scope.now (kind_of shape.now) within.now (map constraint_of constraints.now) (length constraints.now) start)
+        (AreWrong scope.now (kind_of shape.now) within.now (map constraint_of constraints.now) start) }
+{
+    let mut limit = start;
+    for constraint in constraints {
+        if limit.extensible {
+            return Err(Wrong::At(Rule::Reconstrained, constraint.at));
+        }
+        let meaning = match meaning_of(alloc, scope, shape, within, constraint) {
+            Ok(meaning) => meaning,
+            Err(wrong) => return Err(wrong),
+        };
+        limit = match narrowed(alloc, limit, &meaning) {
+            Ok(limit) => limit,
+            Err(_) => return Err(Wrong::Memory),
+        };
+    }
+    Ok(limit)
+}
+
+/// The same, where something is left.
+pub(crate) fn limit_of(
+    alloc: Global,
+    scope: &Scope<'_>,
+    shape: &Shape,
+    within: &str,
+    start: Limit,
+    constraints: &[ConstraintSyntax],
+    at: usize,
+) -> Result<Limit, Wrong>
+    ensures { MatchResult result
+        (λ l. Narrows scope.now (kind_of shape.now) within.now (map constraint_of constraints.now) (length constraints.now) start l
+        × LeavesSome (kind_of shape.now) l)
+        (IsLimitFault scope.now (kind_of shape.now) within.now (map constraint_of constraints.now) start) }
+{
+    let limit = match narrowed_by(alloc, scope, shape, within, start, constraints) {
+        Ok(limit) => limit,
+        Err(wrong) => return Err(wrong),
+    };
+    if is_empty(shape, &limit) {
+        return Err(Wrong::At(Rule::Empty, at));
+    }
+    Ok(limit)
+}

@@ -1,0 +1,214 @@
+//! What one constraint of a type means.
+
+ghost use Rattle.std.specs.Prelude.{◌≡◌, ℕ, MatchResult, map, false, true};
+ghost use Rattle.trees.specs.Constraints.{constraint_of, form_of, ranges_of};
+ghost use Rattle.type_table.specs.Seen.{kind_of};
+ghost use Rattle.constraints.specs.Constraints.{takes as takes', may_extend as may_extend', is_alone as is_alone', is_integer as is_integer', has_size as has_size', has_alphabet as has_alphabet', is_marked as is_marked'};
+ghost use Rattle.range_ends.specs.declared.ranges.Counted.{Counted as Counted'};
+ghost use Rattle.constraints.specs.proving.Meanings.{IsMeaningOf, AreNumbersOf, IsWrong, ranged};
+
+use crate::characters::{CharsFault, codes_at};
+use range_ends::{Counted, RangeFault, RangesFault, Scope, Site, ranges_at};
+use ranges::{Codes, Ranges};
+use std::alloc::Global;
+use trees::{ConstraintForm, ConstraintSyntax, RangesSyntax, Simple};
+use type_table::Shape;
+
+/// What a constraint can break.
+#[derive(Clone, Copy)]
+pub(crate) enum Rule {
+    Empty,
+    WrongKind,
+    Reconstrained,
+    LowerAboveUpper,
+    MarkerPlace,
+}
+
+/// What is wrong with a constraint.
+#[derive(Clone, Copy)]
+pub(crate) enum Wrong {
+    /// There was not enough memory.
+    Memory,
+    /// An end leads to this value, by its number, whose notation leads back to the value itself.
+    Circular(usize),
+    /// It breaks the rule, at the place.
+    At(Rule, usize),
+}
+
+/// What a constraint means: the numbers or sizes that it allows, or the characters; and whether an extension marker stands in
+/// it.
+#[derive(Drop)]
+pub(crate) struct Meaning {
+    pub numbers: Option<Ranges>,
+    pub codes: Option<Codes>,
+    pub marker: bool,
+}
+
+pub(crate) fn is_integer(shape: &Shape) -> bool
+    ensures { result ≡ is_integer' (kind_of shape.now) }
+{
+    matches!(shape, Shape::Simple(Simple::Integer(_)))
+}
+
+pub(crate) fn has_alphabet(shape: &Shape) -> bool
+    ensures { result ≡ has_alphabet' (kind_of shape.now) }
+{
+    matches!(shape, Shape::Simple(Simple::Restricted(_)))
+}
+
+/// Whether a type takes SIZE.
+pub(crate) fn has_size(shape: &Shape) -> bool
+    ensures { result ≡ has_size' (kind_of shape.now) }
+{
+    match shape {
+        Shape::Simple(simple) => match simple {
+            Simple::BitString(bits) => bits.is_empty(),
+            Simple::OctetString => true,
+            Simple::Utf8String => true,
+            Simple::Restricted(_) => true,
+            _ => false,
+        },
+        Shape::Elements(_, _) => true,
+        _ => false,
+    }
+}
+
+/// Whether an extension marker may stand in a constraint of the type.
+fn may_extend(shape: &Shape) -> bool
+    ensures { result ≡ may_extend' (kind_of shape.now) }
+{
+    match shape {
+        Shape::Simple(simple) => match simple {
+            Simple::Integer(_) => true,
+            Simple::BitString(_) => true,
+            Simple::OctetString => true,
+            _ => false,
+        },
+        Shape::Elements(_, _) => true,
+        _ => false,
+    }
+}
+
+/// Whether a type takes a constraint.
+fn takes(shape: &Shape, form: &ConstraintForm) -> bool
+    ensures { result ≡ takes' (kind_of shape.now) (form_of form.now) }
+{
+    match form {
+        ConstraintForm::Values(_) => is_integer(shape),
+        ConstraintForm::Size(_) => has_size(shape),
+        ConstraintForm::From(_) => has_alphabet(shape),
+    }
+}
+
+/// Whether no marker stands behind ranges, or it stands where it may.
+fn is_marked(shape: &Shape, ranges: &RangesSyntax) -> bool
+    ensures { (of : Counted') → result ≡ is_marked' (kind_of shape.now) (ranged of (ranges_of ranges.now)) }
+{
+    !ranges.marker || (may_extend(shape) && ranges.ranges.len() == 1)
+}
+
+/// The numbers or sizes that ranges allow, where their marker stands where it may.
+fn numbers_of(
+    alloc: Global,
+    site: &Site<'_>,
+    at: usize,
+    ranges: &RangesSyntax,
+) -> Result<Ranges, Wrong>
+    ensures { MatchResult result
+        (AreNumbersOf site.now.scope.now (kind_of site.now.shape.now) site.now.within.now site.now.of (ranges_of ranges.now))
+        (IsWrong site.now.scope.now (kind_of site.now.shape.now) site.now.within.now
+        (ranged site.now.of (ranges_of ranges.now))) }
+{
+    if !is_marked(site.shape, ranges) {
+        return Err(Wrong::At(Rule::MarkerPlace, at));
+    }
+    match ranges_at(alloc, site, &ranges.ranges) {
+        Ok(all) => match Ranges::union_of(alloc, all) {
+            Ok(numbers) => Ok(numbers),
+            Err(_) => Err(Wrong::Memory),
+        },
+        Err(RangesFault::Memory) => Err(Wrong::Memory),
+        Err(RangesFault::At(RangeFault::NoEnd(place))) => Err(Wrong::At(Rule::WrongKind, place)),
+        Err(RangesFault::At(RangeFault::Reversed(place))) => {
+            Err(Wrong::At(Rule::LowerAboveUpper, place))
+        }
+        Err(RangesFault::At(RangeFault::Circular(value))) => Err(Wrong::Circular(value)),
+    }
+}
+
+/// The meaning of a constraint that the type takes.
+fn taken(
+    alloc: Global,
+    scope: &Scope<'_>,
+    shape: &Shape,
+    within: &str,
+    constraint: &ConstraintSyntax,
+) -> Result<Meaning, Wrong>
+    requires { takes' (kind_of shape.now) (constraint_of constraint.now) ≡ true }
+    ensures { MatchResult result
+        (IsMeaningOf scope.now (kind_of shape.now) within.now (constraint_of constraint.now))
+        (IsWrong scope.now (kind_of shape.now) within.now (constraint_of constraint.now)) }
+{
+    match &constraint.form {
+        ConstraintForm::Values(ranges) => {
+            let site = Site {
+                scope,
+                shape,
+                within,
+                of: Counted::Numbers,
+            };
+            match numbers_of(alloc, &site, constraint.at, ranges) {
+                Ok(numbers) => Ok(Meaning {
+                    numbers: Some(numbers),
+                    codes: None,
+                    marker: ranges.marker,
+                }),
+                Err(wrong) => Err(wrong),
+            }
+        }
+        ConstraintForm::Size(ranges) => {
+            let site = Site {
+                scope,
+                shape,
+                within,
+                of: Counted::Sizes,
+            };
+            match numbers_of(alloc, &site, constraint.at, ranges) {
+                Ok(numbers) => Ok(Meaning {
+                    numbers: Some(numbers),
+                    codes: None,
+                    marker: ranges.marker,
+                }),
+                Err(wrong) => Err(wrong),
+            }
+        }
+        ConstraintForm::From(chars) => match codes_at(chars) {
+            Ok(codes) => Ok(Meaning {
+                numbers: None,
+                codes: Some(codes),
+                marker: false,
+            }),
+            Err(CharsFault::NoCharacter(place)) => Err(Wrong::At(Rule::WrongKind, place)),
+            Err(CharsFault::Reversed(place)) => Err(Wrong::At(Rule::LowerAboveUpper, place)),
+        },
+    }
+}
+
+/// The meaning of a constraint of a type of a shape, read in a module, or what is wrong with it.
+pub(crate) fn meaning_of(
+    alloc: Global,
+    scope: &Scope<'_>,
+    shape: &Shape,
+    within: &str,
+    constraint: &ConstraintSyntax,
+) -> Result<Meaning, Wrong>
+    ensures { MatchResult result
+        (IsMeaningOf scope.now (kind_of shape.now) within.now (constraint_of constraint.now))
+        (IsWrong scope.now (kind_of shape.now) within.now (constraint_of constraint.now)) }
+{
+    if takes(shape, &constraint.form) {
+        taken(alloc, scope, shape, within, constraint)
+    } else {
+        Err(Wrong::At(Rule::WrongKind, constraint.at))
+    }
+}

@@ -1,0 +1,4 @@
+-- What only contracts inside the crate and proofs speak of.
+pub mod Steps
+pub mod Ways
+pub mod Bounds
