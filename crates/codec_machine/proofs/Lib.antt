@@ -1,0 +1,4 @@
+pub mod Left
+pub mod Weigh
+pub mod Replacing
+pub mod Places
