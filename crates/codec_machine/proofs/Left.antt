@@ -18,8 +18,13 @@ parted : (s : List Resolved) (olds news : List Frame) (rest : List Event) → Le
 parted s [] news rest l = record { first = rest; second = []; one = l; two = refl; whole = sym (append-nil rest) }
 parted s (f ∷ olds) news rest l =
     let p = parted s olds news l.0 l.2 in
-    record { first = p.first; second = p.second ++ l.1; one = p.one; two = (p.second, l.1, p.two, l.3, refl);
-      whole = l.4 ∙ ap (λ q. q ++ l.1) p.whole ∙ append_assoc p.first p.second l.1 }
+    record {
+      first = p.first;
+      second = p.second ++ l.1;
+      one = p.one;
+      two = (p.second, l.1, p.two, l.3, refl);
+      whole = l.4 ∙ ap (λ q. q ++ l.1) p.whole ∙ append_assoc p.first p.second l.1;
+    }
 
 -- the last frame goes first
 left_push : (s : List Resolved) (fs : List Frame) (f : Frame) (ys xs : List Event) → Told s f ys → Left s fs xs → Left s (fs ++ f ∷ []) (ys ++ xs)
@@ -62,15 +67,15 @@ pub turned_by : {S : Type 0} (s : List Resolved) (adds : S → List Event → S 
     → ((ys : List Event) → T ys → Told s f ys) → w ≤ frame_weight (total s) f → Acted s adds T w olds a news b → Turned s adds (olds ++ f ∷ []) a news b
 turned_by s adds T w olds news f a b h e ac =
     let r = ac.replaced in
-    record { events = ac.events; added = ac.added;
+    record {
+      events = ac.events;
+      added = ac.added;
       left = λ rest l.
-        let p = parted s olds r.pushed rest (subst (λ q. Left s q rest) r.is l) in
-        subst (Left s (olds ++ f ∷ [])) (append_assoc ac.events p.first p.second ∙ ap (λ q. ac.events ++ q) (sym p.whole))
+          let p = parted s olds r.pushed rest (subst (λ q. Left s q rest) r.is l) in
+          subst (Left s (olds ++ f ∷ [])) (append_assoc ac.events p.first p.second ∙ ap (λ q. ac.events ++ q) (sym p.whole))
           (left_push s olds f (ac.events ++ p.first) p.second (h (ac.events ++ p.first) (r.left p.first p.one)) p.two);
       less =
-        let k = ap (weighs (total s)) r.is ∙ weighs_more (total s) olds r.pushed in
-        let m = weighs_more (total s) olds (f ∷ []) in
-        let z = r.less in omega (arith, k, m) }
-
-pub turned_start : {S : Type 0} (s : List Resolved) (adds : S → List Event → S → Type 0) → ((a : S) → adds a [] a) → (a : S) (olds : List Frame) (rest : List Event) → Left s olds rest → Left s olds ([] ++ rest)
-turned_start s adds n a olds rest l = l
+          let k = ap (weighs (total s)) r.is ∙ weighs_more (total s) olds r.pushed in
+          let m = weighs_more (total s) olds (f ∷ []) in
+          let z = r.less in omega (arith, k, m);
+    }

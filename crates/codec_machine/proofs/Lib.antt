@@ -2,3 +2,4 @@ pub mod Left
 pub mod Weigh
 pub mod Replacing
 pub mod Places
+pub mod Acting

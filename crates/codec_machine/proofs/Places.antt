@@ -1,5 +1,5 @@
 -- Components at places.
-use Rattle.std.proofs.Common.{◌≡◌, ℕ, zero, suc, Bool, true, List, [], ◌∷◌, map, refl, ap, subst}
+use Rattle.std.proofs.Common.{◌≡◌, ℕ, zero, suc, Bool, true, List, [], ◌∷◌, map, refl, sym, ap, subst, ◌∙◌, ◌<◌, ◌+◌, length, get_or, arith}
 use Rattle.std.specs.Prelude.{Option, Some, None, slice_get, option_map, MatchOption}
 use Rattle.asn_base.specs.declared.value.Value.{Value}
 use Rattle.asn_base.specs.Abstract.{AbstractValue, abstract, fields, Row, row_of_options}
@@ -11,12 +11,15 @@ use Rattle.codec_machine.specs.Frames.{LeavesOut, WritesIt}
 some_same : {A : Type 0} {x y : A} → Some x ≡ Some y → x ≡ y
 some_same e = cc
 
-pub place_found : (xs : List (Option Value)) (i : ℕ) (o : Option Value) → slice_get xs i ≡ Some o → component_at (row_of_options (map (option_map abstract) xs)) i ≡ Some (option_map abstract o)
-place_found [] i o e = absurd (cc)
-place_found (None ∷ xs) zero o e = ap (λ q. Some (option_map abstract q)) (some_same e)
-place_found (Some x ∷ xs) zero o e = ap (λ q. Some (option_map abstract q)) (some_same e)
-place_found (None ∷ xs) (suc i) o e = place_found xs i o e
-place_found (Some x ∷ xs) (suc i) o e = place_found xs i o e
+get_place : (xs : List (Option Value)) (i : ℕ) (d : Option Value) → i < length xs → component_at (row_of_options (map (option_map abstract) xs)) i ≡ Some (option_map abstract (get_or xs i d))
+get_place [] i d h = absurd (omega arith)
+get_place (None ∷ xs) zero d h = refl
+get_place (Some x ∷ xs) zero d h = refl
+get_place (None ∷ xs) (suc i) d h = get_place xs i d (omega arith)
+get_place (Some x ∷ xs) (suc i) d h = get_place xs i d (omega arith)
+
+pub place_is : (xs : List (Option Value)) (i : ℕ) (o : Option Value) → i < length xs → o ≡ get_or xs i o → component_at (row_of_options (map (option_map abstract) xs)) i ≡ Some (option_map abstract o)
+place_is xs i o h e = get_place xs i o h ∙ ap (λ q. Some (option_map abstract q)) (sym e)
 
 pub match_none : {X : Type 0} {A : Type 0} (B : X → Type 0) (o : Option X) → MatchOption o A B → o ≡ None → A
 match_none B None m e = m

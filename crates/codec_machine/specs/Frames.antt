@@ -80,6 +80,13 @@ pub record Turned {S : Type 0} (s : List Resolved) (adds : S → List Event → 
   -- and the machine can take fewer steps
   pub less : weighs (total s) news < weighs (total s) olds
 
+-- the same after any number of turns
+pub record Reached {S : Type 0} (s : List Resolved) (adds : S → List Event → S → Type 0) (olds : List Frame) (a : S)
+    (news : List Frame) (b : S) : Type 0 where
+  pub events : List Event
+  pub added : adds a events b
+  pub left : (rest : List Event) → Left s news rest → Left s olds (events ++ rest)
+
 -- the events of a type's routine were added
 pub record Ran {S : Type 0} (s : List Resolved) (t : TypeNumber) (v : AbstractValue) (adds : S → List Event → S → Type 0)
     (a b : S) : Type 0 where

@@ -12,7 +12,9 @@ use crate::backend::Backend;
 use crate::fault::RunFault;
 use crate::frame::Frame;
 use crate::part::{first_step, has_default};
-use crate::push::{add, push_choice, push_each, push_elements, push_field, push_parts, push_ranked, push_sorted};
+use crate::push::{
+    add, push_choice, push_each, push_elements, push_field, push_parts, push_ranked, push_sorted,
+};
 use asn_base::schema::TypeId;
 use asn_base::value::Value;
 use codec_code::{Code, Field, Step};

@@ -8,6 +8,7 @@ use crate::act::turn;
 use crate::backend::Backend;
 use crate::fault::RunFault;
 use crate::frame::Frame;
+use crate::push::add;
 use asn_base::schema::TypeId;
 use asn_base::value::Value;
 use codec_code::{Code, Coding};
@@ -24,7 +25,10 @@ pub fn run<B: Backend>(
     ensures { OnOk result (Ran code.now id.index (abstract value.now) B.adds backend.old backend.new) }
 {
     let mut frames = Vec::new(alloc);
-    frames.push(Frame::Routine(id, code.steps(id, Coding::Tagged), value))?;
+    add(
+        &mut frames,
+        Frame::Routine(id, code.steps(id, Coding::Tagged), value),
+    )?;
     while let Some(frame) = frames.pop() {
         turn(code, frame, &mut frames, backend)?;
     }

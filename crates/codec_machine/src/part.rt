@@ -59,7 +59,12 @@ pub(crate) fn elements_of(value: &Value) -> Option<&[Value]>
 
 /// The component's value, where it is to be written. `NotOfType`: there is no such component, or it is absent and must
 /// not be.
-pub(crate) fn written_value<'a>(code: &Code, id: TypeId, field: Field, value: &'a Value) -> Result<Option<&'a Value>, RunFault>
+pub(crate) fn written_value<'a>(
+    code: &Code,
+    id: TypeId,
+    field: Field,
+    value: &'a Value,
+) -> Result<Option<&'a Value>, RunFault>
     ensures { IfOk result (λ o. MatchOption o (LeavesOut code.now id.index field (abstract value.now))
         (λ w. WritesIt code.now id.index field (abstract value.now) (abstract w.now))) }
 {
@@ -83,7 +88,13 @@ fn value_at(values: &[Option<Value>], place: usize) -> Result<Option<&Value>, Ru
     }
 }
 
-fn written_at<'a>(code: &Code, id: TypeId, field: Field, values: &'a [Option<Value>], value: &'a Value) -> Result<Option<&'a Value>, RunFault>
+fn written_at<'a>(
+    code: &Code,
+    id: TypeId,
+    field: Field,
+    values: &'a [Option<Value>],
+    value: &'a Value,
+) -> Result<Option<&'a Value>, RunFault>
     requires { abstract value.now ≡ fields (row_of_options (map (option_map abstract) values.now)) }
     ensures { IfOk result (λ o. MatchOption o (LeavesOut code.now id.index field (abstract value.now))
         (λ w. WritesIt code.now id.index field (abstract value.now) (abstract w.now))) }

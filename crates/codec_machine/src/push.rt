@@ -38,7 +38,10 @@ pub(crate) fn push_elements<'a>(
         None => Ok(()),
         Some((first, others)) => {
             add(frames, Frame::Elements(id, others))?;
-            add(frames, Frame::Routine(id, code.steps(id, Coding::Tagged), first))?;
+            add(
+                frames,
+                Frame::Routine(id, code.steps(id, Coding::Tagged), first),
+            )?;
             Ok(())
         }
     }
@@ -59,7 +62,10 @@ pub(crate) fn push_parts<'a>(
         Some((first, others)) => {
             add(frames, Frame::Parts(id, others))?;
             add(frames, Frame::Part(0))?;
-            add(frames, Frame::Routine(id, code.steps(id, Coding::Tagged), first))?;
+            add(
+                frames,
+                Frame::Routine(id, code.steps(id, Coding::Tagged), first),
+            )?;
             Ok(())
         }
     }
@@ -83,7 +89,10 @@ pub(crate) fn push_field<'a>(
     match written {
         None => Ok(true),
         Some(component) => {
-            add(frames, Frame::Routine(field.ty, code.steps(field.ty, Coding::Tagged), component))?;
+            add(
+                frames,
+                Frame::Routine(field.ty, code.steps(field.ty, Coding::Tagged), component),
+            )?;
             Ok(false)
         }
     }
@@ -109,7 +118,10 @@ pub(crate) fn push_ranked<'a>(
         None => Ok(true),
         Some(component) => {
             add(frames, Frame::Part(rank))?;
-            add(frames, Frame::Routine(field.ty, code.steps(field.ty, Coding::Tagged), component))?;
+            add(
+                frames,
+                Frame::Routine(field.ty, code.steps(field.ty, Coding::Tagged), component),
+            )?;
             Ok(false)
         }
     }
@@ -175,6 +187,9 @@ pub(crate) fn push_choice<'a>(
     let of = called(rest, number)?;
     let others = behind(rest, alternatives)?;
     add(frames, Frame::Routine(id, others, value))?;
-    add(frames, Frame::Routine(of, code.steps(of, Coding::Tagged), held))?;
+    add(
+        frames,
+        Frame::Routine(of, code.steps(of, Coding::Tagged), held),
+    )?;
     Ok(())
 }

@@ -13,10 +13,10 @@ pub returns-in-None : goal.returns-in-None
 returns-in-None c =
     let s = c.args.code.now in
     r.none_in s c.args.id c.args.frames.now.items (Elements s c.args.id.index (row_of_list (map abstract c.args.values.now)))
-        (suc (weights (total s) (row_of_list (map abstract c.args.values.now))))
-        (subst (λ q. Elements s c.args.id.index (row_of_list (map abstract q)) []) (sym c.in-None.ensures) no_element) (omega arith)
+    (suc (weights (total s) (row_of_list (map abstract c.args.values.now))))
+    (subst (λ q. Elements s c.args.id.index (row_of_list (map abstract q)) []) (sym c.in-None.ensures) no_element) (omega arith)
 
 pub returns-in_ok-add-in-Some-2 : goal.returns-in_ok-add-in-Some-2
 returns-in_ok-add-in-Some-2 c =
     r.element_in c.args.code.now c.args.id c.args.frames.now.items c.add.new.frames.items c.add-in-Some.new.frames.items c.steps.result
-        c.in-Some.first c.args.values c.in-Some.others c.in-Some.ensures c.steps.ensures c.in_ok-add-in-Some.ensures c.in_ok-add-in-Some-2.ensures
+    c.in-Some.first c.args.values c.in-Some.others c.in-Some.ensures c.steps.ensures c.in_ok-add-in-Some.ensures c.in_ok-add-in-Some-2.ensures

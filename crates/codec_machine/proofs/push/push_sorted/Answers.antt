@@ -6,4 +6,4 @@ use Rattle.codec_machine.proofs.push.push_sorted.Goals as goal
 pub returns-in_ok-add-in-Some-2 : goal.returns-in_ok-add-in-Some-2
 returns-in_ok-add-in-Some-2 c =
     r.sorted_in c.args.code.now c.args.id c.args.frames.now.items c.args.rest c.args.value c.args.of c.add.new.frames.items
-        c.add-in-Some.new.frames.items c.in-Some.values c.in-Some.ensures c.in_ok-add-in-Some.ensures c.in_ok-add-in-Some-2.ensures
+    c.add-in-Some.new.frames.items c.in-Some.values c.in-Some.ensures c.in_ok-add-in-Some.ensures c.in_ok-add-in-Some-2.ensures
