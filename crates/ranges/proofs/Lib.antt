@@ -1,0 +1,10 @@
+pub mod Orders
+pub mod Joins
+pub mod Sorting
+pub mod Steps
+pub mod Meets
+pub mod Ends
+pub mod Searches
+pub mod Bits
+pub mod Tables
+pub mod SameCodes

@@ -1,0 +1,5 @@
+-- How unions and meets come about, and what is searched for.
+pub mod Joining
+pub mod Meeting
+pub mod Searching
+pub mod Masking

@@ -1,0 +1,40 @@
+//! Laws of sets of numbers and of codes, for the crates above.
+
+ghost use Rattle.std.specs.Prelude.{◌≡◌, ◌↔◌, ◌<◌, ℕ, ℤ, List, [], length};
+ghost use Rattle.std.specs.List.{AllByRecursion};
+ghost use Rattle.asn_base.specs.Names.{IsMember};
+ghost use Rattle.asn_base.specs.Types.{Range, Constraint, any_number, any_size};
+ghost use Rattle.asn_base.specs.Typed.{IsInSome};
+ghost use Rattle.asn_base.specs.Schemas.{IsLeast, IsGreatest, AreBounds, IsNumber, IsSize, CodesAscend};
+ghost use Rattle.ranges.specs.Numbers.{AreApart, AreSizes, HasRoot};
+
+/// Ranges that are apart hold a number where there is one of them; the least and the greatest of a root's numbers are
+/// a constraint's bounds, for numbers and for sizes; without a root all numbers and all sizes have their bounds.
+pub fn bounds()
+    ensures some { (rs : List Range)
+        → AreApart rs
+        → 0 < length rs
+        → (z : ℤ) × IsInSome z rs }
+    ensures numbers { (c : Constraint) (rs : List Range)
+        → HasRoot c rs
+        → IsLeast (λ z. IsInSome z rs) c.visible.least
+        → IsGreatest (λ z. IsInSome z rs) c.visible.greatest
+        → AreBounds IsNumber c }
+    ensures sizes { (c : Constraint) (rs : List Range)
+        → HasRoot c rs
+        → AreSizes rs
+        → IsLeast (λ z. IsInSome z rs) c.visible.least
+        → IsGreatest (λ z. IsInSome z rs) c.visible.greatest
+        → AreBounds IsSize c }
+    ensures any_number_ { AreBounds IsNumber any_number }
+    ensures any_size_ { AreBounds IsSize any_size }
+{}
+
+/// Two lists of ascending codes with the same members are the same list.
+pub fn same_codes()
+    ensures { (cs ds : List ℕ)
+        → CodesAscend cs
+        → CodesAscend ds
+        → ((c : ℕ) → IsMember c cs ↔ IsMember c ds)
+        → cs ≡ ds }
+{}

@@ -1,0 +1,143 @@
+//! A set of numbers as sorted, disjoint ranges.
+
+ghost use Rattle.std.specs.Prelude.{◌≡◌, ◌≢◌, ◌<◌, ◌↔◌, ℤ, true, [], length, map, OnOk, IfOk, MatchBool};
+ghost use Rattle.asn_base.specs.Seen.{range_of};
+ghost use Rattle.asn_base.specs.Typed.{IsInRange, IsInSome};
+ghost use Rattle.asn_base.specs.Schemas.{IsLeast, IsGreatest};
+ghost use Rattle.ranges.specs.Numbers.{AreApart};
+ghost use Rattle.ranges.specs.proving.Searching.{is_below};
+
+use crate::join::join;
+use crate::meet::meet;
+use asn_base::constraint::Range;
+use std::alloc::{AllocError, Global};
+use std::marker::Model;
+
+/// Does the range end below the number?
+fn ends_below(range: &Range, number: i128) -> bool
+    ensures { result ≡ is_below number (range_of range.now).greatest }
+{
+    match range.greatest {
+        Some(greatest) => greatest < number,
+        None => false,
+    }
+}
+
+/// Is the number in the range?
+fn holds(range: &Range, number: i128) -> bool
+    ensures { result ≡ true ↔ IsInRange number (range_of range.now) }
+{
+    let from = match range.least {
+        Some(least) => least <= number,
+        None => true,
+    };
+    from && !ends_below(range, number)
+}
+
+/// Is the number in one of the ranges?
+fn search(ranges: &[Range], number: i128) -> bool
+    requires { AreApart (map range_of ranges.now) }
+    ensures { result ≡ true ↔ IsInSome number (map range_of ranges.now) }
+{
+    let at = ranges.partition_point(|range| ends_below(range, number));
+    if at < ranges.len() {
+        return holds(&ranges[at], number);
+    }
+    false
+}
+
+/// A set of numbers: ranges in ascending order, each of which holds a number and ends before the next one begins.
+#[derive(Drop)]
+pub struct Ranges {
+    items: Vec<Range>,
+}
+
+impl Model for Ranges {
+    ghost use Rattle.std.specs.Prelude.{List, map};
+    ghost use Rattle.asn_base.specs.Types.{Range};
+
+    ghost Value = { List Range };
+
+    ghost use Rattle.asn_base.specs.Seen.{range_of};
+
+    ghost view = { λ r. map range_of r.items.items };
+
+    ghost use Rattle.ranges.specs.Numbers.{AreApart};
+
+    ghost invariant = { λ r. AreApart (map range_of r.items.items) };
+}
+
+impl Ranges {
+    /// The numbers that are in one of the ranges, which may stand in any order, overlap, or hold no number (one whose
+    /// least is above its greatest adds none). For n ranges it takes time as n log n. Err where memory is wanting.
+    pub fn union_of(alloc: Global, ranges: Vec<Range>) -> Result<Self, AllocError>
+        ensures members { IfOk result (λ all. (z : ℤ) → IsInSome z all ↔ IsInSome z (map range_of ranges.items)) }
+    {
+        let items = join(alloc, ranges)?;
+        Ok(Ranges { items })
+    }
+
+    /// The numbers that are in both sets, in time linear in the number of their ranges. Err where memory is wanting.
+    pub fn meet(&self, alloc: Global, other: &Ranges) -> Result<Self, AllocError>
+        ensures members { IfOk result (λ both. (z : ℤ) → IsInSome z both ↔ (IsInSome z self.now × IsInSome z other.now)) }
+    {
+        let items = meet(alloc, &self.items, &other.items)?;
+        Ok(Ranges { items })
+    }
+
+    /// The same set once more. Err where memory is wanting.
+    pub fn copy(&self, alloc: Global) -> Result<Self, AllocError>
+        ensures { IfOk result (λ copy. copy ≡ self.now) }
+    {
+        let items = self.items.iter().copied().collect(alloc)?;
+        Ok(Ranges { items })
+    }
+
+    /// Is no number in the set?
+    pub fn is_empty(&self) -> bool
+        ensures ranges { MatchBool result (self.now ≡ []) (0 < length self.now) }
+        ensures members { result ≡ true ↔ ((z : ℤ) → IsInSome z self.now → ⊥) }
+    {
+        self.items.as_slice().is_empty()
+    }
+
+    /// The least number of a set that is not empty, None where there is no bound.
+    pub fn least(&self) -> Option<i128>
+        requires { 0 < length self.now }
+        ensures { IsLeast (λ z. IsInSome z self.now) result }
+    {
+        self.items[0].least
+    }
+
+    /// The greatest number of a set that is not empty, None where there is no bound.
+    pub fn greatest(&self) -> Option<i128>
+        requires { 0 < length self.now }
+        ensures { IsGreatest (λ z. IsInSome z self.now) result }
+    {
+        let ranges = self.items.as_slice();
+        ranges[ranges.len() - 1].greatest
+    }
+
+    /// Is the number in the set? For n ranges it takes time as log n.
+    pub fn has(&self, number: i128) -> bool
+        ensures { result ≡ true ↔ IsInSome number self.now }
+    {
+        search(&self.items, number)
+    }
+
+    /// The ranges of the set.
+    pub fn ranges(&self) -> &[Range]
+        ensures is { map range_of result.now ≡ self.now }
+        ensures apart { AreApart self.now }
+    {
+        &self.items
+    }
+
+    /// The ranges of the set.
+    pub fn into_ranges(self) -> Vec<Range>
+        ensures is { map range_of result.items ≡ self }
+        ensures apart { AreApart self }
+    {
+        self.items
+    }
+}
