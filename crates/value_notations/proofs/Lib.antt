@@ -1,0 +1,4 @@
+pub mod Places
+pub mod Following
+pub mod SameLeaf
+pub mod SameValue

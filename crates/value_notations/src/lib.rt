@@ -1,0 +1,4 @@
+//! What notations of values stand for.
+#![tactic(auto)]
+
+pub mod law;
