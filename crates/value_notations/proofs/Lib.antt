@@ -2,3 +2,4 @@ pub mod Places
 pub mod Following
 pub mod SameLeaf
 pub mod SameValue
+pub mod Groups

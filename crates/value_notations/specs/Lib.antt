@@ -2,3 +2,4 @@
 pub mod References
 pub mod Leaves
 pub mod Notations
+pub mod proving

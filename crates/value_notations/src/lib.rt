@@ -1,4 +1,6 @@
 //! What notations of values stand for.
 #![tactic(auto)]
 
+mod digits;
+mod forms;
 pub mod law;

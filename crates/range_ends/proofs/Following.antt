@@ -1,0 +1,349 @@
+-- Where ends lead.
+use Rattle.std.proofs.Common.{◌≡◌, ◌↔◌, ℕ, zero, suc, ◌<◌, ℤ, List, [], ◌∷◌, length, Option, Some, None, refl, sym, ap, ◌∙◌, subst, arith}
+use Rattle.std.specs.Prelude.{slice_get, Result, Ok, Err, MatchResult}
+use Rattle.trees.specs.Values.{Name, Tree, number, reference}
+use Rattle.trees.specs.Values as trees
+use Rattle.names.specs.declared.scope.Assigned.TheVariants as assigned
+use Rattle.names.specs.Names.{Refers}
+use Rattle.type_table.specs.Table.{Kind}
+use Rattle.resolve.specs.Program.{Program, IsWhole}
+use Rattle.range_ends.specs.declared.ends.EndFault.{EndFault}
+use Rattle.range_ends.specs.declared.ends.EndFault.TheVariants as ends
+use Rattle.range_ends.specs.Answers.{StandsForOnly, IsEndFault}
+use Rattle.range_ends.specs.Ends.{IsValueAt, named, told, Means, LeadsTo, there, onward, StandsFor, IsLost, ComesRound}
+use Rattle.range_ends.specs.proving.Steps.{MeansValue, RefersTo, listed, AreReferred, told_by, told_at, unless, next}
+use Rattle.range_ends.specs.proving.Walks as walks
+use Rattle.range_ends.specs.proving.Walks.{walk, EndsAt, ComesBack, Reaches, IsWithin}
+use Rattle.range_ends.specs.proving.Ways.{Ends, EndsWithout, Turns, IsWayFault}
+use Rattle.range_ends.proofs.Circles.{below, ends_next, ends_unique, ends_after, core_not_circular}
+use Rattle.range_ends.proofs.References.{some_same, means_there, value_once, its_meaning, refers_within}
+
+-- ---- one step
+
+pub told_here : (p : Program) (k : Kind) (i : ℕ) (M : Name) (n : Tree) → IsValueAt p i M n → told_at p k i ≡ told k n
+told_here p k i M n a = ap (told_by k) a.there ∙ ap (told k) a.notation
+
+pub next_told : (p : Program) (k : Kind) (os : List (Option ℕ)) (i : ℕ) (z : ℤ) →
+    told_at p k i ≡ Some z →
+    next p k os i ≡ None
+next_told p k os i z e = ap (λ o. unless o (listed os i)) e
+
+pub next_on : (p : Program) (k : Kind) (os : List (Option ℕ)) (i : ℕ) →
+    told_at p k i ≡ None →
+    next p k os i ≡ listed os i
+next_on p k os i e = ap (λ o. unless o (listed os i)) e
+
+unless_some : (o : Option ℤ) (r : Option ℕ) (j : ℕ) → unless o r ≡ Some j → (o ≡ None) × (r ≡ Some j)
+unless_some None r j e = (refl, e)
+unless_some (Some z) r j e = absurd cc
+
+pub within_next : (p : Program) (k : Kind) (os : List (Option ℕ)) → IsWithin (listed os) (length os) → IsWithin (next p k os) (length os)
+within_next p k os w i j e = w i j (unless_some (told_at p k i) (listed os i) j e).1
+
+there_is : {X : Type 0} (xs : List X) (i : ℕ) → i < length xs → (x : X) × (slice_get xs i ≡ Some x)
+there_is [] i l = absurd (omega (arith, l))
+there_is (x ∷ xs) zero l = (x, refl)
+there_is (x ∷ xs) (suc i) l = there_is xs i (omega (arith, l))
+
+-- each value has its notation
+value_is : (p : Program) (i : ℕ) → IsWhole p → i < length p.values → (M : Name) × (n : Tree) × IsValueAt p i M n
+value_is p i w l =
+    let v = there_is p.values i l in
+    let a = there_is p.assignments v.0.assignment (w.valued i v.0 v.1).1 in
+    let h = there_is p.headers a.0.0 (w.placed v.0.assignment a.0 a.1) in
+    (h.0.0, v.0.notation, record {
+      value = v.0;
+      there = v.1;
+      notation = refl;
+      assigns = a.0.1;
+      stands = record { owner = a.0.0; tags = h.0.1; assigned = a.1; header = h.1 };
+    })
+
+as_value : (p : Program) (k : Kind) (M : Name) (n : Tree) (j : ℕ) → Means p k M n j → (told k n ≡ None) × MeansValue p M n j
+as_value p k M (reference q x) j m = m
+as_value p k M n j m = absurd m
+
+as_means : (p : Program) (k : Kind) (M : Name) (n : Tree) (j : ℕ) → told k n ≡ None → MeansValue p M n j → Means p k M n j
+as_means p k M (reference q x) j e m = (e, m)
+as_means p k M n j e m = absurd m
+
+module _ (p : Program) (k : Kind) (os : List (Option ℕ)) (a : AreReferred p os) (w : IsWhole p) where
+  means_next : (i : ℕ) (M : Name) (n : Tree) (j : ℕ) → IsValueAt p i M n → Means p k M n j → next p k os i ≡ Some j
+  means_next i M n j at m =
+      let v = as_value p k M n j m in
+      next_on p k os i (told_here p k i M n at ∙ v.0)
+      ∙ (a.each i j).1 (record { within = M; notation = n; at = at; means = v.1 })
+
+  next_means : (i : ℕ) (M : Name) (n : Tree) (j : ℕ) → IsValueAt p i M n → next p k os i ≡ Some j → Means p k M n j
+  next_means i M n j at e =
+      let u = unless_some (told_at p k i) (listed os i) j e in
+      as_means p k M n j (sym (told_here p k i M n at) ∙ u.0) (its_meaning p i M n j at ((a.each i j).0 u.1))
+
+  next_there : (i j : ℕ) → next p k os i ≡ Some j → j < length p.values
+  next_there i j e = let l = within_next p k os (refers_within p os w a) i j e in omega (arith, l, a.all)
+
+  walk_there : (s i c : ℕ) → i < length p.values → walk (next p k os) s i ≡ Some c → c < length p.values
+  walk_there s i c l e =
+      below (next p k os) (length p.values) s i c next_there l e
+
+  -- ---- many steps
+
+  leads_on : (s i c : ℕ) (M : Name) (n : Tree) (K : Name) (l : Tree) (o : Option ℕ) →
+      next p k os i ≡ o →
+      IsValueAt p i M n →
+      ((j : ℕ) (N : Name) (m : Tree) → walk (next p k os) s j ≡ Some c → IsValueAt p j N m → LeadsTo p k N m K l) →
+      walks.onward o (λ j. walk (next p k os) s j) ≡ Some c →
+      LeadsTo p k M n K l
+  leads_on s i c M n K l None f at go e = absurd cc
+  leads_on s i c M n K l (Some j) f at go e =
+      let v = value_is p j w (next_there i j f) in
+      onward j (next_means i M n j at f) v.2 (go j v.0 v.1 e v.2)
+
+  walk_leads : (s i c : ℕ) (M : Name) (n : Tree) (K : Name) (l : Tree) →
+      walk (next p k os) s i ≡ Some c →
+      IsValueAt p i M n →
+      IsValueAt p c K l →
+      LeadsTo p k M n K l
+  walk_leads zero i c M n K l e at to =
+      let q : i ≡ c = cc in
+      let s = value_once p c M K n l (subst (λ z. IsValueAt p z M n) q at) to in
+      subst (λ N. LeadsTo p k M n N l) s.0 (subst (λ t. LeadsTo p k M n M t) s.1 there)
+  walk_leads (suc s) i c M n K l e at to =
+      leads_on s i c M n K l (next p k os i) refl at (λ j N m f b. walk_leads s j c N m K l f b to) e
+
+  leads_ends : (i : ℕ) (M : Name) (n : Tree) (K : Name) (l : Tree) (z : ℤ) →
+      IsValueAt p i M n →
+      LeadsTo p k M n K l →
+      told k l ≡ Some z →
+      (c : ℕ) × EndsAt (next p k os) i c × (told_at p k c ≡ Some z)
+  leads_ends i M n K l z at there e =
+      let t = told_here p k i M n at ∙ e in
+      (i, record { steps = 0; leads = refl; ends = next_told p k os i z t }, t)
+  leads_ends i M n K l z at (onward {N = N} {m = m} j means to rest) e =
+      let r = leads_ends j N m K l z to rest e in
+      (r.0, ends_next (next p k os) i j r.0 (means_next i M n j at means) r.1, r.2)
+
+  -- the number that a value stands for is told at the end
+  stands_ends : (i : ℕ) (M : Name) (n : Tree) (z : ℤ) →
+      IsValueAt p i M n →
+      StandsFor p k M n z →
+      (c : ℕ) × EndsAt (next p k os) i c × (told_at p k c ≡ Some z)
+  stands_ends i M n z at s = leads_ends i M n s.within s.notation z at s.leads s.tells
+
+  pub value_only : (i : ℕ) (M : Name) (n : Tree) (z : ℤ) →
+      i < length p.values →
+      IsValueAt p i M n →
+      Ends p k os i z →
+      StandsForOnly p k M n z
+  value_only i M n z l at e =
+      let v = value_is p e.last w (walk_there e.way.steps i e.last l e.way.leads) in
+      record {
+        stands = record {
+          within = v.0;
+          notation = v.1;
+          leads = walk_leads e.way.steps i e.last M n v.0 v.1 e.way.leads at v.2;
+          tells = sym (told_here p k e.last v.0 v.1 v.2) ∙ e.tells;
+        };
+        only_one = λ y s. (
+            let r = stands_ends i M n y at s in
+            let q = ends_unique (next p k os) i r.0 e.last r.1 e.way in
+            some_same y z (sym r.2 ∙ ap (told_at p k) q ∙ e.tells));
+      }
+
+  pub value_lost : (i : ℕ) (M : Name) (n : Tree) →
+      i < length p.values →
+      IsValueAt p i M n →
+      EndsWithout p k os i →
+      IsLost p k M n
+  value_lost i M n l at e =
+      let v = value_is p e.last w (walk_there e.way.steps i e.last l e.way.leads) in
+      record {
+        nothing = λ z s. (
+            let r = stands_ends i M n z at s in
+            let q = ends_unique (next p k os) i r.0 e.last r.1 e.way in
+            let f : None ≡ Some z = sym e.tells ∙ sym (ap (told_at p k) q) ∙ r.2 in
+            absurd cc);
+        within = v.0;
+        notation = v.1;
+        leads = walk_leads e.way.steps i e.last M n v.0 v.1 e.way.leads at v.2;
+        no_number = sym (told_here p k e.last v.0 v.1 v.2) ∙ e.tells;
+        no_value = λ j m. (
+            let f : None ≡ Some j = sym e.way.ends ∙ means_next e.last v.0 v.1 j v.2 m in
+            absurd cc);
+      }
+
+  round_on : (i v : ℕ) (M : Name) (n : Tree) (s : ℕ) (o : Option ℕ) →
+      next p k os v ≡ o →
+      walks.onward o (λ j. walk (next p k os) s j) ≡ Some v →
+      (within : Name) (notation : Tree) →
+      IsValueAt p v within notation →
+      LeadsTo p k M n within notation →
+      ((z : ℤ) → StandsFor p k M n z → ⊥) →
+      ComesRound p k M n v
+  round_on i v M n s None f e within notation at leads nothing = absurd cc
+  round_on i v M n s (Some j) f e within notation at leads nothing =
+      let y = value_is p j w (next_there v j f) in
+      record {
+        nothing = nothing;
+        within = within;
+        notation = notation;
+        value = at;
+        leads = leads;
+        next = j;
+        means = next_means v within notation j at f;
+        owner = y.0;
+        behind = y.1;
+        first = y.2;
+        back = walk_leads s j v y.0 y.1 within notation e y.2 at;
+      }
+
+  pub value_round : (i v : ℕ) (M : Name) (n : Tree) →
+      i < length p.values →
+      IsValueAt p i M n →
+      Turns p k os i v →
+      ComesRound p k M n v
+  value_round i v M n l at t =
+      let y = value_is p v w (walk_there t.reaches.steps i v l t.reaches.leads) in
+      round_on i v M n t.back.steps (next p k os v) refl t.back.back y.0 y.1 y.2
+      (walk_leads t.reaches.steps i v M n y.0 y.1 t.reaches.leads at y.2)
+      (λ z s. (
+          let r = stands_ends i M n z at s in
+          core_not_circular (next p k os) v r.0
+          (ends_after (next p k os) i v r.0 t.reaches.steps t.reaches.leads r.1) t.back))
+
+-- ---- an end itself
+
+number_stands : (p : Program) (k : Kind) (M : Name) (z y : ℤ) → StandsFor p k M (number z) y → y ≡ z
+number_stands p k M z y s = go s.within s.notation s.leads s.tells
+  where
+    go : (K : Name) (l : Tree) → LeadsTo p k M (number z) K l → told k l ≡ Some y → y ≡ z
+    go K l there e = some_same y z (sym e)
+    go K l (onward j means to rest) e = absurd means
+
+pub number_only : (p : Program) (k : Kind) (M : Name) (z : ℤ) → StandsForOnly p k M (number z) z
+number_only p k M z = record {
+  stands = record { within = M; notation = number z; leads = there; tells = refl };
+  only_one = number_stands p k M z;
+}
+
+pub named_only : (p : Program) (k : Kind) (M : Name) (q : Option Name) (x : Name) (z : ℤ) →
+    named k q x ≡ Some z →
+    StandsForOnly p k M (reference q x) z
+named_only p k M q x z e = record {
+  stands = record { within = M; notation = reference q x; leads = there; tells = e };
+  only_one = λ y s. go y s.within s.notation s.leads s.tells;
+}
+  where
+    go : (y : ℤ) (K : Name) (l : Tree) → LeadsTo p k M (reference q x) K l → told k l ≡ Some y → y ≡ z
+    go y K l there f = some_same y z (sym f ∙ e)
+    go y K l (onward j means to rest) f = let g : None ≡ Some z = sym means.0 ∙ e in absurd cc
+
+-- a name that stands for value i, and for no other
+behind_stands : (p : Program) (k : Kind) (M : Name) (q : Option Name) (x : Name) (i : ℕ) (N : Name) (m : Tree) (z : ℤ) →
+    named k q x ≡ None →
+    ((j : ℕ) → Means p k M (reference q x) j → j ≡ i) →
+    IsValueAt p i N m →
+    StandsFor p k M (reference q x) z →
+    StandsFor p k N m z
+behind_stands p k M q x i N m z e only at s = go s.within s.notation s.leads s.tells
+  where
+    go : (K : Name) (l : Tree) → LeadsTo p k M (reference q x) K l → told k l ≡ Some z → StandsFor p k N m z
+    go K l there f = let g : None ≡ Some z = sym e ∙ f in absurd cc
+    go K l (onward {N = O} {m = o} j means to rest) f =
+        let v = value_once p i O N o m (subst (λ t. IsValueAt p t O o) (only j means) to) at in
+        subst (λ t. StandsFor p k t m z) v.0
+        (subst (λ t. StandsFor p k O t z) v.1 (record { within = K; notation = l; leads = rest; tells = f }))
+
+further : (p : Program) (k : Kind) (M : Name) (n : Tree) (i : ℕ) (N : Name) (m : Tree) (z : ℤ) →
+    Means p k M n i →
+    IsValueAt p i N m →
+    StandsFor p k N m z →
+    StandsFor p k M n z
+further p k M n i N m z means at s = record {
+  within = s.within;
+  notation = s.notation;
+  leads = onward i means at s.leads;
+  tells = s.tells;
+}
+
+module _ (p : Program) (k : Kind) (M : Name) (q : Option Name) (x : Name) (i : ℕ) (N : Name) (m : Tree)
+    (e : named k q x ≡ None)
+    (means : Means p k M (reference q x) i)
+    (only : (j : ℕ) → Means p k M (reference q x) j → j ≡ i)
+    (at : IsValueAt p i N m) where
+  pub only_behind : (z : ℤ) → StandsForOnly p k N m z → StandsForOnly p k M (reference q x) z
+  only_behind z s = record {
+    stands = further p k M (reference q x) i N m z means at s.stands;
+    only_one = λ y t. s.only_one y (behind_stands p k M q x i N m y e only at t);
+  }
+
+  pub fault_behind : (f : EndFault) → IsEndFault p k N m f → IsEndFault p k M (reference q x) f
+  fault_behind ends.Lost s = record {
+    nothing = λ z t. s.nothing z (behind_stands p k M q x i N m z e only at t);
+    within = s.within;
+    notation = s.notation;
+    leads = onward i means at s.leads;
+    no_number = s.no_number;
+    no_value = s.no_value;
+  }
+  fault_behind (ends.Circular v) s = record {
+    nothing = λ z t. s.nothing z (behind_stands p k M q x i N m z e only at t);
+    within = s.within;
+    notation = s.notation;
+    value = s.value;
+    leads = onward i means at s.leads;
+    next = s.next;
+    means = s.means;
+    owner = s.owner;
+    behind = s.behind;
+    first = s.first;
+    back = s.back;
+  }
+
+-- a name that stands for nothing
+pub lost_here : (p : Program) (k : Kind) (M : Name) (q : Option Name) (x : Name) →
+    named k q x ≡ None →
+    ((j : ℕ) → Refers p.modules M q x (assigned.Value j) → ⊥) →
+    IsLost p k M (reference q x)
+lost_here p k M q x e none = record {
+  nothing = λ z s. go z s.within s.notation s.leads s.tells;
+  within = M;
+  notation = reference q x;
+  leads = there;
+  no_number = e;
+  no_value = λ j means. none j means.1;
+}
+  where
+    go : (z : ℤ) (K : Name) (l : Tree) → LeadsTo p k M (reference q x) K l → told k l ≡ Some z → ⊥
+    go z K l there f = let g : None ≡ Some z = sym e ∙ f in absurd cc
+    go z K l (onward j means to rest) f = none j means.1
+
+-- a name that stands for a value stands for what that does
+module _ (p : Program) (k : Kind) (os : List (Option ℕ)) (M : Name) (q : Option Name) (x : Name) (i : ℕ)
+    (a : AreReferred p os)
+    (w : IsWhole p)
+    (e : named k q x ≡ None)
+    (l : i < length p.values)
+    (h : (j : ℕ) → (Some i ≡ Some j ↔ Refers p.modules M q x (assigned.Value j))) where
+  means_it : Means p k M (reference q x) i
+  means_it = (e, (h i).0 refl)
+
+  means_only : (j : ℕ) → Means p k M (reference q x) j → j ≡ i
+  means_only j n = sym (some_same i j ((h j).1 n.1))
+
+  fault_at : (f : EndFault) (N : Name) (m : Tree) →
+      IsValueAt p i N m →
+      IsWayFault p k os i f →
+      IsEndFault p k M (reference q x) f
+  fault_at ends.Lost N m at s =
+      fault_behind p k M q x i N m e means_it means_only at ends.Lost (value_lost p k os a w i N m l at s)
+  fault_at (ends.Circular v) N m at s =
+      fault_behind p k M q x i N m e means_it means_only at (ends.Circular v) (value_round p k os a w i v N m l at s)
+
+  pub end_answers : (r : Result ℤ EndFault) →
+      MatchResult r (Ends p k os i) (IsWayFault p k os i) →
+      MatchResult r (StandsForOnly p k M (reference q x)) (IsEndFault p k M (reference q x))
+  end_answers (Ok z) s =
+      let v = value_is p i w l in
+      only_behind p k M q x i v.0 v.1 e means_it means_only v.2 z (value_only p k os a w i v.0 v.1 z l v.2 s)
+  end_answers (Err f) s = let v = value_is p i w l in fault_at f v.0 v.1 v.2 s

@@ -1,0 +1,6 @@
+mod Circles
+mod Under
+mod References
+mod Lists
+mod Following
+mod Bounds

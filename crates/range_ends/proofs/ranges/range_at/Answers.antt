@@ -1,0 +1,18 @@
+use Rattle.std.proofs.Common.{rules}
+use Rattle.trees.specs.Constraints.{end_of}
+use Rattle.type_table.specs.Seen.{kind_of}
+use Rattle.range_ends.proofs.Bounds.{from_of, up_to_of}
+use Rattle.range_ends.proofs.ranges.range_at.Goals as goal
+
+pub returns-in-Ok-bound_at : goal.returns-in-Ok-bound_at
+returns-in-Ok-bound_at c =
+    let e = from_of c.args.site.now.scope.now (kind_of c.args.site.now.shape.now) c.args.site.now.within.now
+          c.args.site.now.of (end_of c.in-Between-Some-None.first) c.in-Ok-bound_at.least c.in-Ok-bound_at.ensures in
+    search rules
+
+pub returns-in-Ok-bound_at-2 : goal.returns-in-Ok-bound_at-2
+returns-in-Ok-bound_at-2 c =
+    let e = up_to_of c.args.site.now.scope.now (kind_of c.args.site.now.shape.now) c.args.site.now.within.now
+          c.args.site.now.of (end_of c.in-Between-None-Some.last) c.in-Ok-bound_at-2.greatest c.floor_of.result
+          c.floor_of.ensures c.in-Ok-bound_at-2.ensures in
+    search rules

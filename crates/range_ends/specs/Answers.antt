@@ -1,0 +1,58 @@
+-- What is answered of ends and ranges that are read in a module, where a type of kind k is constrained.
+use Rattle.std.specs.Prelude.{◌≡◌, ◌↔◌, ℕ, ℤ, List}
+use Rattle.std.specs.List.{AllByRecursion}
+use Rattle.asn_base.specs.Schemas.{IsNumber, IsSize}
+use Rattle.asn_base.specs.Types.{Range}
+use Rattle.asn_base.specs.Typed.{IsInRange, IsInSome}
+use Rattle.trees.specs.Values.{Name, Tree}
+use Rattle.trees.specs.Constraints.{RangeTree}
+use Rattle.names.specs.Modules.{StandsIn}
+use Rattle.type_table.specs.Table.{Kind}
+use Rattle.resolve.specs.Program.{Program}
+use Rattle.range_ends.specs.Ends.{StandsFor, IsLost, ComesRound}
+use Rattle.range_ends.specs.Ranges.{IsWithin, IsWithinOne, IsRange, AreRanges, HasNoEnd, GoesRound, IsReversed}
+use Rattle.range_ends.specs.declared.ends.EndFault.{EndFault}
+use Rattle.range_ends.specs.declared.ends.EndFault.TheVariants as ends
+use Rattle.range_ends.specs.declared.ranges.Counted.{Counted}
+use Rattle.range_ends.specs.declared.ranges.Counted.TheVariants.{Numbers, Sizes}
+use Rattle.range_ends.specs.declared.ranges.RangeFault.{RangeFault}
+use Rattle.range_ends.specs.declared.ranges.RangeFault.TheVariants as faults
+use Rattle.range_ends.specs.declared.ranges.RangesFault.{RangesFault}
+use Rattle.range_ends.specs.declared.ranges.RangesFault.TheVariants as wrong
+
+-- the notation stands for number z, and for no other
+pub record StandsForOnly (p : Program) (k : Kind) (M : Name) (n : Tree) (z : ℤ) : Type 0 where
+  pub stands : StandsFor p k M n z
+  pub only_one : (w : ℤ) → StandsFor p k M n w → w ≡ z
+
+-- why it stands for none
+abbrev pub IsEndFault : Program → Kind → Name → Tree → EndFault → Type 0
+IsEndFault p k M n ends.Lost = IsLost p k M n
+IsEndFault p k M n (ends.Circular v) = ComesRound p k M n v
+
+-- what the ends of a range may be
+abbrev pub IsOf : Counted → ℤ → Type 0
+IsOf Numbers z = IsNumber z
+IsOf Sizes z = IsSize z
+
+-- the range in numbers
+pub record IsRangeOf (p : Program) (k : Kind) (M : Name) (of : Counted) (r : RangeTree) (s : Range) : Type 0 where
+  pub range : IsRange p k M (IsOf of) r
+  pub same : (z : ℤ) → (IsInRange z s ↔ (IsOf of z × IsWithin p k M r z))
+
+-- the ranges in numbers
+pub record AreRangesOf (p : Program) (k : Kind) (M : Name) (of : Counted) (rs : List RangeTree) (ss : List Range)
+    : Type 0 where
+  pub ranges : AreRanges p k M (IsOf of) rs
+  pub same : (z : ℤ) → (IsInSome z ss ↔ (IsOf of z × IsWithinOne p k M rs z))
+
+-- why there is none
+abbrev pub IsRangeFault : Program → Kind → Name → Counted → RangeTree → RangeFault → Type 0
+IsRangeFault p k M of r (faults.NoEnd at) = HasNoEnd p k M (IsOf of) r
+IsRangeFault p k M of r (faults.Reversed at) = IsReversed p k M (IsOf of) r
+IsRangeFault p k M of r (faults.Circular v) = GoesRound p k M v r
+
+-- memory ran out, or one of the ranges has none
+abbrev pub AreRangesWrong : Program → Kind → Name → Counted → List RangeTree → RangesFault → Type 0
+AreRangesWrong p k M of rs wrong.Memory = Unit {0}
+AreRangesWrong p k M of rs (wrong.At f) = (r : RangeTree) × StandsIn rs r × IsRangeFault p k M of r f

@@ -1,0 +1,92 @@
+-- The number that an end of a range stands for (X.680, clauses 13.2, 19.9, 51.2 and 51.4).
+use Rattle.std.specs.Prelude.{◌≡◌, ℕ, ℤ, List, Option, Some, None, slice_get}
+use Rattle.trees.specs.Values.{Name, Tree, number, reference}
+use Rattle.trees.specs.Constraints.{EndTree, number_end, name_end}
+use Rattle.trees.specs.Types.{an_integer}
+use Rattle.names.specs.declared.scope.Assigned.TheVariants as assigned
+use Rattle.names.specs.Names.{Refers, under}
+use Rattle.names.specs.Sources.{Value}
+use Rattle.type_table.specs.Table.{Type', Kind, simple, IsCore}
+use Rattle.resolve.specs.Program.{Program, IsAssignment}
+
+-- type i is of this kind behind its references and tags
+pub record IsOfKind (ts : List Type') (i : ℕ) (k : Kind) : Type 0 where
+  pub core : ℕ
+  pub type : Type'
+  pub leads : IsCore ts i core
+  pub there : slice_get ts core ≡ Some type
+  pub kind : type.kind ≡ k
+
+-- value i has notation n, which is read in module M
+pub record IsValueAt (p : Program) (i : ℕ) (M : Name) (n : Tree) : Type 0 where
+  pub value : Value
+  pub there : slice_get p.values i ≡ Some value
+  pub notation : value.notation ≡ n
+  pub assigns : Name
+  pub stands : IsAssignment p value.assignment M assigns
+
+-- the number that a name without a module's name before it has in the type
+abbrev pub named : Kind → Option Name → Name → Option ℤ
+named (simple (an_integer ns)) None x = under x ns
+named k q x = None
+
+-- the number that a notation tells by itself: it is written, or is the name of a number of the type
+abbrev pub told : Kind → Tree → Option ℤ
+told k (number z) = Some z
+told k (reference q x) = named k q x
+told k n = None
+
+-- the notation, read in module M, is a name that stands for value i. A number of the type goes before a value.
+abbrev pub Means : Program → Kind → Name → Tree → ℕ → Type 0
+Means p k M (reference q x) i = (named k q x ≡ None) × Refers p.modules M q x (assigned.Value i)
+Means p k M n i = ⊥
+
+-- notation n, read in module M, is notation l, read in module K, or stands for a value whose notation leads there
+pub data LeadsTo (p : Program) (k : Kind) : (M : Name) (n : Tree) (K : Name) (l : Tree) → Type 0 where
+  there : {M : Name} {n : Tree} → LeadsTo p k M n M n
+  onward : {M N K : Name} {n m l : Tree} (i : ℕ) →
+      Means p k M n i →
+      IsValueAt p i N m →
+      LeadsTo p k N m K l →
+      LeadsTo p k M n K l
+
+-- Notation n, read in module M where a type of kind k is constrained, stands for number z: it leads to a notation that
+-- tells the number.
+pub record StandsFor (p : Program) (k : Kind) (M : Name) (n : Tree) (z : ℤ) : Type 0 where
+  pub within : Name
+  pub notation : Tree
+  pub leads : LeadsTo p k M n within notation
+  pub tells : told k notation ≡ Some z
+
+abbrev pub notation_of : EndTree → Tree
+notation_of (number_end z) = number z
+notation_of (name_end q x) = reference q x
+
+-- the end of a range stands for number z
+abbrev pub EndIs : Program → Kind → Name → EndTree → ℤ → Type 0
+EndIs p k M e z = StandsFor p k M (notation_of e) z
+
+-- ---- what is wrong
+
+-- the notation stands for no number: it leads to one that tells none and stands for no value
+pub record IsLost (p : Program) (k : Kind) (M : Name) (n : Tree) : Type 0 where
+  pub nothing : (z : ℤ) → StandsFor p k M n z → ⊥
+  pub within : Name
+  pub notation : Tree
+  pub leads : LeadsTo p k M n within notation
+  pub no_number : told k notation ≡ None
+  pub no_value : (i : ℕ) → Means p k within notation i → ⊥
+
+-- the notation stands for no number: it leads to value i, which leads back to itself
+pub record ComesRound (p : Program) (k : Kind) (M : Name) (n : Tree) (i : ℕ) : Type 0 where
+  pub nothing : (z : ℤ) → StandsFor p k M n z → ⊥
+  pub within : Name
+  pub notation : Tree
+  pub value : IsValueAt p i within notation
+  pub leads : LeadsTo p k M n within notation
+  pub next : ℕ
+  pub means : Means p k within notation next
+  pub owner : Name
+  pub behind : Tree
+  pub first : IsValueAt p next owner behind
+  pub back : LeadsTo p k owner behind within notation

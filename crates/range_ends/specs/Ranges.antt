@@ -1,0 +1,85 @@
+-- The numbers that ranges allow (X.680, clauses 50.1, 51.2, 51.4 and 51.5). Ends are read in module M, where a type of
+-- kind k is constrained.
+use Rattle.std.specs.Prelude.{◌≡◌, ◌⊎◌, ℕ, ℤ, ◌≤ℤ◌, ◌<ℤ◌, List, [], ◌∷◌, Option, Some, None}
+use Rattle.std.specs.List.{AllByRecursion}
+use Rattle.trees.specs.Values.{Name}
+use Rattle.trees.specs.Constraints.{EndTree, RangeTree, only, between}
+use Rattle.names.specs.Modules.{StandsIn}
+use Rattle.type_table.specs.Table.{Kind}
+use Rattle.resolve.specs.Program.{Program}
+use Rattle.range_ends.specs.Ends.{EndIs, IsLost, ComesRound, notation_of}
+
+-- z is not below the lower end. MIN sets no bound.
+abbrev pub IsFrom : Program → Kind → Name → Option EndTree → ℤ → Type 0
+IsFrom p k M None z = Unit {0}
+IsFrom p k M (Some e) z = (l : ℤ) × EndIs p k M e l × (l ≤ℤ z)
+
+-- z is not above the upper end. MAX sets no bound.
+abbrev pub IsUpTo : Program → Kind → Name → Option EndTree → ℤ → Type 0
+IsUpTo p k M None z = Unit {0}
+IsUpTo p k M (Some e) z = (g : ℤ) × EndIs p k M e g × (z ≤ℤ g)
+
+-- number z is in the range
+abbrev pub IsWithin : Program → Kind → Name → RangeTree → ℤ → Type 0
+IsWithin p k M (only e) z = EndIs p k M e z
+IsWithin p k M (between a b) z = IsFrom p k M a z × IsUpTo p k M b z
+
+-- number z is in one of the ranges
+abbrev pub IsWithinOne : Program → Kind → Name → List RangeTree → ℤ → Type 0
+IsWithinOne p k M [] z = ⊥
+IsWithinOne p k M (r ∷ rs) z = IsWithin p k M r z ⊎ IsWithinOne p k M rs z
+
+-- ---- what ranges need. P is what holds of the numbers that may be ends.
+
+-- the end stands for one number, of which P holds
+pub record IsEnd (p : Program) (k : Kind) (M : Name) (P : ℤ → Type 0) (e : EndTree) : Type 0 where
+  pub number : ℤ
+  pub stands : EndIs p k M e number
+  pub only_one : (z : ℤ) → EndIs p k M e z → z ≡ number
+  pub such : P number
+
+-- so does it, if it is there
+abbrev pub IsEndIfAny : Program → Kind → Name → (ℤ → Type 0) → Option EndTree → Type 0
+IsEndIfAny p k M P None = Unit {0}
+IsEndIfAny p k M P (Some e) = IsEnd p k M P e
+
+-- the lower end is not above the upper one
+abbrev pub AreInOrder : Program → Kind → Name → Option EndTree → Option EndTree → Type 0
+AreInOrder p k M (Some a) (Some b) = (l g : ℤ) → EndIs p k M a l → EndIs p k M b g → l ≤ℤ g
+AreInOrder p k M a b = Unit {0}
+
+-- the range has the ends that it needs, in order
+abbrev pub IsRange : Program → Kind → Name → (ℤ → Type 0) → RangeTree → Type 0
+IsRange p k M P (only e) = IsEnd p k M P e
+IsRange p k M P (between a b) = IsEndIfAny p k M P a × IsEndIfAny p k M P b × AreInOrder p k M a b
+
+abbrev pub AreRanges : Program → Kind → Name → (ℤ → Type 0) → List RangeTree → Type 0
+AreRanges p k M P rs = AllByRecursion (IsRange p k M P) rs
+
+-- ---- what is wrong with them
+
+-- e is an end of the range
+abbrev pub IsEndOf : RangeTree → EndTree → Type 0
+IsEndOf (only a) e = a ≡ e
+IsEndOf (between a b) e = (a ≡ Some e) ⊎ (b ≡ Some e)
+
+-- an end of the range stands for no number, or for one of which P doesn't hold
+pub record HasNoEnd (p : Program) (k : Kind) (M : Name) (P : ℤ → Type 0) (r : RangeTree) : Type 0 where
+  pub end : EndTree
+  pub stands : IsEndOf r end
+  pub none : IsLost p k M (notation_of end) ⊎ ((z : ℤ) × EndIs p k M end z × (P z → ⊥))
+
+-- an end of the range leads to value i, which leads back to itself
+pub record GoesRound (p : Program) (k : Kind) (M : Name) (i : ℕ) (r : RangeTree) : Type 0 where
+  pub end : EndTree
+  pub stands : IsEndOf r end
+  pub round : ComesRound p k M (notation_of end) i
+
+-- both ends stand for numbers of which P holds, and the lower one is the greater one
+pub record IsReversed (p : Program) (k : Kind) (M : Name) (P : ℤ → Type 0) (r : RangeTree) : Type 0 where
+  pub lower : EndTree
+  pub upper : EndTree
+  pub is : r ≡ between (Some lower) (Some upper)
+  pub least : IsEnd p k M P lower
+  pub greatest : IsEnd p k M P upper
+  pub reversed : greatest.number <ℤ least.number

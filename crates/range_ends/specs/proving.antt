@@ -1,0 +1,5 @@
+-- What only contracts inside the crate and proofs speak of.
+pub mod Walks
+pub mod Steps
+pub mod Ways
+pub mod Bounds

@@ -1,0 +1,29 @@
+-- What is answered of the ends of a range.
+use Rattle.std.specs.Prelude.{◌≡◌, ◌⊎◌, ℕ, ℤ, pos, Option, Some, None}
+use Rattle.trees.specs.Values.{Name}
+use Rattle.trees.specs.Constraints.{EndTree}
+use Rattle.type_table.specs.Table.{Kind}
+use Rattle.resolve.specs.Program.{Program}
+use Rattle.range_ends.specs.Ends.{EndIs, IsLost, ComesRound, notation_of}
+use Rattle.range_ends.specs.Answers.{IsOf}
+use Rattle.range_ends.specs.declared.ranges.Counted.{Counted}
+use Rattle.range_ends.specs.declared.ranges.Counted.TheVariants.{Numbers, Sizes}
+use Rattle.range_ends.specs.declared.ranges.RangeFault.{RangeFault}
+use Rattle.range_ends.specs.declared.ranges.RangeFault.TheVariants as faults
+
+-- the end stands for number z alone, which may be an end
+pub record IsBoundOf (p : Program) (k : Kind) (M : Name) (of : Counted) (e : EndTree) (z : ℤ) : Type 0 where
+  pub stands : EndIs p k M e z
+  pub only_one : (y : ℤ) → EndIs p k M e y → y ≡ z
+  pub such : IsOf of z
+
+abbrev pub IsBoundFault : Program → Kind → Name → Counted → EndTree → RangeFault → Type 0
+IsBoundFault p k M of e (faults.NoEnd at) =
+    IsLost p k M (notation_of e) ⊎ ((z : ℤ) × EndIs p k M e z × (IsOf of z → ⊥))
+IsBoundFault p k M of e (faults.Circular v) = ComesRound p k M (notation_of e) v
+IsBoundFault p k M of e (faults.Reversed at) = ⊥
+
+-- what stands for MIN
+abbrev pub floor_of : Counted → Option ℤ
+floor_of Numbers = None
+floor_of Sizes = Some (pos 0)

@@ -1,0 +1,55 @@
+-- From value to value.
+use Rattle.std.specs.Prelude.{◌≡◌, ◌↔◌, ℕ, zero, suc, ℤ, List, [], ◌∷◌, Option, Some, None, length, slice_get}
+use Rattle.trees.specs.Values.{Name, Tree, reference}
+use Rattle.names.specs.declared.scope.Assigned.TheVariants as assigned
+use Rattle.names.specs.Names.{Refers}
+use Rattle.names.specs.Sources.{Value}
+use Rattle.type_table.specs.Table.{Kind}
+use Rattle.resolve.specs.Program.{Program}
+use Rattle.range_ends.specs.Ends.{IsValueAt, StandsFor, told}
+
+-- the notation is a name that stands for value j in module M
+abbrev pub MeansValue : Program → Name → Tree → ℕ → Type 0
+MeansValue p M (reference q x) j = Refers p.modules M q x (assigned.Value j)
+MeansValue p M n j = ⊥
+
+-- the notation of value i is a name that stands for value j
+pub record RefersTo (p : Program) (i j : ℕ) : Type 0 where
+  pub within : Name
+  pub notation : Tree
+  pub at : IsValueAt p i within notation
+  pub means : MeansValue p within notation j
+
+-- what stands in a list of places
+abbrev pub listed : List (Option ℕ) → ℕ → Option ℕ
+listed [] i = None
+listed (o ∷ os) zero = o
+listed (o ∷ os) (suc i) = listed os i
+
+-- the list has the value that each value refers to
+pub record AreReferred (p : Program) (os : List (Option ℕ)) : Type 0 where
+  pub all : length os ≡ length p.values
+  pub each : (i j : ℕ) → (listed os i ≡ Some j ↔ RefersTo p i j)
+
+-- the number that value i tells by itself where a type of kind k is constrained
+abbrev pub told_by : Kind → Option Value → Option ℤ
+told_by k None = None
+told_by k (Some v) = told k v.notation
+
+abbrev pub told_at : Program → Kind → ℕ → Option ℤ
+told_at p k i = told_by k (slice_get p.values i)
+
+abbrev pub unless : Option ℤ → Option ℕ → Option ℕ
+unless None o = o
+unless (Some z) o = None
+
+-- the value that value i leads to where a type of kind k is constrained
+abbrev pub next : Program → Kind → List (Option ℕ) → ℕ → Option ℕ
+next p k os i = unless (told_at p k i) (listed os i)
+
+-- value i stands for number z where a type of kind k is constrained
+pub record ValueIs (p : Program) (k : Kind) (i : ℕ) (z : ℤ) : Type 0 where
+  pub within : Name
+  pub notation : Tree
+  pub at : IsValueAt p i within notation
+  pub stands : StandsFor p k within notation z

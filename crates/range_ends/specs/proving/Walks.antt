@@ -1,0 +1,31 @@
+-- Following references from place to place.
+use Rattle.std.specs.Prelude.{◌≡◌, ℕ, zero, suc, ◌<◌, Option, Some, None}
+
+abbrev pub onward : Option ℕ → (ℕ → Option ℕ) → Option ℕ
+onward None f = None
+onward (Some j) f = f j
+
+-- the place that stands k references behind place i
+abbrev pub walk : (ℕ → Option ℕ) → ℕ → ℕ → Option ℕ
+walk next zero i = Some i
+walk next (suc k) i = onward (next i) (λ j. walk next k j)
+
+-- the references from place i on end at place c
+pub record EndsAt (next : ℕ → Option ℕ) (i c : ℕ) : Type 0 where
+  pub steps : ℕ
+  pub leads : walk next steps i ≡ Some c
+  pub ends : next c ≡ None
+
+-- the references from place i on come back to it
+pub record ComesBack (next : ℕ → Option ℕ) (i : ℕ) : Type 0 where
+  pub steps : ℕ
+  pub back : walk next (suc steps) i ≡ Some i
+
+-- there are n places
+abbrev pub IsWithin : (ℕ → Option ℕ) → ℕ → Type 0
+IsWithin next n = (i j : ℕ) → next i ≡ Some j → j < n
+
+-- the references from place i on lead to place p
+pub record Reaches (next : ℕ → Option ℕ) (i p : ℕ) : Type 0 where
+  pub steps : ℕ
+  pub leads : walk next steps i ≡ Some p

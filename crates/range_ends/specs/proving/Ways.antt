@@ -1,0 +1,30 @@
+-- What is found at the end of the references of a value.
+use Rattle.std.specs.Prelude.{◌≡◌, ℕ, ℤ, List, Option, Some, None}
+use Rattle.type_table.specs.Table.{Kind}
+use Rattle.resolve.specs.Program.{Program}
+use Rattle.range_ends.specs.declared.ends.EndFault.{EndFault}
+use Rattle.range_ends.specs.declared.ends.EndFault.TheVariants as ends
+use Rattle.range_ends.specs.proving.Steps.{next, told_at, listed}
+use Rattle.range_ends.specs.proving.Walks.{EndsAt, Reaches, ComesBack}
+
+-- number z is told there
+pub record Ends (p : Program) (k : Kind) (os : List (Option ℕ)) (i : ℕ) (z : ℤ) : Type 0 where
+  pub last : ℕ
+  pub way : EndsAt (next p k os) i last
+  pub tells : told_at p k last ≡ Some z
+
+-- nothing is told there
+pub record EndsWithout (p : Program) (k : Kind) (os : List (Option ℕ)) (i : ℕ) : Type 0 where
+  pub last : ℕ
+  pub way : EndsAt (next p k os) i last
+  pub tells : told_at p k last ≡ None
+  pub alone : listed os last ≡ None
+
+-- they come to value v, which comes back to itself
+pub record Turns (p : Program) (k : Kind) (os : List (Option ℕ)) (i v : ℕ) : Type 0 where
+  pub reaches : Reaches (next p k os) i v
+  pub back : ComesBack (next p k os) v
+
+abbrev pub IsWayFault : Program → Kind → List (Option ℕ) → ℕ → EndFault → Type 0
+IsWayFault p k os i ends.Lost = EndsWithout p k os i
+IsWayFault p k os i (ends.Circular v) = Turns p k os i v

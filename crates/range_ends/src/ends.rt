@@ -1,0 +1,118 @@
+//! The numbers that ends of ranges stand for.
+
+ghost use Rattle.std.specs.Prelude.{◌≡◌, ◌<◌, ◌↔◌, ℕ, ℤ, Some, None, MatchResult, MatchOption, length, map, option_map, string_bytes};
+ghost use Rattle.trees.specs.Constraints.{end_of};
+ghost use Rattle.trees.specs.Types.{number_of};
+ghost use Rattle.trees.specs.Values.{tree_of};
+ghost use Rattle.names.specs.Names.{under};
+ghost use Rattle.type_table.specs.Seen.{kind_of};
+ghost use Rattle.range_ends.specs.Answers.{StandsForOnly, IsEndFault};
+ghost use Rattle.range_ends.specs.Ends.{named as named', told as told', notation_of};
+ghost use Rattle.range_ends.specs.proving.Steps.{next, told_at, AreReferred};
+ghost use Rattle.range_ends.specs.proving.Ways.{Ends, IsWayFault};
+ghost use Rattle.range_ends.specs.proving.Walks.{IsWithin};
+
+use crate::program::{named_value, notation_at};
+use crate::scope::Scope;
+use resolve::Linked;
+use trees::{EndSyntax, NamedNumber, Reference, Simple, ValueForm, ValueSyntax};
+use type_table::Shape;
+
+/// Why an end stands for no number.
+#[derive(Clone, Copy, Debug, PartialEq, Eq)]
+pub enum EndFault {
+    /// It is a name, or leads to one, that stands for no value; or it leads to a notation that is no number.
+    Lost,
+    /// It leads to this value, by its number, whose notation leads back to the value itself.
+    Circular(usize),
+}
+
+/// The number of a name in a list.
+fn number_under(numbers: &[NamedNumber], name: &str) -> Option<i128>
+    ensures { result ≡ under name.now (map number_of numbers.now) }
+{
+    for number in numbers {
+        if name == number.name.it.as_str() {
+            return Some(number.number);
+        }
+    }
+    None
+}
+
+/// The number that a name has in a type.
+fn named(shape: &Shape, reference: &Reference) -> Option<i128>
+    ensures { result
+        ≡ named' (kind_of shape.now) (option_map string_bytes reference.now.module) (string_bytes reference.now.name) }
+{
+    match (shape, &reference.module) {
+        (Shape::Simple(Simple::Integer(numbers)), None) => {
+            number_under(numbers, reference.name.as_str())
+        }
+        _ => None,
+    }
+}
+
+/// The number that a notation tells by itself.
+fn told(shape: &Shape, notation: &ValueSyntax) -> Option<i128>
+    ensures { result ≡ told' (kind_of shape.now) (tree_of notation.now) }
+{
+    match &notation.form {
+        ValueForm::Number(number) => Some(*number),
+        ValueForm::Reference(reference) => named(shape, reference),
+        _ => None,
+    }
+}
+
+/// The number that a value stands for where a type of a shape is constrained: that which is told at the end of the
+/// references.
+fn followed(
+    linked: &Linked,
+    behind: &[Option<usize>],
+    shape: &Shape,
+    start: usize,
+) -> Result<i128, EndFault>
+    requires inside { start < length linked.now.values }
+    requires referred { AreReferred linked.now behind.now }
+    ensures { MatchResult result
+        (Ends linked.now (kind_of shape.now) behind.now start)
+        (IsWayFault linked.now (kind_of shape.now) behind.now start) }
+{
+    linked.whole();
+    let mut at = start;
+    for step in 0..behind.len() {
+        let (_, notation) = notation_at(linked, at);
+        match told(shape, notation) {
+            Some(number) => return Ok(number),
+            None => match behind[at] {
+                None => return Err(EndFault::Lost),
+                Some(next) => at = next,
+            },
+        }
+    }
+    Err(EndFault::Circular(at))
+}
+
+/// The number that an end of a range stands for, read in a module, where a type of a shape is constrained.
+pub(crate) fn end_at(
+    scope: &Scope<'_>,
+    shape: &Shape,
+    within: &str,
+    end: &EndSyntax,
+) -> Result<i128, EndFault>
+    ensures { MatchResult result
+        (StandsForOnly scope.now (kind_of shape.now) within.now (notation_of (end_of end.now)))
+        (IsEndFault scope.now (kind_of shape.now) within.now (notation_of (end_of end.now))) }
+{
+    let linked = scope.linked();
+    linked.whole();
+    match end {
+        EndSyntax::Number(number) => Ok(number.it),
+        EndSyntax::Reference(reference) => match named(shape, reference) {
+            Some(number) => Ok(number),
+            None => match named_value(linked, within, reference) {
+                None => Err(EndFault::Lost),
+                Some(start) => followed(linked, scope.behind(), shape, start),
+            },
+        },
+    }
+}

@@ -1,0 +1,11 @@
+//! The numbers that ends of ranges stand for, and the numbers and characters that ranges allow.
+#![tactic(auto)]
+
+mod ends;
+mod program;
+mod ranges;
+mod scope;
+
+pub use ends::EndFault;
+pub use ranges::{Counted, RangeFault, RangesFault, Site, ranges_at};
+pub use scope::Scope;

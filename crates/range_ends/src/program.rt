@@ -1,0 +1,58 @@
+//! Parts of a linked program by number.
+
+ghost use Rattle.std.specs.Prelude.{◌≡◌, ◌<◌, ◌↔◌, ℕ, length, Some, IfSome, slice_get, option_map, string_bytes};
+ghost use Rattle.trees.specs.Values.{tree_of, reference as reference'};
+ghost use Rattle.names.specs.Sources.{value_of};
+ghost use Rattle.resolve.specs.Program.{IsAssignment};
+ghost use Rattle.range_ends.specs.Ends.{IsValueAt};
+ghost use Rattle.range_ends.specs.proving.Steps.{MeansValue, RefersTo};
+
+use names::{Assigned, ValueAt};
+use resolve::Linked;
+use trees::{Reference, ValueForm, ValueSyntax};
+
+/// A value by its number.
+pub(crate) fn value_at(linked: &Linked, number: usize) -> &ValueAt
+    requires inside { number < length linked.now.values }
+    ensures { slice_get linked.now.values number ≡ Some (value_of result.now) }
+{
+    &linked.values()[number]
+}
+
+/// The module in which a value's notation is read, and the notation.
+pub(crate) fn notation_at(linked: &Linked, number: usize) -> (&str, &ValueSyntax)
+    requires inside { number < length linked.now.values }
+    ensures { IsValueAt linked.now number result.0.now (tree_of result.1.now) }
+{
+    linked.whole();
+    let value = value_at(linked, number);
+    let home = linked.assigned(value.assignment);
+    (home.module, &value.syntax)
+}
+
+/// The value that a name stands for in a module.
+pub(crate) fn named_value(linked: &Linked, within: &str, reference: &Reference) -> Option<usize>
+    ensures means { (j : ℕ) → (result ≡ Some j
+        ↔ MeansValue linked.now within.now
+          (reference' (option_map string_bytes reference.now.module) (string_bytes reference.now.name)) j) }
+    ensures inside { IfSome result (λ j. j < length linked.now.values) }
+{
+    linked.whole();
+    match linked.refers(within, &reference.module, reference.name.as_str()) {
+        Some(Assigned::Value(number)) => Some(number),
+        Some(Assigned::Type(_)) => None,
+        None => None,
+    }
+}
+
+/// The value that the notation of a value refers to.
+pub(crate) fn referred(linked: &Linked, number: usize) -> Option<usize>
+    requires inside { number < length linked.now.values }
+    ensures refers { (j : ℕ) → (result ≡ Some j ↔ RefersTo linked.now number j) }
+{
+    let (within, notation) = notation_at(linked, number);
+    match &notation.form {
+        ValueForm::Reference(reference) => named_value(linked, within, reference),
+        _ => None,
+    }
+}

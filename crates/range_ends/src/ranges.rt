@@ -1,0 +1,185 @@
+//! The numbers that ranges allow.
+
+ghost use Rattle.std.specs.Prelude.{◌≡◌, Some, None, MatchResult, IsTrue, ◌↔◌, map};
+ghost use Rattle.asn_base.specs.Seen.{range_of as seen_of};
+ghost use Rattle.trees.specs.Constraints.{range_of as tree_of_range, end_of, between as between'};
+ghost use Rattle.type_table.specs.Seen.{kind_of};
+ghost use Rattle.range_ends.specs.Answers.{IsOf, IsRangeOf, AreRangesOf, IsRangeFault, AreRangesWrong};
+ghost use Rattle.range_ends.specs.proving.Bounds.{IsBoundOf, IsBoundFault, floor_of as floor'};
+
+use crate::ends::{EndFault, end_at};
+use crate::scope::Scope;
+use asn_base::constraint::Range;
+use std::alloc::Global;
+use trees::{EndSyntax, RangeSyntax};
+use type_table::Shape;
+
+/// What ranges are of.
+#[derive(Clone, Copy, Debug, PartialEq, Eq)]
+pub enum Counted {
+    /// Numbers.
+    Numbers,
+    /// Sizes, which are not negative.
+    Sizes,
+}
+
+/// Why a range has no meaning, at a place in the text.
+#[derive(Clone, Copy, Debug, PartialEq, Eq)]
+pub enum RangeFault {
+    /// The end at the place stands for no number, or, among sizes, for one below 0.
+    NoEnd(usize),
+    /// The lower end, at the place, is above the upper one.
+    Reversed(usize),
+    /// An end leads to this value, by its number, whose notation leads back to the value itself.
+    Circular(usize),
+}
+
+/// Why ranges have no meaning.
+#[derive(Clone, Copy, Debug, PartialEq, Eq)]
+pub enum RangesFault {
+    /// There was not enough memory.
+    Memory,
+    /// One of the ranges has none.
+    At(RangeFault),
+}
+
+/// Where ends of ranges stand: in a module, where a type of a shape is constrained.
+#[derive(Clone, Copy)]
+pub struct Site<'a> {
+    pub scope: &'a Scope<'a>,
+    pub shape: &'a Shape,
+    pub within: &'a str,
+    pub of: Counted,
+}
+
+/// Where an end stands in the text.
+fn place(end: &EndSyntax) -> usize {
+    match end {
+        EndSyntax::Number(number) => number.at,
+        EndSyntax::Reference(reference) => reference.at,
+    }
+}
+
+/// Whether a number may be an end.
+fn may_end(of: Counted, number: i128) -> bool
+    ensures { IsTrue result ↔ IsOf of number }
+{
+    match of {
+        Counted::Numbers => true,
+        Counted::Sizes => 0 <= number,
+    }
+}
+
+/// What stands for MIN: the least size is 0.
+fn floor_of(of: Counted) -> Option<i128>
+    ensures { result ≡ floor' of }
+{
+    match of {
+        Counted::Numbers => None,
+        Counted::Sizes => Some(0),
+    }
+}
+
+/// The number of an end.
+fn bound_at(site: &Site<'_>, end: &EndSyntax) -> Result<i128, RangeFault>
+    ensures { MatchResult result
+        (IsBoundOf site.now.scope.now (kind_of site.now.shape.now) site.now.within.now site.now.of (end_of end.now))
+        (IsBoundFault site.now.scope.now (kind_of site.now.shape.now) site.now.within.now site.now.of (end_of end.now)) }
+{
+    match end_at(site.scope, site.shape, site.within, end) {
+        Err(EndFault::Lost) => Err(RangeFault::NoEnd(place(end))),
+        Err(EndFault::Circular(value)) => Err(RangeFault::Circular(value)),
+        Ok(number) => {
+            if may_end(site.of, number) {
+                Ok(number)
+            } else {
+                Err(RangeFault::NoEnd(place(end)))
+            }
+        }
+    }
+}
+
+/// The range from one end to the other.
+fn between(site: &Site<'_>, first: &EndSyntax, last: &EndSyntax) -> Result<Range, RangeFault>
+    ensures { MatchResult result
+        (λ r. IsRangeOf site.now.scope.now (kind_of site.now.shape.now) site.now.within.now site.now.of
+          (between' (Some (end_of first.now)) (Some (end_of last.now))) (seen_of r))
+        (IsRangeFault site.now.scope.now (kind_of site.now.shape.now) site.now.within.now site.now.of
+          (between' (Some (end_of first.now)) (Some (end_of last.now)))) }
+{
+    let least = match bound_at(site, first) {
+        Ok(least) => least,
+        Err(fault) => return Err(fault),
+    };
+    let greatest = match bound_at(site, last) {
+        Ok(greatest) => greatest,
+        Err(fault) => return Err(fault),
+    };
+    if greatest < least {
+        return Err(RangeFault::Reversed(place(first)));
+    }
+    Ok(Range {
+        least: Some(least),
+        greatest: Some(greatest),
+    })
+}
+
+/// A range in numbers.
+fn range_at(site: &Site<'_>, range: &RangeSyntax) -> Result<Range, RangeFault>
+    ensures { MatchResult result
+        (λ r. IsRangeOf site.now.scope.now (kind_of site.now.shape.now) site.now.within.now site.now.of
+          (tree_of_range range.now) (seen_of r))
+        (IsRangeFault site.now.scope.now (kind_of site.now.shape.now) site.now.within.now site.now.of
+          (tree_of_range range.now)) }
+{
+    match range {
+        RangeSyntax::Single(end) => match bound_at(site, end) {
+            Ok(number) => Ok(Range {
+                least: Some(number),
+                greatest: Some(number),
+            }),
+            Err(fault) => Err(fault),
+        },
+        RangeSyntax::Between(Some(first), Some(last)) => between(site, first, last),
+        RangeSyntax::Between(Some(first), None) => match bound_at(site, first) {
+            Ok(least) => Ok(Range {
+                least: Some(least),
+                greatest: None,
+            }),
+            Err(fault) => Err(fault),
+        },
+        RangeSyntax::Between(None, Some(last)) => match bound_at(site, last) {
+            Ok(greatest) => Ok(Range {
+                least: floor_of(site.of),
+                greatest: Some(greatest),
+            }),
+            Err(fault) => Err(fault),
+        },
+        RangeSyntax::Between(None, None) => Ok(Range {
+            least: floor_of(site.of),
+            greatest: None,
+        }),
+    }
+}
+
+/// Ranges in numbers (X.680, clauses 50.1, 51.2 and 51.4), one for each: a number is in one of them just where the ranges as
+/// they are written allow it. The fault is that of one of the ranges, or tells that there was not enough memory.
+pub fn ranges_at(alloc: Global, site: &Site<'_>, ranges: &[RangeSyntax]) -> Result<Vec<Range>, RangesFault>
+    ensures { MatchResult result
+        (λ v. AreRangesOf site.now.scope.now (kind_of site.now.shape.now) site.now.within.now site.now.of
+          (map tree_of_range ranges.now) (map seen_of v.items))
+        (AreRangesWrong site.now.scope.now (kind_of site.now.shape.now) site.now.within.now site.now.of
+          (map tree_of_range ranges.now)) }
+{
+    let mut all = Vec::new(alloc);
+    for range in ranges {
+        match range_at(site, range) {
+            Ok(found) => match all.push(found) {
+                Ok(()) => {}
+                Err(_) => return Err(RangesFault::Memory),
+            },
+            Err(fault) => return Err(RangesFault::At(fault)),
+        }
+    }
+    Ok(all)
+}

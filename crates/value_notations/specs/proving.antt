@@ -1,0 +1,2 @@
+-- What a notation tells by its form.
+pub mod Forms
