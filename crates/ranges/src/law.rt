@@ -1,11 +1,12 @@
 //! Laws of sets of numbers and of codes, for the crates above.
 
-ghost use Rattle.std.specs.Prelude.{◌≡◌, ◌↔◌, ◌<◌, ℕ, ℤ, List, [], length};
+ghost use Rattle.std.specs.Prelude.{◌≡◌, ◌↔◌, ◌<◌, ℕ, ℤ, List, [], length, IsTrue};
 ghost use Rattle.std.specs.List.{AllByRecursion};
 ghost use Rattle.asn_base.specs.Names.{IsMember};
 ghost use Rattle.asn_base.specs.Types.{Range, Constraint, any_number, any_size};
 ghost use Rattle.asn_base.specs.Typed.{IsInSome};
-ghost use Rattle.asn_base.specs.Schemas.{IsLeast, IsGreatest, AreBounds, IsNumber, IsSize, CodesAscend};
+ghost use Rattle.asn_base.specs.Schemas.{IsLeast, IsGreatest, AreBounds, IsNumber, IsSize, CodesAscend, is_character};
+ghost use Rattle.asn_base.specs.declared.strings.StringKind.{StringKind};
 ghost use Rattle.ranges.specs.Numbers.{AreApart, AreSizes, HasRoot};
 
 /// Ranges that are apart hold a number where there is one of them; the least and the greatest of a root's numbers are
@@ -28,6 +29,11 @@ pub fn bounds()
         → AreBounds IsSize c }
     ensures any_number_ { AreBounds IsNumber any_number }
     ensures any_size_ { AreBounds IsSize any_size }
+{}
+
+/// The characters of the four string types have codes below 128 (X.680, 41).
+pub fn characters_below_128()
+    ensures { (k : StringKind) (c : ℕ) → IsTrue (is_character k c) → c < 128 }
 {}
 
 /// Two lists of ascending codes with the same members are the same list.

@@ -3,3 +3,8 @@ pub mod Following
 pub mod SameLeaf
 pub mod SameValue
 pub mod Groups
+pub mod Under
+pub mod Lists
+pub mod Inversions
+pub mod Alls
+pub mod Rooted

@@ -2,4 +2,5 @@
 pub mod References
 pub mod Leaves
 pub mod Notations
+pub mod Wrong
 pub mod proving

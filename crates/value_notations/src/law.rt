@@ -7,6 +7,7 @@ ghost use Rattle.names.specs.Names.{IsApart};
 ghost use Rattle.type_table.specs.Lists.{AreSound};
 ghost use Rattle.resolve.specs.Program.{Program};
 ghost use Rattle.value_notations.specs.Notations.{Notation};
+ghost use Rattle.value_notations.specs.Wrong.{Trouble, IsRead, IsWrongHere};
 
 /// In linked modules a notation stands for at most one value under a type.
 pub fn one_value()
@@ -16,4 +17,15 @@ pub fn one_value()
         → Notation p M i n v
         → Notation p M i n w
         → v ≡ w }
+{}
+
+/// In linked modules a notation stands for no value where something is wrong with it, or with one that stands in it.
+pub fn wrong_stand_for_none()
+    ensures { (p : Program) (M K : Name) (i j : ℕ) (n m : Tree) (t : Trouble) (v : AbstractValue)
+        → IsApart p.modules
+        → AreSound p.types
+        → IsRead p M i n K j m
+        → IsWrongHere p K j m t
+        → Notation p M i n v
+        → ⊥ }
 {}

@@ -1,9 +1,13 @@
 -- What a notation that is no reference to a value tells by its form.
-use Rattle.std.specs.Prelude.{◌≡◌, ℕ, ℤ, Bool, true, false, List, [], Option, Some, None}
-use Rattle.asn_base.specs.Abstract.{AbstractValue}
+use Rattle.std.specs.Prelude.{◌≡◌, ◌⊎◌, ◌<◌, ◌^◌, MatchOption, length, ℕ, ℤ, Bool, true, false, List, [], Option, Some, None}
+use Rattle.std.specs.List.{AllByRecursion}
+use Rattle.asn_base.specs.declared.value.Value.{Value}
+use Rattle.asn_base.specs.Abstract.{AbstractValue, abstract, oid, relative_oid}
 use Rattle.trees.specs.Values.{Name, Tree, yes, no, null, number, binary, hex, chars, reference, nothing, numbers, items, Trees}
 use Rattle.trees.specs.Types.{Plain}
 use Rattle.value_notations.specs.Leaves.{IsLeaf}
+use Rattle.value_notations.specs.declared.leaf.LeafFault.{LeafFault}
+use Rattle.value_notations.specs.declared.leaf.LeafFault.TheVariants.{Memory, Oid}
 
 abbrev pub truth_in : Tree → Option Bool
 truth_in yes = Some true
@@ -50,3 +54,20 @@ is_nothing n = false
 -- the notation stands for no value of the type
 abbrev pub IsNone : Plain → Tree → Type 0
 IsNone k n = (v : AbstractValue) → IsLeaf k n v → ⊥
+
+-- the value that the notation stands for under the type, or there is none
+abbrev pub Tells : Plain → Tree → Option Value → Type 0
+Tells k n o = MatchOption o (IsNone k n) (λ v. IsLeaf k n (abstract v))
+
+-- more than 64 numbers, or one that is not below 2^64
+abbrev pub ArePastLimit : List ℕ → Type 0
+ArePastLimit ns = (64 < length ns) ⊎ (AllByRecursion (λ n. n < 2 ^ 64) ns → ⊥)
+
+-- it stands for an object identifier, a relative one or not, that passes the limit on numbers
+abbrev pub StandsPastLimit : Plain → Tree → Type 0
+StandsPastLimit k n = (ns : List ℕ) × (IsLeaf k n (oid ns) ⊎ IsLeaf k n (relative_oid ns)) × ArePastLimit ns
+
+-- memory ran out, or the limit is passed
+abbrev pub IsLimitFault : Type 0 → LeafFault → Type 0
+IsLimitFault P Memory = Unit {0}
+IsLimitFault P Oid = P
