@@ -8,3 +8,5 @@ pub mod Lists
 pub mod Inversions
 pub mod Alls
 pub mod Rooted
+pub mod Circles
+pub mod Excluding

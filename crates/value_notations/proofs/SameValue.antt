@@ -24,7 +24,7 @@ pub record IsKept (p : Program) : Type 0 where
   pub apart : IsApart p.modules
   pub sound : AreSound p.types
 
-distinct_fields : (k : ListKind) (cs : List Part) (fs : List (Name × Tree))
+pub distinct_fields : (k : ListKind) (cs : List Part) (fs : List (Name × Tree))
     → AreArranged k (part_names cs) (field_names fs)
     → AreDistinct (field_names fs)
 distinct_fields Sequence cs fs a = a.0
@@ -35,7 +35,7 @@ no_choice : (cs : List Part) (fs : List (Name × Tree)) → AreArranged Choice (
 no_choice cs fs a = a
 
 -- a name has one field
-one_field : (fs : List (Name × Tree)) (x : Name) (n m : Tree)
+pub one_field : (fs : List (Name × Tree)) (x : Name) (n m : Tree)
     → AreDistinct (field_names fs)
     → StandsIn fs (x, n)
     → StandsIn fs (x, m)
