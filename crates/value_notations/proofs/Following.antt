@@ -113,22 +113,35 @@ one_module p i M N n m a b =
 
 -- ---- references
 
-abbrev pub Same : (M : Name) (n : Tree) (K : Name) (l : Tree) → Type 0
-Same M n K l = (M ≡ K) × (n ≡ l)
+-- the same values being read, module and notation
+pub record Same (os : List ℕ) (M : Name) (n : Tree) (ps : List ℕ) (K : Name) (l : Tree) : Type 0 where
+  pub opened : os ≡ ps
+  pub within : M ≡ K
+  pub notation : n ≡ l
 
 not_named : (k : Kind) (q : Option Name) (x : Name) → (IsNamed k q x → ⊥) → IsOwn k (reference q x) → ⊥
 not_named k q x without named = without named
 
-pub one_last : {p : Program} {k : Kind} {M K L : Name} {n l m : Tree}
+pub moved : {p : Program} {k : Kind} {os ps : List ℕ} {K N O : Name} {l u w : Tree} (i j : ℕ)
+    → i ≡ j
+    → N ≡ O
+    → u ≡ w
+    → IsLast p k (j ∷ os) O w ps K l
+    → IsLast p k (i ∷ os) N u ps K l
+moved {p} {k} {os} {ps} {K} {N} {O} {l} {u} {w} i j e f g d =
+    subst (λ (z : Tree). IsLast p k (i ∷ os) N z ps K l) (sym g)
+    (subst (λ (z : Name). IsLast p k (i ∷ os) z w ps K l) (sym f)
+        (subst (λ (z : ℕ). IsLast p k (z ∷ os) O w ps K l) (sym e) d))
+
+pub one_last : {p : Program} {k : Kind} {os ps qs : List ℕ} {M K L : Name} {n l m : Tree}
     → IsApart p.modules
-    → IsLast p k M n K l
-    → IsLast p k M n L m
-    → Same K l L m
-one_last apart (last.own o) (last.own u) = (refl, refl)
-one_last {k = k} apart (last.own o) (last.referred {q = q} {x = x} i none r v a) = absurd (not_named k q x none o)
-one_last {k = k} apart (last.referred {q = q} {x = x} i none r v a) (last.own o) = absurd (not_named k q x none o)
-one_last {p} {k} {M} {K} {L} {n} {l} {m} apart (last.referred {N = N} {q = q} {x = x} {m = u} i none r v a) (last.referred {N = O} {m = w} j none' s y b) =
+    → IsLast p k os M n ps K l
+    → IsLast p k os M n qs L m
+    → Same ps K l qs L m
+one_last apart (last.own o) (last.own u) = record { opened = refl; within = refl; notation = refl }
+one_last {k = k} apart (last.own o) (last.referred {q = q} {x = x} i none r f v a) = absurd (not_named k q x none o)
+one_last {k = k} apart (last.referred {q = q} {x = x} i none r f v a) (last.own o) = absurd (not_named k q x none o)
+one_last {p} {M = M} apart (last.referred {N = N} {q = q} {x = x} {m = u} i none r f v a) (last.referred {N = O} {m = w} j without s g y b) =
     let same = one_value_meant p.modules M q x i j apart r s in
     let at = one_module p i N O u w v (subst (λ (z : ℕ). IsValueAt p z O w) (sym same) y) in
-    one_last apart a
-    (subst (λ (z : Tree). IsLast p k N z L m) (sym at.1) (subst (λ (z : Name). IsLast p k z w L m) (sym at.0) b))
+    one_last apart a (moved i j same at.0 at.1 b)

@@ -84,56 +84,59 @@ AreArranged Choice cs fs = ⊥
 
 -- ---- notations
 
+-- Below, `os` are the values whose notations are being read already.
 mutual
   -- notation n, read in module M under type i, stands for the value
-  pub data Notation (p : Program) : (M : Name) (i : ℕ) (n : Tree) → AbstractValue → Type 0 where
-    notation : {M K : Name} {i : ℕ} {n l : Tree} {k : Kind} {v : AbstractValue} →
+  pub data Notation (p : Program) : (os : List ℕ) (M : Name) (i : ℕ) (n : Tree) → AbstractValue → Type 0 where
+    notation : {os ps : List ℕ} {M K : Name} {i : ℕ} {n l : Tree} {k : Kind} {v : AbstractValue} →
         IsOfKind p.types i k →
-        IsLast p k M n K l →
-        NotationOf p K k l v →
-        Notation p M i n v
+        IsLast p k os M n ps K l →
+        NotationOf p ps K k l v →
+        Notation p os M i n v
 
   -- the notation, which is no reference and is read in module M, stands for the value under a type of this kind
-  pub data NotationOf (p : Program) : (M : Name) → Kind → Tree → AbstractValue → Type 0 where
-    of_leaf : {M : Name} {n : Tree} {k : Plain} {v : AbstractValue} →
+  pub data NotationOf (p : Program) : (os : List ℕ) (M : Name) → Kind → Tree → AbstractValue → Type 0 where
+    of_leaf : {os : List ℕ} {M : Name} {n : Tree} {k : Plain} {v : AbstractValue} →
         IsLeaf k n v →
-        NotationOf p M (simple k) n v
-    of_fields : {M : Name} {n : Tree} {k : ListKind} {e : Bool} {cs : List Part} {fs : List (Name × Tree)} {r : Row} →
+        NotationOf p os M (simple k) n v
+    of_fields : {os : List ℕ} {M : Name} {n : Tree} {k : ListKind} {e : Bool} {cs : List Part}
+        {fs : List (Name × Tree)} {r : Row} →
         fields_in n ≡ Some fs →
         AreArranged k (part_names cs) (field_names fs) →
-        Fields p M fs cs r →
+        Fields p os M fs cs r →
         GroupsAreWhole (map component_of cs) r →
-        NotationOf p M (members k e cs) n (fields r)
-    of_list : {M : Name} {n : Tree} {k : ElementsKind} {j : ℕ} {ts : List Tree} {r : Row} →
+        NotationOf p os M (members k e cs) n (fields r)
+    of_list : {os : List ℕ} {M : Name} {n : Tree} {k : ElementsKind} {j : ℕ} {ts : List Tree} {r : Row} →
         values_in n ≡ Some ts →
-        Elements p M j ts r →
-        NotationOf p M (elements k j) n (list r)
+        Elements p os M j ts r →
+        NotationOf p os M (elements k j) n (list r)
     -- the alternatives are counted over root and additions
-    of_choice : {M : Name} {n : Tree} {x : Name} {e : Bool} {cs : List Part} {c : Part} {a : ℕ} {v : AbstractValue} →
+    of_choice : {os : List ℕ} {M : Name} {n : Tree} {x : Name} {e : Bool} {cs : List Part} {c : Part} {a : ℕ}
+        {v : AbstractValue} →
         slice_get cs a ≡ Some c →
         c.name ≡ x →
-        Notation p M c.ty n v →
-        NotationOf p M (members Choice e cs) (chosen x n) (alternative a v)
+        Notation p os M c.ty n v →
+        NotationOf p os M (members Choice e cs) (chosen x n) (alternative a v)
 
   -- a place for each component, with the value of the field that has its name
-  pub data Fields (p : Program) : (M : Name) (fs : List (Name × Tree)) → List Part → Row → Type 0 where
-    no_part : {M : Name} {fs : List (Name × Tree)} → Fields p M fs [] end
-    part_absent : {M : Name} {fs : List (Name × Tree)} {c : Part} {cs : List Part} {r : Row} →
+  pub data Fields (p : Program) : (os : List ℕ) (M : Name) (fs : List (Name × Tree)) → List Part → Row → Type 0 where
+    no_part : {os : List ℕ} {M : Name} {fs : List (Name × Tree)} → Fields p os M fs [] end
+    part_absent : {os : List ℕ} {M : Name} {fs : List (Name × Tree)} {c : Part} {cs : List Part} {r : Row} →
         (StandsIn (field_names fs) c.name → ⊥) →
         IsTrue (may_be_absent c) →
-        Fields p M fs cs r →
-        Fields p M fs (c ∷ cs) (absent r)
-    part_present : {M : Name} {fs : List (Name × Tree)} {c : Part} {cs : List Part} {n : Tree} {v : AbstractValue}
-        {r : Row} →
+        Fields p os M fs cs r →
+        Fields p os M fs (c ∷ cs) (absent r)
+    part_present : {os : List ℕ} {M : Name} {fs : List (Name × Tree)} {c : Part} {cs : List Part} {n : Tree}
+        {v : AbstractValue} {r : Row} →
         StandsIn fs (c.name, n) →
-        Notation p M c.ty n v →
-        Fields p M fs cs r →
-        Fields p M fs (c ∷ cs) (present v r)
+        Notation p os M c.ty n v →
+        Fields p os M fs cs r →
+        Fields p os M fs (c ∷ cs) (present v r)
 
   -- a value for each notation
-  pub data Elements (p : Program) : (M : Name) (i : ℕ) → List Tree → Row → Type 0 where
-    no_element : {M : Name} {i : ℕ} → Elements p M i [] end
-    one_element : {M : Name} {i : ℕ} {n : Tree} {ts : List Tree} {v : AbstractValue} {r : Row} →
-        Notation p M i n v →
-        Elements p M i ts r →
-        Elements p M i (n ∷ ts) (present v r)
+  pub data Elements (p : Program) : (os : List ℕ) (M : Name) (i : ℕ) → List Tree → Row → Type 0 where
+    no_element : {os : List ℕ} {M : Name} {i : ℕ} → Elements p os M i [] end
+    one_element : {os : List ℕ} {M : Name} {i : ℕ} {n : Tree} {ts : List Tree} {v : AbstractValue} {r : Row} →
+        Notation p os M i n v →
+        Elements p os M i ts r →
+        Elements p os M i (n ∷ ts) (present v r)

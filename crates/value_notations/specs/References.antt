@@ -1,6 +1,6 @@
 -- What the notation of a value is behind its references (X.680, clauses 13.2, 17.11, 19.10 and 20.8). A value reference
 -- stands for its notation, read in the module where that stands; a name of the governing type goes before it.
-use Rattle.std.specs.Prelude.{◌≡◌, ℕ, List, [], ◌++◌, Option, Some, None}
+use Rattle.std.specs.Prelude.{◌≡◌, ℕ, List, [], ◌∷◌, ◌++◌, Option, Some, None}
 use Rattle.trees.specs.Values.{Name, Tree, reference}
 use Rattle.trees.specs.Types.{an_integer, an_enumerated}
 use Rattle.names.specs.declared.scope.Assigned.TheVariants as assigned
@@ -27,14 +27,18 @@ abbrev pub IsOwn : Kind → Tree → Type 0
 IsOwn k (reference q x) = IsNamed k q x
 IsOwn k n = Unit {0}
 
--- Notation n, read in module M under a type of kind k, is notation l, read in module K, behind its references.
-pub data IsLast (p : Program) (k : Kind) : (M : Name) (n : Tree) (K : Name) (l : Tree) → Type 0 where
-  own : {M : Name} {n : Tree} →
+-- Notation n, read in module M under a type of kind k, is notation l, read in module K, behind its references. `os` are
+-- the values whose notations are being read already, to none of which it refers (this project's own: also under another
+-- type), and `ps` those that are being read then.
+pub data IsLast (p : Program) (k : Kind)
+    : (os : List ℕ) (M : Name) (n : Tree) (ps : List ℕ) (K : Name) (l : Tree) → Type 0 where
+  own : {os : List ℕ} {M : Name} {n : Tree} →
       IsOwn k n →
-      IsLast p k M n M n
-  referred : {M N K : Name} {q : Option Name} {x : Name} {m l : Tree} (i : ℕ) →
+      IsLast p k os M n os M n
+  referred : {os ps : List ℕ} {M N K : Name} {q : Option Name} {x : Name} {m l : Tree} (i : ℕ) →
       (IsNamed k q x → ⊥) →
       Refers p.modules M q x (assigned.Value i) →
+      (StandsIn os i → ⊥) →
       IsValueAt p i N m →
-      IsLast p k N m K l →
-      IsLast p k M (reference q x) K l
+      IsLast p k (i ∷ os) N m ps K l →
+      IsLast p k os M (reference q x) ps K l

@@ -39,36 +39,35 @@ pub data Trouble : Type 0 where
 -- ---- references
 
 -- notation n, read in module M under a type of kind k, is notation l, read in module K, or refers to it
-pub data LeadsTo (p : Program) (k : Kind) : (M : Name) (n : Tree) (K : Name) (l : Tree) → Type 0 where
-  there : {M : Name} {n : Tree} → LeadsTo p k M n M n
-  onward : {M N K : Name} {q : Option Name} {x : Name} {m l : Tree} (i : ℕ) →
+pub data LeadsTo (p : Program) (k : Kind)
+    : (os : List ℕ) (M : Name) (n : Tree) (ps : List ℕ) (K : Name) (l : Tree) → Type 0 where
+  there : {os : List ℕ} {M : Name} {n : Tree} → LeadsTo p k os M n os M n
+  onward : {os ps : List ℕ} {M N K : Name} {q : Option Name} {x : Name} {m l : Tree} (i : ℕ) →
       (IsNamed k q x → ⊥) →
       Refers p.modules M q x (assigned.Value i) →
+      (StandsIn os i → ⊥) →
       IsValueAt p i N m →
-      LeadsTo p k N m K l →
-      LeadsTo p k M (reference q x) K l
+      LeadsTo p k (i ∷ os) N m ps K l →
+      LeadsTo p k os M (reference q x) ps K l
 
 -- the references lead to name x, which means neither something of the type nor a value
-pub record IsLost (p : Program) (k : Kind) (M : Name) (n : Tree) (q : Option Name) (x : Name) : Type 0 where
+pub record IsLost (p : Program) (k : Kind) (os : List ℕ) (M : Name) (n : Tree) (q : Option Name) (x : Name) : Type 0 where
+  pub opened : List ℕ
   pub within : Name
-  pub leads : LeadsTo p k M n within (reference q x)
+  pub leads : LeadsTo p k os M n opened within (reference q x)
   pub none : IsNamed k q x → ⊥
   pub no_value : (i : ℕ) → Refers p.modules within q x (assigned.Value i) → ⊥
 
--- the references lead to value i, whose notation refers to a value that leads back to it
-pub record ComesRound (p : Program) (k : Kind) (M : Name) (n : Tree) (i : ℕ) : Type 0 where
+-- the references lead to a name that means value i, whose notation is being read already
+pub record ComesRound (p : Program) (k : Kind) (os : List ℕ) (M : Name) (n : Tree) (i : ℕ) : Type 0 where
+  pub opened : List ℕ
   pub within : Name
   pub prefix : Option Name
   pub name : Name
-  pub at : IsValueAt p i within (reference prefix name)
-  pub leads : LeadsTo p k M n within (reference prefix name)
+  pub leads : LeadsTo p k os M n opened within (reference prefix name)
   pub none : IsNamed k prefix name → ⊥
-  pub next : ℕ
-  pub refers : Refers p.modules within prefix name (assigned.Value next)
-  pub owner : Name
-  pub notation : Tree
-  pub first : IsValueAt p next owner notation
-  pub back : LeadsTo p k owner notation within (reference prefix name)
+  pub refers : Refers p.modules within prefix name (assigned.Value i)
+  pub again : StandsIn opened i
 
 -- ---- forms
 
@@ -159,66 +158,68 @@ pub data IsDisarranged : ListKind → List Part → List Name → Trouble → Ty
 -- ---- what is wrong, and where
 
 -- what is wrong with notation n itself, read in module M under type i
-pub data IsWrongHere (p : Program) (M : Name) (i : ℕ) (n : Tree) : Trouble → Type 0 where
+pub data IsWrongHere (p : Program) (os : List ℕ) (M : Name) (i : ℕ) (n : Tree) : Trouble → Type 0 where
   lost_name : {k : Kind} {q x : Name} →
       IsOfKind p.types i k →
-      IsLost p k M n (Some q) x →
-      IsWrongHere p M i n (unknown_name x)
+      IsLost p k os M n (Some q) x →
+      IsWrongHere p os M i n (unknown_name x)
   lost_item : {k : Kind} {x : Name} →
       IsOfKind p.types i k →
-      IsLost p k M n None x →
-      IsWrongHere p M i n (unknown_item x)
+      IsLost p k os M n None x →
+      IsWrongHere p os M i n (unknown_item x)
   round : {k : Kind} {j : ℕ} →
       IsOfKind p.types i k →
-      ComesRound p k M n j →
-      IsWrongHere p M i n (circular j)
-  misfit : {k : Kind} {K : Name} {l : Tree} →
+      ComesRound p k os M n j →
+      IsWrongHere p os M i n (circular j)
+  misfit : {ps : List ℕ} {k : Kind} {K : Name} {l : Tree} →
       IsOfKind p.types i k →
-      IsLast p k M n K l →
+      IsLast p k os M n ps K l →
       IsMisfit k l →
-      IsWrongHere p M i n not_of_type
-  bit : {k : Plain} {K : Name} {l : Tree} {x : Name} →
+      IsWrongHere p os M i n not_of_type
+  bit : {ps : List ℕ} {k : Plain} {K : Name} {l : Tree} {x : Name} →
       IsOfKind p.types i (simple k) →
-      IsLast p (simple k) M n K l →
+      IsLast p (simple k) os M n ps K l →
       HasUnknownBit k l x →
-      IsWrongHere p M i n (unknown_item x)
-  other_alternative : {e : Bool} {cs : List Part} {K : Name} {x : Name} {m : Tree} →
+      IsWrongHere p os M i n (unknown_item x)
+  other_alternative : {ps : List ℕ} {e : Bool} {cs : List Part} {K : Name} {x : Name} {m : Tree} →
       IsOfKind p.types i (members Choice e cs) →
-      IsLast p (members Choice e cs) M n K (chosen x m) →
+      IsLast p (members Choice e cs) os M n ps K (chosen x m) →
       (StandsIn (part_names cs) x → ⊥) →
-      IsWrongHere p M i n (unknown_item x)
-  names : {k : ListKind} {e : Bool} {cs : List Part} {K : Name} {l : Tree} {fs : List (Name × Tree)} {t : Trouble} →
+      IsWrongHere p os M i n (unknown_item x)
+  names : {ps : List ℕ} {k : ListKind} {e : Bool} {cs : List Part} {K : Name} {l : Tree}
+      {fs : List (Name × Tree)} {t : Trouble} →
       IsOfKind p.types i (members k e cs) →
       (k ≡ Choice → ⊥) →
-      IsLast p (members k e cs) M n K l →
+      IsLast p (members k e cs) os M n ps K l →
       fields_in l ≡ Some fs →
       IsDisarranged k cs (field_names fs) t →
-      IsWrongHere p M i n t
+      IsWrongHere p os M i n t
 
 -- Notation m, read in module K under type j, is notation n, read in module M under type i, or stands in it.
-pub data IsRead (p : Program) : (M : Name) (i : ℕ) (n : Tree) (K : Name) (j : ℕ) (m : Tree) → Type 0 where
-  itself : {M : Name} {i : ℕ} {n : Tree} → IsRead p M i n M i n
-  in_field : {M K N : Name} {i j : ℕ} {n l m u : Tree} {k : ListKind} {e : Bool} {cs : List Part}
+pub data IsRead (p : Program)
+    : (os : List ℕ) (M : Name) (i : ℕ) (n : Tree) (qs : List ℕ) (K : Name) (j : ℕ) (m : Tree) → Type 0 where
+  itself : {os : List ℕ} {M : Name} {i : ℕ} {n : Tree} → IsRead p os M i n os M i n
+  in_field : {os ps qs : List ℕ} {M K N : Name} {i j : ℕ} {n l m u : Tree} {k : ListKind} {e : Bool} {cs : List Part}
       {fs : List (Name × Tree)} {c : Part} →
       IsOfKind p.types i (members k e cs) →
       (k ≡ Choice → ⊥) →
-      IsLast p (members k e cs) M n K l →
+      IsLast p (members k e cs) os M n ps K l →
       fields_in l ≡ Some fs →
       StandsIn cs c →
       StandsIn fs (c.name, m) →
-      IsRead p K c.ty m N j u →
-      IsRead p M i n N j u
-  in_element : {M K N : Name} {i j a : ℕ} {n l m u : Tree} {k : ElementsKind} {ts : List Tree} →
+      IsRead p ps K c.ty m qs N j u →
+      IsRead p os M i n qs N j u
+  in_element : {os ps qs : List ℕ} {M K N : Name} {i j a : ℕ} {n l m u : Tree} {k : ElementsKind} {ts : List Tree} →
       IsOfKind p.types i (elements k a) →
-      IsLast p (elements k a) M n K l →
+      IsLast p (elements k a) os M n ps K l →
       values_in l ≡ Some ts →
       StandsIn ts m →
-      IsRead p K a m N j u →
-      IsRead p M i n N j u
-  in_alternative : {M K N : Name} {i j : ℕ} {n m u : Tree} {e : Bool} {cs : List Part} {x : Name} {c : Part} →
+      IsRead p ps K a m qs N j u →
+      IsRead p os M i n qs N j u
+  in_alternative : {os ps qs : List ℕ} {M K N : Name} {i j : ℕ} {n m u : Tree} {e : Bool} {cs : List Part} {x : Name} {c : Part} →
       IsOfKind p.types i (members Choice e cs) →
-      IsLast p (members Choice e cs) M n K (chosen x m) →
+      IsLast p (members Choice e cs) os M n ps K (chosen x m) →
       StandsIn cs c →
       c.name ≡ x →
-      IsRead p K c.ty m N j u →
-      IsRead p M i n N j u
+      IsRead p ps K c.ty m qs N j u →
+      IsRead p os M i n qs N j u

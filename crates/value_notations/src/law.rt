@@ -1,6 +1,6 @@
 //! Laws of notations of values, for the crates above.
 
-ghost use Rattle.std.specs.Prelude.{◌≡◌, ℕ};
+ghost use Rattle.std.specs.Prelude.{◌≡◌, ℕ, List};
 ghost use Rattle.asn_base.specs.Abstract.{AbstractValue};
 ghost use Rattle.trees.specs.Values.{Name, Tree};
 ghost use Rattle.names.specs.Names.{IsApart};
@@ -11,21 +11,21 @@ ghost use Rattle.value_notations.specs.Wrong.{Trouble, IsRead, IsWrongHere};
 
 /// In linked modules a notation stands for at most one value under a type.
 pub fn one_value()
-    ensures { (p : Program) (M : Name) (i : ℕ) (n : Tree) (v w : AbstractValue)
+    ensures { (p : Program) (os : List ℕ) (M : Name) (i : ℕ) (n : Tree) (v w : AbstractValue)
         → IsApart p.modules
         → AreSound p.types
-        → Notation p M i n v
-        → Notation p M i n w
+        → Notation p os M i n v
+        → Notation p os M i n w
         → v ≡ w }
 {}
 
 /// In linked modules a notation stands for no value where something is wrong with it, or with one that stands in it.
 pub fn wrong_stand_for_none()
-    ensures { (p : Program) (M K : Name) (i j : ℕ) (n m : Tree) (t : Trouble) (v : AbstractValue)
+    ensures { (p : Program) (os qs : List ℕ) (M K : Name) (i j : ℕ) (n m : Tree) (t : Trouble) (v : AbstractValue)
         → IsApart p.modules
         → AreSound p.types
-        → IsRead p M i n K j m
-        → IsWrongHere p K j m t
-        → Notation p M i n v
+        → IsRead p os M i n qs K j m
+        → IsWrongHere p qs K j m t
+        → Notation p os M i n v
         → ⊥ }
 {}
