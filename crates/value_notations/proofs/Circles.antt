@@ -1,5 +1,5 @@
 -- References that come round, and those that are lost, have no end.
-use Rattle.std.proofs.Common.{◌≡◌, ℕ, List, ◌∷◌, sym, subst, Option}
+use Rattle.std.proofs.Common.{ℕ, List, sym, subst, Option}
 use Rattle.trees.specs.Values.{Name, Tree, reference}
 use Rattle.names.specs.declared.scope.Assigned.TheVariants as assigned
 use Rattle.names.specs.Modules.{StandsIn}

@@ -1,18 +1,18 @@
 -- A notation with which something is wrong stands for no value.
-use Rattle.std.proofs.Common.{inl, inr, ◌≡◌, ℕ, zero, suc, refl, sym, ap, subst, ◌∙◌, Some, None, Bool, true, false, arith}
-use Rattle.std.specs.Prelude.{◌⊎◌, List, [], ◌∷◌, map, Option, option_map, slice_get, IsTrue}
+use Rattle.std.proofs.Common.{inl, inr, ◌≡◌, ℕ, zero, suc, refl, sym, ap, subst, ◌∙◌, Some, Bool, true, false, arith}
+use Rattle.std.specs.Prelude.{List, [], map, slice_get, IsTrue}
 use Rattle.std.proofs.lemmas.Option.{same_Some}
-use Rattle.asn_base.specs.Abstract.{AbstractValue, Row, end, absent, present}
+use Rattle.asn_base.specs.Abstract.{AbstractValue, Row}
 use Rattle.asn_base.specs.Types as types
 use Rattle.asn_base.specs.Typed.{group_of, HasOfGroup, LacksOfGroup, GroupsAreWhole}
 use Rattle.trees.specs.declared.types.ListKind.{ListKind}
 use Rattle.trees.specs.declared.types.ListKind.TheVariants.{Sequence, Set, Choice}
 use Rattle.trees.specs.declared.types.ElementsKind.{ElementsKind}
 use Rattle.trees.specs.declared.types.Standing.{Standing}
-use Rattle.trees.specs.declared.types.Standing.TheVariants.{Root, Addition}
+use Rattle.trees.specs.declared.types.Standing.TheVariants.{Addition}
 use Rattle.trees.specs.Types.{PresenceTree, mandatory, optional, default, Plain, a_bit_string}
 use Rattle.trees.specs.Values.{Name, Tree, Trees, items, chosen}
-use Rattle.names.specs.Modules.{StandsIn, StandsTwice, AreDistinct}
+use Rattle.names.specs.Modules.{StandsIn, AreDistinct}
 use Rattle.names.specs.Names.{under}
 use Rattle.type_table.specs.Table.{Kind, Part, simple, members, elements}
 use Rattle.resolve.specs.Program.{Program}
@@ -60,7 +60,7 @@ field_value : {p : Program} {os : List ℕ} {M : Name} {fs : List (Name × Tree)
 field_value a c m d family.no_part e s = absurd (some_none (slice_get [] a) c e refl)
 field_value {fs = fs} zero c m d (family.part_absent {c = b} none x h) e s =
     absurd (none (subst (λ (z : Part). StandsIn (field_names fs) z.name) (sym (same_Some b c e))
-        (stands_mapped (λ (f : Name × Tree). f.0) fs (c.name, m) s)))
+    (stands_mapped (λ (f : Name × Tree). f.0) fs (c.name, m) s)))
 field_value {p} {os} {M} {fs} zero c m d (family.part_present {c = b} {n = n} {v = v} t g h) e s =
     let same = same_Some b c e in
     let notes = one_field fs c.name n m d (subst (λ (z : Part). StandsIn fs (z.name, n)) same t) s in
@@ -198,7 +198,7 @@ absent_may a c family.no_part e none = absurd (some_none (slice_get [] a) c e re
 absent_may zero c (family.part_absent {c = b} x t h) e none = subst (λ (z : Part). IsTrue (may_be_absent z)) (same_Some b c e) t
 absent_may {fs = fs} zero c (family.part_present {c = b} {n = n} t g h) e none =
     absurd (none (subst (λ (z : Part). StandsIn (field_names fs) z.name) (same_Some b c e)
-        (stands_mapped (λ (f : Name × Tree). f.0) fs (b.name, n) t)))
+    (stands_mapped (λ (f : Name × Tree). f.0) fs (b.name, n) t)))
 absent_may (suc a) c (family.part_absent x t h) e none = absent_may a c h e none
 absent_may (suc a) c (family.part_present t g h) e none = absent_may a c h e none
 
@@ -242,7 +242,7 @@ lacks_group g zero c (family.part_absent {c = b} x t h) e f q none =
     inl (needed_in b.presence b.standing g (ap (λ (z : Part). z.presence) same ∙ q) (ap (λ (z : Part). z.standing) same ∙ f))
 lacks_group {fs = fs} g zero c (family.part_present {c = b} {n = n} t k h) e f q none =
     absurd (none (subst (λ (z : Part). StandsIn (field_names fs) z.name) (same_Some b c e)
-        (stands_mapped (λ (f : Name × Tree). f.0) fs (b.name, n) t)))
+    (stands_mapped (λ (f : Name × Tree). f.0) fs (b.name, n) t)))
 lacks_group g (suc a) c (family.part_absent x t h) e f q none = inr (lacks_group g a c h e f q none)
 lacks_group g (suc a) c (family.part_present t k h) e f q none = lacks_group g a c h e f q none
 
@@ -261,7 +261,7 @@ disarranged_none {fs = fs} (wrong.lacking {x = x} i d m) a h w =
 disarranged_none {fs = fs} (wrong.lacking_in_group {x = x} i d m) a h w =
     w m.group (has_group m.group m.other_there.0 m.other h m.other_there.1 m.other_standing m.other_present)
     (lacks_group m.group m.there.0 m.part h m.there.1 m.standing m.needed
-        (λ s. m.none (subst (λ (z : Name). StandsIn (field_names fs) z) m.named s)))
+    (λ s. m.none (subst (λ (z : Name). StandsIn (field_names fs) z) m.named s)))
 disarranged_none (wrong.jumbled i d m g none) a h w = none a.1
 
 names_none : {p : Program} {os : List ℕ} {K : Name} {k : ListKind} {e : Bool} {cs : List Part} {l : Tree} {fs : List (Name × Tree)}

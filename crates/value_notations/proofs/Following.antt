@@ -1,13 +1,13 @@
 -- Types have one kind, and references one end.
-use Rattle.std.proofs.Common.{inl, inr, ◌≡◌, ℕ, zero, suc, ◌<◌, arith, refl, sym, ap, subst, ◌∙◌, Some, None}
-use Rattle.std.specs.Prelude.{◌⊎◌, List, [], ◌∷◌, Option, slice_get, bytes_eq}
+use Rattle.std.proofs.Common.{◌≡◌, ℕ, zero, suc, refl, sym, ap, subst, ◌∙◌, Some, None}
+use Rattle.std.specs.Prelude.{List, ◌∷◌, Option, slice_get}
 use Rattle.trees.specs.declared.module.TagDefault.{TagDefault}
 use Rattle.trees.specs.Values.{Name, Tree, reference}
 use Rattle.names.specs.declared.scope.Assigned.{Assigned}
 use Rattle.names.specs.declared.scope.Assigned.TheVariants as assigned
 use Rattle.names.specs.Names.{Module, Meaning, own, imported, Refers, bare, within, across, IsApart, under}
 use Rattle.names.specs.Sources.{Value}
-use Rattle.type_table.specs.Table.{Type', Kind, walk, next, onward, IsCore}
+use Rattle.type_table.specs.Table.{Type', Kind, walk, next, onward}
 use Rattle.type_table.specs.Lists.{AreSound, IsSoundKind}
 use Rattle.resolve.specs.Program.{Program, IsAssignment}
 use Rattle.range_ends.specs.Ends.{IsOfKind, IsValueAt}
@@ -62,11 +62,11 @@ one_meaning ms M x a b apart (own m e f) (own n g h) =
 one_meaning ms M x a b apart (own m e f) (imported n o N g h i j) =
     let same = one_some (under M ms) n m g e in
     absurd (some_none (under x m.assigned) a f
-        (apart M x N m e (subst (λ (y : Module). under x y.imports ≡ Some N) same h)))
+    (apart M x N m e (subst (λ (y : Module). under x y.imports ≡ Some N) same h)))
 one_meaning ms M x a b apart (imported n o N g h i j) (own m e f) =
     let same = one_some (under M ms) n m g e in
     absurd (some_none (under x m.assigned) b f
-        (apart M x N m e (subst (λ (y : Module). under x y.imports ≡ Some N) same h)))
+    (apart M x N m e (subst (λ (y : Module). under x y.imports ≡ Some N) same h)))
 one_meaning ms M x a b apart (imported m o N e f g h) (imported n q L i j k l) =
     let same = one_some (under M ms) n m i e in
     let from = one_some (under x m.imports) L N (subst (λ (y : Module). under x y.imports ≡ Some L) same j) f in
@@ -92,24 +92,25 @@ pub one_value_meant : (ms : List (Name × Module)) (M : Name) (q : Option Name) 
 one_value_meant ms M q x i j apart a b =
     ap number_in
     (one_meaning ms M x (assigned.Value i) (assigned.Value j) apart (meaning_of ms M q x (assigned.Value i) a)
-        (meaning_of ms M q x (assigned.Value j) b))
+    (meaning_of ms M q x (assigned.Value j) b))
 
 one_header : (p : Program) (g : ℕ) (M N x y : Name) → IsAssignment p g M x → IsAssignment p g N y → M ≡ N
 one_header p g M N x y a b =
     let owners = ap (λ (o : ℕ × Name). o.0) (one_some (slice_get p.assignments g) (a.owner, x) (b.owner, y) a.assigned b.assigned) in
     ap (λ (h : Name × TagDefault). h.0)
     (one_some (slice_get p.headers a.owner) (M, a.tags) (N, b.tags) a.header
-        (subst (λ (o : ℕ). slice_get p.headers o ≡ Some (N, b.tags)) (sym owners) b.header))
+    (subst (λ (o : ℕ). slice_get p.headers o ≡ Some (N, b.tags)) (sym owners) b.header))
 
 pub one_module : (p : Program) (i : ℕ) (M N : Name) (n m : Tree)
     → IsValueAt p i M n
     → IsValueAt p i N m
     → (M ≡ N) × (n ≡ m)
 one_module p i M N n m a b =
-    let values = one_some (slice_get p.values i) a.value b.value a.there b.there in
-    (one_header p a.value.assignment M N a.assigns b.assigns a.stands
-        (subst (λ (v : Value). IsAssignment p v.assignment N b.assigns) (sym values) b.stands),
-     sym a.notation ∙ ap (λ (v : Value). v.notation) values ∙ b.notation)
+    let values = one_some (slice_get p.values i) a.value b.value a.there b.there in (
+      one_header p a.value.assignment M N a.assigns b.assigns a.stands
+          (subst (λ (v : Value). IsAssignment p v.assignment N b.assigns) (sym values) b.stands),
+      sym a.notation ∙ ap (λ (v : Value). v.notation) values ∙ b.notation,
+    )
 
 -- ---- references
 
@@ -131,7 +132,7 @@ pub moved : {p : Program} {k : Kind} {os ps : List ℕ} {K N O : Name} {l u w : 
 moved {p} {k} {os} {ps} {K} {N} {O} {l} {u} {w} i j e f g d =
     subst (λ (z : Tree). IsLast p k (i ∷ os) N z ps K l) (sym g)
     (subst (λ (z : Name). IsLast p k (i ∷ os) z w ps K l) (sym f)
-        (subst (λ (z : ℕ). IsLast p k (z ∷ os) O w ps K l) (sym e) d))
+    (subst (λ (z : ℕ). IsLast p k (z ∷ os) O w ps K l) (sym e) d))
 
 pub one_last : {p : Program} {k : Kind} {os ps qs : List ℕ} {M K L : Name} {n l m : Tree}
     → IsApart p.modules

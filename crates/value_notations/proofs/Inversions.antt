@@ -1,19 +1,20 @@
 -- What a notation tells by its form where it stands for a value, and the other way round.
-use Rattle.std.proofs.Common.{inl, inr, ◌≡◌, ◌≢◌, ℕ, suc, ◌<◌, ◌≤◌, ◌∙◌, refl, sym, ap, subst, Some, None, Bool, true, false, ℤ, pos, negsuc}
-use Rattle.std.specs.Prelude.{◌⊎◌, ◌↔◌, List, [], ◌∷◌, map, Option, IsTrue, IsUtf8}
+use Rattle.std.proofs.Common.{◌≡◌, ℕ, ◌≤◌, refl, sym, ap, subst, Some, None, Bool, true, false, ℤ, pos, negsuc, arith}
+use Rattle.std.specs.Prelude.{List, [], ◌∷◌, map, length, IsTrue, IsUtf8}
 use Rattle.std.specs.List.{AllByRecursion}
 use Rattle.std.specs.Int.Digits.{AllBelowBase}
 use Rattle.std.proofs.lemmas.Option.{same_Some}
 use Rattle.asn_base.specs.declared.strings.StringKind.{StringKind}
 use Rattle.asn_base.specs.Abstract.{AbstractValue, boolean, integer, octets, text, null, oid, relative_oid}
 use Rattle.asn_base.specs.Schemas.{is_character}
-use Rattle.trees.specs.Values.{Name, Tree, yes, no, number, binary, hex, chars, reference, nothing, numbers, items}
+use Rattle.trees.specs.declared.value.ValueSyntax.{ValueSyntax}
+use Rattle.trees.specs.Values.{Name, Tree, Trees, tree_of, yes, no, number, binary, hex, chars, reference, nothing, numbers, items, no_tree, tree_and}
 use Rattle.trees.specs.Values as trees
-use Rattle.trees.specs.Types.{Plain, a_boolean, an_integer, an_octet_string, a_null, an_object_identifier, a_relative_oid, a_utf8_string, a_restricted_string}
+use Rattle.trees.specs.Types.{a_boolean, an_integer, an_octet_string, a_null, an_object_identifier, a_relative_oid, a_utf8_string, a_restricted_string}
 use Rattle.names.specs.Names.{under}
 use Rattle.value_notations.specs.Leaves as leaves
 use Rattle.value_notations.specs.Leaves.{IsLeaf, AreOctets, IsRooted}
-use Rattle.value_notations.specs.proving.Forms.{truth_in, number_in, name_in, binary_in, hex_in, text_in, numbers_in, items_in, is_null, is_nothing, IsNone}
+use Rattle.value_notations.specs.proving.Forms.{truth_in, number_in, name_in, binary_in, hex_in, text_in, numbers_in, alone_in, is_null, IsNone}
 
 -- ---- where it stands for one
 
@@ -171,3 +172,34 @@ pub restricted_made : (k : StringKind) (n : Tree) (o : List ℕ)
     → IsLeaf (a_restricted_string k) n (text o)
 restricted_made k n o e a =
     subst (λ (x : Tree). IsLeaf (a_restricted_string k) x (text o)) (sym (text_is n o e)) (leaves.restricted a)
+
+-- ---- relative object identifiers
+
+relative_told : {n : Tree} {v : AbstractValue} → IsLeaf a_relative_oid n v → numbers_in n ≡ None → alone_in n ≡ None → ⊥
+relative_told leaves.relative e f = absurd cc
+relative_told leaves.relative_alone e f = absurd cc
+
+pub no_relative : (n : Tree) → numbers_in n ≡ None → alone_in n ≡ None → IsNone a_relative_oid n
+no_relative n e f v l = relative_told l e f
+
+pub relative_made : (n : Tree) (ns : List ℕ) → numbers_in n ≡ Some ns → IsLeaf a_relative_oid n (relative_oid ns)
+relative_made n ns e =
+    subst (λ (x : Tree). IsLeaf a_relative_oid x (relative_oid ns)) (sym (numbers_is n ns e)) leaves.relative
+
+alone_is : (n : Tree) (m : ℕ) → alone_in n ≡ Some m → n ≡ items (tree_and (number (pos m)) no_tree)
+alone_is (items (tree_and (number (pos k)) no_tree)) m e = ap (λ (x : ℕ). items (tree_and (number (pos x)) no_tree)) (same_Some k m e)
+alone_is n m e = absurd cc
+
+pub alone_made : (n : Tree) (m : ℕ) → alone_in n ≡ Some m → IsLeaf a_relative_oid n (relative_oid (m ∷ []))
+alone_made n m e =
+    subst (λ (x : Tree). IsLeaf a_relative_oid x (relative_oid (m ∷ []))) (sym (alone_is n m e)) leaves.relative_alone
+
+many : (x y : Tree) (ts : Trees) → None ≡ alone_in (items (tree_and x (tree_and y ts)))
+many (number (pos n)) y ts = refl
+many (number (negsuc n)) y ts = refl
+many x y ts = refl
+
+pub not_alone : (vs : List ValueSyntax) → 2 ≤ length vs → None ≡ alone_in (items (trees.trees (map tree_of vs)))
+not_alone [] h = absurd (omega arith)
+not_alone (v ∷ []) h = absurd (omega arith)
+not_alone (v ∷ w ∷ vs) h = many (tree_of v) (tree_of w) (trees.trees (map tree_of vs))

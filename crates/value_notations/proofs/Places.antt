@@ -1,8 +1,8 @@
 -- Members of lists and their places.
-use Rattle.std.proofs.Common.{inl, inr, ◌≡◌, ℕ, zero, suc, ◌+◌, ◌-◌, ◌*◌, ◌<◌, ◌≤◌, arith, refl, sym, ap, subst, ◌∙◌, Some, None}
-use Rattle.std.specs.Prelude.{◌⊎◌, ◌↔◌, List, [], ◌∷◌, map, length, Option, slice_get, option_map}
-use Rattle.std.proofs.lemmas.Option.{same_Some, none-some, slice_get-map, slice_get_within}
-use Rattle.names.specs.Modules.{StandsIn, StandsTwice, AreDistinct}
+use Rattle.std.proofs.Common.{inl, inr, ◌≡◌, ℕ, ◌<◌, arith, sym, ap, ◌∙◌, Some, None}
+use Rattle.std.specs.Prelude.{◌⊎◌, List, map, Option, slice_get, option_map}
+use Rattle.std.proofs.lemmas.Option.{same_Some, none-some, slice_get-map}
+use Rattle.names.specs.Modules.{StandsIn, AreDistinct}
 
 pub one_some : {A : Type 0} (o : Option A) (x y : A) → o ≡ Some x → o ≡ Some y → x ≡ y
 one_some o x y e f = same_Some x y (sym e ∙ f)
@@ -21,11 +21,11 @@ pub one_place : {A : Type 0} (xs : List A) (x : A) (i j : ℕ)
     → i ≡ j
 one_place xs x i j d e f =
     elim (less_or_more i j) [
-        inl h ↦ h
-        | inr h ↦ elim h [
-            inl l ↦ absurd (d x (record { first = i; second = j; apart = l; here = e; there = f }))
-            | inr l ↦ absurd (d x (record { first = j; second = i; apart = l; here = f; there = e }))
-        ]
+      | inl h ↦ h
+      | inr h ↦ elim h [
+        | inl l ↦ absurd (d x (record { first = i; second = j; apart = l; here = e; there = f }))
+        | inr l ↦ absurd (d x (record { first = j; second = i; apart = l; here = f; there = e }))
+      ]
     ]
 
 pub mapped_at : {A B : Type 0} (f : A → B) (xs : List A) (i : ℕ) (x : A)

@@ -1,6 +1,6 @@
 -- Object identifiers: where they begin, and their limit.
-use Rattle.std.proofs.Common.{inl, inr, ◌≡◌, ℕ, ◌<◌, ◌≤◌, arith, true, refl}
-use Rattle.std.specs.Prelude.{◌⊎◌, List, [], ◌∷◌, length, slice_index_or, nat_lt}
+use Rattle.std.proofs.Common.{◌≡◌, ℕ, ◌<◌, ◌≤◌, arith}
+use Rattle.std.specs.Prelude.{List, [], ◌∷◌, length, slice_index_or}
 use Rattle.value_notations.specs.Leaves.{IsRooted, is_rooted}
 use Rattle.value_notations.specs.proving.Forms.{IsLimitFault}
 use Rattle.value_notations.specs.declared.leaf.LeafFault.{LeafFault}

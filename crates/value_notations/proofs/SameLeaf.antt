@@ -1,15 +1,15 @@
 -- A notation stands for at most one value of a type that holds no others.
-use Rattle.std.proofs.Common.{inl, inr, ◌≡◌, ◌≢◌, ℕ, zero, suc, ◌+◌, ◌-◌, ◌*◌, ◌<◌, ◌≤◌, arith, refl, sym, ap, subst, ◌∙◌, Some, None, true, false, Bool, ℤ, pos}
-use Rattle.std.specs.Prelude.{◌⊎◌, ◌↔◌, List, [], ◌∷◌, ◌++◌, map, length, Option, option_map, slice_get, slice_index, slice_index_or, replicate, take, drop}
-use Rattle.std.specs.Int.Digits.{number_from_digits, AllBelowBase}
-use Rattle.std.proofs.lemmas.Option.{same_Some, none-some, slice_get-map, slice_get_within, slice_get-get_or}
-use Rattle.asn_base.specs.Abstract.{AbstractValue, boolean, integer, enumerated, bits, octets, text, null, oid, relative_oid}
-use Rattle.trees.specs.Values.{Name, Tree, Trees, no_tree, tree_and, reference}
-use Rattle.trees.specs.Types.{Plain, an_enumerated}
-use Rattle.names.specs.Modules.{StandsIn, StandsTwice, AreDistinct}
+use Rattle.std.proofs.Common.{◌≡◌, ℕ, zero, suc, ◌+◌, ◌*◌, ◌<◌, ◌≤◌, arith, refl, sym, ap, subst, ◌∙◌, Some, true, false, Bool, ℤ}
+use Rattle.std.specs.Prelude.{◌↔◌, List, [], ◌∷◌, ◌++◌, map, length, slice_get, slice_index, replicate, take, drop}
+use Rattle.std.specs.Int.Digits.{number_from_digits}
+use Rattle.std.proofs.lemmas.Option.{same_Some, none-some, slice_get_within}
+use Rattle.asn_base.specs.Abstract.{AbstractValue, integer, enumerated, bits, octets}
+use Rattle.trees.specs.Values.{Name, Tree, Trees}
+use Rattle.trees.specs.Types.{Plain}
+use Rattle.names.specs.Modules.{AreDistinct}
 use Rattle.names.specs.Names.{under}
 use Rattle.type_table.specs.Items.{Item, additions_of, numbers_of}
-use Rattle.type_table.specs.Lists.{IsSoundPlain, IsSoundEnumeration}
+use Rattle.type_table.specs.Lists.{IsSoundPlain}
 use Rattle.value_notations.specs.Leaves as leaves
 use Rattle.value_notations.specs.Leaves.{IsItem, AreOctets, AreBitNames, AreSetBits, IsLeaf}
 use Rattle.value_notations.proofs.Places.{one_some, one_place, mapped_at}
@@ -99,9 +99,9 @@ one_octets : (base most : ℕ) (ds os us : List ℕ)
     → os ≡ us
 one_octets base most ds os us a b e =
     same_numbers os us e (λ i l.
-        a.each i l
-        ∙ ap (λ z. number_from_digits base (take most (drop (most * i) (ds ++ replicate z 0)))) (same_zeros base most ds os us a b e)
-        ∙ sym (b.each i (omega arith)))
+    a.each i l
+    ∙ ap (λ z. number_from_digits base (take most (drop (most * i) (ds ++ replicate z 0)))) (same_zeros base most ds os us a b e)
+    ∙ sym (b.each i (omega arith)))
 
 as_many_8 : (ds os us : List ℕ) (base : ℕ) → AreOctets base 8 ds os → AreOctets base 8 ds us → length os ≡ length us
 as_many_8 ds os us base a b = let e = a.long in let f = b.long in let g = a.few in let h = b.few in omega arith

@@ -1,17 +1,15 @@
 -- A notation stands for at most one value.
-use Rattle.std.proofs.Common.{inl, inr, ◌≡◌, ℕ, suc, refl, sym, ap, subst, ◌∙◌, Some, None}
-use Rattle.std.specs.Prelude.{List, [], ◌∷◌, map, Option, option_map, slice_get}
-use Rattle.std.proofs.lemmas.Option.{same_Some, slice_get-map}
-use Rattle.asn_base.specs.Abstract.{AbstractValue, fields, list, alternative, Row, end, absent, present}
+use Rattle.std.proofs.Common.{◌≡◌, ℕ, refl, sym, ap, subst, ◌∙◌, Some}
+use Rattle.std.specs.Prelude.{List, slice_get}
+use Rattle.asn_base.specs.Abstract.{AbstractValue, fields, list, alternative, Row, absent, present}
 use Rattle.trees.specs.declared.types.ListKind.{ListKind}
 use Rattle.trees.specs.declared.types.ListKind.TheVariants.{Sequence, Set, Choice}
-use Rattle.trees.specs.Values.{Name, Tree, chosen}
+use Rattle.trees.specs.Values.{Name, Tree}
 use Rattle.names.specs.Modules.{StandsIn, AreDistinct}
 use Rattle.names.specs.Names.{IsApart}
-use Rattle.type_table.specs.Table.{Kind, Part, simple, members}
+use Rattle.type_table.specs.Table.{Kind, Part}
 use Rattle.type_table.specs.Lists.{AreSound, IsSoundKind}
 use Rattle.resolve.specs.Program.{Program}
-use Rattle.range_ends.specs.Ends.{IsOfKind}
 use Rattle.value_notations.specs.References.{IsLast}
 use Rattle.value_notations.specs.Notations.{Notation, NotationOf, Fields, Elements, AreArranged, field_names, part_names, fields_in, values_in}
 use Rattle.value_notations.specs.Notations as family
@@ -65,7 +63,7 @@ pub carried : {p : Program} {os ps : List ℕ} {K L : Name} {k j : Kind} {l m : 
 carried {p} {os} {ps} {K} {L} {k} {j} {l} {m} {w} e f g h d =
     subst (λ (x : Tree). NotationOf p os K k x w) h
     (subst (λ (x : Name). NotationOf p os x k m w) g
-        (subst (λ (x : List ℕ). NotationOf p x L k m w) f (subst (λ (x : Kind). NotationOf p ps L x m w) e d)))
+    (subst (λ (x : List ℕ). NotationOf p x L k m w) f (subst (λ (x : Kind). NotationOf p ps L x m w) e d)))
 
 mutual
   pub one_notation : {p : Program} {os : List ℕ} {M : Name} {i : ℕ} {n : Tree} {v w : AbstractValue}

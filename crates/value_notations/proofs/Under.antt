@@ -1,5 +1,5 @@
 -- Searching a list for a name.
-use Rattle.std.proofs.Common.{◌≡◌, ℕ, zero, suc, ◌+◌, ◌≤◌, ◌<◌, Bool, true, false, List, [], ◌∷◌, Option, Some, None, refl, map, take, length, arith, cond}
+use Rattle.std.proofs.Common.{◌≡◌, ℕ, zero, suc, ◌+◌, ◌≤◌, Bool, true, false, List, [], ◌∷◌, Option, Some, None, refl, take, length, arith, cond}
 use Rattle.std.specs.Prelude.{bytes_eq, slice_get}
 use Rattle.trees.specs.Values.{Name}
 use Rattle.names.specs.Names.{under}

@@ -1,5 +1,5 @@
 -- The value that a notation stands for under a type (X.680, clause 17). Constraints and limits are no part of it.
-use Rattle.std.specs.Prelude.{◌≡◌, ◌<◌, ℕ, Bool, true, false, not, List, [], ◌∷◌, map, Option, Some, None, slice_get, IsTrue}
+use Rattle.std.specs.Prelude.{◌≡◌, ℕ, Bool, true, false, List, [], ◌∷◌, map, Option, Some, None, slice_get, IsTrue}
 use Rattle.asn_base.specs.Abstract.{AbstractValue, fields, list, alternative, Row, end, absent, present}
 use Rattle.asn_base.specs.Types.{Component, Presence}
 use Rattle.asn_base.specs.Types as types
@@ -63,11 +63,11 @@ component_of c = record { name = c.name; type = c.ty; presence = presence_of c.p
 
 abbrev pub may_be_absent : Part → Bool
 may_be_absent c = elim (presence_of c.presence c.standing) [
-        types.mandatory ↦ false
-        | types.optional ↦ true
-        | types.default d ↦ true
-        | types.addition o g ↦ true
-    ]
+  | types.mandatory ↦ false
+  | types.optional ↦ true
+  | types.default d ↦ true
+  | types.addition o g ↦ true
+]
 
 -- the one list is the other one without some of its members
 pub data IsPartOf {A : Type 0} : List A → List A → Type 0 where

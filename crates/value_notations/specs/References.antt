@@ -1,6 +1,6 @@
 -- What the notation of a value is behind its references (X.680, clauses 13.2, 17.11, 19.10 and 20.8). A value reference
 -- stands for its notation, read in the module where that stands; a name of the governing type goes before it.
-use Rattle.std.specs.Prelude.{◌≡◌, ℕ, List, [], ◌∷◌, ◌++◌, Option, Some, None}
+use Rattle.std.specs.Prelude.{ℕ, List, [], ◌∷◌, ◌++◌, Option, Some, None}
 use Rattle.trees.specs.Values.{Name, Tree, reference}
 use Rattle.trees.specs.Types.{an_integer, an_enumerated}
 use Rattle.names.specs.declared.scope.Assigned.TheVariants as assigned

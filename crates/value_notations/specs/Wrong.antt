@@ -1,18 +1,17 @@
 -- Why a notation stands for no value under a type: what is wrong, and at which notation within it. Constraints and limits
 -- are no part of it.
-use Rattle.std.specs.Prelude.{◌≡◌, ℕ, Bool, true, false, List, [], ◌∷◌, map, Option, Some, None, slice_get}
+use Rattle.std.specs.Prelude.{◌≡◌, ℕ, Bool, false, List, ◌∷◌, Option, Some, None}
 use Rattle.asn_base.specs.Abstract.{AbstractValue}
 use Rattle.trees.specs.declared.types.ListKind.{ListKind}
 use Rattle.trees.specs.declared.types.ListKind.TheVariants.{Sequence, Set, Choice}
 use Rattle.trees.specs.declared.types.ElementsKind.{ElementsKind}
-use Rattle.trees.specs.declared.types.Standing.TheVariants.{Root, Addition}
+use Rattle.trees.specs.declared.types.Standing.TheVariants.{Addition}
 use Rattle.trees.specs.Values.{Name, Tree, reference, chosen, items, Trees, tree_and}
 use Rattle.trees.specs.Types.{Plain, a_bit_string, mandatory}
 use Rattle.names.specs.declared.scope.Assigned.TheVariants as assigned
 use Rattle.names.specs.Modules.{StandsIn, StandsTwice, AreDistinct}
 use Rattle.names.specs.Names.{Refers, under}
 use Rattle.type_table.specs.Table.{Kind, simple, members, elements, Part}
-use Rattle.type_table.specs.Table as table
 use Rattle.resolve.specs.Program.{Program}
 use Rattle.range_ends.specs.Ends.{IsOfKind, IsValueAt}
 use Rattle.value_notations.specs.References.{IsNamed, IsLast}

@@ -1,8 +1,8 @@
 //! What a notation tells by its form.
 
 ghost use Rattle.std.specs.Prelude.{◌≡◌, map, option_map};
-ghost use Rattle.trees.specs.Values.{tree_of, trees};
-ghost use Rattle.value_notations.specs.proving.Forms.{truth_in, number_in, name_in, binary_in, hex_in, text_in, numbers_in, items_in, is_null, is_nothing};
+ghost use Rattle.trees.specs.Values.{tree_of, trees, items};
+ghost use Rattle.value_notations.specs.proving.Forms.{truth_in, number_in, name_in, binary_in, hex_in, text_in, numbers_in, items_in, alone_in, is_null, is_nothing};
 
 use trees::{ValueForm, ValueSyntax};
 
@@ -107,5 +107,34 @@ pub(crate) fn is_nothing(notation: &ValueSyntax) -> bool
     match &notation.form {
         ValueForm::Empty => true,
         _ => false,
+    }
+}
+
+/// The number that the only one of some notations is.
+fn only_number(values: &[ValueSyntax]) -> Option<u128>
+    ensures { result ≡ alone_in (items (trees (map tree_of values.now))) }
+{
+    match values {
+        [] => None,
+        [only] => match number_in(only) {
+            Some(number) => {
+                if number < 0 {
+                    return None;
+                }
+                Some(number as u128)
+            }
+            None => None,
+        },
+        [_, _, ..] => None,
+    }
+}
+
+/// The one number in braces, which is read as a list of one value.
+pub(crate) fn alone_in(notation: &ValueSyntax) -> Option<u128>
+    ensures { result ≡ alone_in (tree_of notation.now) }
+{
+    match items_in(notation) {
+        Some(values) => only_number(values),
+        None => None,
     }
 }

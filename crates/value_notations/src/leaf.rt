@@ -11,7 +11,10 @@ ghost use Rattle.value_notations.specs.proving.Forms.{Tells, ArePastLimit, Stand
 ghost use Rattle.value_notations.specs.declared.leaf.LeafFault.TheVariants.{Memory as no_memory};
 
 use crate::digits::{are_below, bit_octets, hex_octets};
-use crate::forms::{binary_in, hex_in, is_null, items_in, name_in, number_in, numbers_in, text_in, truth_in};
+use crate::forms::{
+    alone_in, binary_in, hex_in, is_null, items_in, name_in, number_in, numbers_in, text_in,
+    truth_in,
+};
 use asn_base::law::abstract_values;
 use asn_base::strings::StringKind;
 use asn_base::value::Value;
@@ -90,7 +93,11 @@ pub(crate) fn nothing(notation: &ValueSyntax) -> Option<Value>
     ensures { Tells a_null (tree_of notation.now) result }
 {
     abstract_values();
-    if is_null(notation) { Some(Value::Null) } else { None }
+    if is_null(notation) {
+        Some(Value::Null)
+    } else {
+        None
+    }
 }
 
 /// The octets that a notation stands for (X.680, 23.3).
@@ -149,10 +156,7 @@ fn within_limit(alloc: Global, numbers: &[u128]) -> Result<Vec<u64>, LeafFault>
 }
 
 /// The object identifier that a notation stands for (X.680, 32.3).
-pub(crate) fn identifier(
-    alloc: Global,
-    notation: &ValueSyntax,
-) -> Result<Option<Value>, LeafFault>
+pub(crate) fn identifier(alloc: Global, notation: &ValueSyntax) -> Result<Option<Value>, LeafFault>
     ensures ok { IfOk result (Tells an_object_identifier (tree_of notation.now)) }
     ensures fault { IfErr result (IsLimitFault (StandsPastLimit an_object_identifier (tree_of notation.now))) }
 {
@@ -168,6 +172,30 @@ pub(crate) fn identifier(
                 Err(fault) => Err(fault),
             }
         }
+    }
+}
+
+/// The relative object identifier that a notation stands for (X.680, 33.3).
+pub(crate) fn relative_identifier(
+    alloc: Global,
+    notation: &ValueSyntax,
+) -> Result<Option<Value>, LeafFault>
+    ensures ok { IfOk result (Tells a_relative_oid (tree_of notation.now)) }
+    ensures fault { IfErr result (IsLimitFault (StandsPastLimit a_relative_oid (tree_of notation.now))) }
+{
+    abstract_values();
+    if let Some(numbers) = numbers_in(notation) {
+        return match within_limit(alloc, numbers) {
+            Ok(all) => Ok(Some(Value::RelativeOid(all))),
+            Err(fault) => Err(fault),
+        };
+    }
+    match alone_in(notation) {
+        None => Ok(None),
+        Some(number) => match within_limit(alloc, &[number]) {
+            Ok(all) => Ok(Some(Value::RelativeOid(all))),
+            Err(fault) => Err(fault),
+        },
     }
 }
 

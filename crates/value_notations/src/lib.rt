@@ -3,5 +3,5 @@
 
 mod digits;
 mod forms;
-pub mod leaf;
 pub mod law;
+pub mod leaf;

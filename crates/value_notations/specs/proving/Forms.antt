@@ -1,9 +1,9 @@
 -- What a notation that is no reference to a value tells by its form.
-use Rattle.std.specs.Prelude.{◌≡◌, ◌⊎◌, ◌<◌, ◌^◌, MatchOption, length, ℕ, ℤ, Bool, true, false, List, [], Option, Some, None}
+use Rattle.std.specs.Prelude.{◌⊎◌, ◌<◌, ◌^◌, MatchOption, length, ℕ, ℤ, pos, Bool, true, false, List, Option, Some, None}
 use Rattle.std.specs.List.{AllByRecursion}
 use Rattle.asn_base.specs.declared.value.Value.{Value}
 use Rattle.asn_base.specs.Abstract.{AbstractValue, abstract, oid, relative_oid}
-use Rattle.trees.specs.Values.{Name, Tree, yes, no, null, number, binary, hex, chars, reference, nothing, numbers, items, Trees}
+use Rattle.trees.specs.Values.{Name, Tree, yes, no, null, number, binary, hex, chars, reference, nothing, numbers, items, Trees, no_tree, tree_and}
 use Rattle.trees.specs.Types.{Plain}
 use Rattle.value_notations.specs.Leaves.{IsLeaf}
 use Rattle.value_notations.specs.declared.leaf.LeafFault.{LeafFault}
@@ -42,6 +42,11 @@ numbers_in n = None
 abbrev pub items_in : Tree → Option Trees
 items_in (items ts) = Some ts
 items_in n = None
+
+-- the one number in braces, which is read as a list of one value
+abbrev pub alone_in : Tree → Option ℕ
+alone_in (items (tree_and (number (pos n)) no_tree)) = Some n
+alone_in n = None
 
 abbrev pub is_null : Tree → Bool
 is_null null = true

@@ -1,4 +1,4 @@
-use Rattle.std.proofs.Common.{◌≡◌, ℕ, sym, subst}
+use Rattle.std.proofs.Common.{ℕ, subst}
 use Rattle.std.specs.Prelude.{IsTrue}
 use Rattle.asn_base.specs.Names.{IsMember}
 use Rattle.asn_base.specs.Schemas.{is_character}

@@ -9,16 +9,16 @@ use Rattle.value_notations.proofs.leaf.number_under.Goals as goal
 pub returns-then-eq : goal.returns-then-eq
 returns-then-eq c =
     let here = seen_here number_of c.args.numbers.now c.loop-number.number-index c.number-item.result
-          (omega (arith, c.loop-number-test.true, c.loop-number.auto.number-index-end)) c.number-item.is in
+    (omega (arith, c.loop-number-test.true, c.loop-number.auto.number-index-end)) c.number-item.is in
     let same = sym (ap (bytes_eq c.args.name.now) c.as_str.ensures.value) ∙ sym c.eq.ensures ∙ c.if-eq.true in
     let e = found_at c.args.name.now (map number_of c.args.numbers.now) c.loop-number.number-index
-          (number_of c.number-item.result) c.loop-number.invariant here same in
+    (number_of c.number-item.result) c.loop-number.invariant here same in
     search rules
 
 pub loop-number-preserved : goal.loop-number-preserved
 loop-number-preserved c =
     let here = seen_here number_of c.args.numbers.now c.loop-number.number-index c.number-item.result
-          (omega (arith, c.loop-number-test.true, c.loop-number.auto.number-index-end)) c.number-item.is in
+    (omega (arith, c.loop-number-test.true, c.loop-number.auto.number-index-end)) c.number-item.is in
     let same = sym (ap (bytes_eq c.args.name.now) c.as_str.ensures.value) ∙ sym c.eq.ensures ∙ c.if-eq.false in
     passed_at c.args.name.now (map number_of c.args.numbers.now) c.loop-number.number-index
     (number_of c.number-item.result) c.loop-number.invariant here same

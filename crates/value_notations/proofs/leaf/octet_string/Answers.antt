@@ -1,4 +1,4 @@
-use Rattle.std.proofs.Common.{◌≡◌, sym, ◌∙◌, subst, ap, option_map}
+use Rattle.std.proofs.Common.{sym, ◌∙◌, subst, ap, option_map}
 use Rattle.asn_base.specs.Abstract.{AbstractValue}
 use Rattle.trees.specs.Values.{tree_of}
 use Rattle.trees.specs.Types.{an_octet_string}
@@ -18,4 +18,4 @@ returns-in_ok-hex_octets-in-Some-hex_in c =
     subst (λ (v : AbstractValue). IsLeaf an_octet_string n v)
     (sym (c.abstract_values.ensures.octets_ c.in_ok-hex_octets-in-Some-hex_in.field-0))
     (hex_made n _ _ (sym c.hex_in.ensures ∙ ap (option_map (λ d. d.now)) c.in-Some-hex_in.is)
-        c.in_ok-hex_octets-in-Some-hex_in.ensures)
+    c.in_ok-hex_octets-in-Some-hex_in.ensures)

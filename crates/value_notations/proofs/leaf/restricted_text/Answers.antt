@@ -1,8 +1,6 @@
-use Rattle.std.proofs.Common.{◌≡◌, sym, ◌∙◌, subst, ap, option_map, rules, string_bytes, true, ℕ}
-use Rattle.std.specs.Prelude.{IsTrue}
+use Rattle.std.proofs.Common.{◌≡◌, sym, ◌∙◌, subst, ap, option_map, rules, string_bytes, true}
 use Rattle.std.proofs.lemmas.Str.{IsUtf8-from_ascii}
-use Rattle.asn_base.specs.Abstract.{AbstractValue, text}
-use Rattle.asn_base.specs.Schemas.{is_character}
+use Rattle.asn_base.specs.Abstract.{AbstractValue}
 use Rattle.trees.specs.Values.{tree_of}
 use Rattle.trees.specs.Types.{a_restricted_string}
 use Rattle.value_notations.specs.Leaves.{IsLeaf}
@@ -15,7 +13,7 @@ returns-in-Err c =
     let r : c.are_characters.result ≡ true = search rules in
     let all = c.are_characters.ensures.yes r in
     absurd (c.in-Err.ensures.cases.0 (IsUtf8-from_ascii c.in-Some.octets.now
-        (all_ascii c.in-Some.octets.now (each_weaker _ _ c.in-Some.octets.now (c.characters_below_128.ensures c.args.kind) all))))
+    (all_ascii c.in-Some.octets.now (each_weaker _ _ c.in-Some.octets.now (c.characters_below_128.ensures c.args.kind) all))))
 
 pub returns-in_ok-from_str-in-Ok : goal.returns-in_ok-from_str-in-Ok
 returns-in_ok-from_str-in-Ok c =

@@ -1,4 +1,4 @@
-use Rattle.std.proofs.Common.{◌≡◌, sym, ◌∙◌, subst}
+use Rattle.std.proofs.Common.{sym, ◌∙◌, subst}
 use Rattle.asn_base.specs.Abstract.{AbstractValue}
 use Rattle.trees.specs.Values.{tree_of}
 use Rattle.trees.specs.Types.{a_boolean}
