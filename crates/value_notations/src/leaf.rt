@@ -1,6 +1,6 @@
 //! The values of types that hold no other types.
 
-ghost use Rattle.std.specs.Prelude.{◌≡◌, ℕ, IfOk, IfErr, MatchResult, true, map, IsTrue};
+ghost use Rattle.std.specs.Prelude.{◌≡◌, ℕ, IfOk, OnOk, IfErr, MatchResult, true, map, IsTrue};
 ghost use Rattle.std.specs.List.{AllByRecursion};
 ghost use Rattle.asn_base.specs.Schemas.{is_character};
 ghost use Rattle.trees.specs.Values.{tree_of};
@@ -140,6 +140,7 @@ fn is_rooted(numbers: &[u128]) -> bool
 /// The numbers, where they pass no limit.
 fn within_limit(alloc: Global, numbers: &[u128]) -> Result<Vec<u64>, LeafFault>
     ensures ok { IfOk result (λ all. all.items ≡ numbers.now) }
+    ensures within { OnOk result (ArePastLimit numbers.now → ⊥) }
     ensures fault { IfErr result (IsLimitFault (ArePastLimit numbers.now)) }
 {
     if numbers.len() > 64 {
@@ -158,6 +159,7 @@ fn within_limit(alloc: Global, numbers: &[u128]) -> Result<Vec<u64>, LeafFault>
 /// The object identifier that a notation stands for (X.680, 32.3).
 pub(crate) fn identifier(alloc: Global, notation: &ValueSyntax) -> Result<Option<Value>, LeafFault>
     ensures ok { IfOk result (Tells an_object_identifier (tree_of notation.now)) }
+    ensures within { OnOk result (StandsPastLimit an_object_identifier (tree_of notation.now) → ⊥) }
     ensures fault { IfErr result (IsLimitFault (StandsPastLimit an_object_identifier (tree_of notation.now))) }
 {
     abstract_values();
@@ -181,6 +183,7 @@ pub(crate) fn relative_identifier(
     notation: &ValueSyntax,
 ) -> Result<Option<Value>, LeafFault>
     ensures ok { IfOk result (Tells a_relative_oid (tree_of notation.now)) }
+    ensures within { OnOk result (StandsPastLimit a_relative_oid (tree_of notation.now) → ⊥) }
     ensures fault { IfErr result (IsLimitFault (StandsPastLimit a_relative_oid (tree_of notation.now))) }
 {
     abstract_values();
