@@ -47,7 +47,9 @@ byte_is true = refl
 byte_is false = refl
 
 -- the octet of more bits
-pub octet_more : (b : Bool) (bits rest : List Bool) (h r : ℕ) → bits ≡ b ∷ rest → ((k : ℕ) → word (k + length rest) r ≡ word k (h * 2 + bool_byte b) ++ rest) → (k : ℕ) → word (k + length bits) r ≡ word k h ++ bits
+pub octet_more : (b : Bool) (bits rest : List Bool) (h r : ℕ) → bits ≡ b ∷ rest →
+    ((k : ℕ) → word (k + length rest) r ≡ word k (h * 2 + bool_byte b) ++ rest) → (k : ℕ) →
+    word (k + length bits) r ≡ word k h ++ bits
 octet_more b bits rest h r e f k =
     ap (λ q. word q r) (let l : length bits ≡ suc (length rest) = ap length e in let g : k + length bits ≡ suc k + length rest = omega arith in g)
     ∙ f (suc k)
@@ -70,7 +72,9 @@ bits_of_more [] x = append-nil (word 8 x)
 bits_of_more (o ∷ os) x = ap (λ q. word 8 o ++ q) (bits_of_more os x) ∙ sym (append_assoc (word 8 o) (octet_bits os) (word 8 x))
 
 -- eight bits are an octet more
-pub octets_more : (os ps : List ℕ) (x : ℕ) (bits rest first behind : List Bool) → ps ≡ os ++ x ∷ [] → rest ≡ first ++ behind → length first ≡ 8 → ((k : ℕ) → word (k + length first) x ≡ word k 0 ++ first) → octet_bits os ++ rest ≡ bits → octet_bits ps ++ behind ≡ bits
+pub octets_more : (os ps : List ℕ) (x : ℕ) (bits rest first behind : List Bool) → ps ≡ os ++ x ∷ [] →
+    rest ≡ first ++ behind → length first ≡ 8 → ((k : ℕ) → word (k + length first) x ≡ word k 0 ++ first) →
+    octet_bits os ++ rest ≡ bits → octet_bits ps ++ behind ≡ bits
 octets_more os ps x bits rest first behind e f l w h =
     let first_is : word 8 x ≡ first = ap (λ q. word q x) (let g : 8 ≡ 0 + length first = omega arith in g) ∙ w 0 in
     ap (λ q. octet_bits q ++ behind) e
@@ -80,7 +84,8 @@ octets_more os ps x bits rest first behind e f l w h =
     ∙ ap (λ q. octet_bits os ++ q) (sym f)
     ∙ h
 
-pub eights_behind : (rest first behind : List Bool) → rest ≡ first ++ behind → length first ≡ 8 → length rest % 8 ≡ 0 → length behind % 8 ≡ 0
+pub eights_behind : (rest first behind : List Bool) → rest ≡ first ++ behind → length first ≡ 8 → length rest % 8 ≡ 0 →
+    length behind % 8 ≡ 0
 eights_behind rest first behind e l h =
     let f : length rest ≡ 8 + length behind = ap length e ∙ length-append first behind ∙ ap (λ q. q + length behind) l in
     omega arith

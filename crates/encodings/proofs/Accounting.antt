@@ -20,7 +20,8 @@ use Rattle.encodings.proofs.Placing.{same_some}
 
 -- ---- headers
 
-told_header : (t : Tag) (c : Bool) (n : ℕ) (h : List ℕ) → HeaderBy Distinguished t c n h → (z : Numbers) × HeaderTold t c n h z
+told_header : (t : Tag) (c : Bool) (n : ℕ) (h : List ℕ) → HeaderBy Distinguished t c n h →
+    (z : Numbers) × HeaderTold t c n h z
 told_header t c n h a =
     let i = identifier t.class t.number c in
     let z : Numbers = record { identifier = length i; size = length a.header.size; contents = n } in
@@ -30,7 +31,8 @@ told_header t c n h a =
 abbrev WithinNone : List Tag → Inside → Type 0
 WithinNone ts i = ts ≡ [] → (a : Account) × (i ≡ wrap_row a)
 
-headed : {ts : List Tag} {c : Bool} {x o : List ℕ} (i : Inside) → WithinNone ts i → Framed Distinguished ts c x o → (a : Account) × Headed ts c x i o a
+headed : {ts : List Tag} {c : Bool} {x o : List ℕ} (i : Inside) → WithinNone ts i → Framed Distinguished ts c x o →
+    (a : Account) × Headed ts c x i o a
 headed {c = c} {x = x} i w bare = let r = w refl in (r.0, subst (λ q. Headed [] c x q x r.0) (sym r.1) headed_bare)
 headed {x = x} i w (innermost {t = t} {c = c} {h = h} a) = let z = told_header t c (length x) h a in (header z.0 i, headed_innermost z.1)
 headed i w (outer {t = t} {h = h} {y = y} f a) =
@@ -98,7 +100,8 @@ record Standing (xs zs : List (List ℕ)) : Type 0 where
   inverse : List ℕ
   stand : StandAt places inverse xs zs
 
-get_map : (f : ℕ → ℕ) (p : List ℕ) (i j : ℕ) → slice_get (map f p) i ≡ Some j → (k : ℕ) × (slice_get p i ≡ Some k) × (f k ≡ j)
+get_map : (f : ℕ → ℕ) (p : List ℕ) (i j : ℕ) → slice_get (map f p) i ≡ Some j →
+    (k : ℕ) × (slice_get p i ≡ Some k) × (f k ≡ j)
 get_map f [] i j e = absurd (cc)
 get_map f (k ∷ p) zero j e = (k, refl, same_some e)
 get_map f (k ∷ p) (suc i) j e = get_map f p i j e
@@ -200,18 +203,25 @@ record WithinTold (s : List Resolved) (k : Kind) (v : AbstractValue) (c : Bool) 
   told : TellsInside s k v c x inside
   wrapped : IsChoice k → (a : Account) × (inside ≡ wrap_row a)
 
-not_choice : {s : List Resolved} {k : Kind} {v : AbstractValue} {c : Bool} {x : List ℕ} {i : Inside} → (IsChoice k → ⊥) → TellsInside s k v c x i → WithinTold s k v c x
+not_choice : {s : List Resolved} {k : Kind} {v : AbstractValue} {c : Bool} {x : List ℕ} {i : Inside} →
+    (IsChoice k → ⊥) → TellsInside s k v c x i → WithinTold s k v c x
 not_choice {i = i} n d = record { inside = i; told = d; wrapped = λ p. absurd (n p) }
 
-module _ (s : List Resolved) (turn : (t : ℕ) (v w : AbstractValue) → Alike s t v w → Alike s t w v) (follow : (t : ℕ) (v w x : AbstractValue) → Alike s t v w → Alike s t w x → Alike s t v x) (all : AllTagged s) where
+module _
+    (s : List Resolved)
+    (turn : (t : ℕ) (v w : AbstractValue) → Alike s t v w → Alike s t w v)
+    (follow : (t : ℕ) (v w x : AbstractValue) → Alike s t v w → Alike s t w x → Alike s t v x)
+    (all : AllTagged s) where
   mutual
-    accounted : {t j : ℕ} {v w : AbstractValue} {o : List ℕ} → Says s Distinguished t w j o → j ≡ 0 → Alike s t v w → (a : Account) × Tells s t v o a
+    accounted : {t j : ℕ} {v w : AbstractValue} {o : List ℕ} → Says s Distinguished t w j o → j ≡ 0 → Alike s t v w →
+        (a : Account) × Tells s t v o a
     accounted {t} (says i h f) z (alike {tags = tags} {k = k} j e) =
         let m = accounted_within (holds_at (same_kind j i) h) z e in
         let r = headed m.inside (λ n. m.wrapped (all t k (subst (λ q. Is s t q k) n j))) (framed_at (same_tags j i) f) in
         (r.0, tells j m.told r.1)
 
-    accounted_within : {k : Kind} {j : ℕ} {v w : AbstractValue} {c : Bool} {x : List ℕ} → Holds s Distinguished k w j c x → j ≡ 0 → AlikeBy s k v w → WithinTold s k v c x
+    accounted_within : {k : Kind} {j : ℕ} {v w : AbstractValue} {c : Bool} {x : List ℕ} →
+        Holds s Distinguished k w j c x → j ≡ 0 → AlikeBy s k v w → WithinTold s k v c x
     accounted_within (leaf con) z e = not_choice (λ p. no_leaf p con) (leaf_told (contents_leaf con) e con)
     accounted_within (sequence ms u) z (equal l) = absurd l
     accounted_within {v = v} (sequence {xs = xs} {us = us} ms u) z (alike_sequence {e = e} {cs = cs} {vs = vs} a) =
@@ -234,7 +244,8 @@ module _ (s : List Resolved) (turn : (t : ℕ) (v w : AbstractValue) → Alike s
         let r = accounted (says_at (alternative_type f g) b) z a in
         record { inside = wrap_row r.0; told = choice_told f r.1; wrapped = λ p. (r.0, refl) }
 
-    members_accounted : {cs : List Component} {ws : Row} {j : ℕ} {xs : List (List ℕ)} → Members s Distinguished cs ws j xs → j ≡ 0 → {vs : Row} → AlikeComponents s cs vs ws → MembersTold s cs vs xs
+    members_accounted : {cs : List Component} {ws : Row} {j : ℕ} {xs : List (List ℕ)} →
+        Members s Distinguished cs ws j xs → j ≡ 0 → {vs : Row} → AlikeComponents s cs vs ws → MembersTold s cs vs xs
     members_accounted no_member z no_components = record { rows = no_row; told = no_member_told }
     members_accounted (left_out {c = c} m ms) z (both_absent a) =
         let r = members_accounted ms z a in
@@ -251,14 +262,16 @@ module _ (s : List Resolved) (turn : (t : ℕ) (v w : AbstractValue) → Alike s
         record { rows = written t.0 r.rows; told = member_told (λ d. nd (omega arith) (d.0, d.1, follow c.type w v d.0 (turn c.type v w sm) d.2)) t.1 r.told }
     members_accounted (member {c = c} {w = w} b nd ms) z (first_default {d = d} e sm a) = absurd (nd (omega arith) (d, e, turn c.type d w sm))
 
-    elements_accounted : {u : ℕ} {ws : Row} {j : ℕ} {xs : List (List ℕ)} → Elements s Distinguished u ws j xs → j ≡ 0 → {vs : Row} → AlikeElements s u vs ws → ElementsTold s u vs xs
+    elements_accounted : {u : ℕ} {ws : Row} {j : ℕ} {xs : List (List ℕ)} → Elements s Distinguished u ws j xs → j ≡ 0 →
+        {vs : Row} → AlikeElements s u vs ws → ElementsTold s u vs xs
     elements_accounted no_element z no_elements = record { rows = no_row; told = no_element_told }
     elements_accounted (element b es) z (alike_element sm a) =
         let r = elements_accounted es (omega arith) a in
         let t = accounted b (omega arith) sm in
         record { rows = written t.0 r.rows; told = element_told t.1 r.told }
 
-    set_accounted : {u : ℕ} {ws : Row} {j : ℕ} {xs : List (List ℕ)} → Elements s Distinguished u ws j xs → j ≡ 0 → {vs : Row} → AlikeInAnyOrder s u vs ws → SetTold s u vs xs
+    set_accounted : {u : ℕ} {ws : Row} {j : ℕ} {xs : List (List ℕ)} → Elements s Distinguished u ws j xs → j ≡ 0 →
+        {vs : Row} → AlikeInAnyOrder s u vs ws → SetTold s u vs xs
     set_accounted no_element z none_left = record { list = []; rows = no_row; told = no_element_told; permutes = permutes_none }
     set_accounted es z (pair sm a at) =
         let q = take_out at es in
@@ -267,5 +280,6 @@ module _ (s : List Resolved) (turn : (t : ℕ) (v w : AbstractValue) → Alike s
         let t = accounted q.it (omega arith) sm in
         record { list = q.y ∷ r.list; rows = written t.0 r.rows; told = element_told t.1 r.told; permutes = permutes_more r.permutes q.at }
 
-  pub has_account : (t : ℕ) (v w : AbstractValue) (o : List ℕ) → Alike s t v w → Says s Distinguished t w 0 o → (a : Account) × Tells s t v o a
+  pub has_account : (t : ℕ) (v w : AbstractValue) (o : List ℕ) → Alike s t v w → Says s Distinguished t w 0 o →
+      (a : Account) × Tells s t v o a
   has_account t v w o e d = accounted d refl e

@@ -20,7 +20,8 @@ use Rattle.encodings.proofs.Weaker.{unsorted_holds}
 use Rattle.encodings.proofs.Encodable.{none_lacking, merged_alone, not_mandatory, mandatory_is}
 use Rattle.encodings.proofs.Placing.{standing_permutes, one_standing}
 
-value_of_at : {s : List Resolved} {n : ℕ} {k k' : Kind} {v : AbstractValue} → k' ≡ k → ValueOf s n k' v → ValueOf s n k v
+value_of_at : {s : List Resolved} {n : ℕ} {k k' : Kind} {v : AbstractValue} → k' ≡ k → ValueOf s n k' v →
+    ValueOf s n k v
 value_of_at {s} {n} {v = v} e a = subst (λ q. ValueOf s n q v) e a
 
 value_at : {s : List Resolved} {n t u : ℕ} {v : AbstractValue} → u ≡ t → ValueIn s n u v → ValueIn s n t v
@@ -29,7 +30,8 @@ value_at {s} {n} {v = v} e a = subst (λ q. ValueIn s n q v) e a
 header_unsorted : {t : Tag} {c : Bool} {n : ℕ} {h : List ℕ} → HeaderBy Distinguished t c n h → HeaderBy Unsorted t c n h
 header_unsorted a = record { header = a.header; fewest = a.fewest }
 
-framed_of : {ts : List Tag} {c : Bool} {x o : List ℕ} {i : Inside} {a : Account} → Headed ts c x i o a → Framed Unsorted ts c x o
+framed_of : {ts : List Tag} {c : Bool} {x o : List ℕ} {i : Inside} {a : Account} → Headed ts c x i o a →
+    Framed Unsorted ts c x o
 framed_of headed_bare = bare
 framed_of (headed_innermost h) = innermost (header_unsorted h.is_header)
 framed_of (headed_outer f h) = outer (framed_of f) (header_unsorted h.is_header)
@@ -43,7 +45,8 @@ fits_alike (alike_sequence_of a) f = elim f [ ]
 fits_alike (alike_set_of a) f = elim f [ ]
 fits_alike (alike_choice g a) f = elim f [ ]
 
-leaf_value : {s : List Resolved} {n : ℕ} {k : Kind} {v w : AbstractValue} → IsLeaf k → AlikeBy s k v w → ValueOf s n k v → ValueOf s n k w
+leaf_value : {s : List Resolved} {n : ℕ} {k : Kind} {v w : AbstractValue} → IsLeaf k → AlikeBy s k v w →
+    ValueOf s n k v → ValueOf s n k w
 leaf_value l e (of_leaf f) = of_leaf (fits_alike e f)
 leaf_value l e (of_sequence a g) = absurd l
 leaf_value l e (of_set a g) = absurd l
@@ -91,7 +94,9 @@ record PutIn (s : List Resolved) (n u : ℕ) (w : AbstractValue) (ws : Row) (zs 
   are : Elements s Unsorted u row 0 zs
   count : members row ≡ suc (members ws)
 
-put_in : {s : List Resolved} {n u : ℕ} {w : AbstractValue} {x : List ℕ} → ValueIn s n u w → Says s Unsorted u w 0 x → {ws : Row} {j : ℕ} {ys zs : List (List ℕ)} → AreElements s n u ws → Elements s Unsorted u ws j ys → j ≡ 0 → ListInserted x ys zs → PutIn s n u w ws zs
+put_in : {s : List Resolved} {n u : ℕ} {w : AbstractValue} {x : List ℕ} → ValueIn s n u w → Says s Unsorted u w 0 x →
+    {ws : Row} {j : ℕ} {ys zs : List (List ℕ)} → AreElements s n u ws → Elements s Unsorted u ws j ys → j ≡ 0 →
+    ListInserted x ys zs → PutIn s n u w ws zs
 put_in {s} {u = u} {w = w} v a {ws = ws} {ys = ys} vs es z list_here = record { row = present w ws; at = here; values = one_element v vs; are = element a (subst (λ q. Elements s Unsorted u ws q ys) z es); count = refl }
 put_in v a no_value es z (list_there i) = elim es [ ]
 put_in {s} {u = u} v a (one_element {v = y} v' vs) (element {j = j} {n = k} {x = x} b es) z (list_there {y = y'} i) =
@@ -100,7 +105,9 @@ put_in {s} {u = u} v a (one_element {v = y} v' vs) (element {j = j} {n = k} {x =
     let p = put_in v a vs es r i in
     record { row = present y p.row; at = there p.at; values = one_element v' p.values; are = element (subst (λ q. Says s Unsorted u y q x) q b) p.are; count = ap suc p.count }
 
-reordered : {s : List Resolved} {n u : ℕ} {vs ws : Row} {j : ℕ} {xs zs : List (List ℕ)} → AreElements s n u ws → AlikeElements s u vs ws → Elements s Unsorted u ws j xs → j ≡ 0 → members ws ≡ members vs → Permutes xs zs → SetSaid s n u vs zs
+reordered : {s : List Resolved} {n u : ℕ} {vs ws : Row} {j : ℕ} {xs zs : List (List ℕ)} → AreElements s n u ws →
+    AlikeElements s u vs ws → Elements s Unsorted u ws j xs → j ≡ 0 → members ws ≡ members vs → Permutes xs zs →
+    SetSaid s n u vs zs
 reordered no_value no_elements no_element z c permutes_none = record { ws = end; values = no_value; same = none_left; are = no_element; count = refl }
 reordered {s} {u = u} (one_element {v = w} v vs) (alike_element sm se) (element {j = j} {n = k} {x = x} a es) z c (permutes_more p i) =
     let q : j ≡ 0 = omega arith in
@@ -119,7 +126,8 @@ module _ (s : List Resolved) (schema : IsSchema s)
         let m = within (schema.sound _ _ _ i) d (value_of_at (same_kind i j) b) in
         record { w = m.w; value = value_in i m.value; same = alike i m.same; is = says i m.is (framed_of h) }
 
-    within : {n : ℕ} {k : Kind} {v : AbstractValue} {c : Bool} {x : List ℕ} {i : Inside} → IsSound s k → TellsInside s k v c x i → ValueOf s n k v → Within s n k v c x
+    within : {n : ℕ} {k : Kind} {v : AbstractValue} {c : Bool} {x : List ℕ} {i : Inside} → IsSound s k →
+        TellsInside s k v c x i → ValueOf s n k v → Within s n k v c x
     within sound (leaf_told {w = w} l e con) b = record { w = w; value = leaf_value l e b; same = e; is = unsorted_holds (leaf con) }
     within sound (sequence_told d) (of_leaf f) = elim f [ ]
     within sound (sequence_told {e = e} {cs = cs} {vs = vs} {xs = xs} d) (of_sequence b g) =
@@ -143,7 +151,8 @@ module _ (s : List Resolved) (schema : IsSchema s)
         let m = said d (value_at (alternative_type g h) b) in
         record { w = alternative i m.w; value = of_choice g m.value; same = alike_choice g m.same; is = choice g m.is }
 
-    members_said : {n : ℕ} {cs : List Component} {vs : Row} {xs : List (List ℕ)} {rs : Rows} → AllByRecursion (HasValue s) cs → TellsMembers s cs vs xs rs → AreComponents s n cs vs → MembersSaid s n cs vs xs
+    members_said : {n : ℕ} {cs : List Component} {vs : Row} {xs : List (List ℕ)} {rs : Rows} →
+        AllByRecursion (HasValue s) cs → TellsMembers s cs vs xs rs → AreComponents s n cs vs → MembersSaid s n cs vs xs
     members_said h no_member_told no_component = record { ws = end; values = no_component; same = no_components; are = no_member }
     members_said h (absent_told {c = c} e d) (component_absent b bs) =
         let m = members_said h.1 d bs in
@@ -160,14 +169,16 @@ module _ (s : List Resolved) (schema : IsSchema s)
         let m = members_said h.1 d bs in
         record { ws = present r.w m.ws; values = component_present r.value m.values; same = both_present r.same m.same; are = member r.is (λ z f. never (f.0, f.1, follow c.type v r.w f.0 r.same f.2)) m.are }
 
-    elements_said : {n u : ℕ} {vs : Row} {xs : List (List ℕ)} {rs : Rows} → TellsElements s u vs xs rs → AreElements s n u vs → ElementsSaid s n u vs xs
+    elements_said : {n u : ℕ} {vs : Row} {xs : List (List ℕ)} {rs : Rows} → TellsElements s u vs xs rs →
+        AreElements s n u vs → ElementsSaid s n u vs xs
     elements_said no_element_told no_value = record { ws = end; values = no_value; same = no_elements; are = no_element; count = refl }
     elements_said (element_told a d) (one_element b bs) =
         let r = said a b in
         let m = elements_said d bs in
         record { ws = present r.w m.ws; values = one_element r.value m.values; same = alike_element r.same m.same; are = element r.is m.are; count = ap suc m.count }
 
-  pub told : (t : ℕ) (v : AbstractValue) (o : List ℕ) (a : Account) → ValueIn s 64 t v → Tells s t v o a → EncodesBy Unsorted s t v 0 o
+  pub told : (t : ℕ) (v : AbstractValue) (o : List ℕ) (a : Account) → ValueIn s 64 t v → Tells s t v o a →
+      EncodesBy Unsorted s t v 0 o
   told t v o a b d = let r = said d b in (r.w, record { first = b; second = r.value; are_alike = r.same }, r.is)
 
 -- ---- one account, one list of octets
@@ -218,43 +229,55 @@ other_rows (absent_row rs) = rs
 other_rows (default_row rs) = rs
 other_rows (written a rs) = rs
 
-headed_at : {ts us : List Tag} {c : Bool} {x o : List ℕ} {i : Inside} {a : Account} → us ≡ ts → Headed us c x i o a → Headed ts c x i o a
+headed_at : {ts us : List Tag} {c : Bool} {x o : List ℕ} {i : Inside} {a : Account} → us ≡ ts → Headed us c x i o a →
+    Headed ts c x i o a
 headed_at {c = c} {x = x} {o = o} {i = i} {a = a} e h = subst (λ q. Headed q c x i o a) e h
 
-same_inside : {ts : List Tag} {c d : Bool} {x y o p : List ℕ} {i j : Inside} {a b : Account} → Headed ts c x i o a → Headed ts d y j p b → a ≡ b → i ≡ j
+same_inside : {ts : List Tag} {c d : Bool} {x y o p : List ℕ} {i j : Inside} {a b : Account} → Headed ts c x i o a →
+    Headed ts d y j p b → a ≡ b → i ≡ j
 same_inside headed_bare headed_bare e = ap wrap_row e
 same_inside (headed_innermost h) (headed_innermost k) e = ap inside_of e
 same_inside (headed_outer {a = a} f h) (headed_outer g k) e = same_inside f g (ap (λ q. wrapped_in a (inside_of q)) e)
 
-framed_strictly : {ts : List Tag} {c : Bool} {x o : List ℕ} {i : Inside} {a : Account} → Headed ts c x i o a → Framed Distinguished ts c x o
+framed_strictly : {ts : List Tag} {c : Bool} {x o : List ℕ} {i : Inside} {a : Account} → Headed ts c x i o a →
+    Framed Distinguished ts c x o
 framed_strictly headed_bare = bare
 framed_strictly (headed_innermost h) = innermost h.is_header
 framed_strictly (headed_outer f h) = outer (framed_strictly f) h.is_header
 
-stands : {p q p' q' : List ℕ} {xs xs' zs : List (List ℕ)} → p' ≡ p → q' ≡ q → xs' ≡ xs → StandAt p' q' xs' zs → StandAt p q xs zs
+stands : {p q p' q' : List ℕ} {xs xs' zs : List (List ℕ)} → p' ≡ p → q' ≡ q → xs' ≡ xs → StandAt p' q' xs' zs →
+    StandAt p q xs zs
 stands {p} {q} {p'} {q'} {xs} {xs'} {zs} e f g a = subst (λ k. StandAt p q k zs) g (subst (λ k. StandAt p k xs' zs) f (subst (λ k. StandAt k q' xs' zs) e a))
 
-tells_at : {s : List Resolved} {t u : ℕ} {v : AbstractValue} {o : List ℕ} {a : Account} → u ≡ t → Tells s u v o a → Tells s t v o a
+tells_at : {s : List Resolved} {t u : ℕ} {v : AbstractValue} {o : List ℕ} {a : Account} → u ≡ t → Tells s u v o a →
+    Tells s t v o a
 tells_at {s} {v = v} {o = o} {a = a} e d = subst (λ q. Tells s q v o a) e d
 
-inside_at : {s : List Resolved} {k k' : Kind} {v : AbstractValue} {c : Bool} {x : List ℕ} {i : Inside} → k' ≡ k → TellsInside s k' v c x i → TellsInside s k v c x i
+inside_at : {s : List Resolved} {k k' : Kind} {v : AbstractValue} {c : Bool} {x : List ℕ} {i : Inside} → k' ≡ k →
+    TellsInside s k' v c x i → TellsInside s k v c x i
 inside_at {s} {v = v} {c = c} {x = x} {i = i} e d = subst (λ q. TellsInside s q v c x i) e d
 
-module _ (s : List Resolved) (turn : (t : ℕ) (v w : AbstractValue) → Alike s t v w → Alike s t w v) (follow : (t : ℕ) (v w x : AbstractValue) → Alike s t v w → Alike s t w x → Alike s t v x) where
-  same_leaf : {t : ℕ} {tags : List Tag} {k : Kind} {v w x : AbstractValue} → Is s t tags k → AlikeBy s k v w → AlikeBy s k v x → AlikeBy s k w x
+module _
+    (s : List Resolved)
+    (turn : (t : ℕ) (v w : AbstractValue) → Alike s t v w → Alike s t w v)
+    (follow : (t : ℕ) (v w x : AbstractValue) → Alike s t v w → Alike s t w x → Alike s t v x) where
+  same_leaf : {t : ℕ} {tags : List Tag} {k : Kind} {v w x : AbstractValue} → Is s t tags k → AlikeBy s k v w →
+      AlikeBy s k v x → AlikeBy s k w x
   same_leaf {t} {k = k} {v = v} {w = w} {x = x} i e f = by (follow t w v x (turn t v w (alike i e)) (alike i f))
     where
       by : Alike s t w x → AlikeBy s k w x
       by (alike j a) = alike_by_at (same_kind i j) a
 
   mutual
-    one_told : {t : ℕ} {v : AbstractValue} {o p : List ℕ} {a b : Account} → Tells s t v o a → Tells s t v p b → a ≡ b → p ≡ o
+    one_told : {t : ℕ} {v : AbstractValue} {o p : List ℕ} {a b : Account} → Tells s t v o a → Tells s t v p b → a ≡ b →
+        p ≡ o
     one_told (tells i d h) (tells j d' h') e =
         let k = headed_at (same_tags i j) h' in
         let r = one_inside i d (inside_at (same_kind i j) d') (same_inside h k e) in
         frames_only (framed_strictly h) (framed_strictly k) (sym r.0) r.1
 
-    one_inside : {t : ℕ} {tags : List Tag} {k : Kind} {v : AbstractValue} {c c' : Bool} {x y : List ℕ} {i j : Inside} → Is s t tags k → TellsInside s k v c x i → TellsInside s k v c' y j → i ≡ j → (c' ≡ c) × (y ≡ x)
+    one_inside : {t : ℕ} {tags : List Tag} {k : Kind} {v : AbstractValue} {c c' : Bool} {x y : List ℕ} {i j : Inside} →
+        Is s t tags k → TellsInside s k v c x i → TellsInside s k v c' y j → i ≡ j → (c' ≡ c) × (y ≡ x)
     one_inside t (leaf_told l e con) (leaf_told l' e' con') f = (leaf_form con' ∙ sym (leaf_form con), (leaves_best (same_leaf t e e') con con').only)
     one_inside t (leaf_told l e con) (sequence_told d) f = absurd l
     one_inside t (leaf_told l e con) (set_told d at) f = absurd l
@@ -274,7 +297,8 @@ module _ (s : List Resolved) (turn : (t : ℕ) (v w : AbstractValue) → Alike s
     one_inside t (choice_told g d) (leaf_told l e con) f = absurd l
     one_inside t (choice_told {a = a} g d) (choice_told g' d') f = (refl, one_told d (tells_at (alternative_type g g') d') (ap (wrapped_in a) f))
 
-    one_members : {cs : List Component} {vs : Row} {xs ys : List (List ℕ)} {rs rs' : Rows} → TellsMembers s cs vs xs rs → TellsMembers s cs vs ys rs' → rs ≡ rs' → ys ≡ xs
+    one_members : {cs : List Component} {vs : Row} {xs ys : List (List ℕ)} {rs rs' : Rows} →
+        TellsMembers s cs vs xs rs → TellsMembers s cs vs ys rs' → rs ≡ rs' → ys ≡ xs
     one_members no_member_told no_member_told e = refl
     one_members (absent_told n d) (absent_told n' d') e = one_members d d' (ap other_rows e)
     one_members (absent_told n d) (absent_default_told x f d') e = absurd (n x f)
@@ -285,7 +309,8 @@ module _ (s : List Resolved) (turn : (t : ℕ) (v w : AbstractValue) → Alike s
     one_members (member_told n a d) (default_told f d') e = absurd (n f)
     one_members (member_told {a = b} n a d) (member_told n' a' d') e = both (one_told a a' (ap (first_row b) e)) (one_members d d' (ap other_rows e))
 
-    one_elements : {u : ℕ} {vs : Row} {xs ys : List (List ℕ)} {rs rs' : Rows} → TellsElements s u vs xs rs → TellsElements s u vs ys rs' → rs ≡ rs' → ys ≡ xs
+    one_elements : {u : ℕ} {vs : Row} {xs ys : List (List ℕ)} {rs rs' : Rows} → TellsElements s u vs xs rs →
+        TellsElements s u vs ys rs' → rs ≡ rs' → ys ≡ xs
     one_elements no_element_told no_element_told e = refl
     one_elements (element_told {a = b} a d) (element_told a' d') e = both (one_told a a' (ap (first_row b) e)) (one_elements d d' (ap other_rows e))
 

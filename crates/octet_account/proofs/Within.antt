@@ -30,7 +30,8 @@ alternative_type e f = ap type_in (sym f ∙ e)
     type_in None = 0
     type_in (Some a) = a.type
 
-value_of_at : {s : List Resolved} {n : ℕ} {k k' : Kind} {v : AbstractValue} → k' ≡ k → ValueOf s n k' v → ValueOf s n k v
+value_of_at : {s : List Resolved} {n : ℕ} {k k' : Kind} {v : AbstractValue} → k' ≡ k → ValueOf s n k' v →
+    ValueOf s n k v
 value_of_at {s} {n} {v = v} e a = subst (λ q. ValueOf s n q v) e a
 
 value_at : {s : List Resolved} {n t u : ℕ} {v : AbstractValue} → u ≡ t → ValueIn s n u v → ValueIn s n t v
@@ -38,14 +39,16 @@ value_at {s} {n} {v = v} e a = subst (λ q. ValueIn s n q v) e a
 
 -- ---- headers
 
-small : {t : Tag} {c : Bool} {n : ℕ} {h : List ℕ} {z : Numbers} → HeaderTold t c n h z → length h ≤ 16777216 → n ≤ 16777216 → AreSmall z
+small : {t : Tag} {c : Bool} {n : ℕ} {h : List ℕ} {z : Numbers} → HeaderTold t c n h z → length h ≤ 16777216 →
+    n ≤ 16777216 → AreSmall z
 small a l m =
     let e = a.size_told in
     let f = a.contents_told in
     record { identifier_small = omega arith; size_small = omega arith; contents_small = omega arith }
 
 -- as many rows as headers round what is within
-headed_within : {ts : List Tag} {c : Bool} {x o : List ℕ} {i : Inside} {a : Account} (n : ℕ) → Headed ts c x i o a → length o ≤ 16777216 → IsInsideWithin n i → IsWithin (length ts + n) a
+headed_within : {ts : List Tag} {c : Bool} {x o : List ℕ} {i : Inside} {a : Account} (n : ℕ) → Headed ts c x i o a →
+    length o ≤ 16777216 → IsInsideWithin n i → IsWithin (length ts + n) a
 headed_within n (headed_bare {a = a}) l w = subst (λ k. IsWithin k a) (let e : n ≡ 0 + n = omega arith in e) w
 headed_within n (headed_innermost {h = h} {x = x} {z = z} {i = i} k) l w =
     let e = length-append h x in
@@ -55,7 +58,8 @@ headed_within n (headed_outer {u = u} {ts = ts} {h = h} {y = y} {z = z} {a = a} 
     let b = headed_within n f (omega arith) w in
     subst (λ m. IsWithin m (header z (wrap_row a))) (let g : suc (length (u ∷ ts) + n) ≡ suc (length (u ∷ ts)) + n = omega arith in g) (small k (omega arith) (omega arith), b)
 
-headed_longer : {ts : List Tag} {c : Bool} {x o : List ℕ} {i : Inside} {a : Account} → Headed ts c x i o a → length x ≤ length o
+headed_longer : {ts : List Tag} {c : Bool} {x o : List ℕ} {i : Inside} {a : Account} → Headed ts c x i o a →
+    length x ≤ length o
 headed_longer headed_bare = omega arith
 headed_longer (headed_innermost {h = h} {x = x} k) = omega (arith, length-append h x)
 headed_longer (headed_outer {h = h} {y = y} f k) = omega (arith, length-append h y, headed_longer f)
@@ -66,7 +70,8 @@ each_short : (m : ℕ) (xs : List (List ℕ)) → length (concat xs) ≤ m → A
 each_short m [] l = tt
 each_short m (x ∷ xs) l = let e = length-append x (concat xs) in ((omega arith), each_short m xs (omega arith))
 
-at_short : (m : ℕ) (xs : List (List ℕ)) (i : ℕ) (x : List ℕ) → AllByRecursion (λ x. length x ≤ m) xs → slice_get xs i ≡ Some x → length x ≤ m
+at_short : (m : ℕ) (xs : List (List ℕ)) (i : ℕ) (x : List ℕ) → AllByRecursion (λ x. length x ≤ m) xs →
+    slice_get xs i ≡ Some x → length x ≤ m
 at_short m [] i x a e = absurd (cc)
 at_short m (y ∷ xs) zero x a e = subst (λ q. length q ≤ m) (ap (some_or y) e) a.0
   where
@@ -75,7 +80,8 @@ at_short m (y ∷ xs) zero x a e = subst (λ q. length q ≤ m) (ap (some_or y) 
     some_or d (Some q) = q
 at_short m (y ∷ xs) (suc i) x a e = at_short m xs i x a.1 e
 
-all_short : (m : ℕ) (xs : List (List ℕ)) → ((i : ℕ) (x : List ℕ) → slice_get xs i ≡ Some x → length x ≤ m) → AllByRecursion (λ x. length x ≤ m) xs
+all_short : (m : ℕ) (xs : List (List ℕ)) → ((i : ℕ) (x : List ℕ) → slice_get xs i ≡ Some x → length x ≤ m) →
+    AllByRecursion (λ x. length x ≤ m) xs
 all_short m [] h = tt
 all_short m (x ∷ xs) h = (h 0 x refl, all_short m xs (λ i y. h (suc i) y))
 
@@ -84,21 +90,25 @@ found_at [] i h = absurd (omega arith)
 found_at (j ∷ p) zero h = (j, refl)
 found_at (k ∷ p) (suc i) h = found_at p i (omega arith)
 
-standing_short : {p q : List ℕ} {xs zs : List (List ℕ)} (m : ℕ) → StandAt p q xs zs → length (concat zs) ≤ m → AllByRecursion (λ x. length x ≤ m) xs
+standing_short : {p q : List ℕ} {xs zs : List (List ℕ)} (m : ℕ) → StandAt p q xs zs → length (concat zs) ≤ m →
+    AllByRecursion (λ x. length x ≤ m) xs
 standing_short {p} {q} {xs} {zs} m a l = all_short m xs (λ i x e.
     (let b = slice_get_within xs i x e in
     let r = a.are_places.each_member in
     let f = found_at p i (omega arith) in
     at_short m zs f.0 x (each_short m zs l) (a.each i f.0 f.1 ∙ e)))
 
-all_small : (m : ℕ) (p : List ℕ) → m ≤ 16777217 → ((i j : ℕ) → slice_get p i ≡ Some j → j < m) → AllByRecursion IsSmall p
+all_small : (m : ℕ) (p : List ℕ) → m ≤ 16777217 → ((i j : ℕ) → slice_get p i ≡ Some j → j < m) →
+    AllByRecursion IsSmall p
 all_small m [] l h = tt
 all_small m (j ∷ p) l h = (let b = h 0 j refl in omega arith, all_small m p l (λ i k. h (suc i) k))
 
-places_small : {p q : List ℕ} {xs zs : List (List ℕ)} → StandAt p q xs zs → length xs ≤ 16777216 → AllByRecursion IsSmall p
+places_small : {p q : List ℕ} {xs zs : List (List ℕ)} → StandAt p q xs zs → length xs ≤ 16777216 →
+    AllByRecursion IsSmall p
 places_small {p} {q} {xs} a l = all_small (length xs) p (omega arith) (λ i j e. (let b = slice_get_within q j i (a.are_places.there i j e) in let r = a.are_places.each_place in omega arith))
 
-inverse_small : {p q : List ℕ} {xs zs : List (List ℕ)} → StandAt p q xs zs → length xs ≤ 16777216 → AllByRecursion IsSmall q
+inverse_small : {p q : List ℕ} {xs zs : List (List ℕ)} → StandAt p q xs zs → length xs ≤ 16777216 →
+    AllByRecursion IsSmall q
 inverse_small {p} {q} {xs} a l = all_small (length xs) q (omega arith) (λ j i e. (let b = slice_get_within p i j (a.are_places.back i j e) in let r = a.are_places.each_member in omega arith))
 
 -- each encoding has some octets
@@ -109,15 +119,18 @@ as_many_octets : (xs : List (List ℕ)) → AllSome xs → length xs ≤ length 
 as_many_octets [] a = omega arith
 as_many_octets (x ∷ xs) a = let l = as_many_octets xs a.1 in let b = a.0 in omega (arith, l, b, length-append x (concat xs))
 
-elements_count : {s : List Resolved} {u : ℕ} {vs : Row} {xs : List (List ℕ)} {rs : Rows} → TellsElements s u vs xs rs → count rs ≡ length xs
+elements_count : {s : List Resolved} {u : ℕ} {vs : Row} {xs : List (List ℕ)} {rs : Rows} → TellsElements s u vs xs rs →
+    count rs ≡ length xs
 elements_count no_element_told = refl
 elements_count (element_told a d) = ap suc (elements_count d)
 
-elements_written : {s : List Resolved} {u : ℕ} {vs : Row} {xs : List (List ℕ)} {rs : Rows} → TellsElements s u vs xs rs → AllWritten rs
+elements_written : {s : List Resolved} {u : ℕ} {vs : Row} {xs : List (List ℕ)} {rs : Rows} →
+    TellsElements s u vs xs rs → AllWritten rs
 elements_written no_element_told = tt
 elements_written (element_told a d) = elements_written d
 
-members_count : {s : List Resolved} {cs : List Component} {vs : Row} {xs : List (List ℕ)} {rs : Rows} → TellsMembers s cs vs xs rs → (count rs ≡ length cs) × (length xs ≤ length cs)
+members_count : {s : List Resolved} {cs : List Component} {vs : Row} {xs : List (List ℕ)} {rs : Rows} →
+    TellsMembers s cs vs xs rs → (count rs ≡ length cs) × (length xs ≤ length cs)
 members_count no_member_told = (refl, omega arith)
 members_count (absent_told n d) = let r = members_count d in (ap suc r.0, (let l = r.1 in omega arith))
 members_count (absent_default_told x e d) = let r = members_count d in (ap suc r.0, (let l = r.1 in omega arith))
@@ -159,24 +172,28 @@ some_header {t} {c} a =
     omega (arith, e, some_size b.is_size, length-append (identifier t.class t.number c) b.size)
 
 mutual
-  some_octets : {s : List Resolved} {t : ℕ} {v : AbstractValue} {o : List ℕ} {a : Account} → Tells s t v o a → 1 ≤ length o
+  some_octets : {s : List Resolved} {t : ℕ} {v : AbstractValue} {o : List ℕ} {a : Account} → Tells s t v o a →
+      1 ≤ length o
   some_octets (tells i (choice_told g d) headed_bare) = some_octets d
   some_octets (tells i d (headed_innermost {h = h} {x = x} k)) = omega (arith, some_header k, length-append h x)
   some_octets (tells i d (headed_outer {h = h} {y = y} f k)) = omega (arith, some_header k, length-append h y)
 
-all_some : {s : List Resolved} {u : ℕ} {vs : Row} {xs : List (List ℕ)} {rs : Rows} → TellsElements s u vs xs rs → AllSome xs
+all_some : {s : List Resolved} {u : ℕ} {vs : Row} {xs : List (List ℕ)} {rs : Rows} → TellsElements s u vs xs rs →
+    AllSome xs
 all_some no_element_told = tt
 all_some (element_told a d) = (some_octets a, all_some d)
 
 module _ (s : List Resolved) (schema : IsSchema s) where
   mutual
-    account_within : {m t : ℕ} {v : AbstractValue} {o : List ℕ} {a : Account} → Tells s t v o a → ValueIn s m t v → length o ≤ 16777216 → (n : ℕ) → 6 * m + 1 ≤ n → IsWithin n a
+    account_within : {m t : ℕ} {v : AbstractValue} {o : List ℕ} {a : Account} → Tells s t v o a → ValueIn s m t v →
+        length o ≤ 16777216 → (n : ℕ) → 6 * m + 1 ≤ n → IsWithin n a
     account_within (tells {tags = tags} {x = x} {a = a} i d h) (value_in {n = m} j b) l n g =
         let few : length tags ≤ 6 = schema.few_tags _ _ _ i in
         let w = inside_within (schema.sound _ _ _ i) d (value_of_at (same_kind i j) b) (let e = headed_longer h in omega arith) (n - length tags) (omega arith) in
         subst (λ k. IsWithin k a) (let e : length tags + (n - length tags) ≡ n = omega arith in e) (headed_within (n - length tags) h l w)
 
-    inside_within : {m : ℕ} {k : Kind} {v : AbstractValue} {c : Bool} {x : List ℕ} {i : Inside} → IsSound s k → TellsInside s k v c x i → ValueOf s m k v → length x ≤ 16777216 → (n : ℕ) → 6 * m + 1 ≤ n → IsInsideWithin n i
+    inside_within : {m : ℕ} {k : Kind} {v : AbstractValue} {c : Bool} {x : List ℕ} {i : Inside} → IsSound s k →
+        TellsInside s k v c x i → ValueOf s m k v → length x ≤ 16777216 → (n : ℕ) → 6 * m + 1 ≤ n → IsInsideWithin n i
     inside_within sound (leaf_told t e con) b l n g = tt
     inside_within sound (sequence_told d) (of_leaf f) l n g = elim f [ ]
     inside_within sound (sequence_told {xs = xs} d) (of_sequence b w) l n g =
@@ -205,16 +222,21 @@ module _ (s : List Resolved) (schema : IsSchema s) where
     inside_within sound (choice_told h d) (of_leaf f) l n g = elim f [ ]
     inside_within sound (choice_told h d) (of_choice j b) l n g = account_within d (value_at (alternative_type h j) b) l n g
 
-    members_within : {m : ℕ} {cs : List Component} {vs : Row} {xs : List (List ℕ)} {rs : Rows} → TellsMembers s cs vs xs rs → AreComponents s m cs vs → AllByRecursion (λ x. length x ≤ 16777216) xs → (n : ℕ) → 6 * m + 1 ≤ n → AreRowsWithin n rs
+    members_within : {m : ℕ} {cs : List Component} {vs : Row} {xs : List (List ℕ)} {rs : Rows} →
+        TellsMembers s cs vs xs rs → AreComponents s m cs vs → AllByRecursion (λ x. length x ≤ 16777216) xs → (n : ℕ) →
+        6 * m + 1 ≤ n → AreRowsWithin n rs
     members_within no_member_told b l n g = tt
     members_within (absent_told e d) (component_absent b bs) l n g = (omega arith, members_within d bs l n g)
     members_within (absent_default_told x e d) (component_absent b bs) l n g = (omega arith, members_within d bs l n g)
     members_within (default_told e d) (component_present b bs) l n g = (omega arith, members_within d bs l n g)
     members_within (member_told e a d) (component_present b bs) l n g = (account_within a b l.0 n g, members_within d bs l.1 n g)
 
-    elements_within : {m u : ℕ} {vs : Row} {xs : List (List ℕ)} {rs : Rows} → TellsElements s u vs xs rs → AreElements s m u vs → AllByRecursion (λ x. length x ≤ 16777216) xs → (n : ℕ) → 6 * m + 1 ≤ n → AreRowsWithin n rs
+    elements_within : {m u : ℕ} {vs : Row} {xs : List (List ℕ)} {rs : Rows} → TellsElements s u vs xs rs →
+        AreElements s m u vs → AllByRecursion (λ x. length x ≤ 16777216) xs → (n : ℕ) → 6 * m + 1 ≤ n →
+        AreRowsWithin n rs
     elements_within no_element_told b l n g = tt
     elements_within (element_told a d) (one_element b bs) l n g = (account_within a b l.0 n g, elements_within d bs l.1 n g)
 
-  pub within : (t : ℕ) (v : AbstractValue) (o : List ℕ) (a : Account) → ValueIn s 64 t v → length o ≤ 16777216 → Tells s t v o a → IsWithin 400 a
+  pub within : (t : ℕ) (v : AbstractValue) (o : List ℕ) (a : Account) → ValueIn s 64 t v → length o ≤ 16777216 →
+      Tells s t v o a → IsWithin 400 a
   within t v o a b l d = account_within d b l 400 (omega arith)

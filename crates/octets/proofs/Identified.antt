@@ -12,26 +12,32 @@ use Rattle.octets.specs.Fronts.{leading, of_number_0, to_30, zeros_first, from_2
 use Rattle.octets.specs.Scans.{IdentifierAt, NoIdentifier, cut_identifier, bad_identifier, NoNumber, unended_number, small, zero_first, endless_number}
 use Rattle.octets.proofs.Septets.{completed}
 
-pub low : (class : Class) (number : ℕ) (c : Bool) → number < 31 → identifier class number c ≡ (class_bits class + form_bit c + number) ∷ []
+pub low : (class : Class) (number : ℕ) (c : Bool) → number < 31 →
+    identifier class number c ≡ (class_bits class + form_bit c + number) ∷ []
 unfolding identifier
 low class number c l = by (nat_lt number 31) (grind (arith, nat_tests))
   where
-    by : (t : Bool) → t ≡ true → cond t ((class_bits class + form_bit c + number) ∷ []) ((class_bits class + form_bit c + 31) ∷ septets number) ≡ (class_bits class + form_bit c + number) ∷ []
+    by : (t : Bool) → t ≡ true → cond t ((class_bits class + form_bit c + number) ∷ [])
+        ((class_bits class + form_bit c + 31) ∷ septets number) ≡ (class_bits class + form_bit c + number) ∷ []
     by true e = refl
     by false e = absurd (cc)
 
-pub high : (class : Class) (number : ℕ) (c : Bool) → 31 ≤ number → identifier class number c ≡ leading class c ∷ septets number
+pub high : (class : Class) (number : ℕ) (c : Bool) → 31 ≤ number →
+    identifier class number c ≡ leading class c ∷ septets number
 unfolding identifier
 high class number c l = by (nat_lt number 31) (grind (arith, nat_tests))
   where
-    by : (t : Bool) → t ≡ false → cond t ((class_bits class + form_bit c + number) ∷ []) ((class_bits class + form_bit c + 31) ∷ septets number) ≡ leading class c ∷ septets number
+    by : (t : Bool) → t ≡ false → cond t ((class_bits class + form_bit c + number) ∷ [])
+        ((class_bits class + form_bit c + 31) ∷ septets number) ≡ leading class c ∷ septets number
     by true e = absurd (cc)
     by false e = refl
 
-pub identifier_low : (t : Tag) (c : Bool) (x n : ℕ) (o b : List ℕ) → o ≡ x ∷ b → x ≡ class_bits t.class + form_bit c + n → n < 31 → t.number ≡ n → IdentifierAt t c b o
+pub identifier_low : (t : Tag) (c : Bool) (x n : ℕ) (o b : List ℕ) → o ≡ x ∷ b →
+    x ≡ class_bits t.class + form_bit c + n → n < 31 → t.number ≡ n → IdentifierAt t c b o
 identifier_low t c x n o b e f l g = record { whole = e ∙ ap (λ q. q ∷ b) (f ∙ ap (λ q. class_bits t.class + form_bit c + q) (sym g)) ∙ ap (λ q. q ++ b) (sym (low t.class t.number c (omega arith))) }
 
-pub identifier_high : (t : Tag) (c : Bool) (x : ℕ) (o b rest : List ℕ) → o ≡ x ∷ b → x ≡ leading t.class c → 31 ≤ t.number → b ≡ septets t.number ++ rest → IdentifierAt t c rest o
+pub identifier_high : (t : Tag) (c : Bool) (x : ℕ) (o b rest : List ℕ) → o ≡ x ∷ b → x ≡ leading t.class c →
+    31 ≤ t.number → b ≡ septets t.number ++ rest → IdentifierAt t c rest o
 identifier_high t c x o b rest e f l g = record { whole = e ∙ ap (λ q. q ∷ b) f ∙ ap (λ q. leading t.class c ∷ q) g ∙ ap (λ q. q ++ rest) (sym (high t.class t.number c l)) }
 
 -- ---- none
@@ -46,7 +52,8 @@ pub none_there : (o : List ℕ) → length o ≡ 0 → NoIdentifier o Truncated
 none_there [] e = cut_identifier context_0 false (identifier Context 0 false) refl (let f = ap length (low Context 0 false (omega arith)) in omega arith)
 none_there (x ∷ o) e = absurd (omega arith)
 
-pub number_0 : (k : Class) (c : Bool) (x n : ℕ) (o b : List ℕ) → o ≡ x ∷ b → x ≡ class_bits k + form_bit c + n → n ≡ 0 → k ≡ Universal → NoIdentifier o BadTag
+pub number_0 : (k : Class) (c : Bool) (x n : ℕ) (o b : List ℕ) → o ≡ x ∷ b → x ≡ class_bits k + form_bit c + n → n ≡ 0 →
+    k ≡ Universal → NoIdentifier o BadTag
 number_0 k c x n o b e f z u = bad_identifier (of_number_0 c b (e ∙ ap (λ q. q ∷ b) (f ∙ ap (λ q. class_bits k + form_bit c + q) z ∙ ap (λ q. class_bits q + form_bit c + 0) u ∙ zeroed)))
   where
     zeroed : class_bits Universal + form_bit c + 0 ≡ class_bits Universal + form_bit c
@@ -56,7 +63,8 @@ number_0 k c x n o b e f z u = bad_identifier (of_number_0 c b (e ∙ ap (λ q. 
 abbrev long_tag : (k : Class) (n : ℕ) → 31 ≤ n → n < 2147483648 → Tag
 long_tag k n a b = record { class = k; number = n; in_range = b; not_reserved = λ e. omega arith }
 
-pub number_none : (k : Class) (c : Bool) (x : ℕ) (o b : List ℕ) (e : HeaderFault) → o ≡ x ∷ b → x ≡ leading k c → NoNumber b e → NoIdentifier o e
+pub number_none : (k : Class) (c : Bool) (x : ℕ) (o b : List ℕ) (e : HeaderFault) → o ≡ x ∷ b → x ≡ leading k c →
+    NoNumber b e → NoIdentifier o e
 number_none k c x o b Truncated f g (unended_number s l never) =
     let d = completed _ b s l never in
     let t = long_tag k d.number d.above d.below in

@@ -16,7 +16,8 @@ use Rattle.octets.proofs.Septets.{head_or_0, tail_of, at_least, spelling_read, o
 use Rattle.octets.proofs.Identified.{low, high}
 
 -- septets behind some with the top bit
-past : (ds : List ℕ) (h n : ℕ) (o rest y : List ℕ) → AllBelowBase 128 ds → o ≡ map (λ d. 128 + d) ds ++ y → Septets h o n rest → number_from_digits_after 128 h ds * 128 ≤ n
+past : (ds : List ℕ) (h n : ℕ) (o rest y : List ℕ) → AllBelowBase 128 ds → o ≡ map (λ d. 128 + d) ds ++ y →
+    Septets h o n rest → number_from_digits_after 128 h ds * 128 ≤ n
 past [] h n o rest y all e s = at_least s
 past (d ∷ ds) h n o rest y all e (last_septet l f) = absurd (let q = ap head_or_0 e in omega arith)
 past (d ∷ ds) h n o rest y all e (more_septets {x = x} {o = b} l f s) =
@@ -51,7 +52,8 @@ record Front (o : List ℕ) : Type 0 where
   rest : List ℕ
   whole : o ++ missing ≡ identifier tag.class tag.number constructed ++ (size ++ rest)
 
-behind_header : {t : Tag} {c : Bool} {n : ℕ} {h : List ℕ} (a : Header t c n h) (y : List ℕ) → h ++ y ≡ identifier t.class t.number c ++ (a.size ++ y)
+behind_header : {t : Tag} {c : Bool} {n : ℕ} {h : List ℕ} (a : Header t c n h) (y : List ℕ) →
+    h ++ y ≡ identifier t.class t.number c ++ (a.size ++ y)
 behind_header {t} {c} a y = ap (λ q. q ++ y) a.whole ∙ append_assoc (identifier t.class t.number c) a.size y
 
 front_of : (t : Tag) (c : Bool) (n : ℕ) (h o rest : List ℕ) → Header t c n h → o ≡ h ++ rest → Front o
@@ -62,17 +64,26 @@ early_front o (in_header {t = t} {c = c} {n = n} {header = h} missing a e l) =
     record { tag = t; constructed = c; count = n; size = a.size; is_size = a.is_size; missing = missing; rest = []; whole = sym e ∙ sym (append-nil h) ∙ behind_header a [] }
 early_front o (in_contents {t = t} {c = c} {n = n} {header = h} rest a few e l) = front_of t c n h o rest a e
 
-module _ (identifiers : (b c : Class) (m n : ℕ) (f g : Bool) (x y : List ℕ) → identifier b m f ++ x ≡ identifier c n g ++ y → (b ≡ c) × (m ≡ n) × (f ≡ g) × (x ≡ y)) (lengths : (m n : ℕ) (p q x y : List ℕ) → LengthOf m p → LengthOf n q → p ++ x ≡ q ++ y → (m ≡ n) × (p ≡ q) × (x ≡ y)) (headers : (t u : Tag) (b c : Bool) (n m : ℕ) (h g x y : List ℕ) → Header t b n h → Header u c m g → h ++ x ≡ g ++ y → (t ≡ u) × (b ≡ c) × (n ≡ m) × (h ≡ g) × (x ≡ y)) where
-  pub one_header : (t u : Tag) (c d : Bool) (n m k j : ℕ) (o : List ℕ) → HeaderAt t c n k o → HeaderAt u d m j o → (t ≡ u) × (c ≡ d) × (n ≡ m) × (k ≡ j)
+module _
+    (identifiers : (b c : Class) (m n : ℕ) (f g : Bool) (x y : List ℕ) → identifier b m f ++ x ≡ identifier c n g ++ y →
+    (b ≡ c) × (m ≡ n) × (f ≡ g) × (x ≡ y))
+    (lengths : (m n : ℕ) (p q x y : List ℕ) → LengthOf m p → LengthOf n q → p ++ x ≡ q ++ y →
+    (m ≡ n) × (p ≡ q) × (x ≡ y))
+    (headers : (t u : Tag) (b c : Bool) (n m : ℕ) (h g x y : List ℕ) → Header t b n h → Header u c m g →
+    h ++ x ≡ g ++ y → (t ≡ u) × (b ≡ c) × (n ≡ m) × (h ≡ g) × (x ≡ y)) where
+  pub one_header : (t u : Tag) (c d : Bool) (n m k j : ℕ) (o : List ℕ) → HeaderAt t c n k o → HeaderAt u d m j o →
+      (t ≡ u) × (c ≡ d) × (n ≡ m) × (k ≡ j)
   one_header t u c d n m k j o a b =
       let r = headers t u c d n m a.header b.header a.rest b.rest a.is_header b.is_header (sym a.whole ∙ b.whole) in
       (r.0, r.1, r.2, sym a.long ∙ ap length r.3 ∙ b.long)
 
-  behind_identifier : (t u : Tag) (c d : Bool) (x y : List ℕ) → identifier t.class t.number c ++ x ≡ identifier u.class u.number d ++ y → x ≡ y
+  behind_identifier : (t u : Tag) (c d : Bool) (x y : List ℕ) →
+      identifier t.class t.number c ++ x ≡ identifier u.class u.number d ++ y → x ≡ y
   behind_identifier t u c d x y e = (identifiers t.class u.class t.number u.number c d x y e).3
 
   -- behind a first octet of the long form septets stand
-  septets_behind : (t : Tag) (c d : Bool) (k : Class) (b y : List ℕ) → leading k d ∷ b ≡ identifier t.class t.number c ++ y → (31 ≤ t.number) × (b ≡ septets t.number ++ y)
+  septets_behind : (t : Tag) (c d : Bool) (k : Class) (b y : List ℕ) →
+      leading k d ∷ b ≡ identifier t.class t.number c ++ y → (31 ≤ t.number) × (b ≡ septets t.number ++ y)
   septets_behind t c d k b y e = ⊎_elim (λ l. absurd (below l)) (λ l. (l, ap tail_of (e ∙ ap (λ q. q ++ y) (high t.class t.number c l)))) (cases_lt t.number 31)
     where
       below : t.number < 31 → ⊥
@@ -116,17 +127,20 @@ module _ (identifiers : (b c : Class) (m n : ℕ) (f g : Bool) (x y : List ℕ) 
       let e : id ++ ((128 ∷ i.rest) ++ f.missing) ≡ identifier f.tag.class f.tag.number f.constructed ++ (f.size ++ f.rest) = sym (append_assoc id (128 ∷ i.rest) f.missing) ∙ ap (λ q. q ++ f.missing) (sym i.whole) ∙ f.whole in
       never_128 (i.rest ++ f.missing) f.rest f.is_size (behind_identifier i.tag f.tag i.constructed f.constructed ((128 ∷ i.rest) ++ f.missing) (f.size ++ f.rest) e)
 
-  reserved_front : (t : Tag) (c : Bool) (o rest : List ℕ) → o ≡ identifier t.class t.number c ++ (255 ∷ rest) → Front o → ⊥
+  reserved_front : (t : Tag) (c : Bool) (o rest : List ℕ) → o ≡ identifier t.class t.number c ++ (255 ∷ rest) →
+      Front o → ⊥
   reserved_front t c o rest g f =
       let id = identifier t.class t.number c in
       let e : id ++ ((255 ∷ rest) ++ f.missing) ≡ identifier f.tag.class f.tag.number f.constructed ++ (f.size ++ f.rest) = sym (append_assoc id (255 ∷ rest) f.missing) ∙ ap (λ q. q ++ f.missing) (sym g) ∙ f.whole in
       never_255 (rest ++ f.missing) f.rest f.is_size (behind_identifier t f.tag c f.constructed ((255 ∷ rest) ++ f.missing) (f.size ++ f.rest) e)
 
   -- a length that no message has
-  great_front : (t : Tag) (c : Bool) (n : ℕ) (size o rest : List ℕ) → LengthOf n size → o ≡ identifier t.class t.number c ++ (size ++ rest) → Front o
+  great_front : (t : Tag) (c : Bool) (n : ℕ) (size o rest : List ℕ) → LengthOf n size →
+      o ≡ identifier t.class t.number c ++ (size ++ rest) → Front o
   great_front t c n size o rest l e = record { tag = t; constructed = c; count = n; size = size; is_size = l; missing = []; rest = rest; whole = append-nil o ∙ e }
 
-  great_early : (t : Tag) (c : Bool) (n : ℕ) (size o rest : List ℕ) → LengthOf n size → 16777216 < n → o ≡ identifier t.class t.number c ++ (size ++ rest) → EndsEarly o → ⊥
+  great_early : (t : Tag) (c : Bool) (n : ℕ) (size o rest : List ℕ) → LengthOf n size → 16777216 < n →
+      o ≡ identifier t.class t.number c ++ (size ++ rest) → EndsEarly o → ⊥
   great_early t c n size o rest l g e (in_header {t = u} {c = d} {n = m} {header = h} missing a f k) =
       let i = identifier t.class t.number c in
       let w : (i ++ size) ++ (rest ++ missing) ≡ h ++ [] = sym (append_assoc (i ++ size) rest missing) ∙ ap (λ q. q ++ missing) (append_assoc i size rest ∙ sym e) ∙ sym f ∙ sym (append-nil h) in
@@ -202,6 +216,8 @@ module _ (identifiers : (b c : Class) (m n : ℕ) (f g : Bool) (x y : List ℕ) 
   one_fault BadTag BadTag o s r = refl
 
 -- what follows for a reader
-pub only_of : {H : Type 0} (r : Result H HeaderFault) (o : List ℕ) → ((e : HeaderFault) (t : Tag) (c : Bool) (n k : ℕ) (o : List ℕ) → Stands e o → HeaderAt t c n k o → ⊥) → IfErr r (λ e. Stands e o) → (t : Tag) (c : Bool) (n k : ℕ) → HeaderAt t c n k o → IsOk r
+pub only_of : {H : Type 0} (r : Result H HeaderFault) (o : List ℕ) →
+    ((e : HeaderFault) (t : Tag) (c : Bool) (n k : ℕ) (o : List ℕ) → Stands e o → HeaderAt t c n k o → ⊥) →
+    IfErr r (λ e. Stands e o) → (t : Tag) (c : Bool) (n k : ℕ) → HeaderAt t c n k o → IsOk r
 only_of (Ok h) o either s t c n k b = refl
 only_of (Err e) o either s t c n k b = absurd (either e t c n k o s b)

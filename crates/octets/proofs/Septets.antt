@@ -24,7 +24,8 @@ at_least (more_septets l e s) = let i = at_least s in omega arith
 pub one_last : (h x : ℕ) (o rest : List ℕ) → o ≡ x ∷ rest → x < 128 → Septets h o (h * 128 + x) rest
 one_last h x o rest e l = subst (λ q. Septets h q (h * 128 + x) rest) (sym e) (last_septet l refl)
 
-pub one_more : (h x n : ℕ) (o b rest : List ℕ) → o ≡ x ∷ b → 128 ≤ x → x < 256 → Septets (h * 128 + (x - 128)) b n rest → Septets h o n rest
+pub one_more : (h x n : ℕ) (o b rest : List ℕ) → o ≡ x ∷ b → 128 ≤ x → x < 256 →
+    Septets (h * 128 + (x - 128)) b n rest → Septets h o n rest
 one_more h x n o b rest e l m s = subst (λ q. Septets h q n rest) (sym e) (more_septets (omega arith) (omega arith) s)
 
 pub once : {h n m : ℕ} {o p r q : List ℕ} → Septets h o n r → Septets h p m q → o ≡ p → n ≡ m
@@ -44,7 +45,8 @@ map_append [] ys = refl
 map_append (x ∷ xs) ys = ap (λ r. (128 + x) ∷ r) (map_append xs ys)
 
 -- behind the digits of a number, septets go on to those of the whole
-spelled : {h n : ℕ} {o rest : List ℕ} → Septets h o n rest → ((x : ℕ) (b : List ℕ) → o ≡ (128 + x) ∷ b → 0 < h * 128 + x) → marked (digits_of 128 h) ++ o ≡ septets n ++ rest
+spelled : {h n : ℕ} {o rest : List ℕ} → Septets h o n rest →
+    ((x : ℕ) (b : List ℕ) → o ≡ (128 + x) ∷ b → 0 < h * 128 + x) → marked (digits_of 128 h) ++ o ≡ septets n ++ rest
 spelled {h} {n} {rest = rest} (last_septet {x = x} l e) some =
     let high : n / 128 ≡ h = omega arith in
     let low : n % 128 ≡ x = omega arith in
@@ -63,10 +65,12 @@ spelled {h} {n} {rest = rest} (more_septets {x = x} {y = y} {o = o} l e s) some 
     ∙ ap (λ q. q ++ o) (sym (map_append (digits_of 128 h) (x ∷ [])))
     ∙ ap (λ q. marked q ++ o) (sym step) ∙ i
 
-pub number_spelled : (n : ℕ) (o rest : List ℕ) → Septets 0 o n rest → ((b : List ℕ) → o ≡ 128 ∷ b → ⊥) → o ≡ septets n ++ rest
+pub number_spelled : (n : ℕ) (o rest : List ℕ) → Septets 0 o n rest → ((b : List ℕ) → o ≡ 128 ∷ b → ⊥) →
+    o ≡ septets n ++ rest
 number_spelled n o rest s some = spelled s (λ x b e. ⊎_elim (λ lt. omega arith) (λ le. absurd (some b (e ∙ ap (λ q. q ∷ b) (let z : 128 + x ≡ 128 = omega arith in z)))) (cases_lt 0 x))
 
-digits_read : (ds : List ℕ) (h d : ℕ) (rest : List ℕ) → AllBelowBase 128 ds → d < 128 → Septets h (marked ds ++ d ∷ rest) (number_from_digits_after 128 h (ds ++ d ∷ [])) rest
+digits_read : (ds : List ℕ) (h d : ℕ) (rest : List ℕ) → AllBelowBase 128 ds → d < 128 →
+    Septets h (marked ds ++ d ∷ rest) (number_from_digits_after 128 h (ds ++ d ∷ [])) rest
 digits_read [] h d rest all l = last_septet l refl
 digits_read (x ∷ ds) h d rest all l = more_septets all.0 refl (digits_read ds (h * 128 + x) d rest all.1 l)
 
@@ -77,7 +81,8 @@ spelling_read n o rest e =
     subst (λ q. Septets 0 q n rest) (sym (e ∙ append_assoc (marked ds) ((n % 128) ∷ []) rest))
     (subst (λ q. Septets 0 (marked ds ++ (n % 128) ∷ rest) q rest) worth (digits_read ds 0 (n % 128) rest (all_below_base_digits_of 128 (n / 128) (omega arith)) (omega arith)))
 
-first_of : (ds : List ℕ) (d : ℕ) (rest : List ℕ) → (0 < length ds → 0 < get_or ds 0 0) → d < 128 → head_or_0 ((marked ds ++ d ∷ []) ++ rest) ≡ 128 → ⊥
+first_of : (ds : List ℕ) (d : ℕ) (rest : List ℕ) → (0 < length ds → 0 < get_or ds 0 0) → d < 128 →
+    head_or_0 ((marked ds ++ d ∷ []) ++ rest) ≡ 128 → ⊥
 first_of [] d rest some l e = omega arith
 first_of (x ∷ ds) d rest some l e = let p : 0 < x = some (omega arith) in omega arith
 
@@ -102,7 +107,8 @@ not_a_number n x o b rest e z f = never_zero n o b rest (e ∙ ap (λ q. q ∷ b
 goes_none : (h : ℕ) (o : List ℕ) → o ≡ [] → Goes h h o []
 goes_none h o e = record { digits = []; below = tt; worth = refl; whole = e }
 
-goes_more : (h x m : ℕ) (o b rest : List ℕ) → o ≡ x ∷ b → 128 ≤ x → x < 256 → Goes (h * 128 + (x - 128)) m b rest → Goes h m o rest
+goes_more : (h x m : ℕ) (o b rest : List ℕ) → o ≡ x ∷ b → 128 ≤ x → x < 256 → Goes (h * 128 + (x - 128)) m b rest →
+    Goes h m o rest
 goes_more h x m o b rest e l k g = record {
   digits = (x - 128) ∷ g.digits;
   below = (omega arith, g.below);
@@ -114,13 +120,15 @@ pub no_more : (h : ℕ) (o : List ℕ) → length o ≡ 0 → h < 16777216 → N
 no_more h [] e l = unended (goes_none h [] refl) l
 no_more h (x ∷ o) e l = absurd (omega arith)
 
-pub none_behind : (h x : ℕ) (o b : List ℕ) (e : HeaderFault) → o ≡ x ∷ b → 128 ≤ x → x < 256 → NoSeptets (h * 128 + (x - 128)) b e → NoSeptets h o e
+pub none_behind : (h x : ℕ) (o b : List ℕ) (e : HeaderFault) → o ≡ x ∷ b → 128 ≤ x → x < 256 →
+    NoSeptets (h * 128 + (x - 128)) b e → NoSeptets h o e
 none_behind h x o b Truncated f l k (unended g m) = unended (goes_more h x _ o b [] f l k g) m
 none_behind h x o b Indefinite f l k n = elim n [ ]
 none_behind h x o b BadLength f l k n = elim n [ ]
 none_behind h x o b BadTag f l k (endless rest g m) = endless rest (goes_more h x _ o b rest f l k g) m
 
-pub too_many : (h x : ℕ) (o b : List ℕ) → o ≡ x ∷ b → 128 ≤ x → x < 256 → 16777216 ≤ h * 128 + (x - 128) → NoSeptets h o BadTag
+pub too_many : (h x : ℕ) (o b : List ℕ) → o ≡ x ∷ b → 128 ≤ x → x < 256 → 16777216 ≤ h * 128 + (x - 128) →
+    NoSeptets h o BadTag
 too_many h x o b f l k m = endless b (goes_more h x _ o b b f l k (record { digits = []; below = tt; worth = refl; whole = refl })) m
 
 -- ---- numbers of tags
@@ -148,7 +156,8 @@ pub record Completed (o : List ℕ) : Type 0 where
   pub below : number < 2147483648
   pub whole : septets number ≡ o ++ last ∷ []
 
-with_one : (m d : ℕ) (ds o : List ℕ) → AllBelowBase 128 ds → number_from_digits_after 128 0 ds ≡ m → o ≡ marked ds → WithoutZeros (o ++ d ∷ []) → d < 128 → o ++ d ∷ [] ≡ septets (m * 128 + d) ++ []
+with_one : (m d : ℕ) (ds o : List ℕ) → AllBelowBase 128 ds → number_from_digits_after 128 0 ds ≡ m → o ≡ marked ds →
+    WithoutZeros (o ++ d ∷ []) → d < 128 → o ++ d ∷ [] ≡ septets (m * 128 + d) ++ []
 with_one m d ds o all w e never l =
     let n : number_from_digits_after 128 0 (ds ++ d ∷ []) ≡ m * 128 + d = number_push 128 ds d ∙ ap (λ q. q * 128 + d) w in
     let s : Septets 0 (o ++ d ∷ []) (m * 128 + d) [] = subst (λ q. Septets 0 (q ++ d ∷ []) (m * 128 + d) []) (sym e) (subst (λ q. Septets 0 (marked ds ++ d ∷ []) q []) n (digits_read ds 0 d [] all l)) in

@@ -40,10 +40,12 @@ zeros_long (suc n) = ap suc (zeros_long n)
 pub size_short : (x : ℕ) (o rest : List ℕ) → o ≡ x ∷ rest → x < 128 → SizeAt x rest o
 size_short x o rest e l = record { size = x ∷ []; is_size = short l; few = omega arith; whole = e }
 
-digits_below : {x : ℕ} {o b : List ℕ} (ds rest : List ℕ) → o ≡ x ∷ b → b ≡ ds ++ rest → AreOctets o → AllBelowBase 256 ds
+digits_below : {x : ℕ} {o b : List ℕ} (ds rest : List ℕ) → o ≡ x ∷ b → b ≡ ds ++ rest → AreOctets o →
+    AllBelowBase 256 ds
 digits_below {o = o} {b = b} ds rest e f h = front_below ds rest (rw (sym f) (behind e (all_below o h)))
 
-pub size_long : (x n : ℕ) (o b ds rest : List ℕ) → o ≡ x ∷ b → b ≡ ds ++ rest → x ≡ 128 + length ds → 1 ≤ length ds → length ds ≤ 126 → AreOctets o → n ≡ number_from_digits_after 256 0 ds → n ≤ 16777216 → SizeAt n rest o
+pub size_long : (x n : ℕ) (o b ds rest : List ℕ) → o ≡ x ∷ b → b ≡ ds ++ rest → x ≡ 128 + length ds → 1 ≤ length ds →
+    length ds ≤ 126 → AreOctets o → n ≡ number_from_digits_after 256 0 ds → n ≤ 16777216 → SizeAt n rest o
 size_long x n o b ds rest e f g some few all worth most = record {
   size = (128 + length ds) ∷ ds;
   is_size = long (record { some = some; at_most = few; octets = digits_below ds rest e f all; worth = sym worth });
@@ -51,7 +53,8 @@ size_long x n o b ds rest e f g some few all worth most = record {
   whole = e ∙ ap (λ q. q ∷ b) g ∙ ap (λ q. (128 + length ds) ∷ q) f;
 }
 
-pub size_great : (x : ℕ) (o b ds rest : List ℕ) → o ≡ x ∷ b → b ≡ ds ++ rest → x ≡ 128 + length ds → 1 ≤ length ds → length ds ≤ 126 → AreOctets o → 16777216 < number_from_digits_after 256 0 ds → NoSize o BadLength
+pub size_great : (x : ℕ) (o b ds rest : List ℕ) → o ≡ x ∷ b → b ≡ ds ++ rest → x ≡ 128 + length ds → 1 ≤ length ds →
+    length ds ≤ 126 → AreOctets o → 16777216 < number_from_digits_after 256 0 ds → NoSize o BadLength
 size_great x o b ds rest e f g some few all great =
     great_size rest (long (record { some = some; at_most = few; octets = digits_below ds rest e f all; worth = refl })) great
     (e ∙ ap (λ q. q ∷ b) g ∙ ap (λ q. (128 + length ds) ∷ q) f)
@@ -66,7 +69,8 @@ size_indefinite x o b e f = indefinite b (e ∙ ap (λ q. q ∷ b) f)
 pub size_reserved : (x : ℕ) (o b : List ℕ) → o ≡ x ∷ b → x ≡ 255 → NoSize o BadLength
 size_reserved x o b e f = reserved_size b (e ∙ ap (λ q. q ∷ b) f)
 
-pub size_cut : (x : ℕ) (o b : List ℕ) → o ≡ x ∷ b → 129 ≤ x → x ≤ 254 → AreOctets o → length b < x - 128 → NoSize o Truncated
+pub size_cut : (x : ℕ) (o b : List ℕ) → o ≡ x ∷ b → 129 ≤ x → x ≤ 254 → AreOctets o → length b < x - 128 →
+    NoSize o Truncated
 size_cut x o b e some few all lt =
     let more = x - 128 - length b in
     let ds = b ++ replicate more 0 in

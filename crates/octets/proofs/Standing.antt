@@ -7,20 +7,24 @@ use Rattle.octets.specs.declared.fault.HeaderFault.TheVariants.{Truncated, Indef
 use Rattle.octets.specs.Fronts.{HeaderAt, in_header, in_contents, reserved, too_great, Stands}
 use Rattle.octets.specs.Scans.{IdentifierAt, NoIdentifier, cut_identifier, bad_identifier, SizeAt, NoSize, cut_size, indefinite, reserved_size, great_size}
 
-header_of : (t : Tag) (c : Bool) (n : ℕ) (rest b o : List ℕ) → IdentifierAt t c b o → (s : SizeAt n rest b) → Header t c n (identifier t.class t.number c ++ s.size)
+header_of : (t : Tag) (c : Bool) (n : ℕ) (rest b o : List ℕ) → IdentifierAt t c b o → (s : SizeAt n rest b) →
+    Header t c n (identifier t.class t.number c ++ s.size)
 header_of t c n rest b o i s = record { size = s.size; is_size = s.is_size; whole = refl }
 
-whole_of : (t : Tag) (c : Bool) (n : ℕ) (rest b o : List ℕ) → IdentifierAt t c b o → (s : SizeAt n rest b) → o ≡ (identifier t.class t.number c ++ s.size) ++ rest
+whole_of : (t : Tag) (c : Bool) (n : ℕ) (rest b o : List ℕ) → IdentifierAt t c b o → (s : SizeAt n rest b) →
+    o ≡ (identifier t.class t.number c ++ s.size) ++ rest
 whole_of t c n rest b o i s = i.whole ∙ ap (λ q. identifier t.class t.number c ++ q) s.whole ∙ sym (append_assoc (identifier t.class t.number c) s.size rest)
 
-pub header_stands : (t : Tag) (c : Bool) (n : ℕ) (rest b o : List ℕ) → IdentifierAt t c b o → SizeAt n rest b → n ≤ length rest → HeaderAt t c n (length o - length rest) o
+pub header_stands : (t : Tag) (c : Bool) (n : ℕ) (rest b o : List ℕ) → IdentifierAt t c b o → SizeAt n rest b →
+    n ≤ length rest → HeaderAt t c n (length o - length rest) o
 header_stands t c n rest b o i s l =
     let h = identifier t.class t.number c ++ s.size in
     let w = whole_of t c n rest b o i s in
     let k : length o ≡ length (h ++ rest) = ap length w in
     record { header = h; rest = rest; is_header = header_of t c n rest b o i s; few = s.few; long = omega (arith, k, length-append h rest); whole = w; follow = l }
 
-pub contents_cut : (t : Tag) (c : Bool) (n : ℕ) (rest b o : List ℕ) → IdentifierAt t c b o → SizeAt n rest b → length rest < n → Stands Truncated o
+pub contents_cut : (t : Tag) (c : Bool) (n : ℕ) (rest b o : List ℕ) → IdentifierAt t c b o → SizeAt n rest b →
+    length rest < n → Stands Truncated o
 contents_cut t c n rest b o i s l = in_contents {t = t} {c = c} rest (header_of t c n rest b o i s) s.few (whole_of t c n rest b o i s) l
 
 pub identifier_stands : (e : HeaderFault) (o : List ℕ) → NoIdentifier o e → Stands e o
@@ -42,7 +46,8 @@ size_stands BadLength t c b o i (reserved_size rest e) = reserved t c rest (i.wh
 size_stands BadLength t c b o i (great_size rest l g e) = too_great t c rest l g (i.whole ∙ ap (λ q. identifier t.class t.number c ++ q) e)
 size_stands BadTag t c b o i n = elim n [ ]
 
-pub no_longer : (t : Tag) (c : Bool) (n : ℕ) (rest b o : List ℕ) → IdentifierAt t c b o → SizeAt n rest b → length rest ≤ length o
+pub no_longer : (t : Tag) (c : Bool) (n : ℕ) (rest b o : List ℕ) → IdentifierAt t c b o → SizeAt n rest b →
+    length rest ≤ length o
 no_longer t c n rest b o i s =
     let h = identifier t.class t.number c ++ s.size in
     let k : length o ≡ length (h ++ rest) = ap length (whole_of t c n rest b o i s) in
