@@ -1,17 +1,18 @@
 //! The laws of encodings (X.690, 8 to 11).
 
-ghost use Rattle.std.specs.Prelude.{◌≡◌, ◌⊎◌, ℕ, false, ◌*◌, ◌^◌, ◌<◌, ◌≤◌, List, [], ◌++◌, length};
+ghost use Rattle.std.specs.Prelude.{◌≡◌, ◌⊎◌, ℕ, Bool, false, ◌*◌, ◌^◌, ◌<◌, ◌≤◌, List, [], ◌++◌, length};
+ghost use Rattle.asn_base.specs.declared.tag.Tag.{Tag};
 ghost use Rattle.asn_base.specs.Abstract.{AbstractValue};
 ghost use Rattle.asn_base.specs.Accepted.{IsAccepted};
 ghost use Rattle.asn_base.specs.Schemas.{IsSchema, IsSound};
-ghost use Rattle.asn_base.specs.Tags.{AllTagged, AllTellable, HasFewTags};
+ghost use Rattle.asn_base.specs.Tags.{AllTagged, AllTellable, First, HasFewTags};
 ghost use Rattle.asn_base.specs.Same.{AlikeBy, Same};
 ghost use Rattle.asn_base.specs.Typed.{Fits, IsValue, IsValueWithoutNodes, ValueIn, nodes};
 ghost use Rattle.asn_base.specs.Types.{Kind, Resolved};
 ghost use Rattle.encodings.specs.Account.{Account, Tells};
 ghost use Rattle.encodings.specs.Contents.{Contents};
 ghost use Rattle.encodings.specs.Encoding.{Ber, Der, EncodesBy, Says, Shortest};
-ghost use Rattle.encodings.specs.Reading.{Encodes};
+ghost use Rattle.encodings.specs.Reading.{Encodes, HasContents};
 ghost use Rattle.encodings.specs.Levels.{levels};
 ghost use Rattle.encodings.specs.Weight.{weight};
 ghost use Rattle.encodings.specs.Rules.{Rules, Basic, Unsorted, Distinguished};
@@ -129,6 +130,24 @@ pub fn reading_laws()
 {
     sameness();
 }
+
+/// An encoding is a header, of a first tag of its type, and the contents that it tells; none such begins another. Contents
+/// of a kind that holds no others are those of one value.
+pub fn unit_laws()
+    ensures says { (s : List Resolved) (r : Rules) (t k : ℕ) (v : AbstractValue) (o : List ℕ)
+        → AllTagged s
+        → Says s r t v k o
+        → (g : Tag) × (c : Bool) × (x : List ℕ) × First s t g × HasContents g c x o }
+    ensures one { (g f : Tag) (c d : Bool) (x y o p a b : List ℕ)
+        → HasContents g c x o
+        → HasContents f d y p
+        → o ++ a ≡ p ++ b
+        → (g ≡ f) × (c ≡ d) × (x ≡ y) × (o ≡ p) × (a ≡ b) }
+    ensures contents { (q r : Rules) (k : Kind) (v w : AbstractValue) (c : Bool) (x : List ℕ)
+        → Contents q k v c x
+        → Contents r k w c x
+        → v ≡ w }
+{}
 
 /// Levels of headers belong to the octets: each reading of them has as many. An encoding by the distinguished rules has
 /// at most six for each level of its value, so that one of a value has at most 400.

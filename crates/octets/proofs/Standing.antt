@@ -1,7 +1,10 @@
 -- A whole header at the front, or a fault, from its parts.
-use Rattle.std.proofs.Common.{arith, ◌≡◌, ℕ, ◌-◌, ◌<◌, ◌≤◌, Bool, List, [], ◌∷◌, ◌++◌, length, refl, sym, ap, ◌∙◌, append_assoc, length-append}
+use Rattle.std.proofs.Common.{arith, ◌≡◌, ℕ, ◌+◌, ◌-◌, ◌<◌, ◌≤◌, Bool, List, [], ◌∷◌, ◌++◌, length, take, drop, refl, sym, ap, subst, ◌∙◌, append_assoc, length-append}
+use Rattle.std.proofs.Math.Seq.{take-append-add, drop-append_seam}
+use Rattle.std.proofs.lemmas.List.{length-take-le}
 use Rattle.asn_base.specs.declared.tag.Tag.{Tag}
 use Rattle.encodings.specs.Header.{identifier, short, Header}
+use Rattle.encodings.specs.Reading.{HasContents}
 use Rattle.octets.specs.declared.fault.HeaderFault.{HeaderFault}
 use Rattle.octets.specs.declared.fault.HeaderFault.TheVariants.{Truncated, Indefinite, BadLength, BadTag}
 use Rattle.octets.specs.Fronts.{HeaderAt, in_header, in_contents, reserved, too_great, Stands}
@@ -52,3 +55,21 @@ no_longer t c n rest b o i s =
     let h = identifier t.class t.number c ++ s.size in
     let k : length o ≡ length (h ++ rest) = ap length (whole_of t c n rest b o i s) in
     omega (arith, k, length-append h rest)
+
+-- a header that stands at the front, and its contents
+pub with_contents : (t : Tag) (c : Bool) (n k : ℕ) (o : List ℕ) → HeaderAt t c n k o →
+    HasContents t c (take n (drop k o)) (take (k + n) o)
+with_contents t c n k o a =
+    let x = take n a.rest in
+    let behind : drop k o ≡ a.rest =
+    ap (λ q. drop q o) (sym a.long) ∙ ap (drop (length a.header)) a.whole ∙ drop-append_seam a.header a.rest in
+    let front : take (k + n) o ≡ a.header ++ x =
+    ap (λ q. take (q + n) o) (sym a.long) ∙ ap (take (length a.header + n)) a.whole
+    ∙ take-append-add a.header a.rest n in
+    let same : take n (drop k o) ≡ x = ap (take n) behind in
+    let l : length (take n (drop k o)) ≡ n = ap length same ∙ length-take-le n a.rest a.follow in
+    record {
+      header = a.header;
+      is_header = subst (λ q. Header t c q a.header) (sym l) a.is_header;
+      whole = front ∙ ap (λ q. a.header ++ q) (sym same);
+    }

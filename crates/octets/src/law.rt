@@ -3,10 +3,11 @@
 ghost use Rattle.asn_base.specs.declared.tag.Tag.{Tag};
 ghost use Rattle.encodings.specs.Header.{Header, HeaderBy};
 ghost use Rattle.encodings.specs.Fewest.{shortest_header};
+ghost use Rattle.encodings.specs.Reading.{HasContents};
 ghost use Rattle.encodings.specs.Rules.{Distinguished};
 ghost use Rattle.octets.specs.Fronts.{HeaderAt, Stands};
 ghost use Rattle.octets.specs.declared.fault.HeaderFault.{HeaderFault};
-ghost use Rattle.std.specs.Prelude.{◌≡◌, ◌≤◌, Bool, List, length, ℕ};
+ghost use Rattle.std.specs.Prelude.{◌≡◌, ◌+◌, ◌≤◌, Bool, List, drop, length, take, ℕ};
 
 use encodings::{header_laws, part_laws};
 
@@ -31,6 +32,10 @@ pub fn one_front()
         → Stands e o
         → HeaderAt t c n k o
         → ⊥ }
+    // The header of k octets and the n octets behind it are a header and its contents.
+    ensures contents { (t : Tag) (c : Bool) (n k : ℕ) (o : List ℕ)
+        → HeaderAt t c n k o
+        → HasContents t c (take n (drop k o)) (take (k + n) o) }
 {
     header_laws();
     part_laws();

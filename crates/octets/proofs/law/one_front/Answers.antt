@@ -1,3 +1,4 @@
+use Rattle.octets.proofs.Standing.{with_contents}
 use Rattle.octets.proofs.OneFront.{one_header, one_fault, never_both}
 use Rattle.octets.proofs.law.one_front.Goals as goal
 
@@ -9,4 +10,5 @@ returns c =
       header = one_header p.identifiers p.lengths h;
       fault = one_fault p.identifiers p.lengths h;
       either = never_both p.identifiers p.lengths h;
+      contents = with_contents;
     }
