@@ -29,19 +29,19 @@ same_bags = record {
   first = value_in (record { found = refl }) (of_set_of (one_element (one_bit_string 62 _) (one_element (one_bit_string 62 _) no_element)) tt);
   second = value_in (record { found = refl }) (of_set_of (one_element (one_bit_string 62 _) (one_element (one_bit_string 62 _) no_element)) tt);
   are_alike = alike (record { found = refl }) (alike_set_of (
-    pair (alike (record { found = refl }) (zeros 1 0 refl)) (
+      pair (alike (record { found = refl }) (zeros 1 0 refl)) (
       pair (alike (record { found = refl }) (zeros 0 2 refl)) none_left here
-    ) here
-  ));
+      ) here
+      ));
 }
 
 -- {'1'B, '0'B} and {'0'B, '1'B}
 pub in_another_order : Alike bags 0 (list (present (bits (true ∷ [])) (present (bits (false ∷ [])) end))) (list (present (bits (false ∷ [])) (present (bits (true ∷ [])) end)))
 in_another_order = alike (record { found = refl }) (alike_set_of (
-  pair (alike (record { found = refl }) (equal tt)) (
+    pair (alike (record { found = refl }) (equal tt)) (
     pair (alike (record { found = refl }) (equal tt)) none_left here
-  ) (there here)
-))
+    ) (there here)
+    ))
 
 -- {'1'B} and {'1'B, '1'B} are not
 pub other_number : Alike bags 0 (list (present (bits (true ∷ [])) end)) (list (present (bits (true ∷ [])) (present (bits (true ∷ [])) end))) → ⊥

@@ -2,7 +2,7 @@
 
 ghost use Rattle.asn_base.specs.Abstract.{bits_of, bits_of_octet};
 ghost use Rattle.asn_base.specs.Decided.{AreAlikeBits, HaveSameOctet};
-ghost use Rattle.std.specs.Prelude.{◌≡◌, ◌+◌, ◌*◌, ◌<◌, ◌↔◌, ◌^◌, IsTrue, false, get_or, length};
+ghost use Rattle.std.specs.Prelude.{◌≡◌, ◌+◌, ◌*◌, ◌<◌, ◌↔◌, ◌^◌, ℕ, IfSome, IsTrue, false, get_or, length, true};
 
 use crate::value::BitString;
 
@@ -47,10 +47,39 @@ fn bit(bits: &BitString, octet: usize, place: u8) -> bool
     bit_of_octet(bits.octets[octet], place)
 }
 
+/// An octet whose eight bits are all the string's, if it is one.
+fn whole_octet(bits: &BitString, octet: usize) -> Option<u8>
+    ensures { IfSome result (λ x. (k : ℕ)
+        → k < 8
+        → get_or (bits_of bits.now) (8 * octet + k) false ≡ get_or (bits_of_octet x) k false) }
+{
+    let count = bits.octets.len();
+    if octet >= count || octet == count - 1 {
+        return None;
+    }
+    Some(bits.octets[octet])
+}
+
+/// Whether both have the octet whole, and the same one: so equal strings are compared by octets.
+fn have_equal_octet(first: &BitString, second: &BitString, octet: usize) -> bool
+    ensures { result ≡ true → HaveSameOctet (bits_of first.now) (bits_of second.now) octet }
+{
+    match whole_octet(first, octet) {
+        Some(one) => match whole_octet(second, octet) {
+            Some(other) => one == other,
+            None => false,
+        },
+        None => false,
+    }
+}
+
 /// Whether two have the same eight bits in an octet, false behind the last bit.
 fn have_same_octet(first: &BitString, second: &BitString, octet: usize) -> bool
     ensures { IsTrue result ↔ HaveSameOctet (bits_of first.now) (bits_of second.now) octet }
 {
+    if have_equal_octet(first, second, octet) {
+        return true;
+    }
     for place in 0..8 {
         if bit(first, octet, place) != bit(second, octet, place) {
             return false;
