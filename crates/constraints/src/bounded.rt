@@ -1,30 +1,31 @@
 //! Tagged modules whose constraints have a meaning.
 
-ghost use Rattle.std.specs.Prelude.{ℕ, ℤ, IsTrue, ◌↔◌, ◌≡◌, ◌⊎◌, ◌<◌, false, true, pos, length, MatchOption, MatchResult, IsSomeAnd};
+ghost use Rattle.std.specs.Prelude.{ℕ, ℤ, IsTrue, ◌↔◌, ◌≡◌, ◌⊎◌, ◌<◌, false, true, pos, length, MatchOption, MatchResult, IsSomeAnd, IfOk};
 ghost use Rattle.asn_base.specs.declared.strings.StringKind.{StringKind};
 ghost use Rattle.asn_base.specs.Schemas.{IsLeast, IsGreatest};
-ghost use Rattle.asn_base.specs.Seen.{bounds_of};
+ghost use Rattle.asn_base.specs.Seen.{bounds_of, constraint_of};
 ghost use Rattle.asn_base.specs.Typed.{IsInSome};
 ghost use Rattle.trees.specs.Types.{a_restricted_string};
 ghost use Rattle.type_table.specs.Seen.{kind_of};
 ghost use Rattle.type_table.specs.Table.{Kind, simple};
 ghost use Rattle.range_ends.specs.Ends.{IsOfKind};
 ghost use Rattle.constraints.specs.Constraints.{is_integer as is_integer', has_alphabet as has_alphabet', has_visible_size as has_visible_size'};
-ghost use Rattle.constraints.specs.Allowed.{IsAllowed, IsCounted, IsInAlphabet, AreVisible, AreCharacters};
+ghost use Rattle.constraints.specs.Allowed.{IsAllowed, IsCounted, IsInAlphabet, AreVisible, AreCharacters, IsConstraintOf};
 ghost use Rattle.constraints.specs.Bounded.{AreBounded};
 ghost use Rattle.constraints.specs.Faults.{Stands};
-ghost use Rattle.constraints.specs.proving.Columns.{AreAllNoted, IsLeft};
+ghost use Rattle.constraints.specs.proving.Columns.{AreAllNoted, AreAllowed, IsLeft};
 
 use crate::column::{Column, column_of, core_at};
 use crate::fault::{BoundFault, told};
 use crate::limit::Limit;
 use crate::meaning::{has_alphabet, has_size, is_integer};
-use asn_base::constraint::Bounds;
+use asn_base::constraint::{Bounds, Constraint, Range};
 use asn_base::schema::TypeId;
 use range_ends::Scope;
 use ranges::Codes;
 use resolve::Linked;
-use std::alloc::Global;
+use ranges::law::bounds;
+use std::alloc::{AllocError, Global};
 use std::marker::Model;
 use tagging::Tagged;
 use trees::Simple;
@@ -168,6 +169,41 @@ fn leaves(limit: &Limit, shape: &Shape, number: i128) -> bool
         ⊎ ((limit.now.extensible ≡ true) × IsCounted (kind_of shape.now) number)) }
 {
     limit.numbers.has(number) || (limit.extensible && counted(shape, number))
+}
+
+/// The ranges of what is allowed, None where everything is.
+fn allowed_ranges(alloc: Global, limit: &Limit) -> Result<Option<Vec<Range>>, AllocError>
+    ensures { IfOk result (AreAllowed limit.now) }
+{
+    if limit.extensible {
+        return Ok(None);
+    }
+    let ranges = limit.numbers.copy(alloc)?;
+    Ok(Some(ranges.into_ranges()))
+}
+
+/// What the constraints of a type leave of its numbers or sizes, as a resolved type keeps it: the ranges that are allowed, None
+/// where an extension marker allows all, and what the packed encoding sees. Err where memory is wanting.
+pub fn constraint(alloc: Global, bounded: &Bounded<'_>, ty: TypeId) -> Result<Constraint, AllocError>
+    requires { ty.index < length bounded.now.types }
+    ensures { (k : Kind) → IsOfKind bounded.now.types ty.index k →
+        IfOk result (λ c. IsConstraintOf bounded.now k ty.index (constraint_of c)) }
+{
+    match bounded.limit(ty.index) {
+        None => Err(AllocError),
+        Some(limit) => {
+            let allowed = match allowed_ranges(alloc, limit) {
+                Ok(allowed) => allowed,
+                Err(fault) => return Err(fault),
+            };
+            bounds();
+            let _shape = bounded.shape(ty.index);
+            Ok(Constraint {
+                allowed,
+                visible: seen(limit),
+            })
+        }
+    }
 }
 
 /// What the packed encoding sees of the numbers of an INTEGER type (X.691, clauses 10.3 and 12.1): the least and the greatest

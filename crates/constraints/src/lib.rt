@@ -10,6 +10,6 @@ mod limit;
 mod meaning;
 
 pub use bounded::{
-    Bounded, allows_character, allows_number, allows_size, alphabet, bound, range, size,
+    Bounded, allows_character, allows_number, allows_size, alphabet, bound, constraint, range, size,
 };
 pub use fault::BoundFault;
