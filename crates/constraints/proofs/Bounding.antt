@@ -4,22 +4,27 @@ use Rattle.std.specs.Prelude.{IsSomeAnd, MatchOption}
 use Rattle.std.proofs.lemmas.Option.{slice_get_within, slice_get_past}
 use Rattle.std.specs.Borrow.{Bor}
 use Rattle.asn_base.specs.Names.{IsMember, is_first}
-use Rattle.asn_base.specs.Schemas.{IsLeast, IsGreatest}
-use Rattle.asn_base.specs.Types.{Bounds}
-use Rattle.asn_base.specs.Typed.{IsInSome}
+use Rattle.asn_base.specs.Schemas.{IsNumber, IsSize, IsLeast, IsGreatest, AreBounds}
+use Rattle.std.specs.Prelude.{Vec}
+use Rattle.std.specs.Global.{Global}
+use Rattle.asn_base.specs.declared.constraint.Range.{Range as Range'}
+use Rattle.asn_base.specs.Types.{Bounds, Range, Constraint}
+use Rattle.asn_base.specs.Typed.{IsInSome, IsAllowed as Allows}
 use Rattle.trees.specs.Types.{a_restricted_string}
 use Rattle.type_table.specs.Walks.{onward, follow}
 use Rattle.type_table.specs.Table.{Type', Kind, simple, walk, next, behind_of}
 use Rattle.resolve.specs.Program.{Program}
 use Rattle.range_ends.specs.Ends.{IsOfKind}
-use Rattle.constraints.specs.Constraints.{has_alphabet}
-use Rattle.constraints.specs.Allowed.{IsCounted, IsInRoot, IsAllowed, AreVisible, AreCharacters}
+use Rattle.constraints.specs.Constraints.{has_alphabet, has_size}
+use Rattle.constraints.specs.Allowed.{IsCounted, IsInRoot, IsAllowed, AreVisible, AreCharacters, IsConstraintOf}
 use Rattle.constraints.specs.Bounded.{AreBounded, HasCharacters}
 use Rattle.constraints.specs.declared.limit.Limit.{Limit}
-use Rattle.constraints.specs.proving.Columns.{IsLeft, IsLimitOf, AreAllNoted, limit_noted}
+use Rattle.constraints.specs.proving.Columns.{AreAllowed, IsLeft, IsLimitOf, AreAllNoted, limit_noted}
 use Rattle.asn_base.specs.declared.constraint.Bounds.{Bounds as Bounds'}
-use Rattle.asn_base.specs.Seen.{bounds_of}
+use Rattle.asn_base.specs.Seen.{bounds_of, constraint_of}
 use Rattle.constraints.proofs.Noting.{noted_is}
+use Rattle.ranges.specs.Numbers.{AreSizes, HasRoot}
+use Rattle.constraints.proofs.Senses.{counted_size}
 use Rattle.constraints.proofs.Trails.{kind_once}
 
 le_or : (a b : ℕ) → (a < b) ⊎ (b ≤ a)
@@ -162,3 +167,56 @@ pub left_allows : (p : Program) (i : ℕ) (h : Kind) (l : Limit) (z : ℤ) (A : 
 left_allows p i h l z A u f a k v =
     subst (λ j. A ↔ IsAllowed p j i z) (kind_once p.types i h k u v)
     (λ x. allowed_by p h i l z (f h u) (a.0 x), λ x. a.1 (allowed_back p h i l z (f h u) x))
+
+-- ---- what a resolved type keeps
+
+left_sizes : (p : Program) (k : Kind) (i : ℕ) (l : Limit) → has_size k ≡ true → IsLeft p k i l → AreSizes l.numbers
+left_sizes p k i l h f = λ z m. (counted_size k z h).0 ((f.numbers z).0 m).counted
+
+root_of : (l : Limit) (o : Option (Vec Range' Global)) (b : Bounds') →
+    AreAllowed l o →
+    b.extensible ≡ l.extensible →
+    HasRoot (constraint_of (record { allowed = o; visible = b })) l.numbers
+root_of l None b a e = inr (e ∙ a, refl)
+root_of l (Some v) b a e = inl (e ∙ a.0, ap Some a.1)
+
+allows_left : (p : Program) (k : Kind) (i : ℕ) (l : Limit) (o : Option (Vec Range' Global)) (b : Bounds') (z : ℤ) →
+    IsLeft p k i l →
+    AreAllowed l o →
+    IsCounted k z →
+    (Allows (constraint_of (record { allowed = o; visible = b })) z ↔ IsAllowed p k i z)
+allows_left p k i l None b z f a c = (λ x. inr (c, f.extensible.0 a), λ x. tt)
+allows_left p k i l (Some v) b z f a c = (
+  λ x. inl ((f.numbers z).0 (subst (IsInSome z) a.1 x)),
+  λ x. subst (IsInSome z) (sym a.1) (root x),
+)
+  where
+    root : IsAllowed p k i z → IsInSome z l.numbers
+    root (inl r) = (f.numbers z).1 r
+    root (inr r) = let q : false ≡ true = sym a.0 ∙ f.extensible.1 r.1 in absurd cc
+
+pub constraint_is : (p : Program) (k : Kind) (i : ℕ) (l : Limit) (o : Option (Vec Range' Global)) (b : Bounds') →
+    ((c : Constraint) (rs : List Range) →
+    HasRoot c rs →
+    IsLeast (λ z. IsInSome z rs) c.visible.least →
+    IsGreatest (λ z. IsInSome z rs) c.visible.greatest →
+    AreBounds IsNumber c) →
+    ((c : Constraint) (rs : List Range) →
+    HasRoot c rs →
+    AreSizes rs →
+    IsLeast (λ z. IsInSome z rs) c.visible.least →
+    IsGreatest (λ z. IsInSome z rs) c.visible.greatest →
+    AreBounds IsSize c) →
+    IsLeft p k i l →
+    AreAllowed l o →
+    IsLeast (λ z. IsInSome z l.numbers) b.least →
+    IsGreatest (λ z. IsInSome z l.numbers) b.greatest →
+    b.extensible ≡ l.extensible →
+    IsConstraintOf p k i (constraint_of (record { allowed = o; visible = b }))
+constraint_is p k i l o b numbers sizes f a least greatest e = record {
+  numbers = λ h. numbers (constraint_of (record { allowed = o; visible = b })) l.numbers (root_of l o b a e) least greatest;
+  sizes = λ h. sizes (constraint_of (record { allowed = o; visible = b })) l.numbers (root_of l o b a e)
+      (left_sizes p k i l h f) least greatest;
+  allowed = λ z c. allows_left p k i l o b z f a c;
+  visible = visible_is p k i l (bounds_of b) f least greatest e;
+}

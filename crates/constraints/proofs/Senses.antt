@@ -63,7 +63,7 @@ counted_number (tagged t w j) z e = absurd cc
 counted_number (members l m cs) z e = absurd cc
 counted_number (elements y j) z e = absurd cc
 
-counted_size : (k : Kind) (z : ℤ) → has_size k ≡ true → (IsCounted k z ↔ IsSize z)
+pub counted_size : (k : Kind) (z : ℤ) → has_size k ≡ true → (IsCounted k z ↔ IsSize z)
 counted_size (simple (an_integer ns)) z e = absurd cc
 counted_size (simple types.a_boolean) z e = (λ i. i, λ i. i)
 counted_size (simple (types.a_bit_string bs)) z e = (λ i. i, λ i. i)

@@ -2,16 +2,17 @@
 -- references and tags (X.680, clauses 49.1 and 50.8), and what the packed encoding sees of it (X.691, clause 10.3).
 use Rattle.std.specs.Prelude.{◌≡◌, ◌⊎◌, ◌↔◌, ℕ, ℤ, true, List, Some, slice_get, IsTrue}
 use Rattle.asn_base.specs.declared.strings.StringKind.{StringKind}
-use Rattle.asn_base.specs.Schemas.{IsNumber, IsSize, IsLeast, IsGreatest, is_character}
+use Rattle.asn_base.specs.Schemas.{IsNumber, IsSize, IsLeast, IsGreatest, AreBounds, IsAlphabet, is_character}
 use Rattle.asn_base.specs.Names.{IsMember}
-use Rattle.asn_base.specs.Types.{Bounds}
+use Rattle.asn_base.specs.Types.{Bounds, Constraint}
+use Rattle.asn_base.specs.Typed.{IsAllowed as Allows}
 use Rattle.trees.specs.Values.{Name}
 use Rattle.trees.specs.Constraints.{ConstraintTree}
 use Rattle.trees.specs.Types.{an_integer, a_restricted_string}
 use Rattle.names.specs.Modules.{StandsIn}
 use Rattle.type_table.specs.Table.{Type', Kind, simple, walk}
 use Rattle.resolve.specs.Program.{Program, IsAssignment}
-use Rattle.constraints.specs.Constraints.{AllowsNumber, AllowsCharacter, has_marker}
+use Rattle.constraints.specs.Constraints.{AllowsNumber, AllowsCharacter, has_marker, is_integer, has_size}
 
 -- type i bears constraint c, which is read in module M: it is written on the type, or on one behind its references and
 -- tags
@@ -62,3 +63,17 @@ pub record AreVisible (p : Program) (k : Kind) (i : ℕ) (b : Bounds) : Type 0 w
 abbrev pub AreCharacters : Program → Kind → ℕ → List ℕ → Type 0
 AreCharacters p (simple (a_restricted_string s)) i codes = (c : ℕ) → (IsMember c codes ↔ IsInAlphabet p s i c)
 AreCharacters p k i codes = ⊥
+
+-- What a resolved type keeps of the numbers or sizes of type i, which is of kind k: what is allowed, and what the packed
+-- encoding sees, as the types of a schema have to keep it.
+pub record IsConstraintOf (p : Program) (k : Kind) (i : ℕ) (c : Constraint) : Type 0 where
+  pub numbers : is_integer k ≡ true → AreBounds IsNumber c
+  pub sizes : has_size k ≡ true → AreBounds IsSize c
+  pub allowed : (z : ℤ) → IsCounted k z → (Allows c z ↔ IsAllowed p k i z)
+  pub visible : AreVisible p k i c.visible
+
+-- What a resolved type keeps of the characters of type i, one of four string types, whose characters are those of s: the
+-- codes of those that may stand in a value, in order, one at least.
+pub record AreCodesOf (p : Program) (s : StringKind) (i : ℕ) (codes : List ℕ) : Type 0 where
+  pub alphabet : IsAlphabet s codes
+  pub same : (c : ℕ) → (IsMember c codes ↔ IsInAlphabet p s i c)

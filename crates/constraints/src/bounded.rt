@@ -84,7 +84,7 @@ impl<'a> Bounded<'a> {
     }
 
     /// What the constraints of a type leave.
-    fn limit(&self, ty: usize) -> Option<&Limit>
+    pub(crate) fn limit(&self, ty: usize) -> Option<&Limit>
         requires { ty < length self.now.types }
         ensures { IsSomeAnd result (λ l. (k : Kind) → IsOfKind self.now.types ty k → IsLeft self.now k ty l.now) }
     {
@@ -92,7 +92,7 @@ impl<'a> Bounded<'a> {
     }
 
     /// What a type is behind its references and tags.
-    fn shape(&self, ty: usize) -> &'a Shape
+    pub(crate) fn shape(&self, ty: usize) -> &'a Shape
         requires { ty < length self.now.types }
         ensures { IsOfKind self.now.types ty (kind_of result.now) }
     {
@@ -120,7 +120,7 @@ pub fn bound<'a>(alloc: Global, tagged: &'a Tagged<'a>) -> Result<Bounded<'a>, B
 }
 
 /// The least and the greatest number or size that is left, and whether an extension marker stands.
-fn seen(limit: &Limit) -> Bounds
+pub(crate) fn seen(limit: &Limit) -> Bounds
     requires { 0 < length limit.now.numbers }
     ensures least { IsLeast (λ z. IsInSome z limit.now.numbers) result.least }
     ensures greatest { IsGreatest (λ z. IsInSome z limit.now.numbers) result.greatest }

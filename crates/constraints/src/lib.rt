@@ -5,6 +5,7 @@ mod bounded;
 mod characters;
 mod column;
 mod fault;
+mod kept;
 pub mod law;
 mod limit;
 mod meaning;
@@ -13,3 +14,4 @@ pub use bounded::{
     Bounded, allows_character, allows_number, allows_size, alphabet, bound, range, size,
 };
 pub use fault::BoundFault;
+pub use kept::{codes, constraint};

@@ -1,5 +1,9 @@
 -- What is noted for the types of a program.
 use Rattle.std.specs.Prelude.{◌≡◌, ◌↔◌, ◌⊎◌, ◌<◌, ◌+◌, ℕ, ℤ, List, [], Option, Some, None, true, length, slice_get, IsTrue}
+use Rattle.std.specs.Prelude.{Vec, map, false}
+use Rattle.std.specs.Global.{Global}
+use Rattle.asn_base.specs.declared.constraint.Range.{Range as Range'}
+use Rattle.asn_base.specs.Seen.{range_of}
 use Rattle.asn_base.specs.Names.{IsMember}
 use Rattle.asn_base.specs.Schemas.{is_character}
 use Rattle.asn_base.specs.Typed.{IsInSome}
@@ -134,3 +138,8 @@ pub record IsShared (ts : List Type') (i j : ℕ) : Type 0 where
   pub there : slice_get ts i ≡ Some type
   pub none : type.constraints ≡ []
   pub leads : next ts i ≡ Some j
+
+-- the ranges of what is allowed, or none where everything is
+abbrev pub AreAllowed : Limit → Option (Vec Range' Global) → Type 0
+AreAllowed l None = l.extensible ≡ true
+AreAllowed l (Some v) = (l.extensible ≡ false) × (map range_of v.items ≡ l.numbers)

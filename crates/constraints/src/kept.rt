@@ -1,0 +1,83 @@
+//! What a resolved type keeps of its constraints.
+
+ghost use Rattle.std.specs.Prelude.{ℕ, ◌≡◌, ◌<◌, [], false, length, IfOk};
+ghost use Rattle.asn_base.specs.declared.strings.StringKind.{StringKind};
+ghost use Rattle.asn_base.specs.Seen.{constraint_of};
+ghost use Rattle.trees.specs.Types.{a_restricted_string};
+ghost use Rattle.type_table.specs.Table.{Kind, simple};
+ghost use Rattle.range_ends.specs.Ends.{IsOfKind};
+ghost use Rattle.constraints.specs.Constraints.{has_alphabet as has_alphabet'};
+ghost use Rattle.constraints.specs.Allowed.{IsConstraintOf, AreCodesOf};
+ghost use Rattle.constraints.specs.proving.Columns.{AreAllowed};
+
+use crate::bounded::{Bounded, seen};
+use crate::limit::Limit;
+use crate::meaning::has_alphabet;
+use asn_base::constraint::{Constraint, Range};
+use asn_base::schema::TypeId;
+use ranges::law::bounds;
+use std::alloc::{AllocError, Global};
+
+/// The ranges of what is allowed, None where everything is.
+fn allowed_ranges(alloc: Global, limit: &Limit) -> Result<Option<Vec<Range>>, AllocError>
+    ensures { IfOk result (AreAllowed limit.now) }
+{
+    if limit.extensible {
+        return Ok(None);
+    }
+    let ranges = limit.numbers.copy(alloc)?;
+    Ok(Some(ranges.into_ranges()))
+}
+
+/// What the constraints of a type leave of its numbers or sizes, as a resolved type keeps it: the ranges that are allowed, None
+/// where an extension marker allows all, and the bounds of the root (X.680, clauses 49 to 51; X.691, clause 10.3). Err where
+/// memory is wanting.
+pub fn constraint(
+    alloc: Global,
+    bounded: &Bounded<'_>,
+    ty: TypeId,
+) -> Result<Constraint, AllocError>
+    requires { ty.index < length bounded.now.types }
+    ensures { (k : Kind) → IsOfKind bounded.now.types ty.index k →
+        IfOk result (λ c. IsConstraintOf bounded.now k ty.index (constraint_of c)) }
+{
+    match bounded.limit(ty.index) {
+        None => Ok(Constraint::any_number()),
+        Some(limit) => {
+            bounds();
+            let _shape = bounded.shape(ty.index);
+            let allowed = match allowed_ranges(alloc, limit) {
+                Ok(allowed) => allowed,
+                Err(fault) => return Err(fault),
+            };
+            Ok(Constraint {
+                allowed,
+                visible: seen(limit),
+            })
+        }
+    }
+}
+
+/// The characters of one of the four restricted strings that its constraints leave, as a resolved type keeps them: their codes,
+/// in order (X.691, clause 30.5). No code of any other type. Err where memory is wanting.
+pub fn codes(alloc: Global, bounded: &Bounded<'_>, ty: TypeId) -> Result<Vec<u8>, AllocError>
+    requires { ty.index < length bounded.now.types }
+    ensures strings { (s : StringKind) → IsOfKind bounded.now.types ty.index (simple (a_restricted_string s)) →
+        IfOk result (λ v. AreCodesOf bounded.now s ty.index v.items) }
+    ensures others { (k : Kind) → IsOfKind bounded.now.types ty.index k → has_alphabet' k ≡ false →
+        IfOk result (λ v. v.items ≡ []) }
+{
+    if !has_alphabet(bounded.shape(ty.index)) {
+        return Ok(Vec::new(alloc));
+    }
+    match bounded.limit(ty.index) {
+        None => Ok(Vec::new(alloc)),
+        Some(limit) => {
+            limit.codes.in_order();
+            match limit.codes.list(alloc) {
+                Ok(codes) => Ok(codes),
+                Err(fault) => Err(fault),
+            }
+        }
+    }
+}
