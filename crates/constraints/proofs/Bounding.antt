@@ -3,9 +3,11 @@ use Rattle.std.proofs.Common.{◌≡◌, ◌⊎◌, ◌↔◌, inl, inr, ℕ, ze
 use Rattle.std.specs.Prelude.{IsSomeAnd, MatchOption}
 use Rattle.std.proofs.lemmas.Option.{slice_get_within, slice_get_past}
 use Rattle.std.specs.Borrow.{Bor}
-use Rattle.asn_base.specs.Names.{IsMember, is_first}
-use Rattle.asn_base.specs.Schemas.{IsNumber, IsSize, IsLeast, IsGreatest, AreBounds}
-use Rattle.std.specs.Prelude.{Vec}
+use Rattle.asn_base.specs.Names.{IsMember, is_first, is_later}
+use Rattle.asn_base.specs.Schemas.{IsNumber, IsSize, IsLeast, IsGreatest, AreBounds, CodesAscend, is_character}
+use Rattle.std.specs.Prelude.{Vec, IsTrue}
+use Rattle.std.specs.List.{AllByRecursion}
+use Rattle.asn_base.specs.declared.strings.StringKind.{StringKind}
 use Rattle.std.specs.Global.{Global}
 use Rattle.asn_base.specs.declared.constraint.Range.{Range as Range'}
 use Rattle.asn_base.specs.Types.{Bounds, Range, Constraint}
@@ -16,7 +18,7 @@ use Rattle.type_table.specs.Table.{Type', Kind, simple, walk, next, behind_of}
 use Rattle.resolve.specs.Program.{Program}
 use Rattle.range_ends.specs.Ends.{IsOfKind}
 use Rattle.constraints.specs.Constraints.{has_alphabet, has_size}
-use Rattle.constraints.specs.Allowed.{IsCounted, IsInRoot, IsAllowed, AreVisible, AreCharacters, IsConstraintOf}
+use Rattle.constraints.specs.Allowed.{IsCounted, IsInRoot, IsAllowed, AreVisible, AreCharacters, IsConstraintOf, AreCodesOf}
 use Rattle.constraints.specs.Bounded.{AreBounded, HasCharacters}
 use Rattle.constraints.specs.declared.limit.Limit.{Limit}
 use Rattle.constraints.specs.proving.Columns.{AreAllowed, IsLeft, IsLimitOf, AreAllNoted, limit_noted}
@@ -220,3 +222,26 @@ constraint_is p k i l o b numbers sizes f a least greatest e = record {
   allowed = λ z c. allows_left p k i l o b z f a c;
   visible = visible_is p k i l (bounds_of b) f least greatest e;
 }
+
+-- ---- the characters that it keeps
+
+all_such : (P : ℕ → Type 0) (cs : List ℕ) → ((c : ℕ) → IsMember c cs → P c) → AllByRecursion P cs
+all_such P [] f = tt
+all_such P (c ∷ cs) f = (f c is_first, all_such P cs (λ d m. f d (is_later m)))
+
+pub codes_are : (p : Program) (s : StringKind) (i : ℕ) (l : Limit) (v : List ℕ) →
+    IsLeft p (simple (a_restricted_string s)) i l →
+    CodesAscend l.codes →
+    AllByRecursion (λ c. c < 128) l.codes →
+    v ≡ l.codes →
+    AreCodesOf p s i v
+codes_are p s i l v f a b e =
+    subst (AreCodesOf p s i) (sym e) (record {
+      alphabet = record {
+        some = (let h = f.some.codes refl in omega (arith, h));
+        ascend = a;
+        below_128 = b;
+        are_characters = all_such (λ c. IsTrue (is_character s c)) l.codes (λ c m. ((f.codes c).0 m).character);
+      };
+      same = f.codes;
+    })
