@@ -27,7 +27,8 @@ pub enum BoundFault {
     /// An end of a range leads to this value, whose notation leads back to the value itself.
     #[error("33 Circular: {0}")]
     Circular(Spot),
-    /// The constraint at the place and those before it leave no number, no size or no character (X.680, clause 49.1).
+    /// The constraints of the type at the place, and those of the types behind it, leave no number, no size or no character
+    /// (X.680, clause 49.1).
     #[error("50 Empty: {0}")]
     Empty(Spot),
     /// The type doesn't take the constraint at the place; or an end of a range at the place is no number, is a size below

@@ -78,7 +78,11 @@ fn left(alloc: Global, bounded: &Bounded<'_>, ty: TypeId) -> Result<String, Allo
 
 /// Whether a number, or a size of a type that is no INTEGER, may be that of a value.
 fn allows(bounded: &Bounded<'_>, ty: TypeId, number: &str) -> bool {
-    match (range(bounded, ty), number.parse::<i128>(), number.parse::<usize>()) {
+    match (
+        range(bounded, ty),
+        number.parse::<i128>(),
+        number.parse::<usize>(),
+    ) {
         (Some(_), Ok(number), _) => allows_number(bounded, ty, number),
         (None, _, Ok(number)) => allows_size(bounded, ty, number),
         _ => false,
@@ -116,11 +120,23 @@ fn entry(alloc: Global, bounded: &Bounded<'_>, word: &str) -> Result<String, All
         (None, Some(text)) => allows_text(bounded, ty, text),
         (None, None) => return left(alloc, bounded, ty),
     };
-    String::from_str(alloc, if is_allowed { " allowed" } else { " not allowed" })
+    String::from_str(
+        alloc,
+        if is_allowed {
+            " allowed"
+        } else {
+            " not allowed"
+        },
+    )
 }
 
 /// Where a fault stands: what is written there, up to a blank.
-fn place(alloc: Global, linked: &Linked, texts: &[Vec<u8>], spot: &Spot) -> Result<String, AllocError> {
+fn place(
+    alloc: Global,
+    linked: &Linked,
+    texts: &[Vec<u8>],
+    spot: &Spot,
+) -> Result<String, AllocError> {
     let at = spot.at;
     let mut text = format!(in alloc; " at {at} ")?;
     for (header, octets) in linked.headers().iter().zip(texts) {

@@ -10,11 +10,13 @@ use syntax::parse;
 use tagging::{Tagged, tag};
 use text::lex;
 
-const GOOD: &str = "C DEFINITIONS AUTOMATIC TAGS ::= BEGIN A ::= INTEGER {five(5)} (1..3 | 8 | v) (2..MAX) B ::= [5] A (MIN..five)\n\
+const GOOD: &str =
+    "C DEFINITIONS AUTOMATIC TAGS ::= BEGIN A ::= INTEGER {five(5)} (1..3 | 8 | v) (2..MAX) B ::= [5] A (MIN..five)\n\
     S ::= PrintableString (FROM (\"a\"..\"e\" | \"xz\")) (SIZE (1..4)) L ::= SEQUENCE SIZE (1..2, ...) OF B\n\
     v INTEGER ::= w w INTEGER ::= 9 END";
 
-const BAD: &str = "C DEFINITIONS ::= BEGIN A ::= INTEGER (1..3 | 8) (2..MAX) B ::= SEQUENCE { a A (9..4) } END";
+const BAD: &str =
+    "C DEFINITIONS ::= BEGIN A ::= INTEGER (1..3 | 8) (2..MAX) B ::= SEQUENCE { a A (9..4) } END";
 
 fn linked(alloc: Global, text: &str) -> Result<Linked, Fail> {
     let octets = text.as_bytes();
