@@ -1,7 +1,6 @@
 //! Each call answers `Memory` or what it answers with ample memory. After a refusal, what it was lent to change is as it
 //! was, and the same call with ample memory gives the answer.
 
-mod bounds;
 mod front;
 mod headers;
 mod kit;

@@ -1,12 +1,11 @@
 //! Answers rows of data by the public calls of the compiler's crates, and prints each answer below its row's words.
 //!
 //! The files that its words name are files of rows. A row's first word is a command and its second the row's own name:
-//! `link`, `tags`, `bounds`, `header`, `octets`, `line`, `asnc` and `job`, each described where it is answered and at the
-//! head of the files that use it. The answers that the stored run compares are written by hand, not taken from this
-//! program. A row with `numbered` among its words has each `#` of its texts counted, from 0.
+//! `link`, `tags`, `header`, `octets`, `line`, `asnc` and `job`, each described where it is answered and at the head of the
+//! files that use it. The answers that the stored run compares are written by hand, not taken from this program. A row
+//! with `numbered` among its words has each `#` of its texts counted, from 0.
 #![tactic(auto)]
 
-mod bounds;
 mod headers;
 mod links;
 mod paths;
@@ -26,7 +25,6 @@ fn answer_of(alloc: Global, row: &Row) -> Result<String, Refusal> {
     match row.command() {
         "link" => links::answer(alloc, row),
         "tags" => paths::answer(alloc, row),
-        "bounds" => bounds::answer(alloc, row),
         "header" => headers::header(alloc, row),
         "octets" => headers::octets(alloc, row),
         "line" => programs::line(alloc, row),

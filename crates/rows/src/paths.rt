@@ -24,7 +24,7 @@ fn member_type(linked: &Linked, list: TypeId, name: &str) -> Option<TypeId> {
 }
 
 /// The type that is named as `Module.Type`, or its member that is named as `Module.Type.member`.
-pub fn type_at(linked: &Linked, path: &str) -> Option<TypeId> {
+fn type_at(linked: &Linked, path: &str) -> Option<TypeId> {
     let (within, rest) = path.split_once('.')?;
     let (name, member) = match rest.split_once('.') {
         Some((name, member)) => (name, Some(member)),
