@@ -64,16 +64,16 @@ abbrev pub AreCharacters : Program → Kind → ℕ → List ℕ → Type 0
 AreCharacters p (simple (a_restricted_string s)) i codes = (c : ℕ) → (IsMember c codes ↔ IsInAlphabet p s i c)
 AreCharacters p k i codes = ⊥
 
--- What a resolved type keeps of the numbers or sizes of type i, which is of kind k: what is allowed, and what the packed
--- encoding sees, as the types of a schema have to keep it.
+-- What a resolved type keeps of the numbers or sizes of type i, which is of kind k: what is allowed, and what the
+-- packed encoding sees, as the types of a schema have to keep it.
 pub record IsConstraintOf (p : Program) (k : Kind) (i : ℕ) (c : Constraint) : Type 0 where
   pub numbers : is_integer k ≡ true → AreBounds IsNumber c
   pub sizes : has_size k ≡ true → AreBounds IsSize c
   pub allowed : (z : ℤ) → IsCounted k z → (Allows c z ↔ IsAllowed p k i z)
   pub visible : AreVisible p k i c.visible
 
--- What a resolved type keeps of the characters of type i, one of four string types, whose characters are those of s: the
--- codes of those that may stand in a value, in order, one at least.
+-- What a resolved type keeps of the characters of type i, one of four string types, whose characters are those of s:
+-- the codes of those that may stand in a value, in order, one at least.
 pub record AreCodesOf (p : Program) (s : StringKind) (i : ℕ) (codes : List ℕ) : Type 0 where
   pub alphabet : IsAlphabet s codes
   pub same : (c : ℕ) → (IsMember c codes ↔ IsInAlphabet p s i c)
