@@ -63,7 +63,9 @@ fn name_of_any(items: &Items, number: i128) -> Option<&str>
 
 /// The name of the item with the number. Only for a number that no item has each item is looked at.
 fn name_of(items: &Items, number: i128) -> Option<&str>
-    requires { AreItems items.now.extensible (map item_of items.now.root.items) (map item_of items.now.additions.items) }
+    requires { AreItems items.now.extensible
+        (map item_of items.now.root.items)
+        (map item_of items.now.additions.items) }
     ensures { let name = name_with (map item_of items.now.root.items ++ map item_of items.now.additions.items) number in
         MatchOption result (name ≡ None) (λ n. name ≡ Some n.now) }
 {
