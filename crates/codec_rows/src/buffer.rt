@@ -68,7 +68,7 @@ fn finish(alloc: Global, bits: BitBuf, out: &mut String) -> Result<(), AllocErro
     Ok(())
 }
 
-/// `bits NAME [STEP ..]`: what the steps tell, one after the other, and last how many bits there are, with their octets.
+/// `bits NAME [STEP ..]`: what the steps tell, one after the other, and last how many bits there are and their octets.
 pub fn answer(alloc: Global, row: &Row) -> Result<String, Refusal> {
     let mut out = String::new(alloc);
     let mut bits = BitBuf::new(alloc);
