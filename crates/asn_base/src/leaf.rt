@@ -29,6 +29,20 @@ fn is_in_range(range: &Range, number: i128) -> bool
     above && below
 }
 
+/// Whether the number stands in one of the ranges, where these ascend. Of others it may answer false.
+fn finds_range(ranges: &[Range], number: i128) -> bool
+    ensures { IsTrue result → IsInSome number (map range_of ranges.now) }
+{
+    let place = ranges.partition_point(|range| match range.greatest {
+        Some(greatest) => greatest < number,
+        None => false,
+    });
+    match ranges.get(place) {
+        Some(range) => is_in_range(range, number),
+        None => false,
+    }
+}
+
 /// Whether one of the ranges has the number.
 fn is_in_some(ranges: &[Range], number: i128) -> bool
     ensures { IsTrue result ↔ IsInSome number (map range_of ranges.now) }
@@ -41,12 +55,19 @@ fn is_in_some(ranges: &[Range], number: i128) -> bool
     false
 }
 
+/// Whether one of the ranges has the number. Where they ascend, only a number that none has is looked for in each.
+fn is_among_ranges(ranges: &[Range], number: i128) -> bool
+    ensures { IsTrue result ↔ IsInSome number (map range_of ranges.now) }
+{
+    finds_range(ranges, number) || is_in_some(ranges, number)
+}
+
 /// Whether the constraint allows the number.
 fn is_allowed(constraint: &Constraint, number: i128) -> bool
     ensures { IsTrue result ↔ IsAllowed (constraint_of constraint.now) number }
 {
     match &constraint.allowed {
-        Some(ranges) => is_in_some(ranges.as_slice(), number),
+        Some(ranges) => is_among_ranges(ranges.as_slice(), number),
         None => true,
     }
 }
@@ -57,6 +78,17 @@ pub(crate) fn is_allowed_size(constraint: &Constraint, size: u128) -> bool
     ensures { IsTrue result ↔ IsAllowedSize (constraint_of constraint.now) size }
 {
     is_allowed(constraint, size as i128)
+}
+
+/// Whether one of the items has the number, where these ascend. Of others it may answer false.
+fn finds_item(items: &[Item], number: i128) -> bool
+    ensures { IsTrue result → HasNumber (map item_of items.now) number }
+{
+    let place = items.partition_point(|item| item.number < number);
+    match items.get(place) {
+        Some(item) => item.number == number,
+        None => false,
+    }
 }
 
 /// Whether one of the items has the number.
@@ -78,6 +110,31 @@ fn has_number(items: &Items, number: i128) -> bool
     has_item(items.root.as_slice(), number) || has_item(items.additions.as_slice(), number)
 }
 
+/// Whether an item of the root or behind the marker has the number, where both ascend. Of others it may answer false.
+fn finds_number(items: &Items, number: i128) -> bool
+    ensures { IsTrue result → HasNumber (map item_of items.now.root.items ++ map item_of items.now.additions.items) number }
+{
+    finds_item(items.root.as_slice(), number) || finds_item(items.additions.as_slice(), number)
+}
+
+/// Whether an item has the number, which is looked for in each only where none has it: items ascend.
+fn is_item(items: &Items, number: i128) -> bool
+    ensures { IsTrue result ↔ HasNumber (map item_of items.now.root.items ++ map item_of items.now.additions.items) number }
+{
+    finds_number(items, number) || has_number(items, number)
+}
+
+/// Whether the code stands in the alphabet, where its codes ascend. Of others it may answer false.
+fn finds_code(alphabet: &[u8], code: u8) -> bool
+    ensures { IsTrue result → IsMember code alphabet.now }
+{
+    let place = alphabet.partition_point(|other| *other < code);
+    match alphabet.get(place) {
+        Some(other) => *other == code,
+        None => false,
+    }
+}
+
 /// Whether the code stands in the alphabet.
 fn has_code(alphabet: &[u8], code: u8) -> bool
     ensures { IsTrue result ↔ IsMember code alphabet.now }
@@ -90,12 +147,19 @@ fn has_code(alphabet: &[u8], code: u8) -> bool
     false
 }
 
+/// Whether the code stands in the alphabet, each code of which is looked at only where it doesn't: codes ascend.
+fn is_code(alphabet: &[u8], code: u8) -> bool
+    ensures { IsTrue result ↔ IsMember code alphabet.now }
+{
+    finds_code(alphabet, code) || has_code(alphabet, code)
+}
+
 /// Whether each octet stands in the alphabet.
 fn are_codes(alphabet: &[u8], octets: &[u8]) -> bool
     ensures { IsTrue result ↔ AllByRecursion (λ x. IsMember x alphabet.now) octets.now }
 {
     for i in 0..octets.len() {
-        if !has_code(alphabet, octets[i]) {
+        if !is_code(alphabet, octets[i]) {
             return false;
         }
     }
@@ -175,7 +239,7 @@ pub(crate) fn fits(core: &Core, value: &Value) -> bool
         Core::Enumerated(items) => match value {
             Value::Enum(number) => {
                 integer_within_limit(*number);
-                has_number(items, *number)
+                is_item(items, *number)
             }
             _ => false,
         },

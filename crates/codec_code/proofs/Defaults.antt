@@ -1,10 +1,12 @@
 -- Whether a value is the same as a component's DEFAULT.
-use Rattle.std.proofs.Common.{◌≡◌, ℕ, Bool, false, List, refl, sym, ap, subst, ◌∙◌}
+use Rattle.std.proofs.Common.{◌≡◌, ℕ, zero, suc, Bool, false, List, [], ◌∷◌, refl, sym, ap, subst, ◌∙◌}
+use Rattle.std.specs.List.{AllByRecursion}
 use Rattle.std.specs.Prelude.{◌↔◌, IsTrue, Option, Some, None, slice_get}
 use Rattle.asn_base.specs.Abstract.{AbstractValue, null}
-use Rattle.asn_base.specs.Types.{Presence, mandatory, optional, default, addition, Component, Resolved, Is}
+use Rattle.asn_base.specs.Types.{Presence, mandatory, optional, default, addition, Component, Resolved, Is, Kind, a_sequence, a_set}
 use Rattle.asn_base.specs.Same.{Same}
-use Rattle.asn_base.specs.Schemas.{components}
+use Rattle.asn_base.specs.Schemas.{HasValue, IsSchema, IsSound, components}
+use Rattle.asn_base.specs.Typed.{IsValueWithoutNodes}
 use Rattle.codec_code.specs.Routines.{component_in}
 use Rattle.codec_code.specs.Steps.{IsDefaultAt, IsTheDefault}
 
@@ -59,3 +61,26 @@ of_optional s c w e = ((λ z. absurd (never z)), λ a. absurd (let f : optional 
 
 pub of_addition : (s : List Resolved) (c : Component) (w : AbstractValue) (o : Bool) (g : Option ℕ) → c.presence ≡ addition o g → IsTrue false ↔ IsTheDefault s c w
 of_addition s c w o g e = ((λ z. absurd (never z)), λ a. absurd (let f : addition o g ≡ default a.value = sym e ∙ a.has_default in cc))
+
+-- ---- a default is a value of its type
+
+at_place : {A : Type 0} (P : A → Type 0) (xs : List A) (i : ℕ) (x : A) → slice_get xs i ≡ Some x → AllByRecursion P xs → P x
+at_place P [] i x e a = absurd (none_some e)
+at_place P (y ∷ xs) zero x e a = subst P (some_same e) a.0
+at_place P (y ∷ xs) (suc i) x e a = at_place P xs i x e a.1
+
+sound_component : (s : List Resolved) (i : ℕ) (c : Component) (k : Kind) → IsSound s k → slice_get (components k) i ≡ Some c → HasValue s c
+sound_component s i c (a_sequence e cs) a f = at_place (HasValue s) cs i c f a.defaults
+sound_component s i c (a_set e cs) a f = at_place (HasValue s) cs i c f a.0.defaults
+sound_component s i c k a f = absurd cc
+
+pub default_known : (s : List Resolved) (t i : ℕ) (c : Component) → IsSchema s → component_in s t i ≡ Some c → HasValue s c
+default_known s t i c a e =
+    let r = type_there i (slice_get s t) c e in
+    sound_component s i c r.0.kind (a.sound t r.0.tags r.0.kind (record { found = r.1 })) r.2
+
+pub is_known : (s : List Resolved) (c : Component) (d : AbstractValue) → HasValue s c → c.presence ≡ default d → IsValueWithoutNodes s c.type d
+is_known s c d h e = (h d e).shaped
+
+pub not_of_type : (b : Bool) (s : List Resolved) (t : ℕ) (v w : AbstractValue) → b ≡ false → IsTrue b ↔ IsValueWithoutNodes s t v → IsTrue false ↔ Same s t v w
+not_of_type b s t v w e h = ((λ z. absurd (never z)), λ a. absurd (never (subst IsTrue e (h.1 a.first))))

@@ -1,13 +1,16 @@
 //! Whether a value is the same as a component's DEFAULT (X.690, 11.5).
 
 ghost use Rattle.asn_base.specs.Abstract.{abstract};
-ghost use Rattle.asn_base.specs.Schemas.{components};
+ghost use Rattle.asn_base.specs.Same.{Same};
+ghost use Rattle.asn_base.specs.Schemas.{HasValue, components};
 ghost use Rattle.asn_base.specs.Seen.{component_of, kind_of};
+ghost use Rattle.asn_base.specs.Typed.{IsValueWithoutNodes};
 ghost use Rattle.codec_code.specs.Routines.{component_in};
 ghost use Rattle.codec_code.specs.Steps.{IsDefaultAt, IsTheDefault};
 ghost use Rattle.std.specs.Prelude.{◌≡◌, ◌↔◌, IsTrue, MatchOption, None, Some, map};
 
-use asn_base::same::same;
+use asn_base::decide::is_value_without_nodes;
+use asn_base::same::same_values;
 use asn_base::schema::{Component, Core, Presence, Schema, TypeId};
 use asn_base::value::Value;
 
@@ -17,7 +20,10 @@ pub(crate) fn is_default_at(schema: &Schema, id: TypeId, place: usize, value: &V
     ensures { IsTrue result ↔ IsDefaultAt schema.now id.index place (abstract value.now) }
 {
     match component_at(schema, id, place) {
-        Some(component) => is_the_default(schema, component, value),
+        Some(component) => {
+            schema.accepted();
+            is_the_default(schema, component, value)
+        }
         None => false,
     }
 }
@@ -53,13 +59,24 @@ fn components_of(core: &Core) -> &[Component]
     }
 }
 
-/// Whether the component has a DEFAULT that the value is the same as.
-#[tactic(auto, using(crate::proofs::Defaults::of_default, crate::proofs::Defaults::of_mandatory, crate::proofs::Defaults::of_optional, crate::proofs::Defaults::of_addition))]
+/// Whether the component has a DEFAULT that the value is the same as. The default is known to be a value of its type, and
+/// is looked at no further than the value goes.
+#[tactic(auto, using(crate::proofs::Defaults::of_default, crate::proofs::Defaults::of_mandatory, crate::proofs::Defaults::of_optional, crate::proofs::Defaults::of_addition, crate::proofs::Defaults::is_known))]
 fn is_the_default(schema: &Schema, component: &Component, value: &Value) -> bool
+    requires { HasValue schema.now (component_of component.now) }
     ensures { IsTrue result ↔ IsTheDefault schema.now (component_of component.now) (abstract value.now) }
 {
     match &component.presence {
-        Presence::Default(default) => same(value, default, schema, component.ty),
+        Presence::Default(default) => is_the_same(schema, component.ty, value, default),
         Presence::Mandatory | Presence::Optional | Presence::Addition(_) => false,
     }
+}
+
+/// Whether a value is the same as one that is known to be of the type.
+#[tactic(auto, using(crate::proofs::Defaults::not_of_type))]
+fn is_the_same(schema: &Schema, id: TypeId, value: &Value, known: &Value) -> bool
+    requires { IsValueWithoutNodes schema.now id.index (abstract known.now) }
+    ensures { IsTrue result ↔ Same schema.now id.index (abstract value.now) (abstract known.now) }
+{
+    is_value_without_nodes(value, schema, id) && same_values(value, known, schema, id)
 }

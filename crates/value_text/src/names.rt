@@ -1,11 +1,12 @@
 //! What a type tells of its values: names and the types of members.
 
-ghost use Rattle.asn_base.specs.Schemas.{components};
+ghost use Rattle.asn_base.specs.Schemas.{AreItems, IsSound, NumbersAscend, components};
 ghost use Rattle.asn_base.specs.Seen.{alternative_of, component_of, item_of, kind_of};
-ghost use Rattle.std.specs.Prelude.{◌≡◌, ◌++◌, None, Some, MatchOption, map, slice_get};
+ghost use Rattle.asn_base.specs.Types.{Resolved};
+ghost use Rattle.std.specs.Prelude.{◌≡◌, ◌++◌, IfSome, List, None, Some, MatchOption, map, slice_get};
 ghost use Rattle.value_text.specs.Print.{alternatives_in, items_in, name_with};
 
-use asn_base::schema::{Alternative, Component, Core, Item};
+use asn_base::schema::{Alternative, Component, Core, Item, Items};
 
 /// The components of a SEQUENCE or SET.
 pub fn components(core: &Core) -> &[Component]
@@ -31,16 +32,60 @@ fn name_among(items: &[Item], number: i128) -> Option<&str>
     None
 }
 
+/// The name of the item with the number in items that ascend. It may be None where there is one, but then they don't.
+fn name_found(items: &[Item], number: i128) -> Option<&str>
+    requires { NumbersAscend (map item_of items.now) }
+    ensures { IfSome result (λ n. name_with (map item_of items.now) number ≡ Some n.now) }
+{
+    let place = items.partition_point(|item| item.number < number);
+    match items.get(place) {
+        Some(item) => {
+            if item.number == number {
+                Some(item.name.as_str())
+            } else {
+                None
+            }
+        }
+        None => None,
+    }
+}
+
+/// The name of the first item with the number: each is looked at, those of the root first.
+fn name_of_any(items: &Items, number: i128) -> Option<&str>
+    ensures { let name = name_with (map item_of items.now.root.items ++ map item_of items.now.additions.items) number in
+        MatchOption result (name ≡ None) (λ n. name ≡ Some n.now) }
+{
+    match name_among(items.root.as_slice(), number) {
+        Some(name) => Some(name),
+        None => name_among(items.additions.as_slice(), number),
+    }
+}
+
+/// The name of the item with the number. Only for a number that no item has each item is looked at.
+fn name_of(items: &Items, number: i128) -> Option<&str>
+    requires { AreItems items.now.extensible
+        (map item_of items.now.root.items)
+        (map item_of items.now.additions.items) }
+    ensures { let name = name_with (map item_of items.now.root.items ++ map item_of items.now.additions.items) number in
+        MatchOption result (name ≡ None) (λ n. name ≡ Some n.now) }
+{
+    if let Some(name) = name_found(items.root.as_slice(), number) {
+        return Some(name);
+    }
+    if let Some(name) = name_found(items.additions.as_slice(), number) {
+        return Some(name);
+    }
+    name_of_any(items, number)
+}
+
 /// The identifier of the item with the number.
 pub fn item_name(core: &Core, number: i128) -> Option<&str>
+    requires { (s : List Resolved) × IsSound s (kind_of core.now) }
     ensures { let name = name_with (items_in (kind_of core.now)) number in
         MatchOption result (name ≡ None) (λ n. name ≡ Some n.now) }
 {
     match core {
-        Core::Enumerated(items) => match name_among(items.root.as_slice(), number) {
-            Some(name) => Some(name),
-            None => name_among(items.additions.as_slice(), number),
-        },
+        Core::Enumerated(items) => name_of(items, number),
         _ => None,
     }
 }

@@ -133,9 +133,9 @@ fn text_of(alloc: Global, schema: &Schema, id: TypeId, value: &Value) -> Result<
 /// A value of type `id` in value notation (X.680, 18 to 29, 32, 33 and 41).
 ///
 /// `TRUE`, `FALSE` and `NULL`; numbers in decimal; an item of an enumeration by its identifier; bits as `'01'B` and
-/// octets as `'01AF'H`; a text in `"` with each quote twice, or as the `'..'H` of its octets where LF, VT, FF or CR stands
-/// in it; `{1 2 840}`; `{a 1, b TRUE}` with the components that are present in order of definition, `{}` where none is;
-/// `{1, 2}`; `a : 1`. A comma is followed by one space. No memory is taken but for the text.
+/// octets as `'01AF'H`; a text in `"` with each quote twice, or as the `'..'H` of its octets where LF, VT, FF or CR
+/// stands in it; `{1 2 840}`; `{a 1, b TRUE}` with the components that are present in order of definition, `{}` where
+/// none is; `{1, 2}`; `a : 1`. A comma is followed by one space. No memory is taken but for the text.
 ///
 /// - `NotOfType`: just where it is no value of the type.
 /// - `Memory`: it is one, and more memory was asked for and refused.

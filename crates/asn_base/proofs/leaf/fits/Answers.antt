@@ -22,7 +22,7 @@ returns-in-Int c =
 pub returns-in-Enum : goal.returns-in-Enum
 returns-in-Enum c =
     let f : SFits w128 c.in-Enum.number = search rules in
-    enumerated_fits (ap kind_of c.in-Enumerated.is) (ap abstract c.in-Enum.is ∙ c.abstract_values.ensures.enum_ _ ∙ ap enumerated (sym (to_z-of_z w128 c.in-Enum.number f))) c.integer_within_limit-in-Enum.ensures c.has_number.ensures
+    enumerated_fits (ap kind_of c.in-Enumerated.is) (ap abstract c.in-Enum.is ∙ c.abstract_values.ensures.enum_ _ ∙ ap enumerated (sym (to_z-of_z w128 c.in-Enum.number f))) c.integer_within_limit-in-Enum.ensures c.is_item.ensures
 
 pub returns-in-Bits : goal.returns-in-Bits
 returns-in-Bits c = named_fits (ap kind_of c.in-NamedBits.is) (ap abstract c.in-Bits.is ∙ c.abstract_values.ensures.bits_ _)

@@ -1,0 +1,80 @@
+//! Lists of bits.
+
+use crate::asked;
+use crate::refusal::Refusal;
+use bits::buffer::BitBuf;
+use row_files::Row;
+use std::alloc::{AllocError, Global};
+
+/// The two numbers round a stroke.
+fn number_and_count(word: &str) -> Option<(u64, usize)> {
+    let (number, count) = word.split_once('/')?;
+    Some((number.parse::<u64>().ok()?, count.parse::<usize>().ok()?))
+}
+
+/// A digit for a bit, and a hyphen for none.
+fn digit(bit: Option<bool>) -> &'static str {
+    match bit {
+        Some(true) => "1",
+        Some(false) => "0",
+        None => "-",
+    }
+}
+
+/// Tells the bit at a place that a word names.
+fn tell(bits: &BitBuf, place: &str, out: &mut String) -> Result<(), AllocError> {
+    let bit = match place.parse::<usize>() {
+        Ok(place) => digit(bits.get(place)),
+        Err(_) => "no place",
+    };
+    write!(out, "@{place} is {bit}\n")?;
+    Ok(())
+}
+
+/// Adds the low bits of a number, 64 at most.
+fn add(bits: &mut BitBuf, word: &str, out: &mut String) -> Result<(), AllocError> {
+    match number_and_count(word) {
+        Some((number, count)) if count <= 64 => bits.push_word(number, count),
+        _ => {
+            write!(out, "{word} is no step\n")?;
+            Ok(())
+        }
+    }
+}
+
+/// Does what one word asks for: `0` or `1` adds a bit, `NUMBER/COUNT` the low bits of a number, `pad` fills up to whole
+/// octets, and `@PLACE` tells the bit there.
+fn step(bits: &mut BitBuf, word: &str, out: &mut String) -> Result<(), AllocError> {
+    match word {
+        "pad" => bits.pad(),
+        "0" => bits.push(false),
+        "1" => bits.push(true),
+        _ => match word.strip_prefix('@') {
+            Some(place) => tell(bits, place, out),
+            None => add(bits, word, out),
+        },
+    }
+}
+
+/// How many bits there are, and their octets where they are whole.
+fn finish(alloc: Global, bits: BitBuf, out: &mut String) -> Result<(), AllocError> {
+    let count = bits.len();
+    write!(out, "length {count}")?;
+    if count > 0 && count % 8 == 0 {
+        let octets = bits.into_octets()?;
+        let digits = hex::encode_upper(alloc, octets.as_slice())?;
+        write!(out, ": {digits}")?;
+    }
+    Ok(())
+}
+
+/// `bits NAME [STEP ..]`: what the steps tell, one after the other, and last how many bits there are and their octets.
+pub fn answer(alloc: Global, row: &Row) -> Result<String, Refusal> {
+    let mut out = String::new(alloc);
+    let mut bits = BitBuf::new(alloc);
+    for word in &asked(alloc, row)? {
+        step(&mut bits, word, &mut out)?;
+    }
+    finish(alloc, bits, &mut out)?;
+    Ok(out)
+}

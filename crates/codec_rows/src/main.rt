@@ -1,0 +1,98 @@
+//! Answers rows of data by the public calls of the crates that codecs stand on, and prints each answer below its row's
+//! words.
+//!
+//! The files that its words name are files of rows. A row's first word is a command and its second the row's own name:
+//! `front`, `bits`, `print`, `value`, `same`, `default` and `listing`, each described where it is answered and at the
+//! head of the file that uses it. The answers that the stored run compares are written by hand, not taken from this program.
+#![tactic(auto)]
+
+mod buffer;
+mod front;
+mod refusal;
+mod typed;
+mod value;
+
+use crate::refusal::{Refusal, told};
+use asn_base::schema::Schema;
+use row_files::{Row, rows};
+use sample_types::schema;
+use std::alloc::{AllocError, Global};
+use std::process::ExitCode;
+use std::{env, fs, io};
+
+/// The words of a row behind its command and its own name.
+pub fn asked(alloc: Global, row: &Row) -> Result<Vec<&str>, AllocError> {
+    let mut words = Vec::new(alloc);
+    for word in row.words.iter().skip(2) {
+        words.push(word.as_str())?;
+    }
+    Ok(words)
+}
+
+/// What a row's command answers.
+fn answer_of(alloc: Global, schema: &Schema, row: &Row) -> Result<String, Refusal> {
+    match row.command() {
+        "front" => front::answer(alloc, row),
+        "bits" => buffer::answer(alloc, row),
+        "print" => typed::print(alloc, schema, row),
+        "value" => typed::value(alloc, schema, row),
+        "same" => typed::alike(alloc, schema, row),
+        "default" => typed::default(alloc, schema, row),
+        "listing" => typed::listing(alloc, schema),
+        _ => Err(told(alloc, &"no such command")),
+    }
+}
+
+/// A row's words, and below them the lines of its answer, each behind two blanks.
+fn entry(alloc: Global, schema: &Schema, row: &Row) -> Result<String, AllocError> {
+    let mut text = String::from_str(alloc, row.command())?;
+    for word in row.words.iter().skip(1) {
+        text.push(' ')?;
+        text.push_str(word.as_str())?;
+    }
+    let answer = match answer_of(alloc, schema, row) {
+        Ok(answer) => answer,
+        Err(Refusal::Told(words)) => words,
+        Err(Refusal::Memory) => return Err(AllocError),
+    };
+    indent(text, answer.as_str())
+}
+
+/// A text, and behind it the lines of an answer.
+fn indent(mut text: String, answer: &str) -> Result<String, AllocError> {
+    for line in answer.lines() {
+        text.push_str(if line.is_empty() { "\n" } else { "\n  " })?;
+        text.push_str(line)?;
+    }
+    Ok(text)
+}
+
+/// A copy of the schema of all types, with the levels of its defaults.
+fn copied(alloc: Global) -> Result<Schema, AllocError> {
+    let mut copy = schema(alloc)?.copy(alloc)?;
+    copy.measure(alloc)?;
+    Ok(copy)
+}
+
+/// Prints the answers to the rows of a file.
+fn answer_file(rt: &HostRuntime, schema: &Schema, file: &str) -> io::Result<()> {
+    println!(rt; "{file}")?;
+    let octets = fs::read(rt, file)?;
+    let rows = match rows(rt.alloc(), octets.as_slice()) {
+        Ok(rows) => rows,
+        Err(fault) => return println!(rt; "{fault}"),
+    };
+    for row in &rows {
+        let text = entry(rt.alloc(), schema, row)?;
+        println!(rt; "{text}")?;
+    }
+    Ok(())
+}
+
+fn main(rt: HostRuntime) -> io::Result<ExitCode> {
+    let schema = copied(rt.alloc())?;
+    for file in env::args(&rt)?.skip(1) {
+        answer_file(&rt, &schema, file.as_str())?;
+    }
+    Ok(ExitCode::SUCCESS)
+}

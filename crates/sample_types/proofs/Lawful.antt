@@ -1,0 +1,348 @@
+-- The types are those of a schema.
+use Rattle.std.proofs.Common.{arith, lit<, ◌≡◌, ℕ, zero, suc, ◌<◌, ◌≤◌, inl, inr, Bool, true, false, List, [], ◌∷◌, ◌++◌, ◌^◌, take, drop, length, refl, sym, ap, subst, ◌∙◌, Option, Some, None}
+use Rattle.std.proofs.lemmas.Int.{ints}
+use Rattle.std.specs.Prelude.{◌⊎◌, pos, slice_get, IsSomeAnd}
+use Rattle.std.specs.List.{AllByRecursion}
+use Rattle.asn_base.specs.declared.tag.Tag.{Tag}
+use Rattle.asn_base.specs.Abstract.{AbstractValue, integer, list, null, present, end}
+use Rattle.asn_base.specs.Names.{IsMember, is_first, is_later}
+use Rattle.asn_base.specs.Types.{any_number, any_size, Kind, a_null, an_integer, a_sequence_of, a_set_of, Alternative, Presence, mandatory, optional, default, addition, Component, Resolved, Is}
+use Rattle.asn_base.specs.Tags.{First, first_tag, first_of_choice, AreApart, IsChoice, IsTellable}
+use Rattle.asn_base.specs.Typed.{fits_integer, ValueIn, value_in, of_leaf, of_set_of, no_element, one_element, IsValue}
+use Rattle.asn_base.specs.Schemas.{HasTag, HasValue, AreListed, AreAlternatives, IsSound, components, types_in, LeadsTo, leads_itself, leads_onward, IsSchema}
+use Rattle.sample_types.specs.Kinds.{Told, AreTold, all_told, told, grouped, inner, numbers_of, outer, outer_more, three, with_a_set}
+use Rattle.sample_types.proofs.Bounds.{all_numbers, all_sizes, names_abc, names_an, names_bd, one_bit, one_name, ranged_bounds, short_sizes, sound_items, three_digits}
+use Rattle.sample_types.proofs.Told.{IsTold, there, told_there, as_many}
+
+at_place : {A : Type 0} (P : A → Type 0) (xs : List A) (i : ℕ) (x : A) → slice_get xs i ≡ Some x → AllByRecursion P xs → P x
+at_place P [] i x e a = absurd cc
+at_place P (y ∷ xs) zero x e a = subst P (some_same e) a.0
+  where
+    some_same : {A : Type 0} {x y : A} → Some x ≡ Some y → x ≡ y
+    some_same e = cc
+at_place P (y ∷ xs) (suc i) x e a = at_place P xs i x e a.1
+
+abbrev kind_at : Option Told → Kind
+kind_at None = a_null
+kind_at (Some p) = p.kind
+
+abbrev numbers_at : Option Told → List ℕ
+numbers_at None = []
+numbers_at (Some p) = p.numbers
+
+abbrev default_in : Presence → AbstractValue
+default_in mandatory = null
+default_in optional = null
+default_in (default d) = d
+default_in (addition o g) = null
+
+member_of_none : {A : Type 0} {x : A} {xs : List A} → xs ≡ [] → IsMember x xs → ⊥
+member_of_none e m = by (subst (IsMember _) e m)
+  where
+    by : {A : Type 0} {x : A} → IsMember x [] → ⊥
+    by m = elim m [ ]
+
+tails : {A : Type 0} {x y : A} {xs ys : List A} → x ∷ xs ≡ y ∷ ys → xs ≡ ys
+tails e = cc
+
+member_of_one : {A : Type 0} {x y : A} {xs : List A} → IsMember x xs → xs ≡ y ∷ [] → x ≡ y
+member_of_one is_first e = cc
+member_of_one (is_later m) e = absurd (member_of_none (tails e) m)
+
+as_many_numbers : (gs : List Tag) → length (numbers_of gs) ≡ length gs
+as_many_numbers [] = refl
+as_many_numbers (g ∷ gs) = ap suc (as_many_numbers gs)
+
+joined : {A : Type 0} (P : A → Type 0) (xs ys : List A) → AllByRecursion P xs → AllByRecursion P ys → AllByRecursion P (xs ++ ys)
+joined P [] ys a b = b
+joined P (x ∷ xs) ys a b = (a.0, joined P xs ys a.1 b)
+
+abbrev first_or : ℕ → List ℕ → ℕ
+first_or n [] = n
+first_or n (x ∷ xs) = x
+
+abbrev tags_in : Option Resolved → List Tag
+tags_in None = []
+tags_in (Some r) = r.tags
+
+-- a default stands before an INTEGER or a SET OF such numbers alone
+abbrev IsPlainDefault : Component → Type 0
+IsPlainDefault c = (d : AbstractValue) → c.presence ≡ default d → (c.type ≡ 1) ⊎ (c.type ≡ 16)
+
+abbrev Defaults : Kind → Type 0
+Defaults k = AllByRecursion IsPlainDefault (components k)
+
+default_before : (cs : List Component) {c : Component} (d : AbstractValue) → AllByRecursion IsPlainDefault cs → IsMember c cs → c.presence ≡ default d
+    → (c.type ≡ 1) ⊎ (c.type ≡ 16)
+default_before [] d a m e = elim m [ ]
+default_before (b ∷ bs) d a is_first e = a.0 d e
+default_before (b ∷ bs) d a (is_later m) e = default_before bs d a.1 m e
+
+record Fine (s : List Resolved) (p : Told) : Type 0 where
+  tagged : p.numbers ≡ [] → IsChoice p.kind
+  few : length p.numbers ≤ 6
+  tellable : IsTellable s p.kind
+  sound : IsSound s p.kind
+  defaults : Defaults p.kind
+
+module _ (s : List Resolved) (are : AreTold all_told s) where
+  -- a type that is told stands there
+  is : (t : ℕ) (p : Told) → slice_get all_told t ≡ Some p → (r : Resolved) × (slice_get s t ≡ Some r) × IsTold r p
+  is t p e = there all_told s t p are e
+
+  count : length all_told ≡ length s
+  count = as_many all_told s are
+
+  below : (t : ℕ) → t < 24 → t < length s
+  below t l = let c : 24 ≡ length s = count in omega (arith, c, l)
+
+  -- ---- first tags
+
+  number_first : (t n : ℕ) (ns : List ℕ) (p : Told) (g : Tag) → slice_get all_told t ≡ Some p → p.numbers ≡ n ∷ ns → First s t g → g.number ≡ n
+  number_first t n ns p g e f (first_tag i) =
+      let r = is t p e in
+      ap (first_or n) (sym (ap numbers_of (ap tags_in (sym r.1 ∙ i.found))) ∙ r.2.numbers ∙ f)
+  number_first t n ns p g e f (first_of_choice j i h k) =
+      let r = is t p e in
+      let none : [] ≡ n ∷ ns = sym (ap numbers_of (ap tags_in (sym r.1 ∙ i.found))) ∙ r.2.numbers ∙ f in
+      let l : 0 ≡ suc (length ns) = ap length none in
+      absurd (omega (arith, l))
+
+  apart : (t u n m : ℕ) (ns ms : List ℕ) (p q : Told) → slice_get all_told t ≡ Some p → slice_get all_told u ≡ Some q → p.numbers ≡ n ∷ ns → q.numbers ≡ m ∷ ms
+      → (n ≡ m → ⊥)
+      → AreApart s t u
+  apart t u n m ns ms p q e d f k h = λ g a b. h (sym (number_first t n ns p g e f a) ∙ number_first u m ms q g d k b)
+
+  has_tag : (t n : ℕ) (ns : List ℕ) (p : Told) → slice_get all_told t ≡ Some p → p.numbers ≡ n ∷ ns → HasTag s t
+  has_tag t n ns p e f =
+      let r = is t p e in
+      let l : length (numbers_of r.0.tags) ≡ suc (length ns) = ap length (r.2.numbers ∙ f) in
+      let k = as_many_numbers r.0.tags in
+      let some : 0 < length r.0.tags = omega (arith, l, k) in
+      subst (λ o. IsSomeAnd o (λ q. 0 < length q.tags)) (sym r.1) some
+
+  -- ---- lists
+
+  found : (t : ℕ) (p : Told) (e : slice_get all_told t ≡ Some p) → Is s t (is t p e).0.tags p.kind
+  found t p e = let r = is t p e in record { found = r.1 ∙ ap (λ k. Some (record { tags = r.0.tags; kind = k })) r.2.kind }
+
+  a_number : (n z : ℕ) → z < 2 ^ 127 → ValueIn s (suc n) 1 (integer (pos z))
+  a_number n z l = value_in (found 1 _ refl) (of_leaf (fits_integer l tt))
+
+  five_is_value : (c : Component) → c.type ≡ 1 → c.presence ≡ default (integer (pos 5)) → HasValue s c
+  five_is_value c t e d f =
+      subst (λ u. IsValue s u d) (sym t)
+      (subst (IsValue s 1) (ap default_in (sym e ∙ f)) (record { shaped = a_number 63 5 (lit< tt); few_nodes = omega arith }))
+
+  set_is_value : (c : Component) → c.type ≡ 16 → c.presence ≡ default (list (present (integer (pos 1)) (present (integer (pos 2)) end))) → HasValue s c
+  set_is_value c t e d f =
+      subst (λ u. IsValue s u d) (sym t)
+      (subst (IsValue s 16) (ap default_in (sym e ∙ f)) (record {
+        shaped = value_in (found 16 _ refl) (of_set_of (one_element (a_number 62 1 (lit< tt)) (one_element (a_number 62 2 (lit< tt)) no_element)) tt);
+        few_nodes = omega arith;
+      }))
+
+  three_listed : AreListed s false three
+  three_listed = record {
+    root = three;
+    more = [];
+    parts = refl;
+    in_root = (refl, (refl, (refl, tt)));
+    behind = tt;
+    groups = tt;
+    marked = λ e. refl;
+    few_root = omega arith;
+    few_more = omega arith;
+    names = names_abc;
+    types = (below 1 (omega arith), (below 0 (omega arith), (below 1 (omega arith), tt)));
+    defaults = ((λ d e. absurd (cc)), ((λ d e. absurd (cc)), (five_is_value (record { name = 99 ∷ []; type = 1; presence = default (integer (pos 5)) }) refl refl, tt)));
+  }
+
+  set_listed : AreListed s false with_a_set
+  set_listed = record {
+    root = with_a_set;
+    more = [];
+    parts = refl;
+    in_root = (refl, tt);
+    behind = tt;
+    groups = tt;
+    marked = λ e. refl;
+    few_root = omega arith;
+    few_more = omega arith;
+    names = one_name;
+    types = (below 16 (omega arith), tt);
+    defaults = (set_is_value (record { name = 97 ∷ []; type = 16; presence = default (list (present (integer (pos 1)) (present (integer (pos 2)) end))) }) refl refl, tt);
+  }
+
+  none_listed : AreListed s false []
+  none_listed = record {
+    root = [];
+    more = [];
+    parts = refl;
+    in_root = tt;
+    behind = tt;
+    groups = tt;
+    marked = λ e. refl;
+    few_root = omega arith;
+    few_more = omega arith;
+    names = record { identifiers = tt; distinct = tt };
+    types = tt;
+    defaults = tt;
+  }
+
+  grouped_listed : AreListed s true grouped
+  grouped_listed = record {
+    root = record { name = 97 ∷ []; type = 0; presence = mandatory } ∷ [];
+    more = record { name = 98 ∷ []; type = 1; presence = addition false (Some 0) } ∷ record { name = 99 ∷ []; type = 7; presence = addition true (Some 0) } ∷ [];
+    parts = refl;
+    in_root = (refl, tt);
+    behind = (refl, (refl, tt));
+    groups = ((λ g e. inl e), tt);
+    marked = λ e. absurd (cc);
+    few_root = omega arith;
+    few_more = omega arith;
+    names = names_abc;
+    types = (below 0 (omega arith), (below 1 (omega arith), (below 7 (omega arith), tt)));
+    defaults = ((λ d e. absurd (cc)), ((λ d e. absurd (cc)), ((λ d e. absurd (cc)), tt)));
+  }
+
+  inner_is : AreAlternatives s false inner []
+  inner_is = record {
+    some = omega arith;
+    names = names_an;
+    types = (has_tag 1 2 [] _ refl refl, (has_tag 7 5 [] _ refl refl, tt));
+    more_ascend = tt;
+    marked = λ e. refl;
+    few_root = omega arith;
+    few_more = omega arith;
+  }
+
+  outer_is : AreAlternatives s true outer outer_more
+  outer_is = record {
+    some = omega arith;
+    names = names_bd;
+    types = (has_tag 18 0 [] _ refl refl, (has_tag 0 1 [] _ refl refl, tt));
+    more_ascend = (tt, tt);
+    marked = λ e. absurd (cc);
+    few_root = omega arith;
+    few_more = omega arith;
+  }
+
+  -- ---- each type
+
+  plain : (n : ℕ) (k : Kind) → IsTellable s k → IsSound s k → Defaults k → Fine s (told n k)
+  plain n k t a d = record { tagged = λ e. absurd (let m = ap length e in omega (arith, m)); few = omega arith; tellable = t; sound = a; defaults = d }
+
+  truth_apart : AreApart s 0 1
+  truth_apart = apart 0 1 1 2 [] [] _ _ refl refl refl refl (λ e. let h : 1 ≡ 2 = e in omega (arith, h))
+
+  number_apart : AreApart s 1 7
+  number_apart = apart 1 7 2 5 [] [] _ _ refl refl refl refl (λ e. let h : 2 ≡ 5 = e in omega (arith, h))
+
+  tagged_apart : AreApart s 18 0
+  tagged_apart = apart 18 0 0 1 [] [] _ _ refl refl refl refl (λ e. let h : 0 ≡ 1 = e in omega (arith, h))
+
+  first_fine : AllByRecursion (Fine s) (take 13 all_told)
+  first_fine = (
+    plain 1 _ tt tt tt,
+    (
+      plain 2 _ tt all_numbers tt,
+      (
+        plain 2 _ tt ranged_bounds tt,
+        (
+          plain 10 _ tt sound_items tt,
+          (
+            plain 3 _ tt all_sizes tt,
+            (
+              plain 3 _ tt one_bit tt,
+              (
+                plain 4 _ tt all_sizes tt,
+                (
+                  plain 5 _ tt tt tt,
+                  (
+                    plain 6 _ tt tt tt,
+                    (
+                      plain 13 _ tt tt tt,
+                      (
+                        plain 12 _ tt all_sizes tt,
+                        (
+                          plain 12 _ tt short_sizes tt,
+                          (plain 18 _ tt (three_digits, all_sizes) tt, tt),
+                        ),
+                      ),
+                    ),
+                  ),
+                ),
+              ),
+            ),
+          ),
+        ),
+      ),
+    ),
+  )
+
+  last_fine : AllByRecursion (Fine s) (drop 13 all_told)
+  last_fine = (
+    plain 16 _ tt none_listed tt,
+    (
+      plain 16 _ ((λ e. absurd (cc)), ((λ e. (truth_apart, tt)), ((λ e. tt), tt))) three_listed ((λ d e. absurd (cc)), ((λ d e. absurd (cc)), ((λ d e. inl refl), tt))),
+      (
+        plain 16 _ tt (record { bounds = all_sizes; type = below 1 (omega arith) }) tt,
+        (
+          plain 17 _ tt (record { bounds = all_sizes; type = below 1 (omega arith) }) tt,
+          (
+            plain 17 _ tt (record { bounds = all_sizes; type = below 5 (omega arith) }) tt,
+            (
+              plain 0 _ ((number_apart, tt), (tt, tt)) inner_is tt,
+              (
+                record { tagged = λ e. tt; few = omega arith; tellable = ((tagged_apart, tt), (tt, tt)); sound = outer_is; defaults = tt },
+                (
+                  plain 16 _ ((λ e. absurd (cc)), ((λ e. (number_apart, tt)), ((λ e. tt), tt))) grouped_listed ((λ d e. absurd (cc)), ((λ d e. absurd (cc)), ((λ d e. absurd (cc)), tt))),
+                  (
+                    plain 16 _ tt (record { bounds = all_sizes; type = below 21 (omega arith) }) tt,
+                    (
+                      record { tagged = λ e. absurd (let m = ap length e in omega (arith, m)); few = omega arith; tellable = tt; sound = tt; defaults = tt },
+                      (plain 16 _ ((λ e. tt), tt) set_listed ((λ d e. inr refl), tt), tt),
+                    ),
+                  ),
+                ),
+              ),
+            ),
+          ),
+        ),
+      ),
+    ),
+  )
+
+  all_fine : AllByRecursion (Fine s) all_told
+  all_fine = joined (Fine s) (take 13 all_told) (drop 13 all_told) first_fine last_fine
+
+  fine_at : (t : ℕ) (r : Resolved) → slice_get s t ≡ Some r → (p : Told) × IsTold r p × Fine s p
+  fine_at t r e = let p = told_there all_told s t r are e in (p.0, p.2, at_place (Fine s) all_told t p.0 p.1 all_fine)
+
+  -- ---- no default depends on itself
+
+  kind_is : {t : ℕ} {tags : List Tag} {k : Kind} (n : ℕ) → t ≡ n → Is s t tags k → k ≡ kind_at (slice_get all_told n)
+  kind_is {t} n e i =
+      let p = told_there all_told s t _ are i.found in
+      p.2.kind ∙ ap kind_at (sym p.1) ∙ ap (λ q. kind_at (slice_get all_told q)) e
+
+  leads_flat : {k : Kind} {t : ℕ} → (t ≡ 1) ⊎ (t ≡ 16) → LeadsTo s k t → components k ≡ []
+  leads_flat (inl e) (leads_itself i) = ap components (kind_is 1 e i)
+  leads_flat (inr e) (leads_itself i) = ap components (kind_is 16 e i)
+  leads_flat (inl e) (leads_onward i m l) = absurd (member_of_none (ap types_in (kind_is 1 e i)) m)
+  leads_flat (inr e) (leads_onward i m l) = leads_flat (inl (member_of_one m (ap types_in (kind_is 16 e i)))) l
+
+  pub lawful : IsSchema s
+  lawful = record {
+    tagged = λ t k i. let f = fine_at t _ i.found in subst IsChoice (sym f.1.kind) (f.2.tagged (sym f.1.numbers));
+    tellable = λ t tags k i. let f = fine_at t _ i.found in subst (IsTellable s) (sym f.1.kind) f.2.tellable;
+    few_tags = λ t tags k i. let f = fine_at t _ i.found in
+        let l : length (numbers_of tags) ≡ length f.0.numbers = ap length f.1.numbers in
+        let m = as_many_numbers tags in
+        let few = f.2.few in omega (arith, l, m, few);
+    sound = λ t tags k i. let f = fine_at t _ i.found in subst (IsSound s) (sym f.1.kind) f.2.sound;
+    no_circle = λ t q. let f = fine_at t _ q.is.found in
+        let d = default_before (components q.kind) q.value (subst Defaults (sym f.1.kind) f.2.defaults) q.stands q.has_default in
+        member_of_none (leads_flat d q.back) q.stands;
+  }

@@ -1,0 +1,2 @@
+-- The types of the schema (`Kinds`).
+pub mod Kinds

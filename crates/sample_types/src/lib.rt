@@ -1,0 +1,6 @@
+//! A schema with types of each kind, for rows and tests of the crates that stand on schemas.
+#![tactic(auto)]
+
+mod types;
+
+pub use types::{schema, type_named};

@@ -1,0 +1,343 @@
+//! The types of the schema.
+
+ghost use Rattle.asn_base.specs.Seen.{alternative_of, component_of, item_of, kind_of, presence_of, types_of};
+ghost use Rattle.asn_base.specs.Types.{a_named_bit_string, a_restricted_string, an_integer, any_size, a_utf8_string};
+ghost use Rattle.sample_types.specs.Kinds.{AreTold, all_told, grouped, inner, numbers_of, one_or_two, one_to_three_or_eight, outer, outer_more, the_items, three, with_a_set};
+ghost use Rattle.std.specs.Prelude.{◌≡◌, ◌∷◌, ◌+◌, ◌<◌, [], IfOk, OnOk, Some, map, slice_get, take};
+ghost use Rattle.asn_base.specs.declared.strings.StringKind.TheVariants.{Numeric};
+
+use asn_base::constraint::{Bounds, Constraint, Range};
+use asn_base::law::abstract_values;
+use asn_base::schema::{
+    Addition, Alternative, Alternatives, Component, Core, Item, Items, NamedBit, Presence,
+    Resolved, Schema, TypeId,
+};
+use asn_base::strings::StringKind;
+use asn_base::tag::{Class, Tag};
+use asn_base::value::Value;
+use std::alloc::{AllocError, Global};
+
+fn universal(alloc: Global, number: u32) -> Result<Vec<Tag>, AllocError>
+    requires some { 0 < number }
+    requires few { number < 2147483648 }
+    ensures { IfOk result (λ v. numbers_of v.items ≡ number ∷ []) }
+{
+    Ok(vec![in alloc; Tag::of(Class::Universal, number)]?)
+}
+
+/// Adds a type behind those that are there, at its number.
+fn add(
+    types: &mut Vec<Resolved>,
+    number: usize,
+    tags: Vec<Tag>,
+    core: Core,
+) -> Result<(), AllocError>
+    requires before { AreTold (take number all_told) (types_of types.old.items) }
+    requires told { slice_get all_told number
+        ≡ Some (record { numbers = numbers_of tags.items; kind = kind_of core }) }
+    ensures { OnOk result (AreTold (take (number + 1) all_told) (types_of types.new.items)) }
+{
+    types.push(Resolved { tags, core })?;
+    Ok(())
+}
+
+/// INTEGER (1..3 | 8).
+fn ranged(alloc: Global) -> Result<Core, AllocError>
+    ensures { IfOk result (λ k. kind_of k ≡ an_integer one_to_three_or_eight) }
+{
+    let low = Range {
+        least: Some(1),
+        greatest: Some(3),
+    };
+    let high = Range {
+        least: Some(8),
+        greatest: Some(8),
+    };
+    Ok(Core::Integer(Constraint {
+        allowed: Some(vec![in alloc; low, high]?),
+        visible: Bounds {
+            least: Some(1),
+            greatest: Some(8),
+            extensible: false,
+        },
+    }))
+}
+
+/// UTF8String (SIZE (1..2)).
+fn short(alloc: Global) -> Result<Core, AllocError>
+    ensures { IfOk result (λ k. kind_of k ≡ a_utf8_string one_or_two) }
+{
+    let range = Range {
+        least: Some(1),
+        greatest: Some(2),
+    };
+    Ok(Core::Utf8String(Constraint {
+        allowed: Some(vec![in alloc; range]?),
+        visible: Bounds {
+            least: Some(1),
+            greatest: Some(2),
+            extensible: false,
+        },
+    }))
+}
+
+/// ENUMERATED {low(-5), red(0), ..., new(2)}.
+fn items(alloc: Global) -> Result<Core, AllocError>
+    ensures { IfOk result (λ k. kind_of k ≡ the_items) }
+{
+    let low = Item {
+        name: String::from_str(alloc, "low")?,
+        number: -5,
+    };
+    let red = Item {
+        name: String::from_str(alloc, "red")?,
+        number: 0,
+    };
+    let new = Item {
+        name: String::from_str(alloc, "new")?,
+        number: 2,
+    };
+    Ok(Core::Enumerated(Items {
+        root: vec![in alloc; low, red]?,
+        extensible: true,
+        additions: vec![in alloc; new]?,
+    }))
+}
+
+/// BIT STRING {a(0)}.
+fn named(alloc: Global) -> Result<Core, AllocError>
+    ensures { IfOk result (λ k. kind_of k ≡ a_named_bit_string (record { name = 97 ∷ []; place = 0 } ∷ [])) }
+{
+    let bit = NamedBit {
+        name: String::from_str(alloc, "a")?,
+        place: 0,
+    };
+    Ok(Core::NamedBits(vec![in alloc; bit]?))
+}
+
+/// NumericString (FROM ("0".."2")).
+fn digits(alloc: Global) -> Result<Core, AllocError>
+    ensures { IfOk result (λ k. kind_of k ≡ a_restricted_string Numeric (48 ∷ 49 ∷ 50 ∷ []) any_size) }
+{
+    let codes = vec![in alloc; 48, 49, 50]?;
+    Ok(Core::RestrictedString(StringKind::Numeric, codes, Constraint::any_size()))
+}
+
+fn member(
+    alloc: Global,
+    name: &str,
+    index: usize,
+    presence: Presence,
+) -> Result<Component, AllocError>
+    ensures { IfOk result (λ c. component_of c
+        ≡ record { name = name.now; type = index; presence = presence_of presence }) }
+{
+    Ok(Component {
+        name: String::from_str(alloc, name)?,
+        ty: TypeId { index },
+        presence,
+    })
+}
+
+/// a INTEGER, b BOOLEAN OPTIONAL, c INTEGER DEFAULT 5.
+fn three_members(alloc: Global) -> Result<Vec<Component>, AllocError>
+    ensures { IfOk result (λ cs. map component_of cs.items ≡ three) }
+{
+    abstract_values();
+    let a = member(alloc, "a", 1, Presence::Mandatory)?;
+    let b = member(alloc, "b", 0, Presence::Optional)?;
+    let c = member(alloc, "c", 1, Presence::Default(Value::Int(5)))?;
+    Ok(vec![in alloc; a, b, c]?)
+}
+
+/// a BOOLEAN, and in version brackets b INTEGER, c NULL OPTIONAL.
+fn grouped_members(alloc: Global) -> Result<Vec<Component>, AllocError>
+    ensures { IfOk result (λ cs. map component_of cs.items ≡ grouped) }
+{
+    let due = Addition {
+        optional: false,
+        group: Some(0),
+    };
+    let free = Addition {
+        optional: true,
+        group: Some(0),
+    };
+    let a = member(alloc, "a", 0, Presence::Mandatory)?;
+    let b = member(alloc, "b", 1, Presence::Addition(due))?;
+    let c = member(alloc, "c", 7, Presence::Addition(free))?;
+    Ok(vec![in alloc; a, b, c]?)
+}
+
+/// a SET OF INTEGER DEFAULT {1, 2}.
+fn set_member(alloc: Global) -> Result<Vec<Component>, AllocError>
+    ensures { IfOk result (λ cs. map component_of cs.items ≡ with_a_set) }
+{
+    abstract_values();
+    let numbers = vec![in alloc; Value::Int(1), Value::Int(2)]?;
+    let a = member(alloc, "a", 16, Presence::Default(Value::List(numbers)))?;
+    Ok(vec![in alloc; a]?)
+}
+
+fn alternative(alloc: Global, name: &str, index: usize) -> Result<Alternative, AllocError>
+    ensures { IfOk result (λ a. alternative_of a ≡ record { name = name.now; type = index }) }
+{
+    Ok(Alternative {
+        name: String::from_str(alloc, name)?,
+        ty: TypeId { index },
+    })
+}
+
+/// a INTEGER, n NULL.
+fn inner_alternatives(alloc: Global) -> Result<Vec<Alternative>, AllocError>
+    ensures { IfOk result (λ v. map alternative_of v.items ≡ inner) }
+{
+    let a = alternative(alloc, "a", 1)?;
+    let n = alternative(alloc, "n", 7)?;
+    Ok(vec![in alloc; a, n]?)
+}
+
+/// b-c of the CHOICE before.
+fn outer_alternatives(alloc: Global) -> Result<Vec<Alternative>, AllocError>
+    ensures { IfOk result (λ v. map alternative_of v.items ≡ outer) }
+{
+    let one = alternative(alloc, "b-c", 18)?;
+    Ok(vec![in alloc; one]?)
+}
+
+/// d BOOLEAN.
+fn new_alternatives(alloc: Global) -> Result<Vec<Alternative>, AllocError>
+    ensures { IfOk result (λ v. map alternative_of v.items ≡ outer_more) }
+{
+    let one = alternative(alloc, "d", 0)?;
+    Ok(vec![in alloc; one]?)
+}
+
+/// Types 0 to 5.
+fn first_types(alloc: Global, types: &mut Vec<Resolved>) -> Result<(), AllocError>
+    requires { types_of types.old.items ≡ [] }
+    ensures { OnOk result (AreTold (take 6 all_told) (types_of types.new.items)) }
+{
+    add(types, 0, universal(alloc, 1)?, Core::Boolean)?;
+    let number = Core::Integer(Constraint::any_number());
+    add(types, 1, universal(alloc, 2)?, number)?;
+    add(types, 2, universal(alloc, 2)?, ranged(alloc)?)?;
+    add(types, 3, universal(alloc, 10)?, items(alloc)?)?;
+    let bits = Core::BitString(Constraint::any_size());
+    add(types, 4, universal(alloc, 3)?, bits)?;
+    add(types, 5, universal(alloc, 3)?, named(alloc)?)
+}
+
+/// Types 6 to 12.
+fn more_leaves(alloc: Global, types: &mut Vec<Resolved>) -> Result<(), AllocError>
+    requires { AreTold (take 6 all_told) (types_of types.old.items) }
+    ensures { OnOk result (AreTold (take 13 all_told) (types_of types.new.items)) }
+{
+    let octets = Core::OctetString(Constraint::any_size());
+    add(types, 6, universal(alloc, 4)?, octets)?;
+    add(types, 7, universal(alloc, 5)?, Core::Null)?;
+    add(types, 8, universal(alloc, 6)?, Core::ObjectIdentifier)?;
+    add(types, 9, universal(alloc, 13)?, Core::RelativeOid)?;
+    let text = Core::Utf8String(Constraint::any_size());
+    add(types, 10, universal(alloc, 12)?, text)?;
+    add(types, 11, universal(alloc, 12)?, short(alloc)?)?;
+    add(types, 12, universal(alloc, 18)?, digits(alloc)?)
+}
+
+/// Types 13 to 17.
+fn lists(alloc: Global, types: &mut Vec<Resolved>) -> Result<(), AllocError>
+    requires { AreTold (take 13 all_told) (types_of types.old.items) }
+    ensures { OnOk result (AreTold (take 18 all_told) (types_of types.new.items)) }
+{
+    let none = Core::Sequence(false, Vec::new(alloc));
+    add(types, 13, universal(alloc, 16)?, none)?;
+    let three = Core::Sequence(false, three_members(alloc)?);
+    add(types, 14, universal(alloc, 16)?, three)?;
+    let numbers = Core::SequenceOf(Constraint::any_size(), TypeId { index: 1 });
+    add(types, 15, universal(alloc, 16)?, numbers)?;
+    let bag = Core::SetOf(Constraint::any_size(), TypeId { index: 1 });
+    add(types, 16, universal(alloc, 17)?, bag)?;
+    let named = Core::SetOf(Constraint::any_size(), TypeId { index: 5 });
+    add(types, 17, universal(alloc, 17)?, named)
+}
+
+/// Types 18 to 20.
+fn choices(alloc: Global, types: &mut Vec<Resolved>) -> Result<(), AllocError>
+    requires { AreTold (take 18 all_told) (types_of types.old.items) }
+    ensures { OnOk result (AreTold (take 21 all_told) (types_of types.new.items)) }
+{
+    let inner = Core::Choice(Alternatives {
+        root: inner_alternatives(alloc)?,
+        extensible: false,
+        additions: Vec::new(alloc),
+    });
+    let tags = vec![in alloc; Tag::of(Class::Context, 0)]?;
+    add(types, 18, tags, inner)?;
+    let outer = Core::Choice(Alternatives {
+        root: outer_alternatives(alloc)?,
+        extensible: true,
+        additions: new_alternatives(alloc)?,
+    });
+    add(types, 19, Vec::new(alloc), outer)?;
+    let grouped = Core::Sequence(true, grouped_members(alloc)?);
+    add(types, 20, universal(alloc, 16)?, grouped)
+}
+
+/// Types 21 to 23.
+fn last_types(alloc: Global, types: &mut Vec<Resolved>) -> Result<(), AllocError>
+    requires { AreTold (take 21 all_told) (types_of types.old.items) }
+    ensures { OnOk result (AreTold all_told (types_of types.new.items)) }
+{
+    let levels = Core::SequenceOf(Constraint::any_size(), TypeId { index: 21 });
+    add(types, 21, universal(alloc, 16)?, levels)?;
+    let tags = vec![in alloc; Tag::of(Class::Context, 0), Tag::of(Class::Universal, 1)]?;
+    add(types, 22, tags, Core::Boolean)?;
+    let set = Core::Sequence(false, set_member(alloc)?);
+    add(types, 23, universal(alloc, 16)?, set)
+}
+
+/// The schema of all these types, or `AllocError` for want of memory alone.
+#[tactic(auto, using(crate::proofs::Lawful::lawful))]
+pub fn schema(alloc: Global) -> Result<Schema, AllocError>
+    ensures { IfOk result (λ s. AreTold all_told s) }
+{
+    let mut types = Vec::new(alloc);
+    first_types(alloc, &mut types)?;
+    more_leaves(alloc, &mut types)?;
+    lists(alloc, &mut types)?;
+    choices(alloc, &mut types)?;
+    last_types(alloc, &mut types)?;
+    Ok(Schema::of(types))
+}
+
+/// The number of the type with this name; `none-such` is the number behind the last one.
+pub fn type_named(name: &str) -> Option<TypeId> {
+    let index = match name {
+        "boolean" => 0,
+        "integer" => 1,
+        "one-to-three-or-eight" => 2,
+        "items" => 3,
+        "bits" => 4,
+        "named-bits" => 5,
+        "octets" => 6,
+        "null" => 7,
+        "oid" => 8,
+        "relative-oid" => 9,
+        "text" => 10,
+        "one-or-two-characters" => 11,
+        "digits" => 12,
+        "no-members" => 13,
+        "three-members" => 14,
+        "numbers" => 15,
+        "set-of-numbers" => 16,
+        "set-of-named-bits" => 17,
+        "inner-choice" => 18,
+        "choice" => 19,
+        "group" => 20,
+        "levels" => 21,
+        "tagged" => 22,
+        "set-by-default" => 23,
+        "none-such" => 24,
+        _ => return None,
+    };
+    Some(TypeId { index })
+}
