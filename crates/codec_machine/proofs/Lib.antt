@@ -1,0 +1,5 @@
+pub mod Left
+pub mod Weigh
+pub mod Replacing
+pub mod Places
+pub mod Acting

@@ -1,0 +1,115 @@
+//! One step of the machine.
+
+ghost use Rattle.asn_base.specs.Abstract.{abstract, row_of_list};
+ghost use Rattle.codec_code.specs.Events.{leaves_out, opens, closes};
+ghost use Rattle.codec_code.specs.Steps as steps;
+ghost use Rattle.codec_code.specs.declared.step.Step.TheVariants.{Field as FieldStep, Ranked};
+ghost use Rattle.codec_machine.specs.Frames.{Acted, Turned, steps_weight};
+ghost use Rattle.codec_machine.specs.Weights.{total};
+ghost use Rattle.std.specs.Prelude.{◌++◌, ◌∷◌, [], OnOk};
+
+use crate::backend::Backend;
+use crate::fault::RunFault;
+use crate::frame::Frame;
+use crate::part::{first_step, has_default};
+use crate::push::{
+    add, push_choice, push_each, push_elements, push_field, push_parts, push_ranked, push_sorted,
+};
+use asn_base::schema::TypeId;
+use asn_base::value::Value;
+use codec_code::{Code, Field, Step};
+
+/// What the frame does next, where it was the last of all.
+pub(crate) fn turn<'a, B: Backend<'a>>(
+    code: &'a Code,
+    frame: Frame<'a>,
+    frames: &mut Vec<Frame<'a>>,
+    backend: &mut B,
+) -> Result<(), RunFault>
+    ensures { OnOk result (Turned code.now B.adds (frames.old.items ++ frame.entry ∷ []) backend.old frames.new.items
+        backend.new) }
+{
+    match frame {
+        Frame::Routine(id, steps, value) => match first_step(steps) {
+            Some((step, rest)) => {
+                act(code, id, step, rest, value, frames, backend)?;
+                Ok(())
+            }
+            None => Ok(()),
+        },
+        Frame::Elements(id, values) => {
+            push_elements(code, id, values, frames)?;
+            Ok(())
+        }
+        Frame::Parts(id, values) => {
+            push_parts(code, id, values, frames)?;
+            Ok(())
+        }
+        Frame::Part(rank) => {
+            backend.part(rank)?;
+            Ok(())
+        }
+    }
+}
+
+/// A step of a routine, and the steps behind it.
+fn act<'a, B: Backend<'a>>(
+    code: &'a Code,
+    id: TypeId,
+    step: Step,
+    rest: &'a [Step],
+    value: &'a Value,
+    frames: &mut Vec<Frame<'a>>,
+    backend: &mut B,
+) -> Result<(), RunFault>
+    ensures { OnOk result (Acted code.now B.adds (steps.Steps code.now id.index (step ∷ rest.now) (abstract value.now))
+        (steps_weight (total code.now) (step ∷ rest.now) (abstract value.now)) frames.old.items backend.old frames.new.items
+        backend.new) }
+{
+    match step {
+        Step::Head(head) => {
+            backend.open(head)?;
+            add(frames, Frame::Routine(id, rest, value))?;
+            Ok(())
+        }
+        Step::End => {
+            backend.close()?;
+            add(frames, Frame::Routine(id, rest, value))?;
+            Ok(())
+        }
+        Step::Rest => {
+            add(frames, Frame::Routine(id, rest, value))?;
+            Ok(())
+        }
+        Step::Leaf(kind) => {
+            backend.leaf(kind, value)?;
+            add(frames, Frame::Routine(id, rest, value))?;
+            Ok(())
+        }
+        Step::Field(field) => {
+            if push_field(code, id, field, rest, value, frames)? {
+                backend.leave_out(has_default(field.need))?;
+            }
+            Ok(())
+        }
+        Step::Ranked(field, rank) => {
+            if push_ranked(code, id, field, rank, rest, value, frames)? {
+                backend.leave_out(has_default(field.need))?;
+            }
+            Ok(())
+        }
+        Step::Each(of) => {
+            push_each(code, id, of, rest, value, frames)?;
+            Ok(())
+        }
+        Step::EachSorted(of) => {
+            push_sorted(code, id, of, rest, value, frames)?;
+            Ok(())
+        }
+        Step::Pick(alternatives) => {
+            push_choice(code, id, alternatives, rest, value, frames)?;
+            Ok(())
+        }
+        Step::Call(_) => Err(RunFault::NotOfType),
+    }
+}
