@@ -11,11 +11,14 @@ use Rattle.codec_code.specs.declared.step.Step.TheVariants.{Head, Leaf, Rest, En
 use Rattle.codec_code.specs.Events.{Event, opens, puts, closes, parts}
 use Rattle.codec_code.specs.Routines.{routine_at}
 use Rattle.codec_code.specs.Steps.{Steps, finished, head, ending, rest, leaf, Elements, Parts}
+use Rattle.codec_machine.specs.declared.fault.RunFault.{RunFault}
+use Rattle.codec_machine.specs.declared.fault.RunFault.TheVariants.{Memory, NotOfType}
 use Rattle.codec_machine.specs.declared.frame.Frame.{Frame}
 use Rattle.codec_machine.specs.declared.frame.Frame.TheVariants.{Routine, Elements as ElementsLeft, Parts as PartsLeft, Part as PartEnd}
 use Rattle.codec_machine.specs.Weights.{weights, inner, total}
-use Rattle.codec_machine.specs.Frames.{AddsLeaf, Told, Left, frame_weight, weighs, Replaced, Acted, Turned, Reached, Ran, steps_weight}
-use Rattle.codec_machine.proofs.Left.{one_left, turned_by}
+use Rattle.codec_machine.specs.Frames.{AddsLeaf, Told, Left, Tellable, IsToldNothing, frame_weight, weighs, Replaced, Acted, Turned, Reached, Ran, steps_weight}
+use Rattle.codec_machine.proofs.Left.{one_left, tell_none, tell_more, turned_by}
+use Rattle.codec_machine.proofs.Inversion.{behind_head, behind_end, behind_rest, behind_leaf, nothing_told}
 use Rattle.codec_machine.proofs.Weigh.{room}
 
 module _ {S : Type 0} (s : List Resolved) (adds : S → List Event → S → Type 0) where
@@ -23,33 +26,35 @@ module _ {S : Type 0} (s : List Resolved) (adds : S → List Event → S → Typ
     -- an event, and the steps behind it
     acted : (x : Step) (es : List Event) → adds a es b → news ≡ olds ++ Routine id others v ∷ []
         → ((ys : List Event) → Steps s id.index others.now (abstract v.now) ys → Steps s id.index (x ∷ others.now) (abstract v.now) (es ++ ys))
+        → ((ys : List Event) → Steps s id.index (x ∷ others.now) (abstract v.now) ys → Tellable (Steps s id.index others.now (abstract v.now)))
         → Acted s adds (Steps s id.index (x ∷ others.now) (abstract v.now)) (steps_weight (total s) (x ∷ others.now) (abstract v.now)) olds a news b
-    acted x es ad is h = record {
+    acted x es ad is h k' = record {
       events = es;
       added = ad;
       replaced = record {
         pushed = Routine id others v ∷ [];
         is = is;
         left = λ ys l. h ys (one_left s (Routine id others v) ys l);
+        stays = λ ys d. let p = k' ys d in tell_more s (Routine id others v) [] p.events p.told (tell_none s);
         less = (let k = room (total s) x others.now (abstract v.now) 0 (omega arith) in omega arith);
       };
     }
 
     pub head_acted : (x : Step) (h : Head') → x ≡ Head h → adds a (opens h.tag h.constructed h.row ∷ []) b → news ≡ olds ++ Routine id others v ∷ []
         → Acted s adds (Steps s id.index (x ∷ others.now) (abstract v.now)) (steps_weight (total s) (x ∷ others.now) (abstract v.now)) olds a news b
-    head_acted x h e ad is = acted x (opens h.tag h.constructed h.row ∷ []) ad is (λ ys d. subst (λ q. Steps s id.index (q ∷ others.now) (abstract v.now) (opens h.tag h.constructed h.row ∷ ys)) (sym e) (head d))
+    head_acted x h e ad is = acted x (opens h.tag h.constructed h.row ∷ []) ad is (λ ys d. subst (λ q. Steps s id.index (q ∷ others.now) (abstract v.now) (opens h.tag h.constructed h.row ∷ ys)) (sym e) (head d)) (λ ys d. behind_head (subst (λ q. Steps s id.index (q ∷ others.now) (abstract v.now) ys) e d))
 
     pub end_acted : (x : Step) → x ≡ End → adds a (closes ∷ []) b → news ≡ olds ++ Routine id others v ∷ []
         → Acted s adds (Steps s id.index (x ∷ others.now) (abstract v.now)) (steps_weight (total s) (x ∷ others.now) (abstract v.now)) olds a news b
-    end_acted x e ad is = acted x (closes ∷ []) ad is (λ ys d. subst (λ q. Steps s id.index (q ∷ others.now) (abstract v.now) (closes ∷ ys)) (sym e) (ending d))
+    end_acted x e ad is = acted x (closes ∷ []) ad is (λ ys d. subst (λ q. Steps s id.index (q ∷ others.now) (abstract v.now) (closes ∷ ys)) (sym e) (ending d)) (λ ys d. behind_end (subst (λ q. Steps s id.index (q ∷ others.now) (abstract v.now) ys) e d))
 
     pub rest_acted : (x : Step) → x ≡ Rest → adds a [] b → news ≡ olds ++ Routine id others v ∷ []
         → Acted s adds (Steps s id.index (x ∷ others.now) (abstract v.now)) (steps_weight (total s) (x ∷ others.now) (abstract v.now)) olds a news b
-    rest_acted x e ad is = acted x [] ad is (λ ys d. subst (λ q. Steps s id.index (q ∷ others.now) (abstract v.now) ys) (sym e) (rest d))
+    rest_acted x e ad is = acted x [] ad is (λ ys d. subst (λ q. Steps s id.index (q ∷ others.now) (abstract v.now) ys) (sym e) (rest d)) (λ ys d. behind_rest (subst (λ q. Steps s id.index (q ∷ others.now) (abstract v.now) ys) e d))
 
     pub leaf_acted : (x : Step) (k : LeafKind) → x ≡ Leaf k → AddsLeaf adds k (abstract v.now) a b → news ≡ olds ++ Routine id others v ∷ []
         → Acted s adds (Steps s id.index (x ∷ others.now) (abstract v.now)) (steps_weight (total s) (x ∷ others.now) (abstract v.now)) olds a news b
-    leaf_acted x k e ad is = acted x (puts ad.0 ∷ []) ad.2 is (λ ys d. subst (λ q. Steps s id.index (q ∷ others.now) (abstract v.now) (puts ad.0 ∷ ys)) (sym e) (leaf ad.1 d))
+    leaf_acted x k e ad is = acted x (puts ad.0 ∷ []) ad.2 is (λ ys d. subst (λ q. Steps s id.index (q ∷ others.now) (abstract v.now) (puts ad.0 ∷ ys)) (sym e) (leaf ad.1 d)) (λ ys d. behind_leaf (subst (λ q. Steps s id.index (q ∷ others.now) (abstract v.now) ys) e d))
 
   -- ---- turns
 
@@ -62,16 +67,18 @@ module _ {S : Type 0} (s : List Resolved) (adds : S → List Event → S → Typ
   routine_turned f id ss others v x olds news a b e d ac =
       turned_by s adds (Steps s id.index (x ∷ others.now) (abstract v.now)) (steps_weight (total s) (x ∷ others.now) (abstract v.now)) olds news f a b
       (λ ys t. subst (λ q. Told s q ys) (sym e) (subst (λ q. Steps s id.index q (abstract v.now) ys) (sym d) t))
+      (λ ys t. subst (λ q. Steps s id.index q (abstract v.now) ys) d (subst (λ q. Told s q ys) e t))
       (let k = same_weight f (Routine id ss v) e in let m = ap (λ q. steps_weight (total s) q (abstract v.now)) d in omega arith)
       ac
 
   nothing_pushed : (T : List Event → Type 0) (w : ℕ) (es : List Event) (olds : List Frame) → T (es ++ []) → 0 < w → Replaced s T w es olds olds
-  nothing_pushed T w es olds t h = record { pushed = []; is = sym (append-nil olds); left = λ ys l. subst (λ q. T (es ++ q)) (sym l) t; less = h }
+  nothing_pushed T w es olds t h = record { pushed = []; is = sym (append-nil olds); left = λ ys l. subst (λ q. T (es ++ q)) (sym l) t; stays = λ ys d. tell_none s; less = h }
 
   pub finished_turned : (f : Frame) (id : TypeId) (ss : Bor (List Step)) (v : Bor Value) (olds : List Frame) (a : S) → f ≡ Routine id ss v → ss.now ≡ [] → adds a [] a → Turned s adds (olds ++ f ∷ []) a olds a
   finished_turned f id ss v olds a e d ad =
       turned_by s adds (λ ys. ys ≡ []) 1 olds olds f a a
       (λ ys t. subst (λ q. Told s q ys) (sym e) (subst (λ q. Steps s id.index q (abstract v.now) ys) (sym d) (subst (λ q. Steps s id.index [] (abstract v.now) q) (sym t) finished)))
+      (λ ys t. nothing_told (subst (λ q. Steps s id.index q (abstract v.now) ys) d (subst (λ q. Told s q ys) e t)))
       (let k = same_weight f (Routine id ss v) e in omega arith)
       (record { events = []; added = ad; replaced = nothing_pushed (λ ys. ys ≡ []) 1 [] olds refl (omega arith) })
 
@@ -80,31 +87,32 @@ module _ {S : Type 0} (s : List Resolved) (adds : S → List Event → S → Typ
       → Turned s adds (olds ++ f ∷ []) a news a
   elements_turned f id vs olds news a e ad r =
       turned_by s adds (Elements s id.index (row_of_list (map abstract vs.now))) (suc (weights (total s) (row_of_list (map abstract vs.now)))) olds news f a a
-      (λ ys t. subst (λ q. Told s q ys) (sym e) t) (same_weight f (ElementsLeft id vs) e) (record { events = []; added = ad; replaced = r })
+      (λ ys t. subst (λ q. Told s q ys) (sym e) t) (λ ys t. subst (λ q. Told s q ys) e t) (same_weight f (ElementsLeft id vs) e) (record { events = []; added = ad; replaced = r })
 
   pub parts_turned : (f : Frame) (id : TypeId) (vs : Bor (List Value)) (olds news : List Frame) (a : S) → f ≡ PartsLeft id vs → adds a [] a
       → Replaced s (Parts s id.index (row_of_list (map abstract vs.now))) (suc (weights (total s) (row_of_list (map abstract vs.now)))) [] olds news
       → Turned s adds (olds ++ f ∷ []) a news a
   parts_turned f id vs olds news a e ad r =
       turned_by s adds (Parts s id.index (row_of_list (map abstract vs.now))) (suc (weights (total s) (row_of_list (map abstract vs.now)))) olds news f a a
-      (λ ys t. subst (λ q. Told s q ys) (sym e) t) (same_weight f (PartsLeft id vs) e) (record { events = []; added = ad; replaced = r })
+      (λ ys t. subst (λ q. Told s q ys) (sym e) t) (λ ys t. subst (λ q. Told s q ys) e t) (same_weight f (PartsLeft id vs) e) (record { events = []; added = ad; replaced = r })
 
   pub part_turned : (f : Frame) (r : ℕ) (olds : List Frame) (a b : S) → f ≡ PartEnd r → adds a (parts r ∷ []) b → Turned s adds (olds ++ f ∷ []) a olds b
   part_turned f r olds a b e ad =
       turned_by s adds (λ ys. ys ≡ parts r ∷ []) 1 olds olds f a b
-      (λ ys t. subst (λ q. Told s q ys) (sym e) t) (same_weight f (PartEnd r) e)
+      (λ ys t. subst (λ q. Told s q ys) (sym e) t) (λ ys t. subst (λ q. Told s q ys) e t) (same_weight f (PartEnd r) e)
       (record { events = parts r ∷ []; added = ad; replaced = nothing_pushed (λ ys. ys ≡ parts r ∷ []) 1 (parts r ∷ []) olds refl (omega arith) })
 
   -- ---- a run
 
   pub reached_start : (olds : List Frame) (a : S) → adds a [] a → Reached s adds olds a olds a
-  reached_start olds a ad = record { events = []; added = ad; left = λ ys l. l }
+  reached_start olds a ad = record { events = []; added = ad; left = λ ys l. l; stays = λ ys l. record { events = ys; told = l } }
 
   pub reached_more : ((a b c : S) (es fs : List Event) → adds a es b → adds b fs c → adds a (es ++ fs) c) → (olds mids mids' news : List Frame) (a b c : S) → mids' ≡ mids → Reached s adds olds a mids' b → Turned s adds mids b news c → Reached s adds olds a news c
   reached_more joins olds mids mids' news a b c e t u = record {
     events = t.events ++ u.events;
     added = joins a b c t.events u.events t.added u.added;
     left = λ ys l. subst (Left s olds) (sym (append_assoc t.events u.events ys)) (t.left (u.events ++ ys) (subst (λ q. Left s q (u.events ++ ys)) (sym e) (u.left ys l)));
+    stays = λ ys l. let p = t.stays ys l in u.stays p.events (subst (λ q. Left s q p.events) e p.told);
   }
 
   pub reached_ran : (id : TypeId) (ss : Bor (List Step)) (v : Bor Value) (olds news : List Frame) (a b : S) → ss.now ≡ routine_at s id.index → olds ≡ Routine id ss v ∷ [] → news ≡ [] → Reached s adds olds a news b → Ran s id.index (abstract v.now) adds a b
@@ -116,6 +124,18 @@ module _ {S : Type 0} (s : List Resolved) (adds : S → List Event → S → Typ
         added = t.added;
         steps = subst (λ q. Steps s id.index q (abstract v.now) t.events) d (subst (λ q. Steps s id.index ss.now (abstract v.now) q) (append-nil t.events) o);
       }
+
+-- of what the start can't be told, nothing can
+pub reached_untold : {S : Type 0} (s : List Resolved) (adds : S → List Event → S → Type 0) (id : TypeId) (ss : Bor (List Step)) (v : Bor Value) (olds mids mids' : List Frame) (a b : S) (fault : RunFault)
+    → ss.now ≡ routine_at s id.index → olds ≡ Routine id ss v ∷ [] → mids ≡ mids' → Reached s adds olds a mids b → IsToldNothing (Left s mids') fault
+    → IsToldNothing (Steps s id.index (routine_at s id.index) (abstract v.now)) fault
+reached_untold s adds id ss v olds mids mids' a b fault d is e t n k es h =
+    let p = t.stays es (subst (λ q. Left s q es) (sym is) ([], es, refl, subst (λ q. Steps s id.index q (abstract v.now) es) (sym d) h, refl)) in
+    n k p.events (subst (λ q. Left s q p.events) e p.told)
+
+-- want of memory says nothing of the value
+pub no_memory : (T : List Event → Type 0) (fault : RunFault) → fault ≡ Memory → IsToldNothing T fault
+no_memory T fault e k es t = absurd (let f : Memory ≡ NotOfType = sym e ∙ k in cc)
 
 pub no_items : (xs : List Frame) → length xs ≡ 0 → xs ≡ []
 no_items [] h = refl

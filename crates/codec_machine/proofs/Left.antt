@@ -3,9 +3,10 @@ use Rattle.std.proofs.Common.{◌≡◌, ℕ, zero, suc, ◌+◌, ◌*◌, ◌<�
 use Rattle.std.proofs.Math.Nat.{mul-le-mul_left}
 use Rattle.asn_base.specs.Types.{Resolved}
 use Rattle.codec_code.specs.Events.{Event}
+use Rattle.codec_machine.specs.declared.fault.RunFault.{RunFault}
 use Rattle.codec_machine.specs.declared.frame.Frame.{Frame}
 use Rattle.codec_machine.specs.Weights.{total}
-use Rattle.codec_machine.specs.Frames.{Told, Left, frame_weight, weighs, Replaced, Acted, Turned}
+use Rattle.codec_machine.specs.Frames.{Told, Left, Tellable, IsToldNothing, frame_weight, weighs, Replaced, Acted, Turned}
 
 record Parted (s : List Resolved) (olds news : List Frame) (rest : List Event) : Type 0 where
   first : List Event
@@ -26,10 +27,16 @@ parted s (f ∷ olds) news rest l =
       whole = l.4 ∙ ap (λ q. q ++ l.1) p.whole ∙ append_assoc p.first p.second l.1;
     }
 
--- the last frame goes first
-left_push : (s : List Resolved) (fs : List Frame) (f : Frame) (ys xs : List Event) → Told s f ys → Left s fs xs → Left s (fs ++ f ∷ []) (ys ++ xs)
-left_push s [] f ys xs t e = ([], ys, refl, t, ap (λ q. ys ++ q) e ∙ append-nil ys)
-left_push s (g ∷ fs) f ys xs t l = (ys ++ l.0, l.1, left_push s fs f ys l.0 t l.2, l.3, ap (λ q. ys ++ q) l.4 ∙ sym (append_assoc ys l.0 l.1))
+-- the last frames go first
+left_joined : (s : List Resolved) (olds news : List Frame) (xs ys : List Event) → Left s news xs → Left s olds ys → Left s (olds ++ news) (xs ++ ys)
+left_joined s [] news xs ys n e = subst (Left s news) (sym (ap (λ q. xs ++ q) e ∙ append-nil xs)) n
+left_joined s (g ∷ olds) news xs ys n l = (xs ++ l.0, l.1, left_joined s olds news xs l.0 n l.2, l.3, ap (λ q. xs ++ q) l.4 ∙ sym (append_assoc xs l.0 l.1))
+
+pub tell_none : (s : List Resolved) → Tellable (Left s [])
+tell_none s = record { events = []; told = refl }
+
+pub tell_more : (s : List Resolved) (f : Frame) (fs : List Frame) (es : List Event) → Told s f es → Tellable (Left s fs) → Tellable (Left s (f ∷ fs))
+tell_more s f fs es t l = record { events = l.events ++ es; told = (l.events, es, l.told, t, refl) }
 
 pub one_left : (s : List Resolved) (f : Frame) (rest : List Event) → Left s (f ∷ []) rest → Told s f rest
 one_left s f rest l = subst (Told s f) (sym (l.4 ∙ ap (λ q. q ++ l.1) l.2)) l.3
@@ -64,8 +71,8 @@ weighs_more l (f ∷ fs) gs = let e = weighs_more l fs gs in omega arith
 
 -- the last frame was replaced
 pub turned_by : {S : Type 0} (s : List Resolved) (adds : S → List Event → S → Type 0) (T : List Event → Type 0) (w : ℕ) (olds news : List Frame) (f : Frame) (a b : S)
-    → ((ys : List Event) → T ys → Told s f ys) → w ≤ frame_weight (total s) f → Acted s adds T w olds a news b → Turned s adds (olds ++ f ∷ []) a news b
-turned_by s adds T w olds news f a b h e ac =
+    → ((ys : List Event) → T ys → Told s f ys) → ((ys : List Event) → Told s f ys → T ys) → w ≤ frame_weight (total s) f → Acted s adds T w olds a news b → Turned s adds (olds ++ f ∷ []) a news b
+turned_by s adds T w olds news f a b h k' e ac =
     let r = ac.replaced in
     record {
       events = ac.events;
@@ -73,9 +80,19 @@ turned_by s adds T w olds news f a b h e ac =
       left = λ rest l.
           let p = parted s olds r.pushed rest (subst (λ q. Left s q rest) r.is l) in
           subst (Left s (olds ++ f ∷ [])) (append_assoc ac.events p.first p.second ∙ ap (λ q. ac.events ++ q) (sym p.whole))
-          (left_push s olds f (ac.events ++ p.first) p.second (h (ac.events ++ p.first) (r.left p.first p.one)) p.two);
+          (left_joined s olds (f ∷ []) (ac.events ++ p.first) p.second ([], ac.events ++ p.first, refl, h (ac.events ++ p.first) (r.left p.first p.one), refl) p.two);
+      stays = λ all l.
+          let p = parted s olds (f ∷ []) all l in
+          let d = r.stays p.first (k' p.first (one_left s f p.first p.one)) in
+          record { events = d.events ++ p.second; told = subst (λ q. Left s q (d.events ++ p.second)) (sym r.is) (left_joined s olds r.pushed d.events p.second d.told p.two) };
       less =
           let k = ap (weighs (total s)) r.is ∙ weighs_more (total s) olds r.pushed in
           let m = weighs_more (total s) olds (f ∷ []) in
           let z = r.less in omega (arith, k, m);
     }
+
+-- what the last frame can't be told of, all frames can't
+pub untold_by : (s : List Resolved) (T : List Event → Type 0) (olds : List Frame) (f : Frame) (fault : RunFault) → ((ys : List Event) → Told s f ys → T ys) → IsToldNothing T fault → IsToldNothing (Left s (olds ++ f ∷ [])) fault
+untold_by s T olds f fault h n e all l =
+    let p = parted s olds (f ∷ []) all l in
+    n e p.first (h p.first (one_left s f p.first p.one))

@@ -14,8 +14,9 @@ use Rattle.codec_code.specs.Steps.{Steps, left_out, written, ranked_left_out, ra
 use Rattle.codec_machine.specs.declared.frame.Frame.{Frame}
 use Rattle.codec_machine.specs.declared.frame.Frame.TheVariants.{Routine, Elements as ElementsLeft, Parts as PartsLeft, Part as PartEnd}
 use Rattle.codec_machine.specs.Weights.{weight, weights, inner, total}
-use Rattle.codec_machine.specs.Frames.{Told, Left, weighs, Replaced, LeavesOut, WritesIt, steps_weight}
-use Rattle.codec_machine.proofs.Left.{one_left, two_left, three_left}
+use Rattle.codec_machine.specs.Frames.{Told, Left, Tellable, weighs, Replaced, LeavesOut, WritesIt, steps_weight}
+use Rattle.codec_machine.proofs.Left.{one_left, two_left, three_left, tell_none, tell_more}
+use Rattle.codec_machine.proofs.Inversion.{behind_field, held_field, of_field, of_ranked, of_each, of_sorted, same_list, of_element, of_part, of_pick, called_type}
 use Rattle.codec_machine.proofs.Weigh.{routine_weight, component_weight, room, room_fewer}
 
 two_pushed : (olds mids news : List Frame) (f g : Frame) → mids ≡ olds ++ f ∷ [] → news ≡ mids ++ g ∷ [] → news ≡ olds ++ (f ∷ g ∷ [])
@@ -41,6 +42,7 @@ module _ (s : List Resolved) (id : TypeId) (olds : List Frame) where
       is = e;
       left = λ es l. subst (λ q. Steps s id.index (Field f ∷ rest.now) q (leaves_out (has_default f.need) ∷ es)) (sym o.is)
           (left_out o.left_out (subst (λ q. Steps s id.index rest.now q es) o.is (one_left s (Routine id rest v) es l)));
+      stays = λ es t. let p = behind_field (of_field t) in tell_more s (Routine id rest v) [] p.events p.told (tell_none s);
       less = (let h = room (total s) (Field f) rest.now (abstract v.now) 0 (omega arith) in omega arith);
     }
 
@@ -51,6 +53,7 @@ module _ (s : List Resolved) (id : TypeId) (olds : List Frame) where
       is = e;
       left = λ es l. subst (λ q. Steps s id.index (Ranked f r ∷ rest.now) q (leaves_out (has_default f.need) ∷ es)) (sym o.is)
           (ranked_left_out o.left_out (subst (λ q. Steps s id.index rest.now q es) o.is (one_left s (Routine id rest v) es l)));
+      stays = λ es t. let p = behind_field (of_ranked t) in tell_more s (Routine id rest v) [] p.events p.told (tell_none s);
       less = (let h = room (total s) (Ranked f r) rest.now (abstract v.now) 0 (omega arith) in omega arith);
     }
 
@@ -65,6 +68,12 @@ module _ (s : List Resolved) (id : TypeId) (olds : List Frame) where
           let p = two_left s (Routine id rest v) (Routine f.ty ss w) es l in
           subst (λ q. Steps s id.index (Field f ∷ rest.now) q es) (sym o.is)
           (written o.written (subst (λ q. Steps s f.ty.index q (abstract w.now) p.first) e p.one) (subst (λ q. Steps s id.index rest.now q p.second) o.is p.two) p.whole);
+      stays = λ es t.
+          let p = of_field t in
+          let b = behind_field p in
+          let h = held_field (abstract w.now) o p in
+          tell_more s (Routine id rest v) (Routine f.ty ss w ∷ []) b.events b.told
+          (tell_more s (Routine f.ty ss w) [] h.events (subst (λ q. Steps s f.ty.index q (abstract w.now) h.events) (sym e) h.told) (tell_none s));
       less =
           let h = room (total s) (Field f) rest.now (abstract v.now) (steps_weight (total s) ss.now (abstract w.now))
           (let a = held_weight s f.ty ss.now (abstract w.now) e in let b = component_weight (total s) o.row f.place (abstract w.now) o.written.stands in let c = inner_at (total s) (abstract v.now) (fields o.row) o.is in omega arith) in omega arith;
@@ -80,6 +89,13 @@ module _ (s : List Resolved) (id : TypeId) (olds : List Frame) where
           let p = three_left s (Routine id rest v) (PartEnd r) (Routine f.ty ss w) es l in
           subst (λ q. Steps s id.index (Ranked f r ∷ rest.now) q es) (sym o.is)
           (ranked_written o.written (subst (λ q. Steps s f.ty.index q (abstract w.now) p.first) e p.one) (subst (λ q. Steps s id.index rest.now q p.third) o.is p.three) (p.whole ∙ ap (λ q. p.first ++ (q ++ p.third)) p.two));
+      stays = λ es t.
+          let p = of_ranked t in
+          let b' = behind_field p in
+          let h = held_field (abstract w.now) o p in
+          tell_more s (Routine id rest v) (PartEnd r ∷ Routine f.ty ss w ∷ []) b'.events b'.told
+          (tell_more s (PartEnd r) (Routine f.ty ss w ∷ []) (parts r ∷ []) refl
+          (tell_more s (Routine f.ty ss w) [] h.events (subst (λ q. Steps s f.ty.index q (abstract w.now) h.events) (sym e) h.told) (tell_none s)));
       less =
           let h = room (total s) (Ranked f r) rest.now (abstract v.now) (suc (steps_weight (total s) ss.now (abstract w.now)))
           (let a = held_weight s f.ty ss.now (abstract w.now) e in let b' = component_weight (total s) o.row f.place (abstract w.now) o.written.stands in let c = inner_at (total s) (abstract v.now) (fields o.row) o.is in omega arith) in omega arith;
@@ -96,6 +112,11 @@ module _ (s : List Resolved) (id : TypeId) (olds : List Frame) where
           let p = two_left s (Routine id rest v) (ElementsLeft u vs) es l in
           subst (λ q. Steps s id.index (Each u ∷ rest.now) q es) (sym e)
           (each p.one (subst (λ q. Steps s id.index rest.now q p.second) e p.two) p.whole);
+      stays = λ es t.
+          let p = of_each t in
+          let h = p.first in
+          tell_more s (Routine id rest v) (ElementsLeft u vs ∷ []) p.behind.events p.behind.told
+          (tell_more s (ElementsLeft u vs) [] h.events (subst (λ q. Elements s u.index q h.events) (same_list (sym p.is ∙ e)) h.told) (tell_none s));
       less = (let c = inner_at (total s) (abstract v.now) (list (row_of_list (map abstract vs.now))) e in
           let h = room (total s) (Each u) rest.now (abstract v.now) (suc (weights (total s) (row_of_list (map abstract vs.now)))) (omega arith) in omega arith);
     }
@@ -110,6 +131,11 @@ module _ (s : List Resolved) (id : TypeId) (olds : List Frame) where
           let p = two_left s (Routine id rest v) (PartsLeft u vs) es l in
           subst (λ q. Steps s id.index (EachSorted u ∷ rest.now) q es) (sym e)
           (each_sorted p.one (subst (λ q. Steps s id.index rest.now q p.second) e p.two) p.whole);
+      stays = λ es t.
+          let p = of_sorted t in
+          let h = p.first in
+          tell_more s (Routine id rest v) (PartsLeft u vs ∷ []) p.behind.events p.behind.told
+          (tell_more s (PartsLeft u vs) [] h.events (subst (λ q. Parts s u.index q h.events) (same_list (sym p.is ∙ e)) h.told) (tell_none s));
       less = (let c = inner_at (total s) (abstract v.now) (list (row_of_list (map abstract vs.now))) e in
           let h = room (total s) (EachSorted u) rest.now (abstract v.now) (suc (weights (total s) (row_of_list (map abstract vs.now)))) (omega arith) in omega arith);
     }
@@ -126,6 +152,11 @@ module _ (s : List Resolved) (id : TypeId) (olds : List Frame) where
           let p = two_left s (Routine id behind v) (Routine u ss w) es l in
           subst (λ q. Steps s id.index (Pick n ∷ rest.now) q es) (sym e)
           (pick lt at (subst (λ q. Steps s u.index q (abstract w.now) p.first) f p.one) (subst (λ q. Steps s id.index q (alternative i (abstract w.now)) p.second) b (subst (λ q. Steps s id.index behind.now q p.second) e p.two)) p.whole);
+      stays = λ es t.
+          let p = of_pick t in
+          let h = called_type e at p in
+          tell_more s (Routine id behind v) (Routine u ss w ∷ []) p.behind.events (subst (λ q. Steps s id.index q (abstract v.now) p.behind.events) (sym b) p.behind.told)
+          (tell_more s (Routine u ss w) [] h.events (subst (λ q. Steps s u.index q (abstract w.now) h.events) (sym f) h.told) (tell_none s));
       less =
           let c = inner_at (total s) (abstract v.now) (alternative i (abstract w.now)) e in
           let a = held_weight s u ss.now (abstract w.now) f in
@@ -144,6 +175,11 @@ module _ (s : List Resolved) (id : TypeId) (olds : List Frame) where
         let p = two_left s (ElementsLeft id us) (Routine id ss w) es l in
         subst (λ q. Elements s id.index (row_of_list (map abstract q)) es) (sym e)
         (element (subst (λ q. Steps s id.index q (abstract w.now) p.first) f p.one) p.two p.whole);
+    stays = λ es t.
+        let p = of_element (subst (λ q. Elements s id.index (row_of_list (map abstract q)) es) e t) in
+        let h = p.first in
+        tell_more s (ElementsLeft id us) (Routine id ss w ∷ []) p.others.events p.others.told
+        (tell_more s (Routine id ss w) [] h.events (subst (λ q. Steps s id.index q (abstract w.now) h.events) (sym f) h.told) (tell_none s));
     less =
         let a = held_weight s id ss.now (abstract w.now) f in
         let b = ap (λ q. weights (total s) (row_of_list (map abstract q))) e in omega arith;
@@ -159,10 +195,16 @@ module _ (s : List Resolved) (id : TypeId) (olds : List Frame) where
         let p = three_left s (PartsLeft id us) (PartEnd 0) (Routine id ss w) es l in
         subst (λ q. Parts s id.index (row_of_list (map abstract q)) es) (sym e)
         (part (subst (λ q. Steps s id.index q (abstract w.now) p.first) f p.one) p.three (p.whole ∙ ap (λ q. p.first ++ (q ++ p.third)) p.two));
+    stays = λ es t.
+        let p = of_part (subst (λ q. Parts s id.index (row_of_list (map abstract q)) es) e t) in
+        let h = p.first in
+        tell_more s (PartsLeft id us) (PartEnd 0 ∷ Routine id ss w ∷ []) p.others.events p.others.told
+        (tell_more s (PartEnd 0) (Routine id ss w ∷ []) (parts 0 ∷ []) refl
+        (tell_more s (Routine id ss w) [] h.events (subst (λ q. Steps s id.index q (abstract w.now) h.events) (sym f) h.told) (tell_none s)));
     less =
         let a = held_weight s id ss.now (abstract w.now) f in
         let c = ap (λ q. weights (total s) (row_of_list (map abstract q))) e in omega arith;
   }
 
   pub none_in : (T : List Event → Type 0) (w : ℕ) → T [] → 0 < w → Replaced s T w [] olds olds
-  none_in T w t h = record { pushed = []; is = sym (append-nil olds); left = λ es l. subst T (sym l) t; less = h }
+  none_in T w t h = record { pushed = []; is = sym (append-nil olds); left = λ es l. subst T (sym l) t; stays = λ es d. tell_none s; less = h }

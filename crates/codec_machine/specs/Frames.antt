@@ -39,6 +39,11 @@ abbrev pub Left : List Resolved → List Frame → List Event → Type 0
 Left s [] es = es ≡ []
 Left s (f ∷ fs) es = (xs : List Event) × (ys : List Event) × Left s fs xs × Told s f ys × (es ≡ xs ++ ys)
 
+-- some events are told
+pub record Tellable (T : List Event → Type 0) : Type 0 where
+  pub events : List Event
+  pub told : T events
+
 abbrev pub frame_weight : ℕ → Frame → ℕ
 frame_weight l (Routine t steps v) = suc (length steps.now * (2 + inner l (abstract v.now)))
 frame_weight l (ElementsLeft u vs) = suc (weights l (row_of_list (map abstract vs.now)))
@@ -49,13 +54,14 @@ abbrev pub weighs : ℕ → List Frame → ℕ
 weighs l [] = 0
 weighs l (f ∷ fs) = frame_weight l f + weighs l fs
 
--- Frames were pushed, and whatever they stand for completes what T asks, behind events that were told; they can take
--- fewer steps than w.
+-- Frames were pushed, and whatever they stand for completes what T asks, behind events that were told; where anything
+-- is told by T, they stand for something; they can take fewer steps than w.
 pub record Replaced (s : List Resolved) (T : List Event → Type 0) (w : ℕ) (es : List Event) (olds news : List Frame)
     : Type 0 where
   pub pushed : List Frame
   pub is : news ≡ olds ++ pushed
   pub left : (rest : List Event) → Left s pushed rest → T (es ++ rest)
+  pub stays : (all : List Event) → T all → Tellable (Left s pushed)
   pub less : weighs (total s) pushed < w
 
 -- the same, and the events were added
@@ -77,16 +83,22 @@ pub record WritesIt (s : List Resolved) (t : TypeNumber) (f : Field') (v w : Abs
   pub is : v ≡ fields row
   pub written : IsWritten s t f row w
 
+-- the component is neither left out nor written
+abbrev pub HasNoField : List Resolved → TypeNumber → Field' → AbstractValue → Type 0
+HasNoField s t f v = (LeavesOut s t f v → ⊥) × ((w : AbstractValue) → WritesIt s t f v w → ⊥)
+
 -- the weight of some steps of a routine
 abbrev pub steps_weight : ℕ → List Step → AbstractValue → ℕ
 steps_weight l ss v = suc (length ss * (2 + inner l v))
 
--- some events were added, and whatever the new frames stand for completes what the old ones stand for
+-- some events were added, and whatever the new frames stand for completes what the old ones stand for; where the old
+-- ones stand for anything, so do the new
 pub record Turned {S : Type 0} (s : List Resolved) (adds : S → List Event → S → Type 0) (olds : List Frame) (a : S)
     (news : List Frame) (b : S) : Type 0 where
   pub events : List Event
   pub added : adds a events b
   pub left : (rest : List Event) → Left s news rest → Left s olds (events ++ rest)
+  pub stays : (all : List Event) → Left s olds all → Tellable (Left s news)
   -- and the machine can take fewer steps
   pub less : weighs (total s) news < weighs (total s) olds
 
@@ -96,6 +108,7 @@ pub record Reached {S : Type 0} (s : List Resolved) (adds : S → List Event →
   pub events : List Event
   pub added : adds a events b
   pub left : (rest : List Event) → Left s news rest → Left s olds (events ++ rest)
+  pub stays : (all : List Event) → Left s olds all → Tellable (Left s news)
 
 -- the events of a type's routine were added
 pub record Ran {S : Type 0} (s : List Resolved) (t : TypeNumber) (v : AbstractValue) (adds : S → List Event → S → Type 0)

@@ -4,9 +4,9 @@ ghost use Rattle.asn_base.specs.Abstract.{abstract, row_of_list};
 ghost use Rattle.codec_code.specs.Events.{leaves_out, opens, closes};
 ghost use Rattle.codec_code.specs.Steps as steps;
 ghost use Rattle.codec_code.specs.declared.step.Step.TheVariants.{Field as FieldStep, Ranked};
-ghost use Rattle.codec_machine.specs.Frames.{Acted, Turned, steps_weight};
+ghost use Rattle.codec_machine.specs.Frames.{Acted, IsToldNothing, Left, Turned, steps_weight};
 ghost use Rattle.codec_machine.specs.Weights.{total};
-ghost use Rattle.std.specs.Prelude.{◌++◌, ◌∷◌, [], OnOk};
+ghost use Rattle.std.specs.Prelude.{◌++◌, ◌∷◌, [], IfErr, OnOk};
 
 use crate::backend::Backend;
 use crate::fault::RunFault;
@@ -20,21 +20,23 @@ use asn_base::value::Value;
 use codec_code::{Code, Field, Step};
 
 /// What the frame does next, where it was the last of all.
+#[tactic(none)]
 pub(crate) fn turn<'a, B: Backend<'a>>(
     code: &'a Code,
     frame: Frame<'a>,
     frames: &mut Vec<Frame<'a>>,
     backend: &mut B,
 ) -> Result<(), RunFault>
-    ensures { OnOk result (Turned code.now B.adds (frames.old.items ++ frame.entry ∷ []) backend.old frames.new.items
+    ensures ok { OnOk result (Turned code.now B.adds (frames.old.items ++ frame.entry ∷ []) backend.old frames.new.items
         backend.new) }
+    ensures refused { IfErr result (IsToldNothing (Left code.now (frames.old.items ++ frame.entry ∷ []))) }
 {
     match frame {
         Frame::Routine(id, steps, value) => match first_step(steps) {
-            Some((step, rest)) => {
-                act(code, id, step, rest, value, frames, backend)?;
-                Ok(())
-            }
+            Some((step, rest)) => match act(code, id, step, rest, value, frames, backend) {
+                Ok(()) => Ok(()),
+                Err(fault) => Err(fault),
+            },
             None => Ok(()),
         },
         Frame::Elements(id, values) => {
@@ -53,6 +55,7 @@ pub(crate) fn turn<'a, B: Backend<'a>>(
 }
 
 /// A step of a routine, and the steps behind it.
+#[tactic(none)]
 fn act<'a, B: Backend<'a>>(
     code: &'a Code,
     id: TypeId,
@@ -62,9 +65,10 @@ fn act<'a, B: Backend<'a>>(
     frames: &mut Vec<Frame<'a>>,
     backend: &mut B,
 ) -> Result<(), RunFault>
-    ensures { OnOk result (Acted code.now B.adds (steps.Steps code.now id.index (step ∷ rest.now) (abstract value.now))
+    ensures ok { OnOk result (Acted code.now B.adds (steps.Steps code.now id.index (step ∷ rest.now) (abstract value.now))
         (steps_weight (total code.now) (step ∷ rest.now) (abstract value.now)) frames.old.items backend.old frames.new.items
         backend.new) }
+    ensures refused { IfErr result (IsToldNothing (steps.Steps code.now id.index (step ∷ rest.now) (abstract value.now))) }
 {
     match step {
         Step::Head(head) => {
@@ -82,33 +86,50 @@ fn act<'a, B: Backend<'a>>(
             Ok(())
         }
         Step::Leaf(kind) => {
-            backend.leaf(kind, value)?;
+            match backend.leaf(kind, value) {
+                Ok(()) => {}
+                Err(fault) => return Err(fault),
+            }
             add(frames, Frame::Routine(id, rest, value))?;
             Ok(())
         }
         Step::Field(field) => {
-            if push_field(code, id, field, rest, value, frames)? {
+            let out = match push_field(code, id, field, rest, value, frames) {
+                Ok(out) => out,
+                Err(fault) => return Err(fault),
+            };
+            if out {
                 backend.leave_out(has_default(field.need))?;
             }
             Ok(())
         }
         Step::Ranked(field, rank) => {
-            if push_ranked(code, id, field, rank, rest, value, frames)? {
+            let out = match push_ranked(code, id, field, rank, rest, value, frames) {
+                Ok(out) => out,
+                Err(fault) => return Err(fault),
+            };
+            if out {
                 backend.leave_out(has_default(field.need))?;
             }
             Ok(())
         }
         Step::Each(of) => {
-            push_each(code, id, of, rest, value, frames)?;
-            Ok(())
+            match push_each(code, id, of, rest, value, frames) {
+                Ok(()) => Ok(()),
+                Err(fault) => Err(fault),
+            }
         }
         Step::EachSorted(of) => {
-            push_sorted(code, id, of, rest, value, frames)?;
-            Ok(())
+            match push_sorted(code, id, of, rest, value, frames) {
+                Ok(()) => Ok(()),
+                Err(fault) => Err(fault),
+            }
         }
         Step::Pick(alternatives) => {
-            push_choice(code, id, alternatives, rest, value, frames)?;
-            Ok(())
+            match push_choice(code, id, alternatives, rest, value, frames) {
+                Ok(()) => Ok(()),
+                Err(fault) => Err(fault),
+            }
         }
         Step::Call(_) => Err(RunFault::NotOfType),
     }

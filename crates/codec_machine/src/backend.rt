@@ -23,7 +23,7 @@ pub trait Backend<'a> {
 
     /// The contents of a value that holds no others. `NotOfType`: the value has no such contents.
     fn leaf(&mut self, kind: LeafKind, value: &'a Value) -> Result<(), RunFault>
-        ensures { OnOk result (AddsLeaf adds kind (abstract value.now) self.old self.new) }
+        ensures ok { OnOk result (AddsLeaf adds kind (abstract value.now) self.old self.new) }
         ensures not_of_type { IfErr result (λ e. e ≡ NotOfType → HasNoContents kind (abstract value.now)) };
 
     /// The nearest open header ends here.

@@ -1,8 +1,10 @@
 //! The machine.
 
 ghost use Rattle.asn_base.specs.Abstract.{abstract};
-ghost use Rattle.codec_machine.specs.Frames.{Ran};
-ghost use Rattle.std.specs.Prelude.{OnOk};
+ghost use Rattle.codec_code.specs.Routines.{routine_at};
+ghost use Rattle.codec_code.specs.Steps.{Steps};
+ghost use Rattle.codec_machine.specs.Frames.{IsToldNothing, Ran};
+ghost use Rattle.std.specs.Prelude.{IfErr, OnOk};
 
 use crate::act::turn;
 use crate::backend::Backend;
@@ -15,6 +17,7 @@ use codec_code::{Code, Coding};
 use std::alloc::Global;
 
 /// Runs the type's routine over the value, and adds what it tells to the backend.
+#[tactic(none)]
 pub fn run<'a, B: Backend<'a>>(
     alloc: Global,
     code: &'a Code,
@@ -22,7 +25,8 @@ pub fn run<'a, B: Backend<'a>>(
     value: &'a Value,
     backend: &mut B,
 ) -> Result<(), RunFault>
-    ensures { OnOk result (Ran code.now id.index (abstract value.now) B.adds backend.old backend.new) }
+    ensures ok { OnOk result (Ran code.now id.index (abstract value.now) B.adds backend.old backend.new) }
+    ensures refused { IfErr result (IsToldNothing (Steps code.now id.index (routine_at code.now id.index) (abstract value.now))) }
 {
     let mut frames = Vec::new(alloc);
     add(
@@ -30,7 +34,10 @@ pub fn run<'a, B: Backend<'a>>(
         Frame::Routine(id, code.steps(id, Coding::Tagged), value),
     )?;
     while let Some(frame) = frames.pop() {
-        turn(code, frame, &mut frames, backend)?;
+        match turn(code, frame, &mut frames, backend) {
+            Ok(()) => {}
+            Err(fault) => return Err(fault),
+        }
     }
     Ok(())
 }

@@ -1,11 +1,12 @@
 //! Parts of values, as steps ask for them.
 
-ghost use Rattle.asn_base.specs.Abstract.{abstract, alternative, fields, list, row_of_list, row_of_options, Row};
+ghost use Rattle.asn_base.specs.Abstract.{AbstractValue, abstract, alternative, fields, list, row_of_list, row_of_options, Row};
 ghost use Rattle.codec_code.specs.Steps.{component_at, IsDefaultAt};
 ghost use Rattle.codec_code.specs.Steps as steps;
 ghost use Rattle.codec_code.specs.declared.step.Step.TheVariants.{Call};
-ghost use Rattle.codec_machine.specs.Frames.{LeavesOut, WritesIt};
-ghost use Rattle.std.specs.Prelude.{◌≡◌, ◌<◌, ◌≤◌, ◌∷◌, [], IfOk, IfSome, MatchBool, MatchOption, Some, drop, length, true, map, option_map, slice_get};
+ghost use Rattle.asn_base.specs.declared.schema.TypeId.{TypeId as TypeId'};
+ghost use Rattle.codec_machine.specs.Frames.{HasNoField, LeavesOut, WritesIt};
+ghost use Rattle.std.specs.Prelude.{◌≡◌, ◌<◌, ◌≤◌, ◌∷◌, [], ℕ, IfOk, OnErr, MatchBool, MatchOption, None, Some, drop, length, true, map, option_map, slice_get};
 
 use crate::fault::RunFault;
 use asn_base::law::abstract_values;
@@ -37,23 +38,31 @@ pub(crate) fn has_default(need: Need) -> bool
 
 /// The places of the components, where it is a value of a SEQUENCE or SET at all.
 fn fields_of(value: &Value) -> Option<&[Option<Value>]>
-    ensures { IfSome result (λ vs. abstract value.now ≡ fields (row_of_options (map (option_map abstract) vs.now))) }
+    ensures { MatchOption result ((row : Row) → abstract value.now ≡ fields row → ⊥)
+        (λ vs. abstract value.now ≡ fields (row_of_options (map (option_map abstract) vs.now))) }
 {
     abstract_values();
     match value {
         Value::Fields(values) => Some(values.as_slice()),
-        _ => None,
+        Value::Bool(_) | Value::Int(_) | Value::Enum(_) | Value::Bits(_) => None,
+        Value::Octets(_) | Value::Text(_) | Value::Null => None,
+        Value::Oid(_) | Value::RelativeOid(_) => None,
+        Value::List(_) | Value::Alt(_, _) => None,
     }
 }
 
 /// The elements, where it is a value of a SEQUENCE OF or SET OF at all.
 pub(crate) fn elements_of(value: &Value) -> Option<&[Value]>
-    ensures { IfSome result (λ vs. abstract value.now ≡ list (row_of_list (map abstract vs.now))) }
+    ensures { MatchOption result ((row : Row) → abstract value.now ≡ list row → ⊥)
+        (λ vs. abstract value.now ≡ list (row_of_list (map abstract vs.now))) }
 {
     abstract_values();
     match value {
         Value::List(values) => Some(values.as_slice()),
-        _ => None,
+        Value::Bool(_) | Value::Int(_) | Value::Enum(_) | Value::Bits(_) => None,
+        Value::Octets(_) | Value::Text(_) | Value::Null => None,
+        Value::Oid(_) | Value::RelativeOid(_) => None,
+        Value::Fields(_) | Value::Alt(_, _) => None,
     }
 }
 
@@ -65,8 +74,9 @@ pub(crate) fn written_value<'a>(
     field: Field,
     value: &'a Value,
 ) -> Result<Option<&'a Value>, RunFault>
-    ensures { IfOk result (λ o. MatchOption o (LeavesOut code.now id.index field (abstract value.now))
+    ensures ok { IfOk result (λ o. MatchOption o (LeavesOut code.now id.index field (abstract value.now))
         (λ w. WritesIt code.now id.index field (abstract value.now) (abstract w.now))) }
+    ensures refused { OnErr result (HasNoField code.now id.index field (abstract value.now)) }
 {
     match fields_of(value) {
         Some(values) => written_at(code, id, field, values, value),
@@ -75,9 +85,11 @@ pub(crate) fn written_value<'a>(
 }
 
 /// The component at a place: absent, or its value. `NotOfType`: there is no such place.
+#[tactic(none)]
 fn value_at(values: &[Option<Value>], place: usize) -> Result<Option<&Value>, RunFault>
-    ensures { IfOk result (λ o. component_at (row_of_options (map (option_map abstract) values.now)) place
+    ensures ok { IfOk result (λ o. component_at (row_of_options (map (option_map abstract) values.now)) place
         ≡ Some (option_map (λ w. abstract w.now) o)) }
+    ensures refused { OnErr result (component_at (row_of_options (map (option_map abstract) values.now)) place ≡ None) }
 {
     if place >= values.len() {
         return Err(RunFault::NotOfType);
@@ -88,6 +100,7 @@ fn value_at(values: &[Option<Value>], place: usize) -> Result<Option<&Value>, Ru
     }
 }
 
+#[tactic(none)]
 fn written_at<'a>(
     code: &Code,
     id: TypeId,
@@ -96,10 +109,15 @@ fn written_at<'a>(
     value: &'a Value,
 ) -> Result<Option<&'a Value>, RunFault>
     requires { abstract value.now ≡ fields (row_of_options (map (option_map abstract) values.now)) }
-    ensures { IfOk result (λ o. MatchOption o (LeavesOut code.now id.index field (abstract value.now))
+    ensures ok { IfOk result (λ o. MatchOption o (LeavesOut code.now id.index field (abstract value.now))
         (λ w. WritesIt code.now id.index field (abstract value.now) (abstract w.now))) }
+    ensures refused { OnErr result (HasNoField code.now id.index field (abstract value.now)) }
 {
-    match value_at(values, field.place)? {
+    let at_place = match value_at(values, field.place) {
+        Ok(at_place) => at_place,
+        Err(fault) => return Err(fault),
+    };
+    match at_place {
         Some(component) => {
             if is_left_out(code, id, field, component) {
                 Ok(None)
@@ -135,20 +153,22 @@ pub(crate) fn first_value(values: &[Value]) -> Option<(&Value, &[Value])>
     }
 }
 
-/// The steps behind as many of them. `NotOfType`: there are not so many.
-pub(crate) fn behind(steps: &[Step], count: usize) -> Result<&[Step], RunFault>
-    ensures { IfOk result (λ b. (b.now ≡ drop count steps.now) × (length (drop count steps.now) ≤ length steps.now)) }
+/// The steps behind as many of them: none, where there are not so many.
+pub(crate) fn behind(steps: &[Step], count: usize) -> &[Step]
+    ensures behind { result.now ≡ drop count steps.now }
+    ensures few { length (drop count steps.now) ≤ length steps.now }
 {
     if count <= steps.len() {
-        Ok(&steps[count..])
+        &steps[count..]
     } else {
-        Err(RunFault::NotOfType)
+        &[]
     }
 }
 
 /// The type that is called at a place. `NotOfType`: none is.
 pub(crate) fn called(steps: &[Step], at: usize) -> Result<TypeId, RunFault>
-    ensures { IfOk result (λ t. slice_get steps.now at ≡ Some (Call t)) }
+    ensures ok { IfOk result (λ t. slice_get steps.now at ≡ Some (Call t)) }
+    ensures refused { OnErr result ((u : TypeId') → slice_get steps.now at ≡ Some (Call u) → ⊥) }
 {
     if at >= steps.len() {
         return Err(RunFault::NotOfType);
@@ -162,7 +182,11 @@ pub(crate) fn called(steps: &[Step], at: usize) -> Result<TypeId, RunFault>
 /// The number of the alternative, and its value. `NotOfType`: there are not as many alternatives, or it is no value of a
 /// CHOICE at all.
 pub(crate) fn chosen(value: &Value, alternatives: usize) -> Result<(usize, &Value), RunFault>
-    ensures { IfOk result (λ p. (p.0 < alternatives) × (abstract value.now ≡ alternative p.0 (abstract p.1.now))) }
+    ensures ok { IfOk result (λ p. (p.0 < alternatives) × (abstract value.now ≡ alternative p.0 (abstract p.1.now))) }
+    ensures refused { OnErr result ((i : ℕ) (w : AbstractValue)
+        → abstract value.now ≡ alternative i w
+        → i < alternatives
+        → ⊥) }
 {
     abstract_values();
     match value {
@@ -172,7 +196,12 @@ pub(crate) fn chosen(value: &Value, alternatives: usize) -> Result<(usize, &Valu
             }
             Ok((*number, &**held))
         }
-        _ => Err(RunFault::NotOfType),
+        Value::Bool(_) | Value::Int(_) | Value::Enum(_) | Value::Bits(_) => {
+            Err(RunFault::NotOfType)
+        }
+        Value::Octets(_) | Value::Text(_) | Value::Null => Err(RunFault::NotOfType),
+        Value::Oid(_) | Value::RelativeOid(_) => Err(RunFault::NotOfType),
+        Value::Fields(_) | Value::List(_) => Err(RunFault::NotOfType),
     }
 }
 

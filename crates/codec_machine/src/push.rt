@@ -4,9 +4,9 @@ ghost use Rattle.asn_base.specs.Abstract.{abstract, row_of_list};
 ghost use Rattle.codec_code.specs.Events.{leaves_out};
 ghost use Rattle.codec_code.specs.Steps as steps;
 ghost use Rattle.codec_code.specs.declared.step.Step.TheVariants.{Each, EachSorted, Field as FieldStep, Pick, Ranked};
-ghost use Rattle.codec_machine.specs.Frames.{Replaced, steps_weight};
+ghost use Rattle.codec_machine.specs.Frames.{IsToldNothing, Replaced, steps_weight};
 ghost use Rattle.codec_machine.specs.Weights.{total, weights};
-ghost use Rattle.std.specs.Prelude.{◌≡◌, ◌++◌, ◌∷◌, [], IfOk, OnOk, if◌then◌else◌, map, suc};
+ghost use Rattle.std.specs.Prelude.{◌≡◌, ◌++◌, ◌∷◌, [], IfErr, IfOk, OnOk, if◌then◌else◌, map, suc};
 
 use crate::fault::RunFault;
 use crate::frame::Frame;
@@ -72,6 +72,7 @@ pub(crate) fn push_parts<'a>(
 }
 
 /// A component of a SEQUENCE, and the steps behind it: whether it is left out.
+#[tactic(none)]
 pub(crate) fn push_field<'a>(
     code: &'a Code,
     id: TypeId,
@@ -80,11 +81,15 @@ pub(crate) fn push_field<'a>(
     value: &'a Value,
     frames: &mut Vec<Frame<'a>>,
 ) -> Result<bool, RunFault>
-    ensures { IfOk result (λ out. Replaced code.now (steps.Steps code.now id.index (FieldStep field ∷ rest.now) (abstract value.now))
+    ensures ok { IfOk result (λ out. Replaced code.now (steps.Steps code.now id.index (FieldStep field ∷ rest.now) (abstract value.now))
         (steps_weight (total code.now) (FieldStep field ∷ rest.now) (abstract value.now))
         (if out then leaves_out (steps.has_default field.need) ∷ [] else []) frames.old.items frames.new.items) }
+    ensures refused { IfErr result (IsToldNothing (steps.Steps code.now id.index (FieldStep field ∷ rest.now) (abstract value.now))) }
 {
-    let written = written_value(code, id, field, value)?;
+    let written = match written_value(code, id, field, value) {
+        Ok(written) => written,
+        Err(fault) => return Err(fault),
+    };
     add(frames, Frame::Routine(id, rest, value))?;
     match written {
         None => Ok(true),
@@ -99,6 +104,7 @@ pub(crate) fn push_field<'a>(
 }
 
 /// The same of a SET.
+#[tactic(none)]
 pub(crate) fn push_ranked<'a>(
     code: &'a Code,
     id: TypeId,
@@ -108,11 +114,15 @@ pub(crate) fn push_ranked<'a>(
     value: &'a Value,
     frames: &mut Vec<Frame<'a>>,
 ) -> Result<bool, RunFault>
-    ensures { IfOk result (λ out. Replaced code.now (steps.Steps code.now id.index (Ranked field rank ∷ rest.now) (abstract value.now))
+    ensures ok { IfOk result (λ out. Replaced code.now (steps.Steps code.now id.index (Ranked field rank ∷ rest.now) (abstract value.now))
         (steps_weight (total code.now) (Ranked field rank ∷ rest.now) (abstract value.now))
         (if out then leaves_out (steps.has_default field.need) ∷ [] else []) frames.old.items frames.new.items) }
+    ensures refused { IfErr result (IsToldNothing (steps.Steps code.now id.index (Ranked field rank ∷ rest.now) (abstract value.now))) }
 {
-    let written = written_value(code, id, field, value)?;
+    let written = match written_value(code, id, field, value) {
+        Ok(written) => written,
+        Err(fault) => return Err(fault),
+    };
     add(frames, Frame::Routine(id, rest, value))?;
     match written {
         None => Ok(true),
@@ -128,6 +138,7 @@ pub(crate) fn push_ranked<'a>(
 }
 
 /// All elements, and the steps behind them.
+#[tactic(none)]
 pub(crate) fn push_each<'a>(
     code: &'a Code,
     id: TypeId,
@@ -136,8 +147,9 @@ pub(crate) fn push_each<'a>(
     value: &'a Value,
     frames: &mut Vec<Frame<'a>>,
 ) -> Result<(), RunFault>
-    ensures { OnOk result (Replaced code.now (steps.Steps code.now id.index (Each of ∷ rest.now) (abstract value.now))
+    ensures ok { OnOk result (Replaced code.now (steps.Steps code.now id.index (Each of ∷ rest.now) (abstract value.now))
         (steps_weight (total code.now) (Each of ∷ rest.now) (abstract value.now)) [] frames.old.items frames.new.items) }
+    ensures refused { IfErr result (IsToldNothing (steps.Steps code.now id.index (Each of ∷ rest.now) (abstract value.now))) }
 {
     match elements_of(value) {
         None => Err(RunFault::NotOfType),
@@ -150,6 +162,7 @@ pub(crate) fn push_each<'a>(
 }
 
 /// All members of a SET OF, and the steps behind them.
+#[tactic(none)]
 pub(crate) fn push_sorted<'a>(
     code: &'a Code,
     id: TypeId,
@@ -158,8 +171,9 @@ pub(crate) fn push_sorted<'a>(
     value: &'a Value,
     frames: &mut Vec<Frame<'a>>,
 ) -> Result<(), RunFault>
-    ensures { OnOk result (Replaced code.now (steps.Steps code.now id.index (EachSorted of ∷ rest.now) (abstract value.now))
+    ensures ok { OnOk result (Replaced code.now (steps.Steps code.now id.index (EachSorted of ∷ rest.now) (abstract value.now))
         (steps_weight (total code.now) (EachSorted of ∷ rest.now) (abstract value.now)) [] frames.old.items frames.new.items) }
+    ensures refused { IfErr result (IsToldNothing (steps.Steps code.now id.index (EachSorted of ∷ rest.now) (abstract value.now))) }
 {
     match elements_of(value) {
         None => Err(RunFault::NotOfType),
@@ -172,6 +186,7 @@ pub(crate) fn push_sorted<'a>(
 }
 
 /// The alternative, and the steps behind all calls.
+#[tactic(none)]
 pub(crate) fn push_choice<'a>(
     code: &'a Code,
     id: TypeId,
@@ -180,13 +195,22 @@ pub(crate) fn push_choice<'a>(
     value: &'a Value,
     frames: &mut Vec<Frame<'a>>,
 ) -> Result<(), RunFault>
-    ensures { OnOk result (Replaced code.now (steps.Steps code.now id.index (Pick alternatives ∷ rest.now) (abstract value.now))
+    ensures ok { OnOk result (Replaced code.now (steps.Steps code.now id.index (Pick alternatives ∷ rest.now) (abstract value.now))
         (steps_weight (total code.now) (Pick alternatives ∷ rest.now) (abstract value.now)) [] frames.old.items frames.new.items) }
+    ensures refused { IfErr result (IsToldNothing (steps.Steps code.now id.index (Pick alternatives ∷ rest.now) (abstract value.now))) }
 {
-    let (number, held) = chosen(value, alternatives)?;
-    let of = called(rest, number)?;
-    let others = behind(rest, alternatives)?;
-    add(frames, Frame::Routine(id, others, value))?;
+    let (number, held) = match chosen(value, alternatives) {
+        Ok(found) => found,
+        Err(fault) => return Err(fault),
+    };
+    let of = match called(rest, number) {
+        Ok(of) => of,
+        Err(fault) => return Err(fault),
+    };
+    add(
+        frames,
+        Frame::Routine(id, behind(rest, alternatives), value),
+    )?;
     add(
         frames,
         Frame::Routine(of, code.steps(of, Coding::Tagged), held),
