@@ -1,5 +1,5 @@
 -- What one step does, and what one turn does.
-use Rattle.std.proofs.Common.{Bor, ◌≡◌, ℕ, zero, suc, ◌+◌, ◌*◌, ◌<◌, ◌≤◌, List, [], ◌∷◌, ◌++◌, length, map, refl, sym, ap, subst, ◌∙◌, arith, append_assoc, append-nil}
+use Rattle.std.proofs.Common.{Bor, ◌≡◌, ℕ, suc, ◌<◌, ◌≤◌, List, [], ◌∷◌, ◌++◌, length, map, refl, sym, ap, subst, ◌∙◌, arith, append_assoc, append-nil}
 use Rattle.asn_base.specs.declared.schema.TypeId.{TypeId}
 use Rattle.asn_base.specs.declared.value.Value.{Value}
 use Rattle.asn_base.specs.Abstract.{AbstractValue, abstract, row_of_list}
@@ -7,18 +7,18 @@ use Rattle.asn_base.specs.Types.{Resolved}
 use Rattle.codec_code.specs.declared.step.Head.{Head as Head'}
 use Rattle.codec_code.specs.declared.step.LeafKind.{LeafKind}
 use Rattle.codec_code.specs.declared.step.Step.{Step}
-use Rattle.codec_code.specs.declared.step.Step.TheVariants.{Head, Leaf, Rest, End}
+use Rattle.codec_code.specs.declared.step.Step.TheVariants.{Head, Leaf, Rest, End, Call}
 use Rattle.codec_code.specs.Events.{Event, opens, puts, closes, parts}
 use Rattle.codec_code.specs.Routines.{routine_at}
 use Rattle.codec_code.specs.Steps.{Steps, finished, head, ending, rest, leaf, Elements, Parts}
 use Rattle.codec_machine.specs.declared.fault.RunFault.{RunFault}
-use Rattle.codec_machine.specs.declared.fault.RunFault.TheVariants.{Memory, NotOfType}
+use Rattle.codec_machine.specs.declared.fault.RunFault.TheVariants.{NotOfType}
 use Rattle.codec_machine.specs.declared.frame.Frame.{Frame}
 use Rattle.codec_machine.specs.declared.frame.Frame.TheVariants.{Routine, Elements as ElementsLeft, Parts as PartsLeft, Part as PartEnd}
-use Rattle.codec_machine.specs.Weights.{weights, inner, total}
-use Rattle.codec_machine.specs.Frames.{AddsLeaf, Told, Left, Tellable, IsToldNothing, frame_weight, weighs, Replaced, Acted, Turned, Reached, Ran, steps_weight}
-use Rattle.codec_machine.proofs.Left.{one_left, tell_none, tell_more, turned_by}
-use Rattle.codec_machine.proofs.Inversion.{behind_head, behind_end, behind_rest, behind_leaf, nothing_told}
+use Rattle.codec_machine.specs.Weights.{weights, total}
+use Rattle.codec_machine.specs.Frames.{AddsLeaf, HasNoContents, Told, Left, Tellable, IsToldNothing, frame_weight, Replaced, Acted, Turned, Reached, Ran, steps_weight}
+use Rattle.codec_machine.proofs.Left.{one_left, tell_none, tell_more, turned_by, untold_by}
+use Rattle.codec_machine.proofs.Inversion.{behind_head, behind_end, behind_rest, behind_leaf, nothing_told, contents_of_leaf, no_call}
 use Rattle.codec_machine.proofs.Weigh.{room}
 
 module _ {S : Type 0} (s : List Resolved) (adds : S → List Event → S → Type 0) where
@@ -133,9 +133,26 @@ reached_untold s adds id ss v olds mids mids' a b fault d is e t n k es h =
     let p = t.stays es (subst (λ q. Left s q es) (sym is) ([], es, refl, subst (λ q. Steps s id.index q (abstract v.now) es) (sym d) h, refl)) in
     n k p.events (subst (λ q. Left s q p.events) e p.told)
 
--- want of memory says nothing of the value
-pub no_memory : (T : List Event → Type 0) (fault : RunFault) → fault ≡ Memory → IsToldNothing T fault
-no_memory T fault e k es t = absurd (let f : Memory ≡ NotOfType = sym e ∙ k in cc)
+-- the same step
+pub untold_step : (s : List Resolved) (t : ℕ) (ss : List Step) (v : AbstractValue) (x y : Step) (fault : RunFault) → x ≡ y → IsToldNothing (Steps s t (y ∷ ss) v) fault → IsToldNothing (Steps s t (x ∷ ss) v) fault
+untold_step s t ss v x y fault e n k es d = n k es (subst (λ q. Steps s t (q ∷ ss) v es) e d)
+
+pub untold_call : (s : List Resolved) (t : ℕ) (ss : List Step) (v : AbstractValue) (x : Step) (u : TypeId) (fault : RunFault) → x ≡ Call u → IsToldNothing (Steps s t (x ∷ ss) v) fault
+untold_call s t ss v x u fault e k es d = no_call (subst (λ q. Steps s t (q ∷ ss) v es) e d)
+
+pub untold_leaf : (s : List Resolved) (t : ℕ) (ss : List Step) (v : AbstractValue) (x : Step) (kind : LeafKind) (fault : RunFault) → x ≡ Leaf kind → (fault ≡ NotOfType → HasNoContents kind v) → IsToldNothing (Steps s t (x ∷ ss) v) fault
+untold_leaf s t ss v x kind fault e n k es d =
+    let p = contents_of_leaf (subst (λ q. Steps s t (q ∷ ss) v es) e d) in
+    n k p.0 p.1
+
+pub untold_routine : (s : List Resolved) (f : Frame) (id : TypeId) (ss others : Bor (List Step)) (v : Bor Value) (x : Step) (olds : List Frame) (fault : RunFault) → f ≡ Routine id ss v → ss.now ≡ x ∷ others.now
+    → IsToldNothing (Steps s id.index (x ∷ others.now) (abstract v.now)) fault → IsToldNothing (Left s (olds ++ f ∷ [])) fault
+untold_routine s f id ss others v x olds fault e d n =
+    untold_by s (Steps s id.index (x ∷ others.now) (abstract v.now)) olds f fault
+    (λ ys t. subst (λ q. Steps s id.index q (abstract v.now) ys) d (subst (λ q. Told s q ys) e t)) n
+
+pub one_pushed : (news olds : List Frame) (f : Frame) → news ≡ olds ++ f ∷ [] → olds ≡ [] → news ≡ f ∷ []
+one_pushed news olds f e n = e ∙ ap (λ q. q ++ f ∷ []) n
 
 pub no_items : (xs : List Frame) → length xs ≡ 0 → xs ≡ []
 no_items [] h = refl

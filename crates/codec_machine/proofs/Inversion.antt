@@ -1,5 +1,5 @@
 -- What stands behind a step that tells something.
-use Rattle.std.proofs.Common.{◌≡◌, ℕ, ◌<◌, List, [], ◌∷◌, ◌++◌, refl, sym, ap, subst, ◌∙◌, drop}
+use Rattle.std.proofs.Common.{◌≡◌, ℕ, ◌<◌, List, [], ◌∷◌, refl, sym, ap, subst, ◌∙◌, drop}
 use Rattle.std.specs.Prelude.{Option, Some, None, slice_get}
 use Rattle.asn_base.specs.declared.schema.TypeId.{TypeId}
 use Rattle.asn_base.specs.Abstract.{AbstractValue, fields, list, alternative, Row, present}
@@ -55,25 +55,25 @@ pub behind_field : {s : List Resolved} {t : ℕ} {f : Field'} {ss : List Step} {
 behind_field (not_held l d) = d
 behind_field (held w o b d) = d
 
-same_row : {a b : Row} → fields a ≡ fields b → a ≡ b
+pub same_row : {a b : Row} → fields a ≡ fields b → a ≡ b
 same_row e = cc
 
-one_component : {a b : Row} {i : ℕ} {o p : Option (Option AbstractValue)} → fields a ≡ fields b → component_at a i ≡ o → component_at b i ≡ p → o ≡ p
-one_component {i = i} e x y = sym x ∙ ap (λ q. component_at q i) (same_row e) ∙ y
+one_component : {a b : Row} (i : ℕ) {o p : Option (Option AbstractValue)} → fields a ≡ fields b → component_at a i ≡ o → component_at b i ≡ p → o ≡ p
+one_component i e x y = sym x ∙ ap (λ q. component_at q i) (same_row e) ∙ y
 
 same_held : {v w : AbstractValue} → Some (Some v) ≡ Some (Some w) → v ≡ w
 same_held e = cc
 
 none_held : {w : AbstractValue} → Some None ≡ Some (Some w) → ⊥
-none_held e = (let f : None ≡ Some _ = cc in cc)
+none_held {w} e = (let f : None ≡ Some w = cc in cc)
 
 -- what is left out isn't written
 left_out_or_written : {s : List Resolved} {t : ℕ} {f : Field'} {v w : AbstractValue} {row : Row} → v ≡ fields row → IsLeftOut s t f row → WritesIt s t f v w → ⊥
-left_out_or_written {f = f} e (is_absent m a) o = none_held (one_component {i = f.place} (sym e ∙ o.is) a o.written.stands)
-left_out_or_written {s} {t} {f} e (is_default h a d) o = o.written.no_default h (subst (IsDefaultAt s t f.place) (same_held (one_component {i = f.place} (sym e ∙ o.is) a o.written.stands)) d)
+left_out_or_written {f = f} e (is_absent m a) o = none_held (one_component f.place (sym e ∙ o.is) a o.written.stands)
+left_out_or_written {s} {t} {f} e (is_default h a d) o = o.written.no_default h (subst (IsDefaultAt s t f.place) (same_held (one_component f.place (sym e ∙ o.is) a o.written.stands)) d)
 
 written_once : {s : List Resolved} {t : ℕ} {f : Field'} {v w x : AbstractValue} → WritesIt s t f v w → WritesIt s t f v x → w ≡ x
-written_once {f = f} o p = same_held (one_component {i = f.place} (sym o.is ∙ p.is) o.written.stands p.written.stands)
+written_once {f = f} o p = same_held (one_component f.place (sym o.is ∙ p.is) o.written.stands p.written.stands)
 
 -- the component that is written is told
 pub held_field : {s : List Resolved} {t : ℕ} {f : Field'} {ss : List Step} {v : AbstractValue} (w : AbstractValue) → WritesIt s t f v w → FieldTold s t f ss v → Tellable (Steps s f.ty.index (routine_at s f.ty.index) w)
@@ -139,7 +139,7 @@ of_pick (pick {i = i} {u = u} {w = w} {xs = xs} {es = es} lt at a d e) =
       behind = record { events = es; told = d };
     }
 
-same_number : {i j : ℕ} {w x : AbstractValue} → alternative i w ≡ alternative j x → i ≡ j
+pub same_number : {i j : ℕ} {w x : AbstractValue} → alternative i w ≡ alternative j x → i ≡ j
 same_number e = cc
 
 same_chosen : {i j : ℕ} {w x : AbstractValue} → alternative i w ≡ alternative j x → w ≡ x

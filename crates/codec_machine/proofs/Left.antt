@@ -1,12 +1,11 @@
 -- What frames stand for.
-use Rattle.std.proofs.Common.{◌≡◌, ℕ, zero, suc, ◌+◌, ◌*◌, ◌<◌, ◌≤◌, List, [], ◌∷◌, ◌++◌, length, refl, sym, ap, subst, ◌∙◌, arith, append_assoc, append-nil}
-use Rattle.std.proofs.Math.Nat.{mul-le-mul_left}
+use Rattle.std.proofs.Common.{◌≡◌, ℕ, ◌+◌, ◌≤◌, List, [], ◌∷◌, ◌++◌, refl, sym, ap, subst, ◌∙◌, arith, append_assoc, append-nil}
 use Rattle.asn_base.specs.Types.{Resolved}
 use Rattle.codec_code.specs.Events.{Event}
 use Rattle.codec_machine.specs.declared.fault.RunFault.{RunFault}
 use Rattle.codec_machine.specs.declared.frame.Frame.{Frame}
 use Rattle.codec_machine.specs.Weights.{total}
-use Rattle.codec_machine.specs.Frames.{Told, Left, Tellable, IsToldNothing, frame_weight, weighs, Replaced, Acted, Turned}
+use Rattle.codec_machine.specs.Frames.{Told, Left, Tellable, IsToldNothing, frame_weight, weighs, Acted, Turned}
 
 record Parted (s : List Resolved) (olds news : List Frame) (rest : List Event) : Type 0 where
   first : List Event

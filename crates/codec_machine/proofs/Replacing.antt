@@ -1,20 +1,20 @@
 -- What steps leave to do.
-use Rattle.std.proofs.Common.{Bor, ◌≡◌, ℕ, zero, suc, ◌+◌, ◌*◌, ◌<◌, ◌≤◌, List, [], ◌∷◌, ◌++◌, length, map, take, drop, ◌-◌, refl, sym, ap, subst, ◌∙◌, arith, append_assoc, append-nil}
-use Rattle.std.specs.Prelude.{Option, Some, None, slice_get}
+use Rattle.std.proofs.Common.{Bor, ◌≡◌, ℕ, suc, ◌<◌, ◌≤◌, List, [], ◌∷◌, ◌++◌, length, map, drop, refl, sym, ap, subst, ◌∙◌, arith, append_assoc, append-nil}
+use Rattle.std.specs.Prelude.{Some, slice_get}
 use Rattle.asn_base.specs.declared.schema.TypeId.{TypeId}
 use Rattle.asn_base.specs.declared.value.Value.{Value}
-use Rattle.asn_base.specs.Abstract.{AbstractValue, abstract, fields, list, alternative, Row, end, present, row_of_list}
+use Rattle.asn_base.specs.Abstract.{AbstractValue, abstract, fields, list, alternative, row_of_list}
 use Rattle.asn_base.specs.Types.{Resolved}
 use Rattle.codec_code.specs.declared.step.Field.{Field as Field'}
 use Rattle.codec_code.specs.declared.step.Step.{Step}
 use Rattle.codec_code.specs.declared.step.Step.TheVariants.{Field, Ranked, Each, EachSorted, Pick, Call}
 use Rattle.codec_code.specs.Events.{Event, leaves_out, parts}
 use Rattle.codec_code.specs.Routines.{routine_at}
-use Rattle.codec_code.specs.Steps.{Steps, left_out, written, ranked_left_out, ranked_written, each, each_sorted, pick, Elements, no_element, element, Parts, no_part, part, has_default, component_at}
+use Rattle.codec_code.specs.Steps.{Steps, left_out, written, ranked_left_out, ranked_written, each, each_sorted, pick, Elements, element, Parts, part, has_default}
 use Rattle.codec_machine.specs.declared.frame.Frame.{Frame}
 use Rattle.codec_machine.specs.declared.frame.Frame.TheVariants.{Routine, Elements as ElementsLeft, Parts as PartsLeft, Part as PartEnd}
 use Rattle.codec_machine.specs.Weights.{weight, weights, inner, total}
-use Rattle.codec_machine.specs.Frames.{Told, Left, Tellable, weighs, Replaced, LeavesOut, WritesIt, steps_weight}
+use Rattle.codec_machine.specs.Frames.{Replaced, LeavesOut, WritesIt, steps_weight}
 use Rattle.codec_machine.proofs.Left.{one_left, two_left, three_left, tell_none, tell_more}
 use Rattle.codec_machine.proofs.Inversion.{behind_field, held_field, of_field, of_ranked, of_each, of_sorted, same_list, of_element, of_part, of_pick, called_type}
 use Rattle.codec_machine.proofs.Weigh.{routine_weight, component_weight, room, room_fewer}

@@ -1,5 +1,5 @@
 -- How many steps a machine can take for a value, where no routine has more than l steps.
-use Rattle.std.specs.Prelude.{ℕ, suc, ◌+◌, ◌*◌, List, [], ◌∷◌, length}
+use Rattle.std.specs.Prelude.{ℕ, suc, ◌+◌, ◌*◌, List, length}
 use Rattle.asn_base.specs.Abstract.{AbstractValue, fields, list, alternative, Row, end, absent, present}
 use Rattle.asn_base.specs.Types.{Resolved}
 use Rattle.codec_code.specs.Routines.{table_of}

@@ -20,7 +20,6 @@ use asn_base::value::Value;
 use codec_code::{Code, Field, Step};
 
 /// What the frame does next, where it was the last of all.
-#[tactic(none)]
 pub(crate) fn turn<'a, B: Backend<'a>>(
     code: &'a Code,
     frame: Frame<'a>,
@@ -55,7 +54,6 @@ pub(crate) fn turn<'a, B: Backend<'a>>(
 }
 
 /// A step of a routine, and the steps behind it.
-#[tactic(none)]
 fn act<'a, B: Backend<'a>>(
     code: &'a Code,
     id: TypeId,

@@ -17,7 +17,6 @@ use codec_code::{Code, Coding};
 use std::alloc::Global;
 
 /// Runs the type's routine over the value, and adds what it tells to the backend.
-#[tactic(none)]
 pub fn run<'a, B: Backend<'a>>(
     alloc: Global,
     code: &'a Code,

@@ -85,7 +85,6 @@ pub(crate) fn written_value<'a>(
 }
 
 /// The component at a place: absent, or its value. `NotOfType`: there is no such place.
-#[tactic(none)]
 fn value_at(values: &[Option<Value>], place: usize) -> Result<Option<&Value>, RunFault>
     ensures ok { IfOk result (λ o. component_at (row_of_options (map (option_map abstract) values.now)) place
         ≡ Some (option_map (λ w. abstract w.now) o)) }
@@ -100,7 +99,6 @@ fn value_at(values: &[Option<Value>], place: usize) -> Result<Option<&Value>, Ru
     }
 }
 
-#[tactic(none)]
 fn written_at<'a>(
     code: &Code,
     id: TypeId,

@@ -72,7 +72,6 @@ pub(crate) fn push_parts<'a>(
 }
 
 /// A component of a SEQUENCE, and the steps behind it: whether it is left out.
-#[tactic(none)]
 pub(crate) fn push_field<'a>(
     code: &'a Code,
     id: TypeId,
@@ -104,7 +103,6 @@ pub(crate) fn push_field<'a>(
 }
 
 /// The same of a SET.
-#[tactic(none)]
 pub(crate) fn push_ranked<'a>(
     code: &'a Code,
     id: TypeId,
@@ -138,7 +136,6 @@ pub(crate) fn push_ranked<'a>(
 }
 
 /// All elements, and the steps behind them.
-#[tactic(none)]
 pub(crate) fn push_each<'a>(
     code: &'a Code,
     id: TypeId,
@@ -162,7 +159,6 @@ pub(crate) fn push_each<'a>(
 }
 
 /// All members of a SET OF, and the steps behind them.
-#[tactic(none)]
 pub(crate) fn push_sorted<'a>(
     code: &'a Code,
     id: TypeId,
@@ -186,7 +182,6 @@ pub(crate) fn push_sorted<'a>(
 }
 
 /// The alternative, and the steps behind all calls.
-#[tactic(none)]
 pub(crate) fn push_choice<'a>(
     code: &'a Code,
     id: TypeId,

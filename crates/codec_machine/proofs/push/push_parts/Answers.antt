@@ -1,11 +1,9 @@
-use Rattle.std.proofs.Common.{arith, refl, subst, sym}
+use Rattle.std.proofs.Common.{arith, subst, sym}
 use Rattle.std.proofs.Common.{map, []}
 use Rattle.asn_base.specs.Abstract.{abstract, row_of_list}
 use Rattle.codec_code.specs.Steps.{Parts, no_part}
 use Rattle.codec_machine.specs.Weights.{weights, total}
 use Rattle.std.proofs.Common.{suc}
-use Rattle.codec_machine.specs.Frames.{LeavesOut, WritesIt}
-use Rattle.codec_machine.proofs.Places.{match_none, match_some}
 use Rattle.codec_machine.proofs.Replacing as r
 use Rattle.codec_machine.proofs.push.push_parts.Goals as goal
 
