@@ -3,7 +3,7 @@
 ghost use Rattle.asn_base.specs.Abstract.{abstract, row_of_list};
 ghost use Rattle.codec_code.specs.Events.{leaves_out, opens, closes};
 ghost use Rattle.codec_code.specs.Steps as steps;
-ghost use Rattle.codec_code.specs.declared.step.Step.TheVariants.{Field as FieldStep, Ranked};
+ghost use Rattle.codec_code.specs.declared.step.Step.TheVariants.{End, Field as FieldStep, Head as HeadStep, Leaf, Ranked};
 ghost use Rattle.codec_machine.specs.Frames.{Acted, IsToldNothing, Left, Turned, steps_weight};
 ghost use Rattle.codec_machine.specs.Weights.{total};
 ghost use Rattle.std.specs.Prelude.{◌++◌, ◌∷◌, [], IfErr, OnOk};
@@ -17,7 +17,7 @@ use crate::push::{
 };
 use asn_base::schema::TypeId;
 use asn_base::value::Value;
-use codec_code::{Code, Field, Step};
+use codec_code::{Code, Field, Head, LeafKind, Step};
 
 /// What the frame does next, where it was the last of all.
 pub(crate) fn turn<'a, B: Backend<'a>>(
@@ -69,66 +69,142 @@ fn act<'a, B: Backend<'a>>(
     ensures refused { IfErr result (IsToldNothing (steps.Steps code.now id.index (step ∷ rest.now) (abstract value.now))) }
 {
     match step {
-        Step::Head(head) => {
-            backend.open(head)?;
-            add(frames, Frame::Routine(id, rest, value))?;
-            Ok(())
-        }
-        Step::End => {
-            backend.close()?;
-            add(frames, Frame::Routine(id, rest, value))?;
-            Ok(())
-        }
+        Step::Head(head) => head_step(code, id, head, rest, value, frames, backend),
+        Step::End => end_step(code, id, rest, value, frames, backend),
         Step::Rest => {
             add(frames, Frame::Routine(id, rest, value))?;
             Ok(())
         }
-        Step::Leaf(kind) => {
-            match backend.leaf(kind, value) {
-                Ok(()) => {}
-                Err(fault) => return Err(fault),
-            }
-            add(frames, Frame::Routine(id, rest, value))?;
-            Ok(())
-        }
-        Step::Field(field) => {
-            let out = match push_field(code, id, field, rest, value, frames) {
-                Ok(out) => out,
-                Err(fault) => return Err(fault),
-            };
-            if out {
-                backend.leave_out(has_default(field.need))?;
-            }
-            Ok(())
-        }
-        Step::Ranked(field, rank) => {
-            let out = match push_ranked(code, id, field, rank, rest, value, frames) {
-                Ok(out) => out,
-                Err(fault) => return Err(fault),
-            };
-            if out {
-                backend.leave_out(has_default(field.need))?;
-            }
-            Ok(())
-        }
-        Step::Each(of) => {
-            match push_each(code, id, of, rest, value, frames) {
-                Ok(()) => Ok(()),
-                Err(fault) => Err(fault),
-            }
-        }
-        Step::EachSorted(of) => {
-            match push_sorted(code, id, of, rest, value, frames) {
-                Ok(()) => Ok(()),
-                Err(fault) => Err(fault),
-            }
-        }
-        Step::Pick(alternatives) => {
-            match push_choice(code, id, alternatives, rest, value, frames) {
-                Ok(()) => Ok(()),
-                Err(fault) => Err(fault),
-            }
-        }
+        Step::Leaf(kind) => leaf_step(code, id, kind, rest, value, frames, backend),
+        Step::Field(field) => field_step(code, id, field, rest, value, frames, backend),
+        Step::Ranked(field, rank) => ranked_step(
+            code, id, field, rank, rest, value, frames, backend,
+        ),
+        Step::Each(of) => match push_each(code, id, of, rest, value, frames) {
+            Ok(()) => Ok(()),
+            Err(fault) => Err(fault),
+        },
+        Step::EachSorted(of) => match push_sorted(code, id, of, rest, value, frames) {
+            Ok(()) => Ok(()),
+            Err(fault) => Err(fault),
+        },
+        Step::Pick(alternatives) => match push_choice(code, id, alternatives, rest, value, frames) {
+            Ok(()) => Ok(()),
+            Err(fault) => Err(fault),
+        },
         Step::Call(_) => Err(RunFault::NotOfType),
     }
+}
+
+/// A header opens.
+fn head_step<'a, B: Backend<'a>>(
+    code: &'a Code,
+    id: TypeId,
+    head: Head,
+    rest: &'a [Step],
+    value: &'a Value,
+    frames: &mut Vec<Frame<'a>>,
+    backend: &mut B,
+) -> Result<(), RunFault>
+    ensures ok { OnOk result (Acted code.now B.adds (steps.Steps code.now id.index (HeadStep head ∷ rest.now) (abstract value.now))
+        (steps_weight (total code.now) (HeadStep head ∷ rest.now) (abstract value.now)) frames.old.items backend.old
+        frames.new.items backend.new) }
+    ensures refused { IfErr result (IsToldNothing (steps.Steps code.now id.index (HeadStep head ∷ rest.now) (abstract value.now))) }
+{
+    backend.open(head)?;
+    add(frames, Frame::Routine(id, rest, value))?;
+    Ok(())
+}
+
+/// The nearest open header ends.
+fn end_step<'a, B: Backend<'a>>(
+    code: &'a Code,
+    id: TypeId,
+    rest: &'a [Step],
+    value: &'a Value,
+    frames: &mut Vec<Frame<'a>>,
+    backend: &mut B,
+) -> Result<(), RunFault>
+    ensures ok { OnOk result (Acted code.now B.adds (steps.Steps code.now id.index (End ∷ rest.now) (abstract value.now))
+        (steps_weight (total code.now) (End ∷ rest.now) (abstract value.now)) frames.old.items backend.old
+        frames.new.items backend.new) }
+    ensures refused { IfErr result (IsToldNothing (steps.Steps code.now id.index (End ∷ rest.now) (abstract value.now))) }
+{
+    backend.close()?;
+    add(frames, Frame::Routine(id, rest, value))?;
+    Ok(())
+}
+
+/// Contents that hold no others.
+fn leaf_step<'a, B: Backend<'a>>(
+    code: &'a Code,
+    id: TypeId,
+    kind: LeafKind,
+    rest: &'a [Step],
+    value: &'a Value,
+    frames: &mut Vec<Frame<'a>>,
+    backend: &mut B,
+) -> Result<(), RunFault>
+    ensures ok { OnOk result (Acted code.now B.adds (steps.Steps code.now id.index (Leaf kind ∷ rest.now) (abstract value.now))
+        (steps_weight (total code.now) (Leaf kind ∷ rest.now) (abstract value.now)) frames.old.items backend.old
+        frames.new.items backend.new) }
+    ensures refused { IfErr result (IsToldNothing (steps.Steps code.now id.index (Leaf kind ∷ rest.now) (abstract value.now))) }
+{
+    match backend.leaf(kind, value) {
+        Ok(()) => {}
+        Err(fault) => return Err(fault),
+    }
+    add(frames, Frame::Routine(id, rest, value))?;
+    Ok(())
+}
+
+/// A component of a SEQUENCE.
+fn field_step<'a, B: Backend<'a>>(
+    code: &'a Code,
+    id: TypeId,
+    field: Field,
+    rest: &'a [Step],
+    value: &'a Value,
+    frames: &mut Vec<Frame<'a>>,
+    backend: &mut B,
+) -> Result<(), RunFault>
+    ensures ok { OnOk result (Acted code.now B.adds (steps.Steps code.now id.index (FieldStep field ∷ rest.now) (abstract value.now))
+        (steps_weight (total code.now) (FieldStep field ∷ rest.now) (abstract value.now)) frames.old.items backend.old
+        frames.new.items backend.new) }
+    ensures refused { IfErr result (IsToldNothing (steps.Steps code.now id.index (FieldStep field ∷ rest.now) (abstract value.now))) }
+{
+    let out = match push_field(code, id, field, rest, value, frames) {
+        Ok(out) => out,
+        Err(fault) => return Err(fault),
+    };
+    if out {
+        backend.leave_out(has_default(field.need))?;
+    }
+    Ok(())
+}
+
+/// A component of a SET.
+fn ranked_step<'a, B: Backend<'a>>(
+    code: &'a Code,
+    id: TypeId,
+    field: Field,
+    rank: usize,
+    rest: &'a [Step],
+    value: &'a Value,
+    frames: &mut Vec<Frame<'a>>,
+    backend: &mut B,
+) -> Result<(), RunFault>
+    ensures ok { OnOk result (Acted code.now B.adds (steps.Steps code.now id.index (Ranked field rank ∷ rest.now) (abstract value.now))
+        (steps_weight (total code.now) (Ranked field rank ∷ rest.now) (abstract value.now)) frames.old.items backend.old
+        frames.new.items backend.new) }
+    ensures refused { IfErr result (IsToldNothing (steps.Steps code.now id.index (Ranked field rank ∷ rest.now) (abstract value.now))) }
+{
+    let out = match push_ranked(code, id, field, rank, rest, value, frames) {
+        Ok(out) => out,
+        Err(fault) => return Err(fault),
+    };
+    if out {
+        backend.leave_out(has_default(field.need))?;
+    }
+    Ok(())
 }
