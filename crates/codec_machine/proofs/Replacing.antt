@@ -14,29 +14,40 @@ use Rattle.codec_code.specs.Steps.{Steps, left_out, written, ranked_left_out, ra
 use Rattle.codec_machine.specs.declared.frame.Frame.{Frame}
 use Rattle.codec_machine.specs.declared.frame.Frame.TheVariants.{Routine, Elements as ElementsLeft, Parts as PartsLeft, Part as PartEnd}
 use Rattle.codec_machine.specs.Weights.{weight, weights, inner, total}
-use Rattle.codec_machine.specs.Frames.{Replaced, LeavesOut, WritesIt, steps_weight}
+use Rattle.codec_machine.specs.Frames.{Replaced, ReplacedBy, LeavesOut, WritesIt, steps_weight}
 use Rattle.codec_machine.proofs.Left.{one_left, two_left, three_left, tell_none, tell_more}
 use Rattle.codec_machine.proofs.Inversion.{behind_field, held_field, of_field, of_ranked, of_each, of_sorted, same_list, of_element, of_part, of_pick, called_type}
 use Rattle.codec_machine.proofs.Weigh.{routine_weight, component_weight, room, room_fewer}
 
-two_pushed : (olds mids news : List Frame) (f g : Frame) → mids ≡ olds ++ f ∷ [] → news ≡ mids ++ g ∷ [] → news ≡ olds ++ (f ∷ g ∷ [])
+two_pushed : (olds mids news : List Frame) (f g : Frame)
+    → mids ≡ olds ++ f ∷ []
+    → news ≡ mids ++ g ∷ []
+    → news ≡ olds ++ (f ∷ g ∷ [])
 two_pushed olds mids news f g e h = h ∙ ap (λ q. q ++ g ∷ []) e ∙ append_assoc olds (f ∷ []) (g ∷ [])
 
-three_pushed : (olds mids lates news : List Frame) (f g h : Frame) → mids ≡ olds ++ f ∷ [] → lates ≡ mids ++ g ∷ [] → news ≡ lates ++ h ∷ [] → news ≡ olds ++ (f ∷ g ∷ h ∷ [])
+three_pushed : (olds mids lates news : List Frame) (f g h : Frame)
+    → mids ≡ olds ++ f ∷ []
+    → lates ≡ mids ++ g ∷ []
+    → news ≡ lates ++ h ∷ []
+    → news ≡ olds ++ (f ∷ g ∷ h ∷ [])
 three_pushed olds mids lates news f g h e d k = k ∙ ap (λ q. q ++ h ∷ []) (two_pushed olds mids lates f g e d) ∙ append_assoc olds (f ∷ g ∷ []) (h ∷ [])
 
 inner_at : (l : ℕ) (v w : AbstractValue) → v ≡ w → inner l v ≡ inner l w
 inner_at l v w e = ap (inner l) e
 
 -- a routine found in the table, for a value that is held
-held_weight : (s : List Resolved) (u : TypeId) (ss : List Step) (w : AbstractValue) → ss ≡ routine_at s u.index → steps_weight (total s) ss w ≤ weight (total s) w
+held_weight : (s : List Resolved) (u : TypeId) (ss : List Step) (w : AbstractValue)
+    → ss ≡ routine_at s u.index
+    → steps_weight (total s) ss w ≤ weight (total s) w
 held_weight s u ss w e = let h = routine_weight s u.index w in let k = ap (λ q. steps_weight (total s) q w) e in omega arith
 
 module _ (s : List Resolved) (id : TypeId) (olds : List Frame) where
   module _ (rest : Bor (List Step)) (v : Bor Value) where
     -- a component that is left out
-    pub field_out : (f : Field') (news : List Frame) → LeavesOut s id.index f (abstract v.now) → news ≡ olds ++ Routine id rest v ∷ []
-        → Replaced s (Steps s id.index (Field f ∷ rest.now) (abstract v.now)) (steps_weight (total s) (Field f ∷ rest.now) (abstract v.now)) (leaves_out (has_default f.need) ∷ []) olds news
+    pub field_out : (f : Field') (news : List Frame)
+        → LeavesOut s id.index f (abstract v.now)
+        → news ≡ olds ++ Routine id rest v ∷ []
+        → ReplacedBy s id.index (Field f ∷ rest.now) (abstract v.now) (leaves_out (has_default f.need) ∷ []) olds news
     field_out f news o e = record {
       pushed = Routine id rest v ∷ [];
       is = e;
@@ -46,8 +57,10 @@ module _ (s : List Resolved) (id : TypeId) (olds : List Frame) where
       less = (let h = room (total s) (Field f) rest.now (abstract v.now) 0 (omega arith) in omega arith);
     }
 
-    pub ranked_out : (f : Field') (r : ℕ) (news : List Frame) → LeavesOut s id.index f (abstract v.now) → news ≡ olds ++ Routine id rest v ∷ []
-        → Replaced s (Steps s id.index (Ranked f r ∷ rest.now) (abstract v.now)) (steps_weight (total s) (Ranked f r ∷ rest.now) (abstract v.now)) (leaves_out (has_default f.need) ∷ []) olds news
+    pub ranked_out : (f : Field') (r : ℕ) (news : List Frame)
+        → LeavesOut s id.index f (abstract v.now)
+        → news ≡ olds ++ Routine id rest v ∷ []
+        → ReplacedBy s id.index (Ranked f r ∷ rest.now) (abstract v.now) (leaves_out (has_default f.need) ∷ []) olds news
     ranked_out f r news o e = record {
       pushed = Routine id rest v ∷ [];
       is = e;
@@ -58,9 +71,11 @@ module _ (s : List Resolved) (id : TypeId) (olds : List Frame) where
     }
 
     -- a component that is written
-    pub field_in : (f : Field') (mids news : List Frame) (ss : Bor (List Step)) (w : Bor Value) → WritesIt s id.index f (abstract v.now) (abstract w.now) → ss.now ≡ routine_at s f.ty.index
+    pub field_in : (f : Field') (mids news : List Frame) (ss : Bor (List Step)) (w : Bor Value)
+        → WritesIt s id.index f (abstract v.now) (abstract w.now)
+        → ss.now ≡ routine_at s f.ty.index
         → mids ≡ olds ++ Routine id rest v ∷ [] → news ≡ mids ++ Routine f.ty ss w ∷ []
-        → Replaced s (Steps s id.index (Field f ∷ rest.now) (abstract v.now)) (steps_weight (total s) (Field f ∷ rest.now) (abstract v.now)) [] olds news
+        → ReplacedBy s id.index (Field f ∷ rest.now) (abstract v.now) [] olds news
     field_in f mids news ss w o e d k = record {
       pushed = Routine id rest v ∷ Routine f.ty ss w ∷ [];
       is = two_pushed olds mids news (Routine id rest v) (Routine f.ty ss w) d k;
@@ -79,9 +94,13 @@ module _ (s : List Resolved) (id : TypeId) (olds : List Frame) where
           (let a = held_weight s f.ty ss.now (abstract w.now) e in let b = component_weight (total s) o.row f.place (abstract w.now) o.written.stands in let c = inner_at (total s) (abstract v.now) (fields o.row) o.is in omega arith) in omega arith;
     }
 
-    pub ranked_in : (f : Field') (r : ℕ) (mids lates news : List Frame) (ss : Bor (List Step)) (w : Bor Value) → WritesIt s id.index f (abstract v.now) (abstract w.now) → ss.now ≡ routine_at s f.ty.index
-        → mids ≡ olds ++ Routine id rest v ∷ [] → lates ≡ mids ++ PartEnd r ∷ [] → news ≡ lates ++ Routine f.ty ss w ∷ []
-        → Replaced s (Steps s id.index (Ranked f r ∷ rest.now) (abstract v.now)) (steps_weight (total s) (Ranked f r ∷ rest.now) (abstract v.now)) [] olds news
+    pub ranked_in : (f : Field') (r : ℕ) (mids lates news : List Frame) (ss : Bor (List Step)) (w : Bor Value)
+        → WritesIt s id.index f (abstract v.now) (abstract w.now)
+        → ss.now ≡ routine_at s f.ty.index
+        → mids ≡ olds ++ Routine id rest v ∷ []
+        → lates ≡ mids ++ PartEnd r ∷ []
+        → news ≡ lates ++ Routine f.ty ss w ∷ []
+        → ReplacedBy s id.index (Ranked f r ∷ rest.now) (abstract v.now) [] olds news
     ranked_in f r mids lates news ss w o e d b k = record {
       pushed = Routine id rest v ∷ PartEnd r ∷ Routine f.ty ss w ∷ [];
       is = three_pushed olds mids lates news (Routine id rest v) (PartEnd r) (Routine f.ty ss w) d b k;
@@ -102,9 +121,10 @@ module _ (s : List Resolved) (id : TypeId) (olds : List Frame) where
     }
 
     -- all elements
-    pub each_in : (u : TypeId) (mids news : List Frame) (vs : Bor (List Value)) → abstract v.now ≡ list (row_of_list (map abstract vs.now))
+    pub each_in : (u : TypeId) (mids news : List Frame) (vs : Bor (List Value))
+        → abstract v.now ≡ list (row_of_list (map abstract vs.now))
         → mids ≡ olds ++ Routine id rest v ∷ [] → news ≡ mids ++ ElementsLeft u vs ∷ []
-        → Replaced s (Steps s id.index (Each u ∷ rest.now) (abstract v.now)) (steps_weight (total s) (Each u ∷ rest.now) (abstract v.now)) [] olds news
+        → ReplacedBy s id.index (Each u ∷ rest.now) (abstract v.now) [] olds news
     each_in u mids news vs e d k = record {
       pushed = Routine id rest v ∷ ElementsLeft u vs ∷ [];
       is = two_pushed olds mids news (Routine id rest v) (ElementsLeft u vs) d k;
@@ -121,9 +141,10 @@ module _ (s : List Resolved) (id : TypeId) (olds : List Frame) where
           let h = room (total s) (Each u) rest.now (abstract v.now) (suc (weights (total s) (row_of_list (map abstract vs.now)))) (omega arith) in omega arith);
     }
 
-    pub sorted_in : (u : TypeId) (mids news : List Frame) (vs : Bor (List Value)) → abstract v.now ≡ list (row_of_list (map abstract vs.now))
+    pub sorted_in : (u : TypeId) (mids news : List Frame) (vs : Bor (List Value))
+        → abstract v.now ≡ list (row_of_list (map abstract vs.now))
         → mids ≡ olds ++ Routine id rest v ∷ [] → news ≡ mids ++ PartsLeft u vs ∷ []
-        → Replaced s (Steps s id.index (EachSorted u ∷ rest.now) (abstract v.now)) (steps_weight (total s) (EachSorted u ∷ rest.now) (abstract v.now)) [] olds news
+        → ReplacedBy s id.index (EachSorted u ∷ rest.now) (abstract v.now) [] olds news
     sorted_in u mids news vs e d k = record {
       pushed = Routine id rest v ∷ PartsLeft u vs ∷ [];
       is = two_pushed olds mids news (Routine id rest v) (PartsLeft u vs) d k;
@@ -141,10 +162,13 @@ module _ (s : List Resolved) (id : TypeId) (olds : List Frame) where
     }
 
     -- an alternative
-    pub choice_in : (n i : ℕ) (u : TypeId) (behind ss : Bor (List Step)) (w : Bor Value) (mids news : List Frame) → i < n → abstract v.now ≡ alternative i (abstract w.now) → slice_get rest.now i ≡ Some (Call u)
+    pub choice_in : (n i : ℕ) (u : TypeId) (behind ss : Bor (List Step)) (w : Bor Value) (mids news : List Frame)
+        → i < n
+        → abstract v.now ≡ alternative i (abstract w.now)
+        → slice_get rest.now i ≡ Some (Call u)
         → behind.now ≡ drop n rest.now → length (drop n rest.now) ≤ length rest.now → ss.now ≡ routine_at s u.index
         → mids ≡ olds ++ Routine id behind v ∷ [] → news ≡ mids ++ Routine u ss w ∷ []
-        → Replaced s (Steps s id.index (Pick n ∷ rest.now) (abstract v.now)) (steps_weight (total s) (Pick n ∷ rest.now) (abstract v.now)) [] olds news
+        → ReplacedBy s id.index (Pick n ∷ rest.now) (abstract v.now) [] olds news
     choice_in n i u behind ss w mids news lt e at b few f d k = record {
       pushed = Routine id behind v ∷ Routine u ss w ∷ [];
       is = two_pushed olds mids news (Routine id behind v) (Routine u ss w) d k;
@@ -165,9 +189,12 @@ module _ (s : List Resolved) (id : TypeId) (olds : List Frame) where
     }
 
   -- the next element
-  pub element_in : (mids news : List Frame) (ss : Bor (List Step)) (w : Bor Value) (vs us : Bor (List Value)) → vs.now ≡ w.now ∷ us.now → ss.now ≡ routine_at s id.index
+  pub element_in : (mids news : List Frame) (ss : Bor (List Step)) (w : Bor Value) (vs us : Bor (List Value))
+      → vs.now ≡ w.now ∷ us.now
+      → ss.now ≡ routine_at s id.index
       → mids ≡ olds ++ ElementsLeft id us ∷ [] → news ≡ mids ++ Routine id ss w ∷ []
-      → Replaced s (Elements s id.index (row_of_list (map abstract vs.now))) (suc (weights (total s) (row_of_list (map abstract vs.now)))) [] olds news
+      → Replaced s (Elements s id.index (row_of_list (map abstract vs.now)))
+      (suc (weights (total s) (row_of_list (map abstract vs.now)))) [] olds news
   element_in mids news ss w vs us e f d k = record {
     pushed = ElementsLeft id us ∷ Routine id ss w ∷ [];
     is = two_pushed olds mids news (ElementsLeft id us) (Routine id ss w) d k;
@@ -185,9 +212,12 @@ module _ (s : List Resolved) (id : TypeId) (olds : List Frame) where
         let b = ap (λ q. weights (total s) (row_of_list (map abstract q))) e in omega arith;
   }
 
-  pub part_in : (mids lates news : List Frame) (ss : Bor (List Step)) (w : Bor Value) (vs us : Bor (List Value)) → vs.now ≡ w.now ∷ us.now → ss.now ≡ routine_at s id.index
+  pub part_in : (mids lates news : List Frame) (ss : Bor (List Step)) (w : Bor Value) (vs us : Bor (List Value))
+      → vs.now ≡ w.now ∷ us.now
+      → ss.now ≡ routine_at s id.index
       → mids ≡ olds ++ PartsLeft id us ∷ [] → lates ≡ mids ++ PartEnd 0 ∷ [] → news ≡ lates ++ Routine id ss w ∷ []
-      → Replaced s (Parts s id.index (row_of_list (map abstract vs.now))) (suc (weights (total s) (row_of_list (map abstract vs.now)))) [] olds news
+      → Replaced s (Parts s id.index (row_of_list (map abstract vs.now)))
+      (suc (weights (total s) (row_of_list (map abstract vs.now)))) [] olds news
   part_in mids lates news ss w vs us e f d b k = record {
     pushed = PartsLeft id us ∷ PartEnd 0 ∷ Routine id ss w ∷ [];
     is = three_pushed olds mids lates news (PartsLeft id us) (PartEnd 0) (Routine id ss w) d b k;

@@ -24,7 +24,9 @@ weight_is l (fields b) = refl
 weight_is l (list b) = refl
 weight_is l (alternative i b) = refl
 
-part_most : (s rs : List Resolved) (t : ℕ) (r : Resolved) → slice_get rs t ≡ Some r → length (routine_of s r) ≤ length (flat_map (routine_of s) rs)
+part_most : (s rs : List Resolved) (t : ℕ) (r : Resolved)
+    → slice_get rs t ≡ Some r
+    → length (routine_of s r) ≤ length (flat_map (routine_of s) rs)
 part_most s [] t r e = absurd (cc)
 part_most s (q ∷ rs) zero r e =
     let f : q ≡ r = cc in
@@ -48,12 +50,15 @@ product_most : (n l k : ℕ) → n ≤ l → n * k ≤ l * k
 product_most n l k h = let m : k * n ≤ k * l = mul-le-mul_left k h in omega arith
 
 -- the steps of a routine for a value weigh at most what the value does
-pub routine_weight : (s : List Resolved) (t : ℕ) (v : AbstractValue) → steps_weight (total s) (routine_at s t) v ≤ weight (total s) v
+pub routine_weight : (s : List Resolved) (t : ℕ) (v : AbstractValue)
+    → steps_weight (total s) (routine_at s t) v ≤ weight (total s) v
 routine_weight s t v =
     let m = product_most (length (routine_at s t)) (total s) (2 + inner (total s) v) (routine_most s t) in
     let e = weight_is (total s) v in omega arith
 
-pub component_weight : (l : ℕ) (ws : Row) (i : ℕ) (w : AbstractValue) → component_at ws i ≡ Some (Some w) → suc (suc (weight l w)) ≤ weights l ws
+pub component_weight : (l : ℕ) (ws : Row) (i : ℕ) (w : AbstractValue)
+    → component_at ws i ≡ Some (Some w)
+    → suc (suc (weight l w)) ≤ weights l ws
 component_weight l end i w e = absurd (cc)
 component_weight l (absent ws) zero w e = absurd (let f : None ≡ Some w = cc in cc)
 component_weight l (present v ws) zero w e = let f : v ≡ w = cc in let g = ap (weight l) f in omega arith
@@ -64,8 +69,13 @@ times : (n k : ℕ) → suc n * k ≡ n * k + k
 times n k = omega arith
 
 -- room for the steps that are left, and for at most as much as a value holds and one more
-pub room : (l : ℕ) (x : Step) (ss : List Step) (v : AbstractValue) (c : ℕ) → c ≤ suc (inner l v) → steps_weight l ss v + c < steps_weight l (x ∷ ss) v
+pub room : (l : ℕ) (x : Step) (ss : List Step) (v : AbstractValue) (c : ℕ)
+    → c ≤ suc (inner l v)
+    → steps_weight l ss v + c < steps_weight l (x ∷ ss) v
 room l x ss v c h = let e = times (length ss) (2 + inner l v) in omega arith
 
-pub room_fewer : (l : ℕ) (x : Step) (rs ss : List Step) (v : AbstractValue) (c : ℕ) → length rs ≤ length ss → c ≤ suc (inner l v) → steps_weight l rs v + c < steps_weight l (x ∷ ss) v
+pub room_fewer : (l : ℕ) (x : Step) (rs ss : List Step) (v : AbstractValue) (c : ℕ)
+    → length rs ≤ length ss
+    → c ≤ suc (inner l v)
+    → steps_weight l rs v + c < steps_weight l (x ∷ ss) v
 room_fewer l x rs ss v c g h = let e = times (length ss) (2 + inner l v) in let d = product_most (length rs) (length ss) (2 + inner l v) g in omega arith

@@ -91,6 +91,27 @@ HasNoField s t f v = (LeavesOut s t f v → ⊥) × ((w : AbstractValue) → Wri
 abbrev pub steps_weight : ℕ → List Step → AbstractValue → ℕ
 steps_weight l ss v = suc (length ss * (2 + inner l v))
 
+-- the same of steps of a type's routine
+abbrev pub ReplacedBy : List Resolved → TypeNumber → List Step → AbstractValue → List Event → List Frame → List Frame
+    → Type 0
+ReplacedBy s t ss v = Replaced s (Steps s t ss v) (steps_weight (total s) ss v)
+
+abbrev pub ActedBy : {S : Type 0}
+    → List Resolved
+    → (S → List Event → S → Type 0)
+    → TypeNumber
+    → List Step
+    → AbstractValue
+    → List Frame
+    → S
+    → List Frame
+    → S
+    → Type 0
+ActedBy s adds t ss v = Acted s adds (Steps s t ss v) (steps_weight (total s) ss v)
+
+abbrev pub IsUntold : List Resolved → TypeNumber → List Step → AbstractValue → RunFault → Type 0
+IsUntold s t ss v = IsToldNothing (Steps s t ss v)
+
 -- some events were added, and whatever the new frames stand for completes what the old ones stand for; where the old
 -- ones stand for anything, so do the new
 pub record Turned {S : Type 0} (s : List Resolved) (adds : S → List Event → S → Type 0) (olds : List Frame) (a : S)
@@ -111,8 +132,8 @@ pub record Reached {S : Type 0} (s : List Resolved) (adds : S → List Event →
   pub stays : (all : List Event) → Left s olds all → Tellable (Left s news)
 
 -- the events of a type's routine were added
-pub record Ran {S : Type 0} (s : List Resolved) (t : TypeNumber) (v : AbstractValue) (adds : S → List Event → S → Type 0)
-    (a b : S) : Type 0 where
+pub record Ran {S : Type 0} (s : List Resolved) (t : TypeNumber) (v : AbstractValue)
+    (adds : S → List Event → S → Type 0) (a b : S) : Type 0 where
   pub events : List Event
   pub steps : Steps s t (routine_at s t) v events
   pub added : adds a events b

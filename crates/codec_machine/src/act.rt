@@ -2,10 +2,9 @@
 
 ghost use Rattle.asn_base.specs.Abstract.{abstract, row_of_list};
 ghost use Rattle.codec_code.specs.Events.{leaves_out, opens, closes};
-ghost use Rattle.codec_code.specs.Steps as steps;
-ghost use Rattle.codec_code.specs.declared.step.Step.TheVariants.{End, Field as FieldStep, Head as HeadStep, Leaf, Ranked};
-ghost use Rattle.codec_machine.specs.Frames.{Acted, IsToldNothing, Left, Turned, steps_weight};
-ghost use Rattle.codec_machine.specs.Weights.{total};
+ghost use Rattle.codec_code.specs.declared.step.Step.TheVariants.{End, Leaf, Ranked};
+ghost use Rattle.codec_code.specs.declared.step.Step.TheVariants.{Field as FieldStep, Head as HeadStep};
+ghost use Rattle.codec_machine.specs.Frames.{ActedBy, IsToldNothing, IsUntold, Left, Turned};
 ghost use Rattle.std.specs.Prelude.{◌++◌, ◌∷◌, [], IfErr, OnOk};
 
 use crate::backend::Backend;
@@ -63,10 +62,9 @@ fn act<'a, B: Backend<'a>>(
     frames: &mut Vec<Frame<'a>>,
     backend: &mut B,
 ) -> Result<(), RunFault>
-    ensures ok { OnOk result (Acted code.now B.adds (steps.Steps code.now id.index (step ∷ rest.now) (abstract value.now))
-        (steps_weight (total code.now) (step ∷ rest.now) (abstract value.now)) frames.old.items backend.old frames.new.items
-        backend.new) }
-    ensures refused { IfErr result (IsToldNothing (steps.Steps code.now id.index (step ∷ rest.now) (abstract value.now))) }
+    ensures ok { OnOk result (ActedBy code.now B.adds id.index (step ∷ rest.now) (abstract value.now)
+        frames.old.items backend.old frames.new.items backend.new) }
+    ensures refused { IfErr result (IsUntold code.now id.index (step ∷ rest.now) (abstract value.now)) }
 {
     match step {
         Step::Head(head) => head_step(code, id, head, rest, value, frames, backend),
@@ -106,10 +104,9 @@ fn head_step<'a, B: Backend<'a>>(
     frames: &mut Vec<Frame<'a>>,
     backend: &mut B,
 ) -> Result<(), RunFault>
-    ensures ok { OnOk result (Acted code.now B.adds (steps.Steps code.now id.index (HeadStep head ∷ rest.now) (abstract value.now))
-        (steps_weight (total code.now) (HeadStep head ∷ rest.now) (abstract value.now)) frames.old.items backend.old
-        frames.new.items backend.new) }
-    ensures refused { IfErr result (IsToldNothing (steps.Steps code.now id.index (HeadStep head ∷ rest.now) (abstract value.now))) }
+    ensures ok { OnOk result (ActedBy code.now B.adds id.index (HeadStep head ∷ rest.now) (abstract value.now)
+        frames.old.items backend.old frames.new.items backend.new) }
+    ensures refused { IfErr result (IsUntold code.now id.index (HeadStep head ∷ rest.now) (abstract value.now)) }
 {
     backend.open(head)?;
     add(frames, Frame::Routine(id, rest, value))?;
@@ -125,10 +122,9 @@ fn end_step<'a, B: Backend<'a>>(
     frames: &mut Vec<Frame<'a>>,
     backend: &mut B,
 ) -> Result<(), RunFault>
-    ensures ok { OnOk result (Acted code.now B.adds (steps.Steps code.now id.index (End ∷ rest.now) (abstract value.now))
-        (steps_weight (total code.now) (End ∷ rest.now) (abstract value.now)) frames.old.items backend.old
-        frames.new.items backend.new) }
-    ensures refused { IfErr result (IsToldNothing (steps.Steps code.now id.index (End ∷ rest.now) (abstract value.now))) }
+    ensures ok { OnOk result (ActedBy code.now B.adds id.index (End ∷ rest.now) (abstract value.now)
+        frames.old.items backend.old frames.new.items backend.new) }
+    ensures refused { IfErr result (IsUntold code.now id.index (End ∷ rest.now) (abstract value.now)) }
 {
     backend.close()?;
     add(frames, Frame::Routine(id, rest, value))?;
@@ -145,10 +141,9 @@ fn leaf_step<'a, B: Backend<'a>>(
     frames: &mut Vec<Frame<'a>>,
     backend: &mut B,
 ) -> Result<(), RunFault>
-    ensures ok { OnOk result (Acted code.now B.adds (steps.Steps code.now id.index (Leaf kind ∷ rest.now) (abstract value.now))
-        (steps_weight (total code.now) (Leaf kind ∷ rest.now) (abstract value.now)) frames.old.items backend.old
-        frames.new.items backend.new) }
-    ensures refused { IfErr result (IsToldNothing (steps.Steps code.now id.index (Leaf kind ∷ rest.now) (abstract value.now))) }
+    ensures ok { OnOk result (ActedBy code.now B.adds id.index (Leaf kind ∷ rest.now) (abstract value.now)
+        frames.old.items backend.old frames.new.items backend.new) }
+    ensures refused { IfErr result (IsUntold code.now id.index (Leaf kind ∷ rest.now) (abstract value.now)) }
 {
     match backend.leaf(kind, value) {
         Ok(()) => {}
@@ -168,10 +163,9 @@ fn field_step<'a, B: Backend<'a>>(
     frames: &mut Vec<Frame<'a>>,
     backend: &mut B,
 ) -> Result<(), RunFault>
-    ensures ok { OnOk result (Acted code.now B.adds (steps.Steps code.now id.index (FieldStep field ∷ rest.now) (abstract value.now))
-        (steps_weight (total code.now) (FieldStep field ∷ rest.now) (abstract value.now)) frames.old.items backend.old
-        frames.new.items backend.new) }
-    ensures refused { IfErr result (IsToldNothing (steps.Steps code.now id.index (FieldStep field ∷ rest.now) (abstract value.now))) }
+    ensures ok { OnOk result (ActedBy code.now B.adds id.index (FieldStep field ∷ rest.now) (abstract value.now)
+        frames.old.items backend.old frames.new.items backend.new) }
+    ensures refused { IfErr result (IsUntold code.now id.index (FieldStep field ∷ rest.now) (abstract value.now)) }
 {
     let out = match push_field(code, id, field, rest, value, frames) {
         Ok(out) => out,
@@ -194,10 +188,9 @@ fn ranked_step<'a, B: Backend<'a>>(
     frames: &mut Vec<Frame<'a>>,
     backend: &mut B,
 ) -> Result<(), RunFault>
-    ensures ok { OnOk result (Acted code.now B.adds (steps.Steps code.now id.index (Ranked field rank ∷ rest.now) (abstract value.now))
-        (steps_weight (total code.now) (Ranked field rank ∷ rest.now) (abstract value.now)) frames.old.items backend.old
-        frames.new.items backend.new) }
-    ensures refused { IfErr result (IsToldNothing (steps.Steps code.now id.index (Ranked field rank ∷ rest.now) (abstract value.now))) }
+    ensures ok { OnOk result (ActedBy code.now B.adds id.index (Ranked field rank ∷ rest.now) (abstract value.now)
+        frames.old.items backend.old frames.new.items backend.new) }
+    ensures refused { IfErr result (IsUntold code.now id.index (Ranked field rank ∷ rest.now) (abstract value.now)) }
 {
     let out = match push_ranked(code, id, field, rank, rest, value, frames) {
         Ok(out) => out,

@@ -25,7 +25,8 @@ pub fn run<'a, B: Backend<'a>>(
     backend: &mut B,
 ) -> Result<(), RunFault>
     ensures ok { OnOk result (Ran code.now id.index (abstract value.now) B.adds backend.old backend.new) }
-    ensures refused { IfErr result (IsToldNothing (Steps code.now id.index (routine_at code.now id.index) (abstract value.now))) }
+    ensures refused { IfErr result (IsToldNothing (Steps code.now id.index (routine_at code.now id.index)
+        (abstract value.now))) }
 {
     let mut frames = Vec::new(alloc);
     add(

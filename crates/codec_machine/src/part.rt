@@ -134,7 +134,8 @@ fn written_at<'a>(
 }
 
 fn is_left_out(code: &Code, id: TypeId, field: Field, value: &Value) -> bool
-    ensures { MatchBool result ((steps.has_default field.need ≡ true) × IsDefaultAt code.now id.index field.place (abstract value.now))
+    ensures { MatchBool result
+        ((steps.has_default field.need ≡ true) × IsDefaultAt code.now id.index field.place (abstract value.now))
         (steps.has_default field.need ≡ true → IsDefaultAt code.now id.index field.place (abstract value.now) → ⊥) }
 {
     has_default(field.need) && code.is_default(id, field.place, value)
@@ -177,8 +178,8 @@ pub(crate) fn called(steps: &[Step], at: usize) -> Result<TypeId, RunFault>
     }
 }
 
-/// The number of the alternative, and its value. `NotOfType`: there are not as many alternatives, or it is no value of a
-/// CHOICE at all.
+/// The number of the alternative, and its value. `NotOfType`: there are not as many alternatives, or it is no value of
+/// a CHOICE at all.
 pub(crate) fn chosen(value: &Value, alternatives: usize) -> Result<(usize, &Value), RunFault>
     ensures ok { IfOk result (λ p. (p.0 < alternatives) × (abstract value.now ≡ alternative p.0 (abstract p.1.now))) }
     ensures refused { OnErr result ((i : ℕ) (w : AbstractValue)

@@ -4,7 +4,7 @@ ghost use Rattle.asn_base.specs.Abstract.{abstract, row_of_list};
 ghost use Rattle.codec_code.specs.Events.{leaves_out};
 ghost use Rattle.codec_code.specs.Steps as steps;
 ghost use Rattle.codec_code.specs.declared.step.Step.TheVariants.{Each, EachSorted, Field as FieldStep, Pick, Ranked};
-ghost use Rattle.codec_machine.specs.Frames.{IsToldNothing, Replaced, steps_weight};
+ghost use Rattle.codec_machine.specs.Frames.{IsUntold, Replaced, ReplacedBy};
 ghost use Rattle.codec_machine.specs.Weights.{total, weights};
 ghost use Rattle.std.specs.Prelude.{◌≡◌, ◌++◌, ◌∷◌, [], IfErr, IfOk, OnOk, if◌then◌else◌, map, suc};
 
@@ -80,10 +80,9 @@ pub(crate) fn push_field<'a>(
     value: &'a Value,
     frames: &mut Vec<Frame<'a>>,
 ) -> Result<bool, RunFault>
-    ensures ok { IfOk result (λ out. Replaced code.now (steps.Steps code.now id.index (FieldStep field ∷ rest.now) (abstract value.now))
-        (steps_weight (total code.now) (FieldStep field ∷ rest.now) (abstract value.now))
+    ensures ok { IfOk result (λ out. ReplacedBy code.now id.index (FieldStep field ∷ rest.now) (abstract value.now)
         (if out then leaves_out (steps.has_default field.need) ∷ [] else []) frames.old.items frames.new.items) }
-    ensures refused { IfErr result (IsToldNothing (steps.Steps code.now id.index (FieldStep field ∷ rest.now) (abstract value.now))) }
+    ensures refused { IfErr result (IsUntold code.now id.index (FieldStep field ∷ rest.now) (abstract value.now)) }
 {
     let written = match written_value(code, id, field, value) {
         Ok(written) => written,
@@ -112,10 +111,9 @@ pub(crate) fn push_ranked<'a>(
     value: &'a Value,
     frames: &mut Vec<Frame<'a>>,
 ) -> Result<bool, RunFault>
-    ensures ok { IfOk result (λ out. Replaced code.now (steps.Steps code.now id.index (Ranked field rank ∷ rest.now) (abstract value.now))
-        (steps_weight (total code.now) (Ranked field rank ∷ rest.now) (abstract value.now))
+    ensures ok { IfOk result (λ out. ReplacedBy code.now id.index (Ranked field rank ∷ rest.now) (abstract value.now)
         (if out then leaves_out (steps.has_default field.need) ∷ [] else []) frames.old.items frames.new.items) }
-    ensures refused { IfErr result (IsToldNothing (steps.Steps code.now id.index (Ranked field rank ∷ rest.now) (abstract value.now))) }
+    ensures refused { IfErr result (IsUntold code.now id.index (Ranked field rank ∷ rest.now) (abstract value.now)) }
 {
     let written = match written_value(code, id, field, value) {
         Ok(written) => written,
@@ -144,9 +142,9 @@ pub(crate) fn push_each<'a>(
     value: &'a Value,
     frames: &mut Vec<Frame<'a>>,
 ) -> Result<(), RunFault>
-    ensures ok { OnOk result (Replaced code.now (steps.Steps code.now id.index (Each of ∷ rest.now) (abstract value.now))
-        (steps_weight (total code.now) (Each of ∷ rest.now) (abstract value.now)) [] frames.old.items frames.new.items) }
-    ensures refused { IfErr result (IsToldNothing (steps.Steps code.now id.index (Each of ∷ rest.now) (abstract value.now))) }
+    ensures ok { OnOk result (ReplacedBy code.now id.index (Each of ∷ rest.now) (abstract value.now) []
+        frames.old.items frames.new.items) }
+    ensures refused { IfErr result (IsUntold code.now id.index (Each of ∷ rest.now) (abstract value.now)) }
 {
     match elements_of(value) {
         None => Err(RunFault::NotOfType),
@@ -167,9 +165,9 @@ pub(crate) fn push_sorted<'a>(
     value: &'a Value,
     frames: &mut Vec<Frame<'a>>,
 ) -> Result<(), RunFault>
-    ensures ok { OnOk result (Replaced code.now (steps.Steps code.now id.index (EachSorted of ∷ rest.now) (abstract value.now))
-        (steps_weight (total code.now) (EachSorted of ∷ rest.now) (abstract value.now)) [] frames.old.items frames.new.items) }
-    ensures refused { IfErr result (IsToldNothing (steps.Steps code.now id.index (EachSorted of ∷ rest.now) (abstract value.now))) }
+    ensures ok { OnOk result (ReplacedBy code.now id.index (EachSorted of ∷ rest.now) (abstract value.now) []
+        frames.old.items frames.new.items) }
+    ensures refused { IfErr result (IsUntold code.now id.index (EachSorted of ∷ rest.now) (abstract value.now)) }
 {
     match elements_of(value) {
         None => Err(RunFault::NotOfType),
@@ -190,9 +188,9 @@ pub(crate) fn push_choice<'a>(
     value: &'a Value,
     frames: &mut Vec<Frame<'a>>,
 ) -> Result<(), RunFault>
-    ensures ok { OnOk result (Replaced code.now (steps.Steps code.now id.index (Pick alternatives ∷ rest.now) (abstract value.now))
-        (steps_weight (total code.now) (Pick alternatives ∷ rest.now) (abstract value.now)) [] frames.old.items frames.new.items) }
-    ensures refused { IfErr result (IsToldNothing (steps.Steps code.now id.index (Pick alternatives ∷ rest.now) (abstract value.now))) }
+    ensures ok { OnOk result (ReplacedBy code.now id.index (Pick alternatives ∷ rest.now) (abstract value.now) []
+        frames.old.items frames.new.items) }
+    ensures refused { IfErr result (IsUntold code.now id.index (Pick alternatives ∷ rest.now) (abstract value.now)) }
 {
     let (number, held) = match chosen(value, alternatives) {
         Ok(found) => found,
