@@ -16,7 +16,7 @@ use Rattle.codec_machine.specs.declared.fault.RunFault.TheVariants.{NotOfType}
 use Rattle.codec_machine.specs.declared.frame.Frame.{Frame}
 use Rattle.codec_machine.specs.declared.frame.Frame.TheVariants.{Routine, Elements as ElementsLeft, Parts as PartsLeft, Part as PartEnd}
 use Rattle.codec_machine.specs.Weights.{weights, total}
-use Rattle.codec_machine.specs.Frames.{ActedBy, AddsLeaf, HasNoContents, Told, Left, Tellable, IsToldNothing, frame_weight, Replaced, Acted, Turned, Reached, Ran, steps_weight}
+use Rattle.codec_machine.specs.Frames.{ActedBy, AddsLeaf, HasNoContents, Told, Left, Tellable, IsToldNothing, frame_weight, Replaced, Turned, Reached, Ran, steps_weight}
 use Rattle.codec_machine.proofs.Left.{one_left, tell_none, tell_more, turned_by, untold_by}
 use Rattle.codec_machine.proofs.Inversion.{behind_head, behind_end, behind_rest, behind_leaf, nothing_told, contents_of_leaf, no_call}
 use Rattle.codec_machine.proofs.Weigh.{room}
