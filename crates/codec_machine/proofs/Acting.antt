@@ -1,0 +1,217 @@
+-- What one step does, and what one turn does.
+use Rattle.std.proofs.Common.{Bor, ◌≡◌, ℕ, suc, ◌<◌, ◌≤◌, List, [], ◌∷◌, ◌++◌, length, map, refl, sym, ap, subst, ◌∙◌, arith, append_assoc, append-nil}
+use Rattle.asn_base.specs.declared.schema.TypeId.{TypeId}
+use Rattle.asn_base.specs.declared.value.Value.{Value}
+use Rattle.asn_base.specs.Abstract.{AbstractValue, abstract, row_of_list}
+use Rattle.asn_base.specs.Types.{Resolved}
+use Rattle.codec_code.specs.declared.step.Head.{Head as Head'}
+use Rattle.codec_code.specs.declared.step.LeafKind.{LeafKind}
+use Rattle.codec_code.specs.declared.step.Step.{Step}
+use Rattle.codec_code.specs.declared.step.Step.TheVariants.{Head, Leaf, Rest, End, Call}
+use Rattle.codec_code.specs.Events.{Event, opens, puts, closes, parts}
+use Rattle.codec_code.specs.Routines.{routine_at}
+use Rattle.codec_code.specs.Steps.{Steps, finished, head, ending, rest, leaf, Elements, Parts}
+use Rattle.codec_machine.specs.declared.fault.RunFault.{RunFault}
+use Rattle.codec_machine.specs.declared.fault.RunFault.TheVariants.{NotOfType}
+use Rattle.codec_machine.specs.declared.frame.Frame.{Frame}
+use Rattle.codec_machine.specs.declared.frame.Frame.TheVariants.{Routine, Elements as ElementsLeft, Parts as PartsLeft, Part as PartEnd}
+use Rattle.codec_machine.specs.Weights.{weights, total}
+use Rattle.codec_machine.specs.Frames.{ActedBy, AddsLeaf, HasNoContents, Told, Left, Tellable, IsToldNothing, frame_weight, Replaced, Turned, Reached, Ran, steps_weight}
+use Rattle.codec_machine.proofs.Left.{one_left, tell_none, tell_more, turned_by, untold_by}
+use Rattle.codec_machine.proofs.Inversion.{behind_head, behind_end, behind_rest, behind_leaf, nothing_told, contents_of_leaf, no_call}
+use Rattle.codec_machine.proofs.Weigh.{room}
+
+module _ {S : Type 0} (s : List Resolved) (adds : S → List Event → S → Type 0) where
+  module _ (id : TypeId) (others : Bor (List Step)) (v : Bor Value) (olds news : List Frame) (a b : S) where
+    -- an event, and the steps behind it
+    acted : (x : Step) (es : List Event) → adds a es b → news ≡ olds ++ Routine id others v ∷ []
+        → ((ys : List Event)
+        → Steps s id.index others.now (abstract v.now) ys
+        → Steps s id.index (x ∷ others.now) (abstract v.now) (es ++ ys))
+        → ((ys : List Event)
+        → Steps s id.index (x ∷ others.now) (abstract v.now) ys
+        → Tellable (Steps s id.index others.now (abstract v.now)))
+        → ActedBy s adds id.index (x ∷ others.now) (abstract v.now) olds a news b
+    acted x es ad is h k' = record {
+      events = es;
+      added = ad;
+      replaced = record {
+        pushed = Routine id others v ∷ [];
+        is = is;
+        left = λ ys l. h ys (one_left s (Routine id others v) ys l);
+        stays = λ ys d. let p = k' ys d in tell_more s (Routine id others v) [] p.events p.told (tell_none s);
+        less = (let k = room (total s) x others.now (abstract v.now) 0 (omega arith) in omega arith);
+      };
+    }
+
+    pub head_acted : (x : Step) (h : Head')
+        → x ≡ Head h
+        → adds a (opens h.tag h.constructed h.row ∷ []) b
+        → news ≡ olds ++ Routine id others v ∷ []
+        → ActedBy s adds id.index (x ∷ others.now) (abstract v.now) olds a news b
+    head_acted x h e ad is = acted x (opens h.tag h.constructed h.row ∷ []) ad is (λ ys d. subst (λ q. Steps s id.index (q ∷ others.now) (abstract v.now) (opens h.tag h.constructed h.row ∷ ys)) (sym e) (head d)) (λ ys d. behind_head (subst (λ q. Steps s id.index (q ∷ others.now) (abstract v.now) ys) e d))
+
+    pub end_acted : (x : Step) → x ≡ End → adds a (closes ∷ []) b → news ≡ olds ++ Routine id others v ∷ []
+        → ActedBy s adds id.index (x ∷ others.now) (abstract v.now) olds a news b
+    end_acted x e ad is = acted x (closes ∷ []) ad is (λ ys d. subst (λ q. Steps s id.index (q ∷ others.now) (abstract v.now) (closes ∷ ys)) (sym e) (ending d)) (λ ys d. behind_end (subst (λ q. Steps s id.index (q ∷ others.now) (abstract v.now) ys) e d))
+
+    pub rest_acted : (x : Step) → x ≡ Rest → adds a [] b → news ≡ olds ++ Routine id others v ∷ []
+        → ActedBy s adds id.index (x ∷ others.now) (abstract v.now) olds a news b
+    rest_acted x e ad is = acted x [] ad is (λ ys d. subst (λ q. Steps s id.index (q ∷ others.now) (abstract v.now) ys) (sym e) (rest d)) (λ ys d. behind_rest (subst (λ q. Steps s id.index (q ∷ others.now) (abstract v.now) ys) e d))
+
+    pub leaf_acted : (x : Step) (k : LeafKind)
+        → x ≡ Leaf k
+        → AddsLeaf adds k (abstract v.now) a b
+        → news ≡ olds ++ Routine id others v ∷ []
+        → ActedBy s adds id.index (x ∷ others.now) (abstract v.now) olds a news b
+    leaf_acted x k e ad is = acted x (puts ad.0 ∷ []) ad.2 is (λ ys d. subst (λ q. Steps s id.index (q ∷ others.now) (abstract v.now) (puts ad.0 ∷ ys)) (sym e) (leaf ad.1 d)) (λ ys d. behind_leaf (subst (λ q. Steps s id.index (q ∷ others.now) (abstract v.now) ys) e d))
+
+  -- ---- turns
+
+  same_weight : (f g : Frame) → f ≡ g → frame_weight (total s) g ≤ frame_weight (total s) f
+  same_weight f g e = let k = ap (frame_weight (total s)) e in omega arith
+
+  pub routine_turned : (f : Frame) (id : TypeId) (ss others : Bor (List Step)) (v : Bor Value) (x : Step)
+      (olds news : List Frame) (a b : S)
+      → f ≡ Routine id ss v
+      → ss.now ≡ x ∷ others.now
+      → ActedBy s adds id.index (x ∷ others.now) (abstract v.now) olds a news b
+      → Turned s adds (olds ++ f ∷ []) a news b
+  routine_turned f id ss others v x olds news a b e d ac =
+      turned_by s adds (Steps s id.index (x ∷ others.now) (abstract v.now)) (steps_weight (total s) (x ∷ others.now) (abstract v.now)) olds news f a b
+      (λ ys t. subst (λ q. Told s q ys) (sym e) (subst (λ q. Steps s id.index q (abstract v.now) ys) (sym d) t))
+      (λ ys t. subst (λ q. Steps s id.index q (abstract v.now) ys) d (subst (λ q. Told s q ys) e t))
+      (let k = same_weight f (Routine id ss v) e in let m = ap (λ q. steps_weight (total s) q (abstract v.now)) d in omega arith)
+      ac
+
+  nothing_pushed : (T : List Event → Type 0) (w : ℕ) (es : List Event) (olds : List Frame)
+      → T (es ++ [])
+      → 0 < w
+      → Replaced s T w es olds olds
+  nothing_pushed T w es olds t h = record { pushed = []; is = sym (append-nil olds); left = λ ys l. subst (λ q. T (es ++ q)) (sym l) t; stays = λ ys d. tell_none s; less = h }
+
+  pub finished_turned : (f : Frame) (id : TypeId) (ss : Bor (List Step)) (v : Bor Value) (olds : List Frame) (a : S)
+      → f ≡ Routine id ss v
+      → ss.now ≡ []
+      → adds a [] a
+      → Turned s adds (olds ++ f ∷ []) a olds a
+  finished_turned f id ss v olds a e d ad =
+      turned_by s adds (λ ys. ys ≡ []) 1 olds olds f a a
+      (λ ys t. subst (λ q. Told s q ys) (sym e) (subst (λ q. Steps s id.index q (abstract v.now) ys) (sym d) (subst (λ q. Steps s id.index [] (abstract v.now) q) (sym t) finished)))
+      (λ ys t. nothing_told (subst (λ q. Steps s id.index q (abstract v.now) ys) d (subst (λ q. Told s q ys) e t)))
+      (let k = same_weight f (Routine id ss v) e in omega arith)
+      (record { events = []; added = ad; replaced = nothing_pushed (λ ys. ys ≡ []) 1 [] olds refl (omega arith) })
+
+  pub elements_turned : (f : Frame) (id : TypeId) (vs : Bor (List Value)) (olds news : List Frame) (a : S)
+      → f ≡ ElementsLeft id vs
+      → adds a [] a
+      → Replaced s (Elements s id.index (row_of_list (map abstract vs.now)))
+      (suc (weights (total s) (row_of_list (map abstract vs.now)))) [] olds news
+      → Turned s adds (olds ++ f ∷ []) a news a
+  elements_turned f id vs olds news a e ad r =
+      turned_by s adds (Elements s id.index (row_of_list (map abstract vs.now))) (suc (weights (total s) (row_of_list (map abstract vs.now)))) olds news f a a
+      (λ ys t. subst (λ q. Told s q ys) (sym e) t) (λ ys t. subst (λ q. Told s q ys) e t) (same_weight f (ElementsLeft id vs) e) (record { events = []; added = ad; replaced = r })
+
+  pub parts_turned : (f : Frame) (id : TypeId) (vs : Bor (List Value)) (olds news : List Frame) (a : S)
+      → f ≡ PartsLeft id vs
+      → adds a [] a
+      → Replaced s (Parts s id.index (row_of_list (map abstract vs.now)))
+      (suc (weights (total s) (row_of_list (map abstract vs.now)))) [] olds news
+      → Turned s adds (olds ++ f ∷ []) a news a
+  parts_turned f id vs olds news a e ad r =
+      turned_by s adds (Parts s id.index (row_of_list (map abstract vs.now))) (suc (weights (total s) (row_of_list (map abstract vs.now)))) olds news f a a
+      (λ ys t. subst (λ q. Told s q ys) (sym e) t) (λ ys t. subst (λ q. Told s q ys) e t) (same_weight f (PartsLeft id vs) e) (record { events = []; added = ad; replaced = r })
+
+  pub part_turned : (f : Frame) (r : ℕ) (olds : List Frame) (a b : S)
+      → f ≡ PartEnd r
+      → adds a (parts r ∷ []) b
+      → Turned s adds (olds ++ f ∷ []) a olds b
+  part_turned f r olds a b e ad =
+      turned_by s adds (λ ys. ys ≡ parts r ∷ []) 1 olds olds f a b
+      (λ ys t. subst (λ q. Told s q ys) (sym e) t) (λ ys t. subst (λ q. Told s q ys) e t) (same_weight f (PartEnd r) e)
+      (record { events = parts r ∷ []; added = ad; replaced = nothing_pushed (λ ys. ys ≡ parts r ∷ []) 1 (parts r ∷ []) olds refl (omega arith) })
+
+  -- ---- a run
+
+  pub reached_start : (olds : List Frame) (a : S) → adds a [] a → Reached s adds olds a olds a
+  reached_start olds a ad = record { events = []; added = ad; left = λ ys l. l; stays = λ ys l. record { events = ys; told = l } }
+
+  pub reached_more : ((a b c : S) (es fs : List Event) → adds a es b → adds b fs c → adds a (es ++ fs) c)
+      → (olds mids mids' news : List Frame) (a b c : S)
+      → mids' ≡ mids
+      → Reached s adds olds a mids' b
+      → Turned s adds mids b news c
+      → Reached s adds olds a news c
+  reached_more joins olds mids mids' news a b c e t u = record {
+    events = t.events ++ u.events;
+    added = joins a b c t.events u.events t.added u.added;
+    left = λ ys l. subst (Left s olds) (sym (append_assoc t.events u.events ys)) (t.left (u.events ++ ys) (subst (λ q. Left s q (u.events ++ ys)) (sym e) (u.left ys l)));
+    stays = λ ys l. let p = t.stays ys l in u.stays p.events (subst (λ q. Left s q p.events) e p.told);
+  }
+
+  pub reached_ran : (id : TypeId) (ss : Bor (List Step)) (v : Bor Value) (olds news : List Frame) (a b : S)
+      → ss.now ≡ routine_at s id.index
+      → olds ≡ Routine id ss v ∷ []
+      → news ≡ []
+      → Reached s adds olds a news b
+      → Ran s id.index (abstract v.now) adds a b
+  reached_ran id ss v olds news a b d is empty t =
+      let l = subst (λ q. Left s q (t.events ++ [])) is (t.left [] (subst (λ q. Left s q []) (sym empty) refl)) in
+      let o = one_left s (Routine id ss v) (t.events ++ []) l in
+      record {
+        events = t.events;
+        added = t.added;
+        steps = subst (λ q. Steps s id.index q (abstract v.now) t.events) d (subst (λ q. Steps s id.index ss.now (abstract v.now) q) (append-nil t.events) o);
+      }
+
+-- of what the start can't be told, nothing can
+pub reached_untold : {S : Type 0} (s : List Resolved) (adds : S → List Event → S → Type 0) (id : TypeId)
+    (ss : Bor (List Step)) (v : Bor Value) (olds mids mids' : List Frame) (a b : S) (fault : RunFault)
+    → ss.now ≡ routine_at s id.index
+    → olds ≡ Routine id ss v ∷ []
+    → mids ≡ mids'
+    → Reached s adds olds a mids b
+    → IsToldNothing (Left s mids') fault
+    → IsToldNothing (Steps s id.index (routine_at s id.index) (abstract v.now)) fault
+reached_untold s adds id ss v olds mids mids' a b fault d is e t n k es h =
+    let p = t.stays es (subst (λ q. Left s q es) (sym is) ([], es, refl, subst (λ q. Steps s id.index q (abstract v.now) es) (sym d) h, refl)) in
+    n k p.events (subst (λ q. Left s q p.events) e p.told)
+
+-- the same step
+pub untold_step : (s : List Resolved) (t : ℕ) (ss : List Step) (v : AbstractValue) (x y : Step) (fault : RunFault)
+    → x ≡ y
+    → IsToldNothing (Steps s t (y ∷ ss) v) fault
+    → IsToldNothing (Steps s t (x ∷ ss) v) fault
+untold_step s t ss v x y fault e n k es d = n k es (subst (λ q. Steps s t (q ∷ ss) v es) e d)
+
+pub untold_call : (s : List Resolved) (t : ℕ) (ss : List Step) (v : AbstractValue) (x : Step) (u : TypeId)
+    (fault : RunFault)
+    → x ≡ Call u
+    → IsToldNothing (Steps s t (x ∷ ss) v) fault
+untold_call s t ss v x u fault e k es d = no_call (subst (λ q. Steps s t (q ∷ ss) v es) e d)
+
+pub untold_leaf : (s : List Resolved) (t : ℕ) (ss : List Step) (v : AbstractValue) (x : Step) (kind : LeafKind)
+    (fault : RunFault)
+    → x ≡ Leaf kind
+    → (fault ≡ NotOfType → HasNoContents kind v)
+    → IsToldNothing (Steps s t (x ∷ ss) v) fault
+untold_leaf s t ss v x kind fault e n k es d =
+    let p = contents_of_leaf (subst (λ q. Steps s t (q ∷ ss) v es) e d) in
+    n k p.0 p.1
+
+pub untold_routine : (s : List Resolved) (f : Frame) (id : TypeId) (ss others : Bor (List Step)) (v : Bor Value)
+    (x : Step) (olds : List Frame) (fault : RunFault)
+    → f ≡ Routine id ss v
+    → ss.now ≡ x ∷ others.now
+    → IsToldNothing (Steps s id.index (x ∷ others.now) (abstract v.now)) fault
+    → IsToldNothing (Left s (olds ++ f ∷ [])) fault
+untold_routine s f id ss others v x olds fault e d n =
+    untold_by s (Steps s id.index (x ∷ others.now) (abstract v.now)) olds f fault
+    (λ ys t. subst (λ q. Steps s id.index q (abstract v.now) ys) d (subst (λ q. Told s q ys) e t)) n
+
+pub one_pushed : (news olds : List Frame) (f : Frame) → news ≡ olds ++ f ∷ [] → olds ≡ [] → news ≡ f ∷ []
+one_pushed news olds f e n = e ∙ ap (λ q. q ++ f ∷ []) n
+
+pub no_items : (xs : List Frame) → length xs ≡ 0 → xs ≡ []
+no_items [] h = refl
+no_items (x ∷ xs) h = absurd (omega arith)

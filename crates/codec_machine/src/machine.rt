@@ -1,0 +1,43 @@
+//! The machine.
+
+ghost use Rattle.asn_base.specs.Abstract.{abstract};
+ghost use Rattle.codec_code.specs.Routines.{routine_at};
+ghost use Rattle.codec_code.specs.Steps.{Steps};
+ghost use Rattle.codec_machine.specs.Frames.{IsToldNothing, Ran};
+ghost use Rattle.std.specs.Prelude.{IfErr, OnOk};
+
+use crate::act::turn;
+use crate::backend::Backend;
+use crate::fault::RunFault;
+use crate::frame::Frame;
+use crate::push::add;
+use asn_base::schema::TypeId;
+use asn_base::value::Value;
+use codec_code::{Code, Coding};
+use std::alloc::Global;
+
+/// Runs the type's routine over the value, and adds what it tells to the backend.
+pub fn run<'a, B: Backend<'a>>(
+    alloc: Global,
+    code: &'a Code,
+    id: TypeId,
+    value: &'a Value,
+    backend: &mut B,
+) -> Result<(), RunFault>
+    ensures ok { OnOk result (Ran code.now id.index (abstract value.now) B.adds backend.old backend.new) }
+    ensures refused { IfErr result (IsToldNothing (Steps code.now id.index (routine_at code.now id.index)
+        (abstract value.now))) }
+{
+    let mut frames = Vec::new(alloc);
+    add(
+        &mut frames,
+        Frame::Routine(id, code.steps(id, Coding::Tagged), value),
+    )?;
+    while let Some(frame) = frames.pop() {
+        match turn(code, frame, &mut frames, backend) {
+            Ok(()) => {}
+            Err(fault) => return Err(fault),
+        }
+    }
+    Ok(())
+}

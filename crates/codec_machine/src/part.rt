@@ -1,0 +1,216 @@
+//! Parts of values, as steps ask for them.
+
+ghost use Rattle.asn_base.specs.Abstract.{AbstractValue, abstract, alternative, fields, list, row_of_list, row_of_options, Row};
+ghost use Rattle.codec_code.specs.Steps.{component_at, IsDefaultAt};
+ghost use Rattle.codec_code.specs.Steps as steps;
+ghost use Rattle.codec_code.specs.declared.step.Step.TheVariants.{Call};
+ghost use Rattle.asn_base.specs.declared.schema.TypeId.{TypeId as TypeId'};
+ghost use Rattle.codec_machine.specs.Frames.{HasNoField, LeavesOut, WritesIt};
+ghost use Rattle.std.specs.Prelude.{◌≡◌, ◌<◌, ◌≤◌, ◌∷◌, [], ℕ, IfOk, OnErr, MatchBool, MatchOption, None, Some, drop, length, true, map, option_map, slice_get};
+
+use crate::fault::RunFault;
+use asn_base::law::abstract_values;
+use asn_base::schema::TypeId;
+use asn_base::value::Value;
+use codec_code::{Code, Field, Need, Step};
+
+fn may_be_absent(need: Need) -> bool
+    ensures { result ≡ steps.may_be_absent need }
+{
+    match need {
+        Need::Mandatory => false,
+        Need::Optional => true,
+        Need::Default => true,
+        Need::Addition => true,
+    }
+}
+
+pub(crate) fn has_default(need: Need) -> bool
+    ensures { result ≡ steps.has_default need }
+{
+    match need {
+        Need::Mandatory => false,
+        Need::Optional => false,
+        Need::Default => true,
+        Need::Addition => false,
+    }
+}
+
+/// The places of the components, where it is a value of a SEQUENCE or SET at all.
+fn fields_of(value: &Value) -> Option<&[Option<Value>]>
+    ensures { MatchOption result ((row : Row) → abstract value.now ≡ fields row → ⊥)
+        (λ vs. abstract value.now ≡ fields (row_of_options (map (option_map abstract) vs.now))) }
+{
+    abstract_values();
+    match value {
+        Value::Fields(values) => Some(values.as_slice()),
+        Value::Bool(_) | Value::Int(_) | Value::Enum(_) | Value::Bits(_) => None,
+        Value::Octets(_) | Value::Text(_) | Value::Null => None,
+        Value::Oid(_) | Value::RelativeOid(_) => None,
+        Value::List(_) | Value::Alt(_, _) => None,
+    }
+}
+
+/// The elements, where it is a value of a SEQUENCE OF or SET OF at all.
+pub(crate) fn elements_of(value: &Value) -> Option<&[Value]>
+    ensures { MatchOption result ((row : Row) → abstract value.now ≡ list row → ⊥)
+        (λ vs. abstract value.now ≡ list (row_of_list (map abstract vs.now))) }
+{
+    abstract_values();
+    match value {
+        Value::List(values) => Some(values.as_slice()),
+        Value::Bool(_) | Value::Int(_) | Value::Enum(_) | Value::Bits(_) => None,
+        Value::Octets(_) | Value::Text(_) | Value::Null => None,
+        Value::Oid(_) | Value::RelativeOid(_) => None,
+        Value::Fields(_) | Value::Alt(_, _) => None,
+    }
+}
+
+/// The component's value, where it is to be written. `NotOfType`: there is no such component, or it is absent and must
+/// not be.
+pub(crate) fn written_value<'a>(
+    code: &Code,
+    id: TypeId,
+    field: Field,
+    value: &'a Value,
+) -> Result<Option<&'a Value>, RunFault>
+    ensures ok { IfOk result (λ o. MatchOption o (LeavesOut code.now id.index field (abstract value.now))
+        (λ w. WritesIt code.now id.index field (abstract value.now) (abstract w.now))) }
+    ensures refused { OnErr result (HasNoField code.now id.index field (abstract value.now)) }
+{
+    match fields_of(value) {
+        Some(values) => written_at(code, id, field, values, value),
+        None => Err(RunFault::NotOfType),
+    }
+}
+
+/// The component at a place: absent, or its value. `NotOfType`: there is no such place.
+fn value_at(values: &[Option<Value>], place: usize) -> Result<Option<&Value>, RunFault>
+    ensures ok { IfOk result (λ o. component_at (row_of_options (map (option_map abstract) values.now)) place
+        ≡ Some (option_map (λ w. abstract w.now) o)) }
+    ensures refused { OnErr result (component_at (row_of_options (map (option_map abstract) values.now)) place ≡ None) }
+{
+    if place >= values.len() {
+        return Err(RunFault::NotOfType);
+    }
+    match &values[place] {
+        Some(component) => Ok(Some(component)),
+        None => Ok(None),
+    }
+}
+
+fn written_at<'a>(
+    code: &Code,
+    id: TypeId,
+    field: Field,
+    values: &'a [Option<Value>],
+    value: &'a Value,
+) -> Result<Option<&'a Value>, RunFault>
+    requires { abstract value.now ≡ fields (row_of_options (map (option_map abstract) values.now)) }
+    ensures ok { IfOk result (λ o. MatchOption o (LeavesOut code.now id.index field (abstract value.now))
+        (λ w. WritesIt code.now id.index field (abstract value.now) (abstract w.now))) }
+    ensures refused { OnErr result (HasNoField code.now id.index field (abstract value.now)) }
+{
+    let at_place = match value_at(values, field.place) {
+        Ok(at_place) => at_place,
+        Err(fault) => return Err(fault),
+    };
+    match at_place {
+        Some(component) => {
+            if is_left_out(code, id, field, component) {
+                Ok(None)
+            } else {
+                Ok(Some(component))
+            }
+        }
+        None => {
+            if may_be_absent(field.need) {
+                Ok(None)
+            } else {
+                Err(RunFault::NotOfType)
+            }
+        }
+    }
+}
+
+fn is_left_out(code: &Code, id: TypeId, field: Field, value: &Value) -> bool
+    ensures { MatchBool result
+        ((steps.has_default field.need ≡ true) × IsDefaultAt code.now id.index field.place (abstract value.now))
+        (steps.has_default field.need ≡ true → IsDefaultAt code.now id.index field.place (abstract value.now) → ⊥) }
+{
+    has_default(field.need) && code.is_default(id, field.place, value)
+}
+
+/// The first of some values, and the others.
+pub(crate) fn first_value(values: &[Value]) -> Option<(&Value, &[Value])>
+    ensures { MatchOption result (values.now ≡ []) (λ p. values.now ≡ p.0.now ∷ p.1.now) }
+{
+    if values.is_empty() {
+        None
+    } else {
+        Some((&values[0], &values[1..]))
+    }
+}
+
+/// The steps behind as many of them: none, where there are not so many.
+pub(crate) fn behind(steps: &[Step], count: usize) -> &[Step]
+    ensures behind { result.now ≡ drop count steps.now }
+    ensures few { length (drop count steps.now) ≤ length steps.now }
+{
+    if count <= steps.len() {
+        &steps[count..]
+    } else {
+        &[]
+    }
+}
+
+/// The type that is called at a place. `NotOfType`: none is.
+pub(crate) fn called(steps: &[Step], at: usize) -> Result<TypeId, RunFault>
+    ensures ok { IfOk result (λ t. slice_get steps.now at ≡ Some (Call t)) }
+    ensures refused { OnErr result ((u : TypeId') → slice_get steps.now at ≡ Some (Call u) → ⊥) }
+{
+    if at >= steps.len() {
+        return Err(RunFault::NotOfType);
+    }
+    match steps[at] {
+        Step::Call(of) => Ok(of),
+        _ => Err(RunFault::NotOfType),
+    }
+}
+
+/// The number of the alternative, and its value. `NotOfType`: there are not as many alternatives, or it is no value of
+/// a CHOICE at all.
+pub(crate) fn chosen(value: &Value, alternatives: usize) -> Result<(usize, &Value), RunFault>
+    ensures ok { IfOk result (λ p. (p.0 < alternatives) × (abstract value.now ≡ alternative p.0 (abstract p.1.now))) }
+    ensures refused { OnErr result ((i : ℕ) (w : AbstractValue)
+        → abstract value.now ≡ alternative i w
+        → i < alternatives
+        → ⊥) }
+{
+    abstract_values();
+    match value {
+        Value::Alt(number, held) => {
+            if *number >= alternatives {
+                return Err(RunFault::NotOfType);
+            }
+            Ok((*number, &**held))
+        }
+        Value::Bool(_) | Value::Int(_) | Value::Enum(_) | Value::Bits(_) => {
+            Err(RunFault::NotOfType)
+        }
+        Value::Octets(_) | Value::Text(_) | Value::Null => Err(RunFault::NotOfType),
+        Value::Oid(_) | Value::RelativeOid(_) => Err(RunFault::NotOfType),
+        Value::Fields(_) | Value::List(_) => Err(RunFault::NotOfType),
+    }
+}
+
+/// The first of some steps, and the others.
+pub(crate) fn first_step(steps: &[Step]) -> Option<(Step, &[Step])>
+    ensures { MatchOption result (steps.now ≡ []) (λ p. steps.now ≡ p.0 ∷ p.1.now) }
+{
+    if steps.is_empty() {
+        None
+    } else {
+        Some((steps[0], &steps[1..]))
+    }
+}
