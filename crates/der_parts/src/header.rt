@@ -1,0 +1,75 @@
+//! A header in the fewest octets, without memory (X.690, 8.1.2, 8.1.3 and 10.1).
+
+ghost use Rattle.encodings.specs.Fewest.{shortest_header, shortest_size};
+ghost use Rattle.encodings.specs.Header.{class_bits, form_bit, identifier};
+ghost use Rattle.std.specs.Int.Digits.{digits_of};
+ghost use Rattle.std.specs.Prelude.{◌≡◌, ◌+◌, ◌<◌, ◌≤◌, ◌++◌, length};
+
+use arrayvec::ArrayVec;
+use asn_base::tag::{Class, Tag};
+use leaf_contents::{push_digits, push_septets};
+
+/// The header with the fewest octets that tells the tag, the form and so many octets of contents.
+#[tactic(auto, unfolding(encodings::specs::Fewest::shortest_header))]
+pub(crate) fn header_octets(tag: Tag, constructed: bool, contents: u64) -> ArrayVec<u8, 24>
+    ensures { result.items ≡ shortest_header tag constructed contents }
+{
+    let mut out = identifier_octets(tag, constructed);
+    push_size(&mut out, contents);
+    out
+}
+
+/// The first identifier octet, whose last five bits are `low`.
+fn first_octet(class: Class, constructed: bool, low: u8) -> u8
+    requires { low < 32 }
+    ensures { result ≡ class_bits class + form_bit constructed + low }
+{
+    let class_bits = match class {
+        Class::Universal => 0,
+        Class::Application => 64,
+        Class::Context => 128,
+        Class::Private => 192,
+    };
+    let form_bit = if constructed { 32 } else { 0 };
+    class_bits + form_bit + low
+}
+
+/// The identifier octets.
+#[tactic(auto, unfolding(encodings::specs::Header::identifier))]
+fn identifier_octets(tag: Tag, constructed: bool) -> ArrayVec<u8, 24>
+    ensures octets { result.items ≡ identifier tag.class tag.number constructed }
+    ensures few { length result.items ≤ 6 }
+{
+    let number = tag.number;
+    let mut out = ArrayVec::new();
+    if number < 31 {
+        out.push(first_octet(tag.class, constructed, number as u8));
+    } else {
+        out.push(first_octet(tag.class, constructed, 31));
+        push_septets(&mut out, number as u128);
+    }
+    out
+}
+
+/// Adds the length octets.
+fn push_size(out: &mut ArrayVec<u8, 24>, contents: u64)
+    requires { length out.old.items ≤ 6 }
+    ensures { out.new.items ≡ out.old.items ++ shortest_size contents }
+{
+    if contents < 128 {
+        out.push(contents as u8);
+    } else {
+        out.push(128 + digit_count(contents) as u8);
+        push_digits(out, contents as u128);
+    }
+}
+
+/// How many octets the number has.
+fn digit_count(number: u64) -> usize
+    ensures count { result ≡ length (digits_of 256 number) }
+    ensures most { result ≤ 8 }
+{
+    let mut out = ArrayVec::new();
+    push_digits(&mut out, number as u128);
+    out.len()
+}

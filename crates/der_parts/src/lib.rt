@@ -1,0 +1,11 @@
+//! Parts of an encoding, in the order of writing, and the pass that writes them: forward, to any sink or behind the octets of
+//! a list. It only appends, and can fail by its output alone.
+#![tactic(auto)]
+
+mod header;
+mod part;
+mod send;
+mod write;
+
+pub use part::Part;
+pub use write::write_parts;

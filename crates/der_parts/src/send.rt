@@ -1,0 +1,114 @@
+//! Octets sent behind those that have gone out.
+
+ghost use Rattle.der_parts.specs.Sends.{Sends};
+ghost use Rattle.encodings.specs.Header.{septets};
+ghost use Rattle.leaf_contents.specs.Pieces.{joined_pieces, last_of};
+ghost use Rattle.sinks.specs.Sent.{state};
+ghost use Rattle.std.specs.Prelude.{◌≡◌, ◌+◌, ◌++◌, ◌<◌, ◌^◌, ◌∷◌, flat_map, length};
+
+use arrayvec::ArrayVec;
+use leaf_contents::{LeafOctets, push_septets};
+use sinks::{Sink, send_all};
+
+/// Sends octets, where `done` have gone out before. Both answers tell how many have gone out in all.
+pub(crate) fn send_more<S: Sink>(sink: &mut S, done: u64, octets: &[u8]) -> Result<u64, u64>
+    requires room { S.failed sink.old < u64.MAX }
+    requires few { done + length octets.now < 2 ^ 64 }
+    ensures { Sends (state (S.taken sink.old) (S.failed sink.old)) (state (S.taken sink.new) (S.failed sink.new)) octets.now done result }
+{
+    match send_all(sink, octets) {
+        Ok(()) => Ok(done + octets.len() as u64),
+        Err(count) => Err(done + count),
+    }
+}
+
+/// Sends contents octets.
+pub(crate) fn send_pieces<S: Sink>(sink: &mut S, done: u64, octets: &LeafOctets) -> Result<u64, u64>
+    requires room { S.failed sink.old < u64.MAX }
+    requires few { done + length (joined_pieces octets.now) < 2 ^ 64 }
+    ensures { Sends (state (S.taken sink.old) (S.failed sink.old)) (state (S.taken sink.new) (S.failed sink.new)) (joined_pieces octets.now) done result }
+{
+    match octets {
+        LeafOctets::Few(few) => send_more(sink, done, few.as_slice()),
+        LeafOctets::Whole(whole) => send_more(sink, done, whole),
+        LeafOctets::Bits(unused, whole, last) => send_bits(sink, done, *unused, whole, *last),
+        LeafOctets::Arcs(first, others) => send_numbers(sink, done, *first, others),
+    }
+}
+
+/// Sends a number in septets, and then others.
+#[cycle(arcs)]
+fn send_numbers<S: Sink>(sink: &mut S, done: u64, first: u128, others: &[u64]) -> Result<u64, u64>
+    requires room { S.failed sink.old < u64.MAX }
+    requires few { done + length (septets first ++ flat_map septets others.now) < 2 ^ 64 }
+    ensures { Sends (state (S.taken sink.old) (S.failed sink.old)) (state (S.taken sink.new) (S.failed sink.new)) (septets first ++ flat_map septets others.now) done result }
+{
+    match send_arc(sink, done, first) {
+        Ok(done) => send_arcs(sink, done, others),
+        Err(count) => Err(count),
+    }
+}
+
+/// Sends the octets of bits.
+fn send_bits<S: Sink>(
+    sink: &mut S,
+    done: u64,
+    unused: u8,
+    whole: &[u8],
+    last: Option<u8>,
+) -> Result<u64, u64>
+    requires room { S.failed sink.old < u64.MAX }
+    requires few { done + length (unused ∷ (whole.now ++ last_of last)) < 2 ^ 64 }
+    ensures { Sends (state (S.taken sink.old) (S.failed sink.old)) (state (S.taken sink.new) (S.failed sink.new)) (unused ∷ (whole.now ++ last_of last)) done result }
+{
+    match send_more(sink, done, &[unused]) {
+        Ok(done) => match send_more(sink, done, whole) {
+            Ok(done) => send_last(sink, done, last),
+            Err(count) => Err(count),
+        },
+        Err(count) => Err(count),
+    }
+}
+
+/// Sends an octet, where there is one.
+fn send_last<S: Sink>(sink: &mut S, done: u64, last: Option<u8>) -> Result<u64, u64>
+    requires room { S.failed sink.old < u64.MAX }
+    requires few { done + length (last_of last) < 2 ^ 64 }
+    ensures { Sends (state (S.taken sink.old) (S.failed sink.old)) (state (S.taken sink.new) (S.failed sink.new)) (last_of last) done result }
+{
+    match last {
+        Some(octet) => send_more(sink, done, &[octet]),
+        None => send_more(sink, done, &[]),
+    }
+}
+
+/// Sends a number in septets.
+fn send_arc<S: Sink>(sink: &mut S, done: u64, number: u128) -> Result<u64, u64>
+    requires room { S.failed sink.old < u64.MAX }
+    requires few { done + length (septets number) < 2 ^ 64 }
+    ensures { Sends (state (S.taken sink.old) (S.failed sink.old)) (state (S.taken sink.new) (S.failed sink.new)) (septets number) done result }
+{
+    let few = arc_octets(number);
+    send_more(sink, done, few.as_slice())
+}
+
+fn arc_octets(number: u128) -> ArrayVec<u8, 24>
+    ensures { result.items ≡ septets number }
+{
+    let mut out = ArrayVec::new();
+    push_septets(&mut out, number);
+    out
+}
+
+/// Sends numbers in septets.
+#[cycle(arcs)]
+fn send_arcs<S: Sink>(sink: &mut S, done: u64, numbers: &[u64]) -> Result<u64, u64>
+    requires room { S.failed sink.old < u64.MAX }
+    requires few { done + length (flat_map septets numbers.now) < 2 ^ 64 }
+    ensures { Sends (state (S.taken sink.old) (S.failed sink.old)) (state (S.taken sink.new) (S.failed sink.new)) (flat_map septets numbers.now) done result }
+{
+    match numbers.split_first() {
+        Some((number, others)) => send_numbers(sink, done, *number as u128, others),
+        None => Ok(done),
+    }
+}

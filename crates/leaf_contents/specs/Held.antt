@@ -1,0 +1,13 @@
+-- Whether a value has contents octets of a kind.
+use Rattle.std.specs.Prelude.{List, ℕ}
+use Rattle.asn_base.specs.Abstract.{AbstractValue}
+use Rattle.codec_code.specs.declared.step.LeafKind.{LeafKind}
+use Rattle.codec_code.specs.Steps.{HasContents}
+
+-- it has some
+abbrev pub HasSome : LeafKind → AbstractValue → Type 0
+HasSome k v = (x : List ℕ) × HasContents k v x
+
+-- it has none
+abbrev pub HasNone : LeafKind → AbstractValue → Type 0
+HasNone k v = (x : List ℕ) → HasContents k v x → ⊥

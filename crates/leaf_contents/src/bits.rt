@@ -1,0 +1,125 @@
+//! The octets of a BIT STRING (X.690, 8.6 and 11.2).
+
+ghost use Rattle.asn_base.specs.Abstract.{bits_of, bits_of_octet};
+ghost use Rattle.std.specs.Int.Digits.{AllBelowBase};
+ghost use Rattle.leaf_contents.specs.Ends.{EndsAt, FilledPieces, Front, TrimmedPieces};
+ghost use Rattle.leaf_contents.specs.Pieces.{joined_pieces};
+ghost use Rattle.std.specs.Prelude.{◌≡◌, ◌++◌, ◌∷◌, ◌<◌, ◌-◌, [], false, flat_map, replicate, take};
+
+use crate::leaf::LeafOctets;
+use asn_base::value::BitString;
+
+/// They are octets.
+pub(crate) fn are_octets(octets: &[u8])
+    ensures { AllBelowBase 256 octets.now }
+{}
+
+/// No bits: an octet that tells no unused ones.
+fn no_bits<'a>() -> LeafOctets<'a>
+    ensures { joined_pieces result ≡ 0 ∷ [] }
+{
+    LeafOctets::Bits(0, &[], None)
+}
+
+/// The octet with so many of its last bits cleared.
+fn cleared(octet: u8, unused: u8) -> u8
+    requires { unused < 8 }
+    ensures { bits_of_octet result ≡ take (8 - unused) (bits_of_octet octet) ++ replicate unused false }
+{
+    match unused {
+        0 => octet,
+        1 => octet / 2 * 2,
+        2 => octet / 4 * 4,
+        3 => octet / 8 * 8,
+        4 => octet / 16 * 16,
+        5 => octet / 32 * 32,
+        6 => octet / 64 * 64,
+        _ => octet / 128 * 128,
+    }
+}
+
+/// All bits, with zeros in the unused ones (11.2.1).
+pub(crate) fn filled(bits: &BitString) -> LeafOctets<'_>
+    ensures { FilledPieces (bits_of bits.now) (joined_pieces result) }
+{
+    match bits.octets.as_slice().split_last() {
+        Some((last, front)) => {
+            are_octets(front);
+            LeafOctets::Bits(bits.unused, front, Some(cleared(*last, bits.unused)))
+        }
+        None => no_bits(),
+    }
+}
+
+/// How many of an octet's last bits are zeros.
+fn zeros_behind(octet: u8) -> u8
+    requires { 0 < octet }
+    ensures { EndsAt octet result }
+{
+    if octet % 2 == 1 {
+        return 0;
+    }
+    if octet / 2 % 2 == 1 {
+        return 1;
+    }
+    if octet / 4 % 2 == 1 {
+        return 2;
+    }
+    if octet / 8 % 2 == 1 {
+        return 3;
+    }
+    if octet / 16 % 2 == 1 {
+        return 4;
+    }
+    if octet / 32 % 2 == 1 {
+        return 5;
+    }
+    if octet / 64 % 2 == 1 {
+        return 6;
+    }
+    7
+}
+
+/// The octets without zeros behind.
+fn without_zeros(octets: &[u8]) -> &[u8]
+    ensures { Front octets.now result.now }
+{
+    let mut count = octets.len();
+    while count > 0 && octets[count - 1] == 0 {
+        count -= 1;
+    }
+    &octets[..count]
+}
+
+/// The bits of these octets and a last one, which isn't zero, without the zeros behind (11.2.2).
+fn ended(front: &[u8], last: u8) -> LeafOctets<'_>
+    requires { 0 < last }
+    ensures { TrimmedPieces (flat_map bits_of_octet (front.now ++ last ∷ [])) (joined_pieces result) }
+{
+    are_octets(front);
+    LeafOctets::Bits(zeros_behind(last), front, Some(last))
+}
+
+/// The bits of these octets and a last one, without the zeros behind.
+fn trimmed_octets(front: &[u8], last: u8) -> LeafOctets<'_>
+    ensures { TrimmedPieces (flat_map bits_of_octet (front.now ++ last ∷ [])) (joined_pieces result) }
+{
+    if last > 0 {
+        return ended(front, last);
+    }
+    let kept = without_zeros(front);
+    match kept.split_last() {
+        Some((last, front)) => ended(front, *last),
+        None => no_bits(),
+    }
+}
+
+/// The bits without the zeros behind.
+pub(crate) fn trimmed(bits: &BitString) -> LeafOctets<'_>
+    ensures { TrimmedPieces (bits_of bits.now) (joined_pieces result) }
+{
+    match bits.octets.as_slice().split_last() {
+        Some((last, front)) => trimmed_octets(front, cleared(*last, bits.unused)),
+        None => no_bits(),
+    }
+}

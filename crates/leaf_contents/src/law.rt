@@ -1,0 +1,15 @@
+//! Laws of contents octets.
+
+ghost use Rattle.asn_base.specs.Abstract.{AbstractValue};
+ghost use Rattle.codec_code.specs.Steps.{HasContents};
+ghost use Rattle.codec_code.specs.declared.step.LeafKind.{LeafKind};
+ghost use Rattle.std.specs.Prelude.{◌≡◌, List, ℕ};
+
+use encodings::leaf_laws;
+
+/// A value has one contents of a kind at most.
+pub fn one_contents()
+    ensures { (k : LeafKind) (v : AbstractValue) (x y : List ℕ) → HasContents k v x → HasContents k v y → x ≡ y }
+{
+    leaf_laws();
+}

@@ -1,0 +1,196 @@
+//! The contents octets of a value, in pieces.
+
+ghost use Rattle.asn_base.specs.Abstract.{abstract, boolean};
+ghost use Rattle.asn_base.specs.Types.{a_boolean};
+ghost use Rattle.codec_code.specs.Steps.{HasContents};
+ghost use Rattle.codec_code.specs.declared.step.LeafKind.TheVariants.{BitString, Boolean, Enumerated, Integer, NamedBits, Null, ObjectIdentifier, OctetString, RelativeOid, RestrictedString, Utf8String};
+ghost use Rattle.encodings.specs.Contents.{Contents};
+ghost use Rattle.encodings.specs.Rules.{Distinguished};
+ghost use Rattle.leaf_contents.specs.Held.{HasNone};
+ghost use Rattle.leaf_contents.specs.Pieces.{joined_pieces};
+ghost use Rattle.std.specs.Prelude.{MatchOption, [], ◌∷◌, false};
+
+use crate::arcs::{is_object_identifier, is_relative_oid, object_identifier, relative_oid};
+use crate::bits::{are_octets, filled, trimmed};
+use crate::number::number_octets;
+use arrayvec::ArrayVec;
+use asn_base::law::abstract_values;
+use asn_base::strings::StringKind;
+use asn_base::value::Value;
+use codec_code::LeafKind;
+
+/// The contents octets of a value, in pieces that take no memory.
+#[derive(Drop)]
+pub enum LeafOctets<'a> {
+    /// A few octets: those of a BOOLEAN or a number.
+    Few(ArrayVec<u8, 24>),
+    /// The value's own octets.
+    Whole(&'a [u8]),
+    /// The number of unused bits, the value's own octets, and a last one.
+    Bits(u8, &'a [u8], Option<u8>),
+    /// A number in septets, and then each of the value's numbers.
+    Arcs(u128, &'a [u64]),
+}
+
+/// The contents octets of the value, where it has contents of this kind, and None where it has none: it is of another kind,
+/// or its numbers are those of no OBJECT IDENTIFIER or RELATIVE-OID.
+pub fn leaf_octets(kind: LeafKind, value: &Value) -> Option<LeafOctets<'_>>
+    ensures { MatchOption result (HasNone kind (abstract value.now)) (λ l. HasContents kind (abstract value.now) (joined_pieces l)) }
+{
+    match kind {
+        LeafKind::Boolean => of_boolean(value),
+        LeafKind::Integer => of_integer(value),
+        LeafKind::Enumerated => of_enumerated(value),
+        LeafKind::BitString => of_bits(value),
+        LeafKind::NamedBits => of_named_bits(value),
+        LeafKind::OctetString => of_octets(value),
+        LeafKind::Null => of_null(value),
+        LeafKind::ObjectIdentifier => of_object_identifier(value),
+        LeafKind::RelativeOid => of_relative_oid(value),
+        LeafKind::Utf8String => of_utf8(value),
+        LeafKind::RestrictedString(kind) => of_restricted(kind, value),
+    }
+}
+
+/// All bits are set for TRUE and none for FALSE (X.690, 8.2.2 and 11.1).
+fn truth_octet(truth: bool) -> u8
+    ensures { Contents Distinguished a_boolean (boolean truth) false (result ∷ []) }
+{
+    if truth { 255 } else { 0 }
+}
+
+fn of_boolean(value: &Value) -> Option<LeafOctets<'_>>
+    ensures { MatchOption result (HasNone Boolean (abstract value.now)) (λ l. HasContents Boolean (abstract value.now) (joined_pieces l)) }
+{
+    abstract_values();
+    match value {
+        Value::Bool(truth) => {
+            let mut out = ArrayVec::new();
+            out.push(truth_octet(*truth));
+            Some(LeafOctets::Few(out))
+        }
+        _ => None,
+    }
+}
+
+fn of_integer(value: &Value) -> Option<LeafOctets<'_>>
+    ensures { MatchOption result (HasNone Integer (abstract value.now)) (λ l. HasContents Integer (abstract value.now) (joined_pieces l)) }
+{
+    abstract_values();
+    match value {
+        Value::Int(number) => Some(LeafOctets::Few(number_octets(*number))),
+        _ => None,
+    }
+}
+
+fn of_enumerated(value: &Value) -> Option<LeafOctets<'_>>
+    ensures { MatchOption result (HasNone Enumerated (abstract value.now)) (λ l. HasContents Enumerated (abstract value.now) (joined_pieces l)) }
+{
+    abstract_values();
+    match value {
+        Value::Enum(number) => Some(LeafOctets::Few(number_octets(*number))),
+        _ => None,
+    }
+}
+
+fn of_bits(value: &Value) -> Option<LeafOctets<'_>>
+    ensures { MatchOption result (HasNone BitString (abstract value.now)) (λ l. HasContents BitString (abstract value.now) (joined_pieces l)) }
+{
+    abstract_values();
+    match value {
+        Value::Bits(bits) => Some(filled(bits)),
+        _ => None,
+    }
+}
+
+fn of_named_bits(value: &Value) -> Option<LeafOctets<'_>>
+    ensures { MatchOption result (HasNone NamedBits (abstract value.now)) (λ l. HasContents NamedBits (abstract value.now) (joined_pieces l)) }
+{
+    abstract_values();
+    match value {
+        Value::Bits(bits) => Some(trimmed(bits)),
+        _ => None,
+    }
+}
+
+fn of_octets(value: &Value) -> Option<LeafOctets<'_>>
+    ensures { MatchOption result (HasNone OctetString (abstract value.now)) (λ l. HasContents OctetString (abstract value.now) (joined_pieces l)) }
+{
+    abstract_values();
+    match value {
+        Value::Octets(octets) => {
+            are_octets(octets.as_slice());
+            Some(LeafOctets::Whole(octets.as_slice()))
+        }
+        _ => None,
+    }
+}
+
+fn of_null(value: &Value) -> Option<LeafOctets<'_>>
+    ensures { MatchOption result (HasNone Null (abstract value.now)) (λ l. HasContents Null (abstract value.now) (joined_pieces l)) }
+{
+    abstract_values();
+    match value {
+        Value::Null => Some(LeafOctets::Whole(&[])),
+        _ => None,
+    }
+}
+
+fn of_object_identifier(value: &Value) -> Option<LeafOctets<'_>>
+    ensures { MatchOption result (HasNone ObjectIdentifier (abstract value.now)) (λ l. HasContents ObjectIdentifier (abstract value.now) (joined_pieces l)) }
+{
+    abstract_values();
+    match value {
+        Value::Oid(numbers) => {
+            if is_object_identifier(numbers.as_slice()) {
+                Some(object_identifier(numbers.as_slice()))
+            } else {
+                None
+            }
+        }
+        _ => None,
+    }
+}
+
+fn of_relative_oid(value: &Value) -> Option<LeafOctets<'_>>
+    ensures { MatchOption result (HasNone RelativeOid (abstract value.now)) (λ l. HasContents RelativeOid (abstract value.now) (joined_pieces l)) }
+{
+    abstract_values();
+    match value {
+        Value::RelativeOid(numbers) => {
+            if is_relative_oid(numbers.as_slice()) {
+                Some(relative_oid(numbers.as_slice()))
+            } else {
+                None
+            }
+        }
+        _ => None,
+    }
+}
+
+fn of_utf8(value: &Value) -> Option<LeafOctets<'_>>
+    ensures { MatchOption result (HasNone Utf8String (abstract value.now)) (λ l. HasContents Utf8String (abstract value.now) (joined_pieces l)) }
+{
+    abstract_values();
+    match value {
+        Value::Text(text) => {
+            are_octets(text.as_bytes());
+            Some(LeafOctets::Whole(text.as_bytes()))
+        }
+        _ => None,
+    }
+}
+
+fn of_restricted(kind: StringKind, value: &Value) -> Option<LeafOctets<'_>>
+    ensures { MatchOption result (HasNone (RestrictedString kind) (abstract value.now))
+        (λ l. HasContents (RestrictedString kind) (abstract value.now) (joined_pieces l)) }
+{
+    abstract_values();
+    match value {
+        Value::Text(text) => {
+            are_octets(text.as_bytes());
+            Some(LeafOctets::Whole(text.as_bytes()))
+        }
+        _ => None,
+    }
+}

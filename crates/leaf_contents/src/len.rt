@@ -1,0 +1,61 @@
+//! How many octets contents have.
+
+ghost use Rattle.asn_base.specs.Abstract.{abstract};
+ghost use Rattle.codec_code.specs.Steps.{HasContents};
+ghost use Rattle.encodings.specs.Header.{septets};
+ghost use Rattle.leaf_contents.specs.Held.{HasNone};
+ghost use Rattle.leaf_contents.specs.Pieces.{joined_pieces};
+ghost use Rattle.std.specs.Prelude.{◌≡◌, ◌≤◌, ◌<◌, ◌^◌, ◌*◌, MatchOption, List, ℕ, flat_map, length};
+
+use crate::buffer::push_septets;
+use crate::leaf::{LeafOctets, leaf_octets};
+use arrayvec::ArrayVec;
+use asn_base::value::Value;
+use codec_code::LeafKind;
+
+/// How many contents octets of this kind the value has, and None where it has none. It takes no memory.
+pub fn leaf_len(kind: LeafKind, value: &Value) -> Option<u64>
+    ensures { MatchOption result (HasNone kind (abstract value.now))
+        (λ n. (x : List ℕ) × HasContents kind (abstract value.now) x × (length x ≡ n)) }
+{
+    match leaf_octets(kind, value) {
+        Some(octets) => Some(octet_count(&octets)),
+        None => None,
+    }
+}
+
+/// How many octets the pieces have.
+fn octet_count(octets: &LeafOctets) -> u64
+    ensures { length (joined_pieces octets.now) ≡ result }
+{
+    match octets {
+        LeafOctets::Few(few) => few.len() as u64,
+        LeafOctets::Whole(whole) => whole.len() as u64,
+        LeafOctets::Bits(_, whole, Some(_)) => whole.len() as u64 + 2,
+        LeafOctets::Bits(_, whole, None) => whole.len() as u64 + 1,
+        LeafOctets::Arcs(first, others) => septet_count(*first) + all_septets(others),
+    }
+}
+
+/// How many septets a number takes.
+fn septet_count(number: u128) -> u64
+    ensures count { length (septets number) ≡ result }
+    ensures most { result ≤ 19 }
+    ensures few { number < 2 ^ 64 → result ≤ 10 }
+{
+    let mut out = ArrayVec::new();
+    push_septets(&mut out, number);
+    out.len() as u64
+}
+
+/// How many septets the numbers take.
+fn all_septets(numbers: &[u64]) -> u64
+    ensures count { length (flat_map septets numbers.now) ≡ result }
+    ensures most { result ≤ 10 * length numbers.now }
+{
+    let mut count = 0;
+    for i in 0..numbers.len() {
+        count += septet_count(numbers[i] as u128);
+    }
+    count
+}

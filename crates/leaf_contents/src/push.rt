@@ -1,0 +1,100 @@
+//! Contents octets behind those of a list.
+
+ghost use Rattle.asn_base.specs.Abstract.{abstract};
+ghost use Rattle.codec_code.specs.Steps.{HasContents};
+ghost use Rattle.encodings.specs.Header.{septets};
+ghost use Rattle.leaf_contents.specs.Held.{HasSome};
+ghost use Rattle.leaf_contents.specs.Pieces.{joined_pieces, last_of};
+ghost use Rattle.std.specs.Io.{StartsWith};
+ghost use Rattle.std.specs.Prelude.{◌≡◌, ◌++◌, ◌∷◌, List, OnErr, OnOk, flat_map, ℕ};
+
+use crate::buffer::push_septets;
+use crate::law::one_contents;
+use crate::leaf::{LeafOctets, leaf_octets};
+use arrayvec::ArrayVec;
+use asn_base::value::Value;
+use codec_code::LeafKind;
+use std::alloc::AllocError;
+
+/// Adds the contents octets of this kind that the value has. An `Err` is want of memory, and adds nothing.
+pub fn push_leaf(kind: LeafKind, value: &Value, out: &mut Vec<u8>) -> Result<(), AllocError>
+    requires { HasSome kind (abstract value.now) }
+    ensures ok { (x : List ℕ) → HasContents kind (abstract value.now) x → OnOk result (out.new.items ≡ out.old.items ++ x) }
+    ensures err { OnErr result (out.new.items ≡ out.old.items) }
+{
+    one_contents();
+    match leaf_octets(kind, value) {
+        Some(octets) => push_pieces(&octets, out),
+        None => unreachable!(),
+    }
+}
+
+/// Adds the pieces, or nothing.
+fn push_pieces(octets: &LeafOctets, out: &mut Vec<u8>) -> Result<(), AllocError>
+    ensures ok { OnOk result (out.new.items ≡ out.old.items ++ joined_pieces octets.now) }
+    ensures err { OnErr result (out.new.items ≡ out.old.items) }
+{
+    let before = out.len();
+    match push_all_pieces(octets, out) {
+        Ok(()) => Ok(()),
+        Err(error) => {
+            out.truncate(before);
+            Err(error)
+        }
+    }
+}
+
+/// Adds the pieces. An `Err` may have added some.
+fn push_all_pieces(octets: &LeafOctets, out: &mut Vec<u8>) -> Result<(), AllocError>
+    ensures ok { OnOk result (out.new.items ≡ out.old.items ++ joined_pieces octets.now) }
+    ensures behind { StartsWith out.new.items out.old.items }
+{
+    match octets {
+        LeafOctets::Few(few) => out.extend_from_slice(few.as_slice()),
+        LeafOctets::Whole(whole) => out.extend_from_slice(whole),
+        LeafOctets::Bits(unused, whole, last) => push_bits(*unused, whole, *last, out),
+        LeafOctets::Arcs(first, others) => {
+            push_arc(*first, out)?;
+            push_arcs(others, out)
+        }
+    }
+}
+
+/// Adds the octets of bits. An `Err` may have added some.
+fn push_bits(
+    unused: u8,
+    whole: &[u8],
+    last: Option<u8>,
+    out: &mut Vec<u8>,
+) -> Result<(), AllocError>
+    ensures ok { OnOk result (out.new.items ≡ out.old.items ++ unused ∷ (whole.now ++ last_of last)) }
+    ensures behind { StartsWith out.new.items out.old.items }
+{
+    out.extend_from_slice(&[unused])?;
+    out.extend_from_slice(whole)?;
+    match last {
+        Some(octet) => out.extend_from_slice(&[octet]),
+        None => Ok(()),
+    }
+}
+
+/// Adds a number in septets, or nothing.
+fn push_arc(number: u128, out: &mut Vec<u8>) -> Result<(), AllocError>
+    ensures ok { OnOk result (out.new.items ≡ out.old.items ++ septets number) }
+    ensures behind { StartsWith out.new.items out.old.items }
+{
+    let mut few = ArrayVec::new();
+    push_septets(&mut few, number);
+    out.extend_from_slice(few.as_slice())
+}
+
+/// Adds numbers in septets. An `Err` may have added some.
+fn push_arcs(numbers: &[u64], out: &mut Vec<u8>) -> Result<(), AllocError>
+    ensures ok { OnOk result (out.new.items ≡ out.old.items ++ flat_map septets numbers.now) }
+    ensures behind { StartsWith out.new.items out.old.items }
+{
+    for i in 0..numbers.len() {
+        push_arc(numbers[i] as u128, out)?;
+    }
+    Ok(())
+}
