@@ -1,0 +1,6 @@
+mod Fronts
+mod Keeps
+mod Agree
+mod Joined
+mod Versions
+mod Bits

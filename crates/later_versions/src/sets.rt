@@ -1,0 +1,124 @@
+//! Sets of numbers, compared.
+
+ghost use Rattle.std.specs.Prelude.{◌≡◌, ◌↔◌, ◌^◌, ℤ, pos, negsuc, None, IsTrue, IfSome, map};
+ghost use Rattle.asn_base.specs.Seen.{range_of};
+ghost use Rattle.asn_base.specs.Typed.{IsInRange, IsInSome};
+ghost use Rattle.later_versions.specs.proving.Edges.{IsEdge, IsEdgeOfSome, IsBehind};
+
+use asn_base::constraint::Range;
+use asn_base::law::integer_within_limit;
+use ranges::Ranges;
+
+/// Whether the range has no end.
+fn goes_up(range: &Range) -> bool
+    ensures { IsTrue result ↔ IsInRange (pos (2 ^ 127)) (range_of range.now) }
+{
+    match range.least {
+        Some(least) => integer_within_limit(least),
+        None => {}
+    }
+    match range.greatest {
+        Some(greatest) => {
+            integer_within_limit(greatest);
+            false
+        }
+        None => true,
+    }
+}
+
+/// Whether the range has no beginning.
+fn goes_down(range: &Range) -> bool
+    ensures { IsTrue result ↔ IsInRange (negsuc (2 ^ 127)) (range_of range.now) }
+{
+    match range.greatest {
+        Some(greatest) => integer_within_limit(greatest),
+        None => {}
+    }
+    match range.least {
+        Some(least) => {
+            integer_within_limit(least);
+            false
+        }
+        None => true,
+    }
+}
+
+/// Whether a range has the first number that is above all of 128 bits.
+fn reach_up(ranges: &[Range]) -> bool
+    ensures { IsTrue result ↔ IsInSome (pos (2 ^ 127)) (map range_of ranges.now) }
+{
+    for i in 0..ranges.len() {
+        if goes_up(&ranges[i]) {
+            return true;
+        }
+    }
+    false
+}
+
+/// Whether a range has the first number that is below all of 128 bits.
+fn reach_down(ranges: &[Range]) -> bool
+    ensures { IsTrue result ↔ IsInSome (negsuc (2 ^ 127)) (map range_of ranges.now) }
+{
+    for i in 0..ranges.len() {
+        if goes_down(&ranges[i]) {
+            return true;
+        }
+    }
+    false
+}
+
+/// Whether the number is in both sets or in none.
+fn agree_at(number: i128, one: &Ranges, other: &Ranges) -> bool
+    ensures { IsTrue result ↔ (IsInSome number one.now ↔ IsInSome number other.now) }
+{
+    one.has(number) == other.has(number)
+}
+
+/// Whether the number behind this one is in both sets or in none.
+fn agree_behind(number: i128, one: &Ranges, other: &Ranges) -> bool
+    ensures { IsTrue result ↔ ((z : ℤ) → IsBehind number z → (IsInSome z one.now ↔ IsInSome z other.now)) }
+{
+    if number == i128::MAX {
+        return reach_up(one.ranges()) == reach_up(other.ranges());
+    }
+    agree_at(number + 1, one, other)
+}
+
+/// Whether the beginning of the range, if it has one, is in both sets or in none, and so the number behind its end.
+fn agree_at_edges(range: &Range, one: &Ranges, other: &Ranges) -> bool
+    ensures { IsTrue result
+        ↔ ((z : ℤ) → IsEdge (range_of range.now) z → (IsInSome z one.now ↔ IsInSome z other.now)) }
+{
+    let at_least = match range.least {
+        Some(least) => agree_at(least, one, other),
+        None => true,
+    };
+    let behind = match range.greatest {
+        Some(greatest) => agree_behind(greatest, one, other),
+        None => true,
+    };
+    at_least && behind
+}
+
+/// The same of some ranges.
+fn agree_at_all(ranges: &[Range], one: &Ranges, other: &Ranges) -> bool
+    ensures { IsTrue result
+        ↔ ((z : ℤ) → IsEdgeOfSome (map range_of ranges.now) z → (IsInSome z one.now ↔ IsInSome z other.now)) }
+{
+    for i in 0..ranges.len() {
+        if !agree_at_edges(&ranges[i], one, other) {
+            return false;
+        }
+    }
+    true
+}
+
+/// Whether two sets have the same numbers: they agree below all edges of their ranges and at each. For n ranges it takes
+/// time as n log n, and no memory.
+pub(crate) fn have_same(one: &Ranges, other: &Ranges) -> bool
+    ensures { IsTrue result ↔ ((z : ℤ) → IsInSome z one.now ↔ IsInSome z other.now) }
+{
+    reach_down(one.ranges()) == reach_down(other.ranges())
+        && agree_at_all(one.ranges(), one, other)
+        && agree_at_all(other.ranges(), one, other)
+}
