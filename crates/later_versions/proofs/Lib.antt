@@ -1,6 +1,6 @@
 mod Fronts
 mod Keeps
 mod Agree
+mod Bits
 mod Joined
 mod Versions
-mod Bits

@@ -1,9 +1,9 @@
 //! Sets of numbers, compared.
 
-ghost use Rattle.std.specs.Prelude.{◌≡◌, ◌↔◌, ◌^◌, ℤ, pos, negsuc, None, IsTrue, IfSome, map};
+ghost use Rattle.std.specs.Prelude.{◌≡◌, ◌↔◌, ◌^◌, ℤ, pos, None, IsTrue, map};
 ghost use Rattle.asn_base.specs.Seen.{range_of};
 ghost use Rattle.asn_base.specs.Typed.{IsInRange, IsInSome};
-ghost use Rattle.later_versions.specs.proving.Edges.{IsEdge, IsEdgeOfSome, IsBehind};
+ghost use Rattle.later_versions.specs.proving.Edges.{HasNoBeginning, IsBehind, IsEdge, IsEdgeOfSome};
 
 use asn_base::constraint::Range;
 use asn_base::law::integer_within_limit;
@@ -26,19 +26,12 @@ fn goes_up(range: &Range) -> bool
     }
 }
 
-/// Whether the range has no beginning.
-fn goes_down(range: &Range) -> bool
-    ensures { IsTrue result ↔ IsInRange (negsuc (2 ^ 127)) (range_of range.now) }
+/// Whether it has no end.
+fn is_none(end: Option<i128>) -> bool
+    ensures { IsTrue result ↔ (end ≡ None) }
 {
-    match range.greatest {
-        Some(greatest) => integer_within_limit(greatest),
-        None => {}
-    }
-    match range.least {
-        Some(least) => {
-            integer_within_limit(least);
-            false
-        }
+    match end {
+        Some(_) => false,
         None => true,
     }
 }
@@ -55,12 +48,12 @@ fn reach_up(ranges: &[Range]) -> bool
     false
 }
 
-/// Whether a range has the first number that is below all of 128 bits.
+/// Whether a range has no beginning.
 fn reach_down(ranges: &[Range]) -> bool
-    ensures { IsTrue result ↔ IsInSome (negsuc (2 ^ 127)) (map range_of ranges.now) }
+    ensures { IsTrue result ↔ HasNoBeginning (map range_of ranges.now) }
 {
     for i in 0..ranges.len() {
-        if goes_down(&ranges[i]) {
+        if is_none(ranges[i].least) {
             return true;
         }
     }
