@@ -4,7 +4,7 @@ use Rattle.std.specs.Prelude.{◌⊎◌, ◌↔◌, List, [], ◌∷◌, ◌++�
 use Rattle.std.proofs.lemmas.Int.{ints, by_lt_z}
 use Rattle.asn_base.specs.Types.{Range}
 use Rattle.asn_base.specs.Typed.{IsInSome}
-use Rattle.later_versions.specs.proving.Edges.{IsEdgeOfSome, IsBehind, HasNoBeginning}
+use Rattle.later_versions.specs.proving.Edges.{HasNoBeginning, IsBehind, IsEdge, IsEdgeOfSome}
 
 -- e is the last of some numbers up to z of which P holds, or z is below all
 abbrev LastOrNone : (ℤ → Type 0) → ℤ → Type 0
@@ -147,7 +147,7 @@ below_all (r ∷ rs) z n =
     )
 
 -- what agrees below all edges, and at each, agrees everywhere
-pub agree_everywhere : (rs ss : List Range)
+agree_everywhere : (rs ss : List Range)
     → (HasNoBeginning rs ↔ HasNoBeginning ss)
     → ((e : ℤ) → IsEdgeOfSome rs e → (IsInSome e rs ↔ IsInSome e ss))
     → ((e : ℤ) → IsEdgeOfSome ss e → (IsInSome e rs ↔ IsInSome e ss))
@@ -190,7 +190,7 @@ lowest (r ∷ rs) =
       let h = below_least (Some (k +ℤ pos 1)) y in
       (h.0, h.1, λ e q. h.2 e (let s : k ≡ q.0 = (let r = q.1 in cc) in ap (λ x. Some (x +ℤ pos 1)) s ∙ ap Some (sym q.2)))
 
-pub agree_below : (rs ss : List Range)
+agree_below : (rs ss : List Range)
     → ((z : ℤ) → IsInSome z rs ↔ IsInSome z ss)
     → HasNoBeginning rs ↔ HasNoBeginning ss
 agree_below rs ss h =
@@ -199,10 +199,57 @@ agree_below rs ss h =
     let b = below_all ss l.0 (λ e p. l.1 e (edge_right rs ss e p)) in
     (λ p. b.0 ((h l.0).0 (a.1 p)), λ p. a.0 ((h l.0).1 (b.1 p)))
 
--- ---- steps of loops
+-- both sets agree at the edges of some ranges
+abbrev pub AgreeAt : (rs ss edges : List Range) → Type 0
+AgreeAt rs ss edges = (z : ℤ) → IsEdgeOfSome edges z → (IsInSome z rs ↔ IsInSome z ss)
 
-pub here_or_behind : {B : Type 0} (P : B → Type 0) {Q R : Type 0} (x : B) → Q ↔ (P x ⊎ R) → (P x → ⊥) → Q ↔ R
-here_or_behind P x a n = (
-  λ q. elim (a.0 q) [ inl p ↦ absurd (n p) | inr r ↦ r ],
-  λ r. a.1 (inr r),
+pub agree_here : (rs ss : List Range) (e : Range) (es left : List Range) {W : Type 0}
+    → left ≡ e ∷ es
+    → ((z : ℤ) → IsEdge e z → (IsInSome z rs ↔ IsInSome z ss))
+    → W ↔ AgreeAt rs ss left
+    → W ↔ AgreeAt rs ss es
+agree_here rs ss e es left q f w = (
+  λ p z h. w.0 p z (subst (λ x. IsEdgeOfSome x z) (sym q) (inr h)),
+  λ p. w.1 (λ z h. elim (subst (λ x. IsEdgeOfSome x z) q h) [ inl a ↦ f z a | inr a ↦ p z a ]),
 )
+
+pub agree_not : (rs ss : List Range) (e : Range) (es left : List Range) {W : Type 0}
+    → left ≡ e ∷ es
+    → (((z : ℤ) → IsEdge e z → (IsInSome z rs ↔ IsInSome z ss)) → ⊥)
+    → W ↔ AgreeAt rs ss left
+    → W
+    → ⊥
+agree_not rs ss e es left q f w p = f (λ z h. w.0 p z (subst (λ x. IsEdgeOfSome x z) (sym q) (inl h)))
+
+-- the edges of a range are its beginning and the number behind its end
+pub at_edges : (P : ℤ → Type 0) (r : Range)
+    → ((z : ℤ) → r.least ≡ Some z → P z)
+    → ((g : ℤ) → r.greatest ≡ Some g → (z : ℤ) → IsBehind g z → P z)
+    → (z : ℤ)
+    → IsEdge r z
+    → P z
+at_edges P r f g z (inl e) = f z e
+at_edges P r f g z (inr e) = g e.0 e.1 z e.2
+
+-- sets that were seen as lists
+pub sets_same : (rs ss xs ys : List Range)
+    → xs ≡ rs
+    → ys ≡ ss
+    → (HasNoBeginning xs ↔ HasNoBeginning ys)
+    → AgreeAt rs ss xs
+    → AgreeAt rs ss ys
+    → (z : ℤ)
+    → IsInSome z rs ↔ IsInSome z ss
+sets_same rs ss xs ys e f low first second =
+    agree_everywhere rs ss
+    (subst (λ q. HasNoBeginning q ↔ HasNoBeginning ss) e (subst (λ q. HasNoBeginning xs ↔ HasNoBeginning q) f low))
+    (subst (AgreeAt rs ss) e first) (subst (AgreeAt rs ss) f second)
+
+pub same_below : (rs ss xs ys : List Range)
+    → xs ≡ rs
+    → ys ≡ ss
+    → ((z : ℤ) → IsInSome z rs ↔ IsInSome z ss)
+    → HasNoBeginning xs ↔ HasNoBeginning ys
+same_below rs ss xs ys e f h =
+    subst (λ q. HasNoBeginning q ↔ HasNoBeginning ys) (sym e)
+    (subst (λ q. HasNoBeginning rs ↔ HasNoBeginning q) (sym f) (agree_below rs ss h))

@@ -1,7 +1,8 @@
 -- Lists that begin with the elements of others, one for one.
-use Rattle.std.proofs.Common.{arith, ◌≡◌, ℕ, zero, suc, ◌+◌, ◌<◌, ◌≤◌, List, [], ◌∷◌, length, map, get_or, refl, sym, ap, subst, ◌∙◌, inl, inr, true, false, length-map}
+use Rattle.std.proofs.Common.{arith, ◌≡◌, ℕ, zero, suc, ◌+◌, ◌<◌, ◌≤◌, List, [], ◌∷◌, length, map, drop, get_or, refl, sym, ap, subst, ◌∙◌, inl, inr, true, false}
 use Rattle.std.specs.Prelude.{slice_get, ◌⊎◌, ◌↔◌, IsTrue, Some, None, option_map, Bool}
 use Rattle.std.proofs.lemmas.Bool.{cases_lt}
+use Rattle.std.proofs.lemmas.List.{drop_more, get_or-map, length-map}
 use Rattle.std.proofs.lemmas.Option.{slice_get_read, slice_get_within, slice_get-map, same_Some}
 use Rattle.later_versions.specs.Later.{IsFront}
 
@@ -117,3 +118,34 @@ lists_same xs ys e = (ap length e, record {
   none_dropped = (let l = ap length e in omega (arith, l));
   kept = λ i x y a b. same_Some x y (sym a ∙ ap (λ q. slice_get q i) e ∙ b);
 })
+
+-- ---- lists from a place on
+
+pub drop_at : {A B : Type 0} (f : A → B) (xs : List A) (i : ℕ) (d : A)
+    → i < length xs
+    → drop i (map f xs) ≡ f (get_or xs i d) ∷ drop (i + 1) (map f xs)
+drop_at f xs i d h =
+    let l = length-map xs f in
+    drop_more (map f xs) i (f d) (omega (arith, h, l))
+    ∙ ap (λ q. q ∷ drop (i + 1) (map f xs)) (get_or-map f xs i d (f d) h)
+
+-- what holds of the whole just where it holds of what is left
+pub left_at : {B : Type 0} (P : List B → Type 0) (ys left : List B) (i : ℕ)
+    → drop i ys ≡ left
+    → P ys ↔ P (drop i ys)
+    → P ys ↔ P left
+left_at P ys left i e a = subst (λ q. P ys ↔ P q) e a
+
+-- a search that hasn't found it yet
+pub not_here : {P Q R : Type 0} → P ↔ (Q ⊎ R) → (Q → ⊥) → P ↔ R
+not_here a n = (λ p. elim (a.0 p) [ inl q ↦ absurd (n q) | inr r ↦ r ], λ r. a.1 (inr r))
+
+-- two tests that answer the same
+pub same_truth : {P Q : Type 0} (a b : Bool) → IsTrue a ↔ P → IsTrue b ↔ Q → P ↔ Q → a ≡ b
+same_truth true true f g h = refl
+same_truth true false f g h = absurd (let e = g.1 (h.0 (f.0 refl)) in cc)
+same_truth false true f g h = absurd (let e = f.1 (h.1 (g.0 refl)) in cc)
+same_truth false false f g h = refl
+
+pub both_true : {P Q : Type 0} (a b : Bool) → a ≡ b → IsTrue a ↔ P → IsTrue b ↔ Q → P ↔ Q
+both_true a b e f g = (λ p. g.0 (sym e ∙ f.1 p), λ q. f.0 (e ∙ g.1 q))

@@ -183,3 +183,32 @@ together_append [] more a t = t
 together_append (c ∷ []) [] a t = tt
 together_append (c ∷ []) (d ∷ more) a t = (λ g h. absurd (not_of g c a.0 h), t)
 together_append (c ∷ d ∷ root) more a t = (λ g h. absurd (not_of g c a.0 h), together_append (d ∷ root) more a.1 t)
+
+-- ---- one component after the other
+
+pub record SameTo (cs ds : List Component) (n : ℕ) : Type 0 where
+  pub grouped : (i : ℕ) → i < n → (AreInOneGroup cs i i ↔ AreInOneGroup ds i i)
+  pub joined : (i : ℕ) → i < n → (AreJoined cs i ↔ AreJoined ds i)
+
+pub same_next : (cs ds : List Component) (n : ℕ)
+    → (AreInOneGroup cs n n ↔ AreInOneGroup ds n n)
+    → (AreJoined cs n ↔ AreJoined ds n)
+    → SameTo cs ds n
+    → SameTo cs ds (n + 1)
+same_next cs ds n g j so = record {
+  grouped = λ i l. elim (cases_lt i n) [
+    | inl h ↦ so.grouped i h
+    | inr h ↦ (let e : n ≡ i = omega (arith, h, l) in subst (λ k. AreInOneGroup cs k k ↔ AreInOneGroup ds k k) e g)
+  ];
+  joined = λ i l. elim (cases_lt i n) [
+    | inl h ↦ so.joined i h
+    | inr h ↦ (let e : n ≡ i = omega (arith, h, l) in subst (λ k. AreJoined cs k ↔ AreJoined ds k) e j)
+  ];
+}
+
+pub same_all : (cs ds : List Component) (n : ℕ) → length cs ≤ n → (AreJoined ds (length cs) → ⊥) → SameTo cs ds n → HaveSameGroups cs ds
+same_all cs ds n l b so = record {
+  grouped = λ i h. so.grouped i (omega (arith, h, l));
+  joined = λ i h. so.joined i (omega (arith, h, l));
+  behind = b;
+}

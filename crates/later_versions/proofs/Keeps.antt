@@ -1,10 +1,11 @@
 -- What is kept of rows, one component or element after the other.
-use Rattle.std.proofs.Common.{arith, ◌≡◌, ℕ, zero, suc, ◌+◌, ◌<◌, ◌≤◌, List, [], ◌∷◌, ◌++◌, length, map, drop, get_or, refl, sym, ap, subst, ◌∙◌, length-map, append_assoc, map-append}
+use Rattle.std.proofs.Common.{arith, ◌≡◌, ℕ, zero, suc, ◌+◌, ◌<◌, ◌≤◌, List, [], ◌∷◌, ◌++◌, length, map, drop, get_or, refl, sym, ap, subst, ◌∙◌, append_assoc}
 use Rattle.std.specs.Prelude.{slice_get, Some, None, Option, option_map}
-use Rattle.std.proofs.lemmas.List.{drop_more, drop_all, get_or-map}
+use Rattle.std.proofs.lemmas.List.{drop_all, length-map, map-append}
 use Rattle.asn_base.specs.Abstract.{AbstractValue, absent, present, end, row_of_list, row_of_options}
 use Rattle.asn_base.specs.Types.{Resolved}
 use Rattle.later_versions.specs.Kept.{kept, kept_elements, kept_row, left_out, left_out_of_elements, left_out_of_row}
+use Rattle.later_versions.proofs.Fronts.{drop_at}
 use Rattle.later_versions.specs.proving.Keeping.{kept_one, left_out_of_one}
 
 -- ---- the same over lists
@@ -46,22 +47,19 @@ drop_here (y ∷ xs) zero x e = let s : y ≡ x = cc in ap (λ q. q ∷ xs) s
 drop_here (y ∷ xs) (suc i) x e =
     drop_here xs i x e ∙ ap (λ k. x ∷ drop k (y ∷ xs)) (let n : suc (i + 1) ≡ suc i + 1 = omega arith in n)
 
+none_past : {A : Type 0} (xs : List A) (i : ℕ) → slice_get xs i ≡ None → length xs ≤ i
+none_past [] i e = omega arith
+none_past (x ∷ xs) zero e = absurd cc
+none_past (x ∷ xs) (suc i) e = let h = none_past xs i e in omega (arith, h)
+
 drop_none : {A : Type 0} (xs : List A) (i : ℕ) → slice_get xs i ≡ None → (drop i xs ≡ []) × (drop (i + 1) xs ≡ [])
-drop_none [] zero e = (refl, refl)
-drop_none [] (suc i) e = (refl, refl)
-drop_none (y ∷ xs) zero e = absurd cc
-drop_none (y ∷ xs) (suc i) e =
-    let h = drop_none xs i e in
-    (h.0, ap (λ k. drop k (y ∷ xs)) (let n : suc i + 1 ≡ suc (i + 1) = omega arith in n) ∙ h.1)
+drop_none xs i e = let l = none_past xs i e in (drop_all i xs l, drop_all (i + 1) xs (omega (arith, l)))
 
 drop_mapped : {A B : Type 0} (f : A → B) (xs : List A) (i : ℕ) (d : A)
     → i < length xs
     → d ≡ get_or xs i d
     → drop i (map f xs) ≡ f d ∷ drop (i + 1) (map f xs)
-drop_mapped f xs i d h e =
-    let l = length-map xs f in
-    drop_more (map f xs) i (f d) (omega (arith, h, l))
-    ∙ ap (λ q. q ∷ drop (i + 1) (map f xs)) (get_or-map f xs i d (f d) h ∙ ap f (sym e))
+drop_mapped f xs i d h e = drop_at f xs i d h ∙ ap (λ q. f q ∷ drop (i + 1) (map f xs)) (sym e)
 
 -- ---- components
 

@@ -1,6 +1,7 @@
 mod Fronts
 mod Keeps
 mod Agree
-mod Bits
+mod Placing
 mod Joined
-mod Versions
+mod Pairing
+mod Places

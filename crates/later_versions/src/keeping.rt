@@ -1,9 +1,8 @@
 //! What a type keeps of a value of a later version.
 
-ghost use Rattle.std.specs.Prelude.{◌≡◌, ◌<◌, ◌++◌, ◌∷◌, [], IfOk, OnOk, MatchOption, map, option_map};
+ghost use Rattle.std.specs.Prelude.{◌≡◌, ◌<◌, ◌++◌, ◌∷◌, [], ℕ, IfOk, OnOk, MatchOption, None, Some, map, option_map, slice_get};
 ghost use Rattle.asn_base.specs.Abstract.{abstract, row_of_list, row_of_options};
 ghost use Rattle.later_versions.specs.Kept.{kept, kept_elements, kept_row, left_out, left_out_of_elements, left_out_of_row, members_of};
-ghost use Rattle.later_versions.specs.proving.Keeping.{kept_one, left_out_of_one};
 
 use crate::members::{member_at, member_or_none};
 use asn_base::law::abstract_values;
@@ -17,6 +16,23 @@ fn add<T: Drop>(list: &mut Vec<T>, one: T) -> Result<(), AllocError>
 {
     list.push(one)?;
     Ok(())
+}
+
+/// Adds an absent component, where the type has one at this place.
+fn pass(
+    schema: &Schema,
+    id: TypeId,
+    place: usize,
+    list: &mut Vec<Option<Value>>,
+) -> Result<(), AllocError>
+    ensures known { (u : ℕ) →
+        slice_get (members_of schema.now id.index) place ≡ Some u → OnOk result (list.new.items ≡ list.old.items ++ None ∷ []) }
+    ensures unknown { slice_get (members_of schema.now id.index) place ≡ None → OnOk result (list.new.items ≡ list.old.items) }
+{
+    match member_at(schema, id, place) {
+        Some(_) => add(list, None),
+        None => Ok(()),
+    }
 }
 
 /// What the type keeps of a value, in memory of its own; None where it leaves out a component that is present. It calls
@@ -60,29 +76,6 @@ pub(crate) fn keep(
     }
 }
 
-/// The same of a component, which may be absent.
-#[cycle(keeping)]
-fn keep_one(
-    alloc: Global,
-    schema: &Schema,
-    id: TypeId,
-    value: &Option<Value>,
-) -> Result<Option<Option<Value>>, AllocError>
-    ensures { IfOk result (λ o. MatchOption o
-        (0 < left_out_of_one schema.now id.index (option_map abstract value.now))
-        (λ w. (left_out_of_one schema.now id.index (option_map abstract value.now) ≡ 0)
-        × (option_map abstract w ≡ kept_one schema.now id.index (option_map abstract value.now)))) }
-{
-    match value {
-        Some(value) => match keep(alloc, schema, id, value) {
-            Ok(Some(one)) => Ok(Some(Some(one))),
-            Ok(None) => Ok(None),
-            Err(fault) => Err(fault),
-        },
-        None => Ok(Some(None)),
-    }
-}
-
 /// The same of components.
 #[cycle(keeping)]
 fn keep_fields(
@@ -99,17 +92,16 @@ fn keep_fields(
 {
     let mut all = Vec::new(alloc);
     for i in 0..values.len() {
-        match member_at(schema, id, i) {
-            Some(ty) => match keep_one(alloc, schema, ty, &values[i]) {
-                Ok(Some(one)) => add(&mut all, one)?,
-                Ok(None) => return Ok(None),
-                Err(fault) => return Err(fault),
+        match &values[i] {
+            Some(value) => match member_at(schema, id, i) {
+                Some(ty) => match keep(alloc, schema, ty, value) {
+                    Ok(Some(one)) => add(&mut all, Some(one))?,
+                    Ok(None) => return Ok(None),
+                    Err(fault) => return Err(fault),
+                },
+                None => return Ok(None),
             },
-            None => {
-                if values[i].is_some() {
-                    return Ok(None);
-                }
-            }
+            None => pass(schema, id, i, &mut all)?,
         }
     }
     Ok(Some(all))

@@ -1,5 +1,5 @@
 //! Later versions of types: the same with additions appended at extension markers (X.680, 7, 20, 25 and 29).
-#![tactic(none)]
+#![tactic(auto)]
 
 mod bits;
 mod components;

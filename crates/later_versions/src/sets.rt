@@ -1,6 +1,6 @@
 //! Sets of numbers, compared.
 
-ghost use Rattle.std.specs.Prelude.{◌≡◌, ◌↔◌, ◌^◌, ℤ, pos, None, IsTrue, map};
+ghost use Rattle.std.specs.Prelude.{◌≡◌, ◌↔◌, ◌^◌, ℤ, pos, None, Some, IsTrue, map};
 ghost use Rattle.asn_base.specs.Seen.{range_of};
 ghost use Rattle.asn_base.specs.Typed.{IsInRange, IsInSome};
 ghost use Rattle.later_versions.specs.proving.Edges.{HasNoBeginning, IsBehind, IsEdge, IsEdgeOfSome};
@@ -77,20 +77,36 @@ fn agree_behind(number: i128, one: &Ranges, other: &Ranges) -> bool
     agree_at(number + 1, one, other)
 }
 
-/// Whether the beginning of the range, if it has one, is in both sets or in none, and so the number behind its end.
+/// Whether the beginning, if there is one, is in both sets or in none.
+fn agree_at_least(least: Option<i128>, one: &Ranges, other: &Ranges) -> bool
+    ensures { IsTrue result ↔ ((z : ℤ) → least ≡ Some z → (IsInSome z one.now ↔ IsInSome z other.now)) }
+{
+    match least {
+        Some(number) => agree_at(number, one, other),
+        None => true,
+    }
+}
+
+/// Whether the number behind the end, if there is one, is in both sets or in none.
+fn agree_at_end(greatest: Option<i128>, one: &Ranges, other: &Ranges) -> bool
+    ensures { IsTrue result ↔ ((g : ℤ) → greatest ≡ Some g → (z : ℤ) →
+        IsBehind g z → (IsInSome z one.now ↔ IsInSome z other.now)) }
+{
+    match greatest {
+        Some(number) => agree_behind(number, one, other),
+        None => true,
+    }
+}
+
+/// Whether both sets agree at the edges of the range.
 fn agree_at_edges(range: &Range, one: &Ranges, other: &Ranges) -> bool
     ensures { IsTrue result
         ↔ ((z : ℤ) → IsEdge (range_of range.now) z → (IsInSome z one.now ↔ IsInSome z other.now)) }
 {
-    let at_least = match range.least {
-        Some(least) => agree_at(least, one, other),
-        None => true,
-    };
-    let behind = match range.greatest {
-        Some(greatest) => agree_behind(greatest, one, other),
-        None => true,
-    };
-    at_least && behind
+    if !agree_at_least(range.least, one, other) {
+        return false;
+    }
+    agree_at_end(range.greatest, one, other)
 }
 
 /// The same of some ranges.
@@ -111,7 +127,15 @@ fn agree_at_all(ranges: &[Range], one: &Ranges, other: &Ranges) -> bool
 pub(crate) fn have_same(one: &Ranges, other: &Ranges) -> bool
     ensures { IsTrue result ↔ ((z : ℤ) → IsInSome z one.now ↔ IsInSome z other.now) }
 {
-    reach_down(one.ranges()) == reach_down(other.ranges())
-        && agree_at_all(one.ranges(), one, other)
-        && agree_at_all(other.ranges(), one, other)
+    let listed = one.ranges();
+    let others = other.ranges();
+    let down = reach_down(listed);
+    let other_down = reach_down(others);
+    if down != other_down {
+        return false;
+    }
+    if !agree_at_all(listed, one, other) {
+        return false;
+    }
+    agree_at_all(others, one, other)
 }

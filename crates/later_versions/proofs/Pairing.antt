@@ -1,5 +1,5 @@
 -- Pairs of types, one after the other.
-use Rattle.std.proofs.Common.{arith, inl, inr, ◌≡◌, ℕ, zero, suc, ◌+◌, ◌<◌, ◌≤◌, List, [], ◌∷◌, ◌++◌, length, map, refl, sym, ap, subst, ◌∙◌, Bool, true, false, cond, append_assoc, map-append}
+use Rattle.std.proofs.Common.{arith, inl, inr, ◌≡◌, ℕ, zero, suc, ◌+◌, ◌<◌, ◌≤◌, List, [], ◌∷◌, ◌++◌, length, map, refl, sym, ap, subst, ◌∙◌, Bool, true, false, cond, append_assoc}
 use Rattle.std.specs.Prelude.{slice_get, ◌⊎◌, Some, None, Option}
 use Rattle.std.specs.List.{AllByRecursion, list_any}
 use Rattle.std.specs.Ordering.{is_eq, nat_cmp, ordering_then, MatchOrdering}
@@ -12,13 +12,19 @@ use Rattle.asn_base.specs.Names.{IsMember, is_first, is_later}
 use Rattle.asn_base.specs.Types.{Resolved}
 use Rattle.later_versions.specs.Kept.{members_of}
 use Rattle.later_versions.specs.Later.{Later, leads}
-use Rattle.later_versions.specs.proving.Pairs.{IsFine, IsIn, IsMemberPair, IsReached, IsSoFar, pair_cmp}
+use Rattle.later_versions.specs.proving.Pairs.{AreKnown, AreNoted, IsFine, IsIn, IsMemberPair, IsSoFar, StandsIn, met, pair_cmp}
+use Rattle.later_versions.specs.declared.pairs.Pairs.{Pairs}
 
 -- ---- members of lists
 
-member_place : {A : Type 0} (x : A) (xs : List A) → IsMember x xs → (i : ℕ) × (slice_get xs i ≡ Some x)
-member_place x (x ∷ xs) is_first = (0, refl)
-member_place x (y ∷ xs) (is_later h) = let m = member_place x xs h in (suc m.0, m.1)
+member_place : {A : Type 0} {x : A} {xs : List A} → IsMember x xs → (i : ℕ) × (slice_get xs i ≡ Some x)
+member_place is_first = (0, refl)
+member_place (is_later h) = let m = member_place h in (suc m.0, m.1)
+
+pub at_place : {A : Type 0} (xs : List A) (i : ℕ) (x : A) → slice_get xs i ≡ Some x → IsMember x xs
+at_place [] i x e = absurd cc
+at_place (y ∷ xs) zero x e = let h : y ≡ x = cc in subst (λ z. IsMember x (z ∷ xs)) (sym h) is_first
+at_place (y ∷ xs) (suc i) x e = is_later (at_place xs i x e)
 
 pub member_left : {A : Type 0} {x : A} {xs : List A} (ys : List A) → IsMember x xs → IsMember x (xs ++ ys)
 member_left ys is_first = is_first
@@ -28,14 +34,14 @@ pub member_last : {A : Type 0} (x : A) (xs : List A) → IsMember x (xs ++ x ∷
 member_last x [] = is_first
 member_last x (y ∷ xs) = is_later (member_last x xs)
 
-member_of_two : {A : Type 0} (x : A) (xs ys : List A) → IsMember x (xs ++ ys) → IsMember x xs ⊎ IsMember x ys
-member_of_two x [] ys h = inr h
-member_of_two x (x ∷ xs) ys is_first = inl is_first
-member_of_two x (y ∷ xs) ys (is_later h) = elim (member_of_two x xs ys h) [ inl a ↦ inl (is_later a) | inr b ↦ inr b ]
+member_of_two : {A : Type 0} {x : A} (xs ys : List A) → IsMember x (xs ++ ys) → IsMember x xs ⊎ IsMember x ys
+member_of_two [] ys h = inr h
+member_of_two (y ∷ xs) ys is_first = inl is_first
+member_of_two (y ∷ xs) ys (is_later h) = elim (member_of_two xs ys h) [ inl a ↦ inl (is_later a) | inr b ↦ inr b ]
 
-all_member : {A : Type 0} (P : A → Type 0) (x : A) (xs : List A) → AllByRecursion P xs → IsMember x xs → P x
-all_member P x (x ∷ xs) a is_first = a.0
-all_member P x (y ∷ xs) a (is_later h) = all_member P x xs a.1 h
+all_member : {A : Type 0} (P : A → Type 0) {x : A} {xs : List A} → AllByRecursion P xs → IsMember x xs → P x
+all_member P a is_first = a.0
+all_member P a (is_later h) = all_member P a.1 h
 
 get_left : {A : Type 0} (xs ys : List A) (i : ℕ) → i < length xs → slice_get (xs ++ ys) i ≡ slice_get xs i
 get_left [] ys i l = absurd (omega (arith, l))
@@ -98,7 +104,7 @@ pub reached_first : (s : List Resolved) (t : ℕ) (s' : List Resolved) (t' : ℕ
 reached_first s t s' t' ps more e a m = record {
   start = m;
   reached = λ p h. (
-    let q = all_member (λ p. p ≡ (t, t')) p more a (subst (IsMember p) e h) in
+    let q = all_member (λ p. p ≡ (t, t')) a (subst (IsMember p) e h) in
     ([], ap (λ r. Some r.0) (sym q), ap (λ r. Some r.1) (sym q))
   );
   fine = λ i p l. absurd (omega (arith, l));
@@ -120,11 +126,11 @@ reached_next s t s' t' ps new at p e f n m so =
       λ q h. subst (IsMember q) (sym n.1) (member_left n.0 h) in
     record {
       start = kept (t, t') so.start;
-      reached = λ q h. elim (member_of_two q ps n.0 (subst (IsMember q) n.1 h)) [
+      reached = λ q h. elim (member_of_two ps n.0 (subst (IsMember q) n.1 h)) [
         | inl a ↦ so.reached q a
         | inr b ↦ (
-          let r = so.reached p (at_place e) in
-          let c = all_member (IsMemberPair s s' p) q n.0 n.2 b in
+          let r = so.reached p (at_place ps at p e) in
+          let c = all_member (IsMemberPair s s' p) n.2 b in
           (r.0 ++ c.0 ∷ [], leads_further s t p.0 q.0 c.0 r.0 r.1 c.1, leads_further s' t' p.1 q.1 c.0 r.0 r.2 c.2)
         )
       ];
@@ -138,11 +144,6 @@ reached_next s t s' t' ps new at p e f n m so =
       ];
     }
   where
-    at_place : {A : Type 0} {xs : List A} {i : ℕ} {x : A} → slice_get xs i ≡ Some x → IsMember x xs
-    at_place {xs = []} {i = i} e = absurd cc
-    at_place {xs = y ∷ xs} {i = zero} {x = x} e = let h : y ≡ x = cc in subst (λ z. IsMember x (z ∷ xs)) (sym h) is_first
-    at_place {xs = y ∷ xs} {i = suc i} e = is_later (at_place {xs = xs} {i = i} e)
-
     same_here : (i : ℕ) → i < at + 1 → at ≤ i → (q : ℕ × ℕ) → slice_get ps i ≡ Some q → p ≡ q
     same_here i l b q g =
       let h : at ≡ i = omega (arith, l, b) in
@@ -172,7 +173,7 @@ follow s t s' t' ps at l so [] v v' u u' m a b =
 follow s t s' t' ps at l so (i ∷ places) v v' u u' m a b =
     let f = leads_on s places (slice_get (members_of s v) i) u a in
     let g = leads_on s' places (slice_get (members_of s' v') i) u' b in
-    let h = member_place (v, v') ps m in
+    let h = member_place m in
     let w = slice_get_within ps h.0 (v, v') h.1 in
     let n = so.members h.0 (v, v') (f.0, g.0) (omega (arith, w, l)) h.1 (i, f.1, g.1) in
     follow s t s' t' ps at l so places f.0 g.0 u u' n f.2 g.2
@@ -184,7 +185,7 @@ pub all_fine : (s : List Resolved) (t : ℕ) (s' : List Resolved) (t' : ℕ) (ps
     → Later s t s' t'
 all_fine s t s' t' ps at l so places u u' q r a b c d =
     let m = follow s t s' t' ps at l so places t t' u u' so.start a b in
-    let h = member_place (u, u') ps m in
+    let h = member_place m in
     let w = slice_get_within ps h.0 (u, u') h.1 in
     so.fine h.0 (u, u') (omega (arith, w, l)) h.1 q r c d
 
@@ -223,3 +224,53 @@ pub put_pair : (old new : List (ℕ × ℕ)) (k : ℕ × ℕ)
     → IsIn new x
     → IsIn old x ⊎ (k ≡ x)
 put_pair old new k f x h = split_cond k x (list_any (λ y. is_eq (pair_cmp x y)) old) (is_eq (pair_cmp k x)) refl (sym (f x) ∙ h)
+
+-- ---- the pairs of members at one place after the other
+
+pub record NotedTo (s s' : List Resolved) (p : ℕ × ℕ) (old new : Pairs) (n : ℕ) : Type 0 where
+  pub known : AreKnown new
+  pub members : (q : ℕ × ℕ) → (m : IsMemberPair s s' p q) → m.0 < n → StandsIn new q
+  pub noted : AreNoted old new (IsMemberPair s s' p)
+
+pub noted_next : (s s' : List Resolved) (p q : ℕ × ℕ) (old mid new : Pairs) (n : ℕ)
+    → IsMemberPair s s' p q
+    → slice_get (members_of s p.0) n ≡ Some q.0
+    → slice_get (members_of s' p.1) n ≡ Some q.1
+    → AreKnown new
+    → StandsIn new q
+    → AreNoted mid new (λ r. r ≡ q)
+    → NotedTo s s' p old mid n
+    → NotedTo s s' p old new (n + 1)
+noted_next s s' p q old mid new n m a b k h more so = record {
+  known = k;
+  members = λ r c l. elim (cases_lt c.0 n) [
+    | inl d ↦ subst (IsMember r) (sym more.1) (member_left more.0 (so.members r c d))
+    | inr d ↦ (
+      let e : n ≡ c.0 = omega (arith, d, l) in
+      let f = same_Some q.0 r.0 (sym a ∙ ap (slice_get (members_of s p.0)) e ∙ c.1) in
+      let g = same_Some q.1 r.1 (sym b ∙ ap (slice_get (members_of s' p.1)) e ∙ c.2) in
+      let j : q ≡ r = ap (λ z. (z, q.1)) f ∙ ap (λ z. (r.0, z)) g in
+      subst (λ z. IsMember z (met new)) j h
+    )
+  ];
+  noted = noted_twice (IsMemberPair s s' p) (met old) (met mid) (met new) so.noted
+    (more.0, more.1, all_more (λ r. r ≡ q) (IsMemberPair s s' p) more.0 (λ r e. subst (IsMemberPair s s' p) (sym e) m) more.2);
+}
+
+-- behind the last member of one of the two
+pub noted_all : (s s' : List Resolved) (p : ℕ × ℕ) (old new : Pairs) (n : ℕ)
+    → (slice_get (members_of s p.0) n ≡ None) ⊎ (slice_get (members_of s' p.1) n ≡ None)
+    → NotedTo s s' p old new n
+    → (q : ℕ × ℕ)
+    → IsMemberPair s s' p q
+    → StandsIn new q
+noted_all s s' p old new n e so q m = so.members q m (elim e [
+  | inl a ↦ before_none (members_of s p.0) m.0 n q.0 m.1 a
+  | inr a ↦ before_none (members_of s' p.1) m.0 n q.1 m.2 a
+])
+  where
+    before_none : {A : Type 0} (xs : List A) (i n : ℕ) (x : A) → slice_get xs i ≡ Some x → slice_get xs n ≡ None → i < n
+    before_none [] i n x e f = absurd cc
+    before_none (y ∷ xs) i zero x e f = absurd cc
+    before_none (y ∷ xs) zero (suc n) x e f = omega arith
+    before_none (y ∷ xs) (suc i) (suc n) x e f = let h = before_none xs i n x e f in omega (arith, h)

@@ -70,32 +70,32 @@ placed_all bs m i l so = record {
 
 -- ---- whether a bit is one of them
 
-place_of : {A : Type 0} (x : A) (xs : List A) → IsMember x xs → (i : ℕ) × (slice_get xs i ≡ Some x)
-place_of x (x ∷ xs) is_first = (0, refl)
-place_of x (y ∷ xs) (is_later h) = let m = place_of x xs h in (suc m.0, m.1)
+place_of : {A : Type 0} {x : A} {xs : List A} → IsMember x xs → (i : ℕ) × (slice_get xs i ≡ Some x)
+place_of is_first = (0, refl)
+place_of (is_later h) = let m = place_of h in (suc m.0, m.1)
 
 pub at_place : {A : Type 0} (xs : List A) (i : ℕ) (x : A) → slice_get xs i ≡ Some x → IsMember x xs
 at_place [] i x e = absurd cc
 at_place (y ∷ xs) zero x e = let h : y ≡ x = cc in subst (λ z. IsMember x (z ∷ xs)) (sym h) is_first
 at_place (y ∷ xs) (suc i) x e = is_later (at_place xs i x e)
 
-mapped_member : {A B : Type 0} (f : A → B) (x : A) (xs : List A) → IsMember x xs → IsMember (f x) (map f xs)
-mapped_member f x (x ∷ xs) is_first = is_first
-mapped_member f x (y ∷ xs) (is_later h) = is_later (mapped_member f x xs h)
+mapped_member : {A B : Type 0} (f : A → B) {x : A} {xs : List A} → IsMember x xs → IsMember (f x) (map f xs)
+mapped_member f is_first = is_first
+mapped_member f (is_later h) = is_later (mapped_member f h)
 
 -- bits at one place are one
-one_place : (bs : List NamedBit) (x y : NamedBit)
+one_place : {x y : NamedBit} {bs : List NamedBit}
     → AreDistinct (map (λ b. b.place) bs)
     → IsMember x bs
     → IsMember y bs
     → x.place ≡ y.place
     → x ≡ y
-one_place (x ∷ bs) x x d is_first is_first e = refl
-one_place (x ∷ bs) x y d is_first (is_later h) e =
-    absurd (d.0 (subst (λ p. IsMember p (map (λ b. b.place) bs)) (sym e) (mapped_member (λ b. b.place) y bs h)))
-one_place (y ∷ bs) x y d (is_later h) is_first e =
-    absurd (d.0 (subst (λ p. IsMember p (map (λ b. b.place) bs)) e (mapped_member (λ b. b.place) x bs h)))
-one_place (z ∷ bs) x y d (is_later g) (is_later h) e = one_place bs x y d.1 g h e
+one_place d is_first is_first e = refl
+one_place {bs = z ∷ bs} d is_first (is_later h) e =
+    absurd (d.0 (subst (λ p. IsMember p (map (λ b. b.place) bs)) (sym e) (mapped_member (λ b. b.place) h)))
+one_place {bs = z ∷ bs} d (is_later h) is_first e =
+    absurd (d.0 (subst (λ p. IsMember p (map (λ b. b.place) bs)) e (mapped_member (λ b. b.place) h)))
+one_place d (is_later g) (is_later h) e = one_place d.1 g h e
 
 -- the bit at the place that the map leads to is this one just where this one stands among them
 pub same_bit : (bs : List NamedBit) (m : BTreeMap ℕ ℕ) (k : ℕ) (b x : NamedBit)
@@ -111,7 +111,7 @@ same_bit bs m k b x a d e f =
     let h = at_place bs k b f in
     (
       λ n. subst (λ c. IsMember c bs) (same_parts b x n p) h,
-      λ i. ap (λ c. c.name) (one_place bs b x d h i p),
+      λ i. ap (λ c. c.name) (one_place d h i p),
     )
   where
     same_parts : (b x : NamedBit) → b.name ≡ x.name → b.place ≡ x.place → b ≡ x
@@ -123,7 +123,7 @@ pub no_bit : (bs : List NamedBit) (m : BTreeMap ℕ ℕ) (x : NamedBit)
     → IsMember x bs
     → ⊥
 no_bit bs m x a e h =
-    let p = place_of x bs h in
+    let p = place_of h in
     let s = a.all p.0 x p.1 in
     absurd (none_some (get nat_cmp m x.place) e s)
   where
@@ -163,5 +163,5 @@ pub has_all : (bs cs : List NamedBit) (i : ℕ)
     → IsMember x cs
     → IsMember x bs
 has_all bs cs i l so x h =
-    let p = place_of x cs h in
+    let p = place_of h in
     so p.0 x (let w = slice_get_within cs p.0 x p.1 in omega (arith, w, l)) p.1
