@@ -253,3 +253,12 @@ pub same_below : (rs ss xs ys : List Range)
 same_below rs ss xs ys e f h =
     subst (λ q. HasNoBeginning q ↔ HasNoBeginning ys) (sym e)
     (subst (λ q. HasNoBeginning rs ↔ HasNoBeginning q) (sym f) (agree_below rs ss h))
+
+pub end_only : {B : Type 0} (P : ℤ → Type 0) (o : Option ℤ) (k : ℤ)
+    → o ≡ Some k
+    → B ↔ ((z : ℤ) → IsBehind k z → P z)
+    → B ↔ ((g : ℤ) → o ≡ Some g → (z : ℤ) → IsBehind g z → P z)
+end_only P o k e h = (
+  λ b g f z i. h.0 b z (let s : g ≡ k = (let q = sym f ∙ e in cc) in subst (λ x. IsBehind x z) s i),
+  λ a. h.1 (a k e),
+)

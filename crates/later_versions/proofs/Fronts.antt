@@ -1,9 +1,10 @@
 -- Lists that begin with the elements of others, one for one.
 use Rattle.std.proofs.Common.{arith, ◌≡◌, ℕ, zero, suc, ◌+◌, ◌<◌, ◌≤◌, List, [], ◌∷◌, length, map, drop, get_or, refl, sym, ap, subst, ◌∙◌, inl, inr, true, false}
 use Rattle.std.specs.Prelude.{slice_get, ◌⊎◌, ◌↔◌, IsTrue, Some, None, option_map, Bool}
+use mathlib.Core.Bool.{beq, not}
 use Rattle.std.proofs.lemmas.Bool.{cases_lt}
 use Rattle.std.proofs.lemmas.List.{drop_more, get_or-map, length-map}
-use Rattle.std.proofs.lemmas.Option.{slice_get_read, slice_get_within, slice_get-map, same_Some}
+use Rattle.std.proofs.lemmas.Option.{slice_get_read, slice_get_within, slice_get-get_or, slice_get-map, same_Some}
 use Rattle.later_versions.specs.Later.{IsFront}
 
 pub yes : {P : Type 0} → P → IsTrue Bool.true ↔ P
@@ -141,11 +142,45 @@ pub not_here : {P Q R : Type 0} → P ↔ (Q ⊎ R) → (Q → ⊥) → P ↔ R
 not_here a n = (λ p. elim (a.0 p) [ inl q ↦ absurd (n q) | inr r ↦ r ], λ r. a.1 (inr r))
 
 -- two tests that answer the same
-pub same_truth : {P Q : Type 0} (a b : Bool) → IsTrue a ↔ P → IsTrue b ↔ Q → P ↔ Q → a ≡ b
+same_truth : {P Q : Type 0} (a b : Bool) → IsTrue a ↔ P → IsTrue b ↔ Q → P ↔ Q → a ≡ b
 same_truth true true f g h = refl
 same_truth true false f g h = absurd (let e = g.1 (h.0 (f.0 refl)) in cc)
 same_truth false true f g h = absurd (let e = f.1 (h.1 (g.0 refl)) in cc)
 same_truth false false f g h = refl
 
-pub both_true : {P Q : Type 0} (a b : Bool) → a ≡ b → IsTrue a ↔ P → IsTrue b ↔ Q → P ↔ Q
+both_true : {P Q : Type 0} (a b : Bool) → a ≡ b → IsTrue a ↔ P → IsTrue b ↔ Q → P ↔ Q
 both_true a b e f g = (λ p. g.0 (sym e ∙ f.1 p), λ q. f.0 (e ∙ g.1 q))
+
+same_beq : (a b : Bool) → not (beq a b) ≡ false → a ≡ b
+same_beq true true e = refl
+same_beq true false e = absurd cc
+same_beq false true e = absurd cc
+same_beq false false e = refl
+
+pub beq_true : {P Q : Type 0} (a b : Bool) → not (beq a b) ≡ false → IsTrue a ↔ P → IsTrue b ↔ Q → P ↔ Q
+beq_true a b e f g = both_true a b (same_beq a b e) f g
+
+pub beq_false : {P Q : Type 0} (a b : Bool) → not (beq a b) ≡ true → IsTrue a ↔ P → IsTrue b ↔ Q → P ↔ Q → ⊥
+beq_false a b e f g h = differ a b e (same_truth a b f g h)
+  where
+    differ : (a b : Bool) → not (beq a b) ≡ true → a ≡ b → ⊥
+    differ true true e s = absurd cc
+    differ true false e s = absurd cc
+    differ false true e s = absurd cc
+    differ false false e s = absurd cc
+
+-- the element at a place as code reads it
+pub mapped_got : {A B : Type 0} (f : A → B) (xs : List A) (i : ℕ) (x : A)
+    → i < length xs
+    → x ≡ get_or xs i x
+    → slice_get (map f xs) i ≡ Some (f (get_or xs i x))
+mapped_got f xs i x l e = mapped_at f xs i x l e ∙ ap (λ q. Some (f q)) e
+
+pub got : {A : Type 0} (xs : List A) (i : ℕ) (d : A) → i < length xs → slice_get xs i ≡ Some (get_or xs i d)
+got xs i d l = slice_get-get_or xs i d l
+
+pub beq_same : (a b : Bool) → IsTrue (beq a b) ↔ (a ≡ b)
+beq_same true true = yes refl
+beq_same true false = no (λ e. absurd cc)
+beq_same false true = no (λ e. absurd cc)
+beq_same false false = yes refl

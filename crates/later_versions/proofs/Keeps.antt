@@ -182,6 +182,53 @@ left_behind f s us vs all i v w l e t z so =
       ap (λ q. left_list s q (drop i (map f vs))) n.0 ∙ ap (left_list s []) d in
     let b = so.left in let c = row_left s us (map f vs) in omega (arith, a, b, c)
 
+-- one component more, where it is known whether it is present
+pub kept_present : {V : Type 0} (f : V → AbstractValue) (s : List Resolved) (us : List ℕ) (vs all new : List (Option V)) (i u : ℕ) (o : Option V) (v one : V)
+    → i < length vs
+    → o ≡ get_or vs i o
+    → o ≡ Some v
+    → slice_get us i ≡ Some u
+    → left_out s u (f v) ≡ 0
+    → f one ≡ kept s u (f v)
+    → new ≡ all ++ Some one ∷ []
+    → KeptSoFar (option_map f) s us vs all i
+    → KeptSoFar (option_map f) s us vs new (i + 1)
+kept_present f s us vs all new i u o v one l e q t z k n so =
+    kept_next (option_map f) s us vs all new i u o (Some one) l e t
+    (ap (λ x. left_out_of_one s u (option_map f x)) q ∙ z)
+    (ap Some k ∙ sym (ap (λ x. kept_one s u (option_map f x)) q)) n so
+
+pub kept_absent : {V : Type 0} (f : V → AbstractValue) (s : List Resolved) (us : List ℕ) (vs all new : List (Option V)) (i : ℕ) (o : Option V)
+    → i < length vs
+    → o ≡ get_or vs i o
+    → o ≡ None
+    → ((u : ℕ) → slice_get us i ≡ Some u → new ≡ all ++ None ∷ [])
+    → (slice_get us i ≡ None → new ≡ all)
+    → KeptSoFar (option_map f) s us vs all i
+    → KeptSoFar (option_map f) s us vs new (i + 1)
+kept_absent f s us vs all new i o l e q n m so = of_option (slice_get us i) refl
+  where
+    of_option : (p : Option ℕ) → slice_get us i ≡ p → KeptSoFar (option_map f) s us vs new (i + 1)
+    of_option None r =
+      subst (λ x. KeptSoFar (option_map f) s us vs x (i + 1)) (sym (m r))
+      (kept_past (option_map f) s us vs all i o l e r (ap (option_map f) q) so)
+    of_option (Some u) r =
+      kept_next (option_map f) s us vs all new i u o None l e r
+      (ap (λ x. left_out_of_one s u (option_map f x)) q)
+      (sym (ap (λ x. kept_one s u (option_map f x)) q)) (n u r) so
+
+pub left_present : {V : Type 0} (f : V → AbstractValue) (s : List Resolved) (us : List ℕ) (vs all : List (Option V)) (i u : ℕ) (o : Option V) (v : V)
+    → i < length vs
+    → o ≡ get_or vs i o
+    → o ≡ Some v
+    → slice_get us i ≡ Some u
+    → 0 < left_out s u (f v)
+    → KeptSoFar (option_map f) s us vs all i
+    → 0 < left_out_of_row s us (row_of_options (map (option_map f) vs))
+left_present f s us vs all i u o v l e q t z so =
+    left_here (option_map f) s us vs all i u o l e t
+    (subst (λ x. 0 < left_out_of_one s u (option_map f x)) (sym q) z) so
+
 -- ---- elements
 
 pub record ElementsSoFar {V : Type 0} (f : V → AbstractValue) (s : List Resolved) (u : ℕ) (vs all : List V) (i : ℕ) : Type 0 where

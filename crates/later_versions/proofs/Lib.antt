@@ -5,3 +5,6 @@ mod Placing
 mod Joined
 mod Pairing
 mod Places
+mod Marks
+mod Kindred
+mod Few

@@ -1,6 +1,6 @@
 -- Pairs of types, one after the other.
 use Rattle.std.proofs.Common.{arith, inl, inr, ◌≡◌, ℕ, zero, suc, ◌+◌, ◌<◌, ◌≤◌, List, [], ◌∷◌, ◌++◌, length, map, refl, sym, ap, subst, ◌∙◌, Bool, true, false, cond, append_assoc}
-use Rattle.std.specs.Prelude.{slice_get, ◌⊎◌, Some, None, Option}
+use Rattle.std.specs.Prelude.{slice_get, ◌⊎◌, ◌↔◌, Some, None, Option}
 use Rattle.std.specs.List.{AllByRecursion, list_any}
 use Rattle.std.specs.Ordering.{is_eq, nat_cmp, ordering_then, MatchOrdering}
 use Rattle.std.specs.declared.cmp.Ordering.{Ordering}
@@ -11,7 +11,7 @@ use Rattle.std.proofs.lemmas.Option.{slice_get_within, same_Some}
 use Rattle.asn_base.specs.Names.{IsMember, is_first, is_later}
 use Rattle.asn_base.specs.Types.{Resolved}
 use Rattle.later_versions.specs.Kept.{members_of}
-use Rattle.later_versions.specs.Later.{Later, leads}
+use Rattle.later_versions.specs.Later.{IsLaterKind, IsLaterType, Later, leads}
 use Rattle.later_versions.specs.proving.Pairs.{AreKnown, AreNoted, IsFine, IsIn, IsMemberPair, IsSoFar, StandsIn, met, pair_cmp}
 use Rattle.later_versions.specs.declared.pairs.Pairs.{Pairs}
 
@@ -21,12 +21,12 @@ member_place : {A : Type 0} {x : A} {xs : List A} → IsMember x xs → (i : ℕ
 member_place is_first = (0, refl)
 member_place (is_later h) = let m = member_place h in (suc m.0, m.1)
 
-pub at_place : {A : Type 0} (xs : List A) (i : ℕ) (x : A) → slice_get xs i ≡ Some x → IsMember x xs
+at_place : {A : Type 0} (xs : List A) (i : ℕ) (x : A) → slice_get xs i ≡ Some x → IsMember x xs
 at_place [] i x e = absurd cc
 at_place (y ∷ xs) zero x e = let h : y ≡ x = cc in subst (λ z. IsMember x (z ∷ xs)) (sym h) is_first
 at_place (y ∷ xs) (suc i) x e = is_later (at_place xs i x e)
 
-pub member_left : {A : Type 0} {x : A} {xs : List A} (ys : List A) → IsMember x xs → IsMember x (xs ++ ys)
+member_left : {A : Type 0} {x : A} {xs : List A} (ys : List A) → IsMember x xs → IsMember x (xs ++ ys)
 member_left ys is_first = is_first
 member_left ys (is_later h) = is_later (member_left ys h)
 
@@ -52,12 +52,12 @@ all_append : {A : Type 0} (P : A → Type 0) (xs ys : List A) → AllByRecursion
 all_append P [] ys a b = b
 all_append P (x ∷ xs) ys a b = (a.0, all_append P xs ys a.1 b)
 
-pub all_more : {A : Type 0} (P Q : A → Type 0) (xs : List A) → ((x : A) → P x → Q x) → AllByRecursion P xs → AllByRecursion Q xs
+all_more : {A : Type 0} (P Q : A → Type 0) (xs : List A) → ((x : A) → P x → Q x) → AllByRecursion P xs → AllByRecursion Q xs
 all_more P Q [] f a = tt
 all_more P Q (x ∷ xs) f a = (f x a.0, all_more P Q xs f a.1)
 
 -- what is put behind the second list is put behind the first
-pub noted_twice : {A : Type 0} (P : A → Type 0) (xs ys zs : List A)
+noted_twice : {A : Type 0} (P : A → Type 0) (xs ys zs : List A)
     → (more : List A) × (ys ≡ xs ++ more) × AllByRecursion P more
     → (more : List A) × (zs ≡ ys ++ more) × AllByRecursion P more
     → (more : List A) × (zs ≡ xs ++ more) × AllByRecursion P more
@@ -217,7 +217,7 @@ split_cond k x a true e f = inr (key_exact k x e)
 split_cond k x a false e f = inl f
 
 -- the new set has what the old one has, and pair k
-pub put_pair : (old new : List (ℕ × ℕ)) (k : ℕ × ℕ)
+put_pair : (old new : List (ℕ × ℕ)) (k : ℕ × ℕ)
     → ((q : ℕ × ℕ) → list_any (λ y. is_eq (pair_cmp q y)) new
     ≡ cond (is_eq (pair_cmp k q)) true (list_any (λ y. is_eq (pair_cmp q y)) old))
     → (x : ℕ × ℕ)
@@ -274,3 +274,39 @@ noted_all s s' p old new n e so q m = so.members q m (elim e [
     before_none (y ∷ xs) i zero x e f = absurd cc
     before_none (y ∷ xs) zero (suc n) x e f = omega arith
     before_none (y ∷ xs) (suc i) (suc n) x e f = let h = before_none xs i n x e f in omega (arith, h)
+
+pub put_known : (old new : List (ℕ × ℕ)) (ps qs : List (ℕ × ℕ)) (k : ℕ × ℕ)
+    → ((q : ℕ × ℕ) → list_any (λ y. is_eq (pair_cmp q y)) new
+    ≡ cond (is_eq (pair_cmp k q)) true (list_any (λ y. is_eq (pair_cmp q y)) old))
+    → ((p : ℕ × ℕ) → IsIn old p → IsMember p ps)
+    → qs ≡ ps ++ k ∷ []
+    → (p : ℕ × ℕ)
+    → IsIn new p
+    → IsMember p qs
+put_known old new ps qs k f known e p h =
+    subst (IsMember p) (sym e) (elim (put_pair old new k f p h) [
+      | inl a ↦ member_left (k ∷ []) (known p a)
+      | inr b ↦ subst (λ x. IsMember x (ps ++ k ∷ [])) b (member_last k ps)
+    ])
+
+-- ---- one pair
+
+pub fine_tags : (s s' : List Resolved) (p : ℕ × ℕ) (q r : Resolved)
+    → slice_get s p.0 ≡ Some q
+    → slice_get s' p.1 ≡ Some r
+    → IsFine s s' p
+    → q.tags ≡ r.tags
+fine_tags s s' p q r a b f = (f q r a b).tags
+
+pub fine_pair : {B : Type 0} (s s' : List Resolved) (p : ℕ × ℕ) (q r : Resolved)
+    → slice_get s p.0 ≡ Some q
+    → slice_get s' p.1 ≡ Some r
+    → q.tags ≡ r.tags
+    → B ↔ IsLaterKind s q.kind r.kind
+    → B ↔ IsFine s s' p
+fine_pair s s' p q r a b t h = (
+  λ w x y d e.
+    subst (λ z. IsLaterType s z y) (same_Some q x (sym a ∙ d))
+    (subst (IsLaterType s q) (same_Some r y (sym b ∙ e)) (record { tags = t; kind = h.0 w })),
+  λ f. h.1 (f q r a b).kind,
+)

@@ -13,8 +13,9 @@ past_end (x ∷ xs) (suc i) l = past_end xs i (omega (arith, l))
 pub there : {A B : Type 0} (f : A → B) (g : B → ℕ) (xs : List A) (i : ℕ) (x : A)
     → i < length xs
     → x ≡ get_or xs i x
-    → slice_get (map g (map f xs)) i ≡ Some (g (f x))
-there f g xs i x l e = slice_get-map g (map f xs) i ∙ ap (option_map g) (mapped_at f xs i x l e)
+    → slice_get (map g (map f xs)) i ≡ Some (g (f (get_or xs i x)))
+there f g xs i x l e =
+    slice_get-map g (map f xs) i ∙ ap (option_map g) (mapped_at f xs i x l e) ∙ ap (λ q. Some (g (f q))) e
 
 pub not_there : {A B : Type 0} (f : A → B) (g : B → ℕ) (xs : List A) (i : ℕ)
     → length xs ≤ i
@@ -36,16 +37,17 @@ back_get (x ∷ xs) ys k =
 pub in_first : {A B : Type 0} (f : A → B) (g : B → ℕ) (xs ys : List A) (i : ℕ) (x : A)
     → i < length xs
     → x ≡ get_or xs i x
-    → slice_get (map g (map f xs ++ map f ys)) i ≡ Some (g (f x))
+    → slice_get (map g (map f xs ++ map f ys)) i ≡ Some (g (f (get_or xs i x)))
 in_first f g xs ys i x l e =
     slice_get-map g (map f xs ++ map f ys) i
     ∙ ap (option_map g) (front_get (map f xs) (map f ys) i (f x) (mapped_at f xs i x l e))
+    ∙ ap (λ q. Some (g (f q))) e
 
 pub in_second : {A B : Type 0} (f : A → B) (g : B → ℕ) (xs ys : List A) (i : ℕ) (y : A)
     → length xs ≤ i
     → i - length xs < length ys
     → y ≡ get_or ys (i - length xs) y
-    → slice_get (map g (map f xs ++ map f ys)) i ≡ Some (g (f y))
+    → slice_get (map g (map f xs ++ map f ys)) i ≡ Some (g (f (get_or ys (i - length xs) y)))
 in_second f g xs ys i y l m e =
     let n = length-map xs f in
     let p : i ≡ i - length xs + length (map f xs) = omega (arith, n, l) in
@@ -55,6 +57,7 @@ in_second f g xs ys i y l m e =
       ∙ back_get (map f xs) (map f ys) (i - length xs)
       ∙ mapped_at f ys (i - length xs) y m e
     )
+    ∙ ap (λ q. Some (g (f q))) e
 
 pub in_none : {A B : Type 0} (f : A → B) (g : B → ℕ) (xs ys : List A) (i : ℕ)
     → length xs ≤ i

@@ -25,6 +25,13 @@ fn placed(alloc: Global, bits: &[NamedBit]) -> Result<BTreeMap<usize, usize>, Al
     Ok(places)
 }
 
+/// Whether two bits have the same name.
+fn have_same_name(one: &NamedBit, other: &NamedBit) -> bool
+    ensures { IsTrue result ↔ ((named_bit_of one.now).name ≡ (named_bit_of other.now).name) }
+{
+    one.name.as_bytes() == other.name.as_bytes()
+}
+
 /// Whether the bit is one of those, of which each has a place of its own.
 fn has(bits: &[NamedBit], places: &BTreeMap<usize, usize>, bit: &NamedBit) -> bool
     requires placed { ArePlaced (map named_bit_of bits.now) places.now }
@@ -32,10 +39,13 @@ fn has(bits: &[NamedBit], places: &BTreeMap<usize, usize>, bit: &NamedBit) -> bo
     ensures { IsTrue result ↔ IsMember (named_bit_of bit.now) (map named_bit_of bits.now) }
 {
     match places.get(&bit.place) {
-        Some(at) => match bits.get(*at) {
-            Some(other) => other.name.as_bytes() == bit.name.as_bytes(),
-            None => false,
-        },
+        Some(found) => {
+            let at = *found;
+            if at >= bits.len() {
+                return false;
+            }
+            have_same_name(&bits[at], bit)
+        }
         None => false,
     }
 }

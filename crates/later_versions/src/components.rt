@@ -158,7 +158,13 @@ fn are_of_one(one: &Component, other: &Component) -> bool
 fn is_joined(components: &[Component], place: usize) -> bool
     ensures { IsTrue result ↔ AreJoined (map component_of components.now) place }
 {
-    place > 0 && place < components.len() && are_of_one(&components[place - 1], &components[place])
+    if place == 0 {
+        return false;
+    }
+    if place >= components.len() {
+        return false;
+    }
+    are_of_one(&components[place - 1], &components[place])
 }
 
 /// Whether the component at a place is of a group.

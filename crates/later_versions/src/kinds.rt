@@ -15,6 +15,18 @@ use asn_base::schema::{Component, Core, Schema};
 use asn_base::strings::StringKind;
 use std::alloc::{AllocError, Global};
 
+/// Whether two restricted strings are of one type and of the same characters.
+fn is_same_alphabet(
+    kind: StringKind,
+    codes: &[u8],
+    other_kind: StringKind,
+    other_codes: &[u8],
+) -> bool
+    ensures { IsTrue result ↔ ((kind ≡ other_kind) × (codes.now ≡ other_codes.now)) }
+{
+    kind == other_kind && codes == other_codes
+}
+
 /// Whether it is a restricted string of this type and alphabet, and of sizes that leave the same.
 fn is_same_string(
     alloc: Global,
@@ -28,7 +40,7 @@ fn is_same_string(
 {
     match other {
         Core::RestrictedString(other_kind, other_codes, other_size) => {
-            if kind != *other_kind || codes != other_codes.as_slice() {
+            if !is_same_alphabet(kind, codes, *other_kind, other_codes.as_slice()) {
                 return Ok(false);
             }
             match leave_same_sizes(alloc, size, other_size) {

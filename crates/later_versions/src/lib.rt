@@ -10,6 +10,7 @@ mod lists;
 mod members;
 mod pairs;
 mod sets;
+mod tags;
 mod versions;
 
 pub use versions::later;

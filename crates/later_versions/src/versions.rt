@@ -7,6 +7,7 @@ ghost use Rattle.later_versions.specs.proving.Pairs.{AreKnown, AreNoted, IsFine,
 use crate::kinds::is_later_kind;
 use crate::members::member_at;
 use crate::pairs::{Pair, Pairs, note};
+use crate::tags::are_same_tags;
 use asn_base::schema::{Schema, TypeId};
 use std::alloc::{AllocError, Global};
 use std::collections::BTreeSet;
@@ -25,7 +26,7 @@ fn is_later_pair(
     }
     let one = first.get(pair.first);
     let other = second.get(pair.second);
-    if one.tags.as_slice() != other.tags.as_slice() {
+    if !are_same_tags(one.tags.as_slice(), other.tags.as_slice()) {
         return Ok(false);
     }
     match is_later_kind(alloc, first, &one.core, second, &other.core) {

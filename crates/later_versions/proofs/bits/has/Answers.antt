@@ -1,19 +1,24 @@
-use Rattle.std.proofs.Common.{rules, ◌≡◌, ◌↔◌, IsTrue, IfOk, map, ℕ, ◌+◌, ◌-◌, ◌*◌, ◌<◌, ◌≤◌, length, ◌/◌, ◌%◌, Bool, true, false, nat_eq, nat_lt, List, [], ◌∷◌, ◌++◌, slice_index_or, slice_set, bit_and, bit_or, Fits, w8, w32, w64, Bor, MutBor}
-use Rattle.asn_base.specs.Names.{AreDistinct, IsMember}
+use Rattle.std.proofs.Common.{arith, map, sym}
+use Rattle.std.proofs.lemmas.List.{length-map}
 use Rattle.asn_base.specs.Seen.{named_bit_of}
-use Rattle.asn_base.specs.Types.{NamedBit as NamedBit'}
-use Rattle.later_versions.specs.Later.{NameSame}
-use Rattle.later_versions.specs.proving.Placed.{ArePlaced}
+use Rattle.later_versions.proofs.Fronts.{mapped_at, no, onward}
+use Rattle.later_versions.proofs.Placing.{no_bit, no_place, same_bit}
+use Rattle.later_versions.proofs.Places.{past_end}
 use Rattle.later_versions.proofs.bits.has.Goals as goal
 
--- src/bits.rt:29:1
-pub returns-in-Some-get : goal.returns-in-Some-get
-returns-in-Some-get c = ?
-
--- src/bits.rt:29:1
-pub returns-in-None-get : goal.returns-in-None-get
-returns-in-None-get c = ?
-
--- src/bits.rt:29:1
 pub returns-in-None : goal.returns-in-None
-returns-in-None c = ?
+returns-in-None c =
+    no (no_bit (map named_bit_of c.args.bits.now) c.args.places.now (named_bit_of c.args.bit.now) c.requires.placed (sym c.in-None.ensures.value))
+
+pub returns-then-at-bits : goal.returns-then-at-bits
+returns-then-at-bits c =
+    let n = length-map c.args.bits.now named_bit_of in
+    let l = c.if-at-bits.true in
+    absurd (no_place (map named_bit_of c.args.bits.now) c.args.places.now c.in-Some.found.now (named_bit_of c.args.bit.now) c.requires.placed (sym c.in-Some.ensures.value)
+    (past_end (map named_bit_of c.args.bits.now) c.in-Some.found.now (omega (arith, n, l))))
+
+pub returns : goal.returns
+returns c =
+    let h = same_bit (map named_bit_of c.args.bits.now) c.args.places.now c.in-Some.found.now (named_bit_of c.index-bits-at.result) (named_bit_of c.args.bit.now) c.requires.placed c.requires.distinct (sym c.in-Some.ensures.value)
+      (mapped_at named_bit_of c.args.bits.now c.in-Some.found.now c.index-bits-at.result c.if-at-bits.false c.index-bits-at.is) in
+    onward c.have_same_name.ensures h.0 h.1

@@ -1,16 +1,12 @@
-use Rattle.std.proofs.Common.{rules, ◌≡◌, ◌↔◌, ◌≤◌, ◌<◌, ℕ, true, IsTrue, IfOk, Some, length, map, slice_get, ◌+◌, ◌-◌, ◌*◌, ◌/◌, ◌%◌, Bool, false, nat_eq, nat_lt, List, [], ◌∷◌, ◌++◌, slice_index_or, slice_set, bit_and, bit_or, Fits, w8, w32, w64, Bor, MutBor}
-use Rattle.asn_base.specs.Abstract.{abstract}
-use Rattle.asn_base.specs.Same.{Same}
-use Rattle.asn_base.specs.Schemas.{is_addition as is_addition'}
-use Rattle.asn_base.specs.Schemas.{GroupsTogether}
-use Rattle.asn_base.specs.Seen.{component_of, presence_of}
-use Rattle.asn_base.specs.Typed.{group_of}
-use Rattle.asn_base.specs.Types.{Component as Component'}
-use Rattle.later_versions.specs.Kept.{kept, left_out}
-use Rattle.later_versions.specs.Later.{AreInOneGroup, AreLater, IsFront, IsMarkedAlike, IsSameComponent}
-use Rattle.later_versions.specs.proving.Groups.{AreOfOne, AreJoined, HaveSameGroups}
+use Rattle.std.proofs.Common.{arith, map}
+use Rattle.std.proofs.lemmas.List.{length-map}
+use Rattle.asn_base.specs.Seen.{component_of}
+use Rattle.later_versions.proofs.Marks.{all_later}
 use Rattle.later_versions.proofs.components.are_later.Goals as goal
 
--- src/components.rt:190:1
 pub returns-then-are_additions_from : goal.returns-then-are_additions_from
-returns-then-are_additions_from c = ?
+returns-then-are_additions_from c =
+    all_later c.args.schema.now (map component_of c.args.components.now) (map component_of c.args.others.now) c.requires.first c.requires.second
+    (c.in-Ok-true.ensures.0 c.in-Ok-true.field-0-test)
+    (λ i d l e. c.are_additions_from.ensures.0 c.if-are_additions_from.true i d (let n = length-map c.args.components.now component_of in omega (arith, n, l)) e)
+    c.have_same_groups.ensures

@@ -1,24 +1,21 @@
-use Rattle.std.proofs.Common.{rules, ◌≡◌, ◌↔◌, ◌≤◌, ◌<◌, ℕ, true, IsTrue, IfOk, Some, length, map, slice_get, ◌+◌, ◌-◌, ◌*◌, ◌/◌, ◌%◌, Bool, false, nat_eq, nat_lt, List, [], ◌∷◌, ◌++◌, slice_index_or, slice_set, bit_and, bit_or, Fits, w8, w32, w64, Bor, MutBor}
-use Rattle.asn_base.specs.Abstract.{abstract}
-use Rattle.asn_base.specs.Same.{Same}
-use Rattle.asn_base.specs.Schemas.{is_addition as is_addition'}
-use Rattle.asn_base.specs.Schemas.{GroupsTogether}
-use Rattle.asn_base.specs.Seen.{component_of, presence_of}
-use Rattle.asn_base.specs.Typed.{group_of}
-use Rattle.asn_base.specs.Types.{Component as Component'}
-use Rattle.later_versions.specs.Kept.{kept, left_out}
-use Rattle.later_versions.specs.Later.{AreInOneGroup, AreLater, IsFront, IsMarkedAlike, IsSameComponent}
-use Rattle.later_versions.specs.proving.Groups.{AreOfOne, AreJoined, HaveSameGroups}
+use Rattle.std.proofs.Common.{arith, ◌<◌, length}
+use Rattle.asn_base.specs.Seen.{component_of}
+use Rattle.later_versions.specs.Later.{IsSameComponent}
+use Rattle.later_versions.proofs.Fronts.{front_all, front_next, front_not, no, yes}
 use Rattle.later_versions.proofs.components.begin_with_components.Goals as goal
 
--- src/components.rt:107:26
 pub returns-in-Ok-false : goal.returns-in-Ok-false
-returns-in-Ok-false c = ?
+returns-in-Ok-false c =
+    let m : c.loop-i.i < length c.args.others.now = (let a = c.loop-i-test.true in let b = c.if-others-components.false in omega (arith, a, b)) in
+    no (front_not component_of (IsSameComponent c.args.schema.now) c.args.components.now c.args.others.now c.loop-i.i c.index-components-i.result c.index-others-i.result c.loop-i-test.true m c.index-components-i.is c.index-others-i.is
+    (λ h. absurd (let e = c.in-Ok-false.ensures.1 h in let f = c.in-Ok-false.field-0-test in cc)))
 
--- src/components.rt:104:5
 pub loop-i-preserved : goal.loop-i-preserved
-loop-i-preserved c = ?
+loop-i-preserved c =
+    let m : c.loop-i.i < length c.args.others.now = (let a = c.loop-i-test.true in let b = c.if-others-components.false in omega (arith, a, b)) in
+    front_next component_of (IsSameComponent c.args.schema.now) c.args.components.now c.args.others.now c.loop-i.i c.index-components-i.result c.index-others-i.result c.loop-i-test.true m c.index-components-i.is c.index-others-i.is
+    (c.in-Ok-true.ensures.0 c.in-Ok-true.field-0-test) c.loop-i.invariant
 
--- src/components.rt:92:1
 pub returns : goal.returns
-returns c = ?
+returns c =
+    yes (front_all component_of (IsSameComponent c.args.schema.now) c.args.components.now c.args.others.now c.loop-i.i c.loop-i-test.false c.if-others-components.false c.loop-i.invariant)

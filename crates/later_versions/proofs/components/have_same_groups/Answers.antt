@@ -1,16 +1,12 @@
-use Rattle.std.proofs.Common.{rules, ◌≡◌, ◌↔◌, ◌≤◌, ◌<◌, ℕ, true, IsTrue, IfOk, Some, length, map, slice_get, ◌+◌, ◌-◌, ◌*◌, ◌/◌, ◌%◌, Bool, false, nat_eq, nat_lt, List, [], ◌∷◌, ◌++◌, slice_index_or, slice_set, bit_and, bit_or, Fits, w8, w32, w64, Bor, MutBor}
-use Rattle.asn_base.specs.Abstract.{abstract}
-use Rattle.asn_base.specs.Same.{Same}
-use Rattle.asn_base.specs.Schemas.{is_addition as is_addition'}
-use Rattle.asn_base.specs.Schemas.{GroupsTogether}
-use Rattle.asn_base.specs.Seen.{component_of, presence_of}
-use Rattle.asn_base.specs.Typed.{group_of}
-use Rattle.asn_base.specs.Types.{Component as Component'}
-use Rattle.later_versions.specs.Kept.{kept, left_out}
-use Rattle.later_versions.specs.Later.{AreInOneGroup, AreLater, IsFront, IsMarkedAlike, IsSameComponent}
-use Rattle.later_versions.specs.proving.Groups.{AreOfOne, AreJoined, HaveSameGroups}
+use Rattle.std.proofs.Common.{map}
+use Rattle.asn_base.specs.Seen.{component_of}
+use Rattle.later_versions.proofs.Fronts.{beq_true}
+use Rattle.later_versions.proofs.Joined.{same_next}
 use Rattle.later_versions.proofs.components.have_same_groups.Goals as goal
 
--- src/components.rt:178:5
 pub loop-i-preserved : goal.loop-i-preserved
-loop-i-preserved c = ?
+loop-i-preserved c =
+    same_next (map component_of c.args.components.now) (map component_of c.args.others.now) c.loop-i.i
+    (beq_true c.is_grouped.result c.is_grouped-in-loop-i.result c.if-is_grouped.false c.is_grouped.ensures c.is_grouped-in-loop-i.ensures)
+    (beq_true c.is_joined.result c.is_joined-in-loop-i.result c.if-is_joined.false c.is_joined.ensures c.is_joined-in-loop-i.ensures)
+    c.loop-i.invariant

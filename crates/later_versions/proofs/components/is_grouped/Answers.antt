@@ -1,16 +1,12 @@
-use Rattle.std.proofs.Common.{rules, ◌≡◌, ◌↔◌, ◌≤◌, ◌<◌, ℕ, true, IsTrue, IfOk, Some, length, map, slice_get, ◌+◌, ◌-◌, ◌*◌, ◌/◌, ◌%◌, Bool, false, nat_eq, nat_lt, List, [], ◌∷◌, ◌++◌, slice_index_or, slice_set, bit_and, bit_or, Fits, w8, w32, w64, Bor, MutBor}
-use Rattle.asn_base.specs.Abstract.{abstract}
-use Rattle.asn_base.specs.Same.{Same}
-use Rattle.asn_base.specs.Schemas.{is_addition as is_addition'}
-use Rattle.asn_base.specs.Schemas.{GroupsTogether}
-use Rattle.asn_base.specs.Seen.{component_of, presence_of}
-use Rattle.asn_base.specs.Typed.{group_of}
-use Rattle.asn_base.specs.Types.{Component as Component'}
-use Rattle.later_versions.specs.Kept.{kept, left_out}
-use Rattle.later_versions.specs.Later.{AreInOneGroup, AreLater, IsFront, IsMarkedAlike, IsSameComponent}
-use Rattle.later_versions.specs.proving.Groups.{AreOfOne, AreJoined, HaveSameGroups}
+use Rattle.std.proofs.Common.{map}
+use Rattle.asn_base.specs.Seen.{component_of}
+use Rattle.later_versions.proofs.Fronts.{mapped_at}
+use Rattle.later_versions.proofs.Marks.{joined_two}
 use Rattle.later_versions.proofs.components.is_grouped.Goals as goal
 
--- src/components.rt:165:1
 pub returns : goal.returns
-returns c = ?
+returns c =
+    joined_two (map component_of c.args.components.now) c.args.place c.args.place (component_of c.index-components-place.result) (component_of c.index-components-place-2.result)
+    (mapped_at component_of c.args.components.now c.args.place c.index-components-place.result c.requires c.index-components-place.is)
+    (mapped_at component_of c.args.components.now c.args.place c.index-components-place-2.result c.requires c.index-components-place-2.is)
+    c.are_of_one.ensures

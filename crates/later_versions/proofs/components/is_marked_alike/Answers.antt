@@ -1,28 +1,24 @@
-use Rattle.std.proofs.Common.{rules, ◌≡◌, ◌↔◌, ◌≤◌, ◌<◌, ℕ, true, IsTrue, IfOk, Some, length, map, slice_get, ◌+◌, ◌-◌, ◌*◌, ◌/◌, ◌%◌, Bool, false, nat_eq, nat_lt, List, [], ◌∷◌, ◌++◌, slice_index_or, slice_set, bit_and, bit_or, Fits, w8, w32, w64, Bor, MutBor}
+use Rattle.std.proofs.Common.{ap}
 use Rattle.asn_base.specs.Abstract.{abstract}
-use Rattle.asn_base.specs.Same.{Same}
-use Rattle.asn_base.specs.Schemas.{is_addition as is_addition'}
-use Rattle.asn_base.specs.Schemas.{GroupsTogether}
-use Rattle.asn_base.specs.Seen.{component_of, presence_of}
-use Rattle.asn_base.specs.Typed.{group_of}
-use Rattle.asn_base.specs.Types.{Component as Component'}
-use Rattle.later_versions.specs.Kept.{kept, left_out}
-use Rattle.later_versions.specs.Later.{AreInOneGroup, AreLater, IsFront, IsMarkedAlike, IsSameComponent}
-use Rattle.later_versions.specs.proving.Groups.{AreOfOne, AreJoined, HaveSameGroups}
+use Rattle.asn_base.specs.Seen.{presence_of}
+use Rattle.later_versions.proofs.Marks.{alike_additions, alike_default, alike_mandatory, alike_optional}
+use Rattle.later_versions.proofs.Fronts.{beq_same}
 use Rattle.later_versions.proofs.components.is_marked_alike.Goals as goal
 
--- src/components.rt:40:1
 pub returns-in-Mandatory-other : goal.returns-in-Mandatory-other
-returns-in-Mandatory-other c = ?
+returns-in-Mandatory-other c =
+    alike_mandatory c.args.schema.now c.args.id.index (presence_of c.args.one.now) (presence_of c.args.other.now) (ap presence_of c.in-Mandatory.is) (ap presence_of c.in-Mandatory-other.is)
 
--- src/components.rt:40:1
 pub returns-in-Optional-other : goal.returns-in-Optional-other
-returns-in-Optional-other c = ?
+returns-in-Optional-other c =
+    alike_optional c.args.schema.now c.args.id.index (presence_of c.args.one.now) (presence_of c.args.other.now) (ap presence_of c.in-Optional.is) (ap presence_of c.in-Optional-other.is)
 
--- src/components.rt:40:1
 pub returns-in-Ok : goal.returns-in-Ok
-returns-in-Ok c = ?
+returns-in-Ok c =
+    alike_default c.args.schema.now c.args.id.index (presence_of c.args.one.now) (presence_of c.args.other.now) (abstract c.in-Default.value) (abstract c.in-Default-other.later)
+    (ap presence_of c.in-Default.is) (ap presence_of c.in-Default-other.is) c.in-Ok.ensures
 
--- src/components.rt:40:1
 pub returns-in-Addition-other : goal.returns-in-Addition-other
-returns-in-Addition-other c = ?
+returns-in-Addition-other c =
+    alike_additions c.args.schema.now c.args.id.index (presence_of c.args.one.now) (presence_of c.args.other.now) c.in-Addition.one.optional c.in-Addition-other.other.optional c.in-Addition.one.group c.in-Addition-other.other.group
+    (ap presence_of c.in-Addition.is) (ap presence_of c.in-Addition-other.is) (beq_same c.in-Addition.one.optional c.in-Addition-other.other.optional)

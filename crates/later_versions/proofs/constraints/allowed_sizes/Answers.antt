@@ -1,10 +1,13 @@
-use Rattle.std.proofs.Common.{rules, ◌≡◌, ◌↔◌, ℤ, IsTrue, IfOk, IfSome, ◌≤ℤ◌, map, ℕ, ◌+◌, ◌-◌, ◌*◌, ◌<◌, ◌≤◌, length, ◌/◌, ◌%◌, Bool, true, false, nat_eq, nat_lt, List, [], ◌∷◌, ◌++◌, slice_index_or, slice_set, bit_and, bit_or, Fits, w8, w32, w64, Bor, MutBor}
-use Rattle.asn_base.specs.Seen.{bounds_of, constraint_of, range_of}
-use Rattle.asn_base.specs.Schemas.{IsNumber, IsSize}
-use Rattle.asn_base.specs.Typed.{IsAllowed, IsInSome}
-use Rattle.later_versions.specs.Later.{LeaveSame}
+use Rattle.later_versions.proofs.Marks.{is_size}
 use Rattle.later_versions.proofs.constraints.allowed_sizes.Goals as goal
 
--- src/constraints.rt:80:1
 pub returns-in-Ok : goal.returns-in-Ok
-returns-in-Ok c = ?
+returns-in-Ok c = λ z.
+    let h = c.in-Ok.ensures.members z in
+    let a = c.in_ok-numbers.ensures z in
+    let b = c.in_ok-sizes.ensures z in
+    let s = is_size z in
+    (
+      λ p. (let q = h.0 p in (a.0 q.0, s.0 (b.0 q.1))),
+      λ p. h.1 (a.1 p.0, b.1 (s.1 p.1)),
+    )

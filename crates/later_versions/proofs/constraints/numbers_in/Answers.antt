@@ -1,10 +1,11 @@
-use Rattle.std.proofs.Common.{rules, ◌≡◌, ◌↔◌, ℤ, IsTrue, IfOk, IfSome, ◌≤ℤ◌, map, ℕ, ◌+◌, ◌-◌, ◌*◌, ◌<◌, ◌≤◌, length, ◌/◌, ◌%◌, Bool, true, false, nat_eq, nat_lt, List, [], ◌∷◌, ◌++◌, slice_index_or, slice_set, bit_and, bit_or, Fits, w8, w32, w64, Bor, MutBor}
-use Rattle.asn_base.specs.Seen.{bounds_of, constraint_of, range_of}
-use Rattle.asn_base.specs.Schemas.{IsNumber, IsSize}
-use Rattle.asn_base.specs.Typed.{IsAllowed, IsInSome}
-use Rattle.later_versions.specs.Later.{LeaveSame}
+use Rattle.std.proofs.Common.{◌++◌, ap, map, subst, ◌∙◌}
+use Rattle.std.specs.Prelude.{◌↔◌}
+use Rattle.asn_base.specs.Seen.{range_of}
+use Rattle.asn_base.specs.Typed.{IsInSome}
 use Rattle.later_versions.proofs.constraints.numbers_in.Goals as goal
 
--- src/constraints.rt:50:1
 pub returns-in-Ok : goal.returns-in-Ok
-returns-in-Ok c = ?
+returns-in-Ok c = λ z.
+    subst (λ q. IsInSome z c.in-Ok.all ↔ IsInSome z (map range_of q))
+    (c.in_ok-extend_from_slice.ensures.items ∙ ap (λ q. q ++ c.args.some.now) c.new-ranges.ensures.items)
+    (c.in-Ok.ensures.members z)

@@ -1,12 +1,18 @@
-use Rattle.std.proofs.Common.{rules, ◌≡◌, ◌↔◌, ℕ, IsTrue, IfOk, OnOk, ◌+◌, ◌-◌, ◌*◌, ◌<◌, ◌≤◌, length, ◌/◌, ◌%◌, Bool, true, false, nat_eq, nat_lt, List, [], ◌∷◌, ◌++◌, slice_index_or, slice_set, bit_and, bit_or, Fits, w8, w32, w64, Bor, MutBor}
-use Rattle.later_versions.specs.Later.{Later}
-use Rattle.later_versions.specs.proving.Pairs.{AreKnown, AreNoted, IsFine, IsMemberPair, StandsIn, pair_of}
+use Rattle.std.proofs.Common.{ap, map, sym, subst, ◌∙◌}
+use Rattle.asn_base.specs.Seen.{resolved_of}
+use Rattle.later_versions.proofs.Fronts.{no}
+use Rattle.later_versions.proofs.Pairing.{fine_pair, fine_tags}
 use Rattle.later_versions.proofs.versions.is_later_pair.Goals as goal
 
--- src/versions.rt:29:9
-pub returns-then-ne : goal.returns-then-ne
-returns-then-ne c = ?
+pub returns-then-not-are_same_tags : goal.returns-then-not-are_same_tags
+returns-then-not-are_same_tags c =
+    no (λ f. absurd (
+      let e = c.are_same_tags.ensures.1 (c.as_slice.ensures.value ∙ fine_tags c.args.first.now c.args.second.now _ (resolved_of c.get-one.result.now) (resolved_of c.get-other.result.now) c.get-one.ensures.is c.get-other.ensures.is f ∙ sym c.as_slice-2.ensures.value) in
+      let g = c.if-not-are_same_tags.true in
+      cc
+    ))
 
--- src/versions.rt:15:1
 pub returns-in-Ok : goal.returns-in-Ok
-returns-in-Ok c = ?
+returns-in-Ok c =
+    fine_pair c.args.first.now c.args.second.now _ (resolved_of c.get-one.result.now) (resolved_of c.get-other.result.now) c.get-one.ensures.is c.get-other.ensures.is
+    (sym c.as_slice.ensures.value ∙ c.are_same_tags.ensures.0 c.if-not-are_same_tags.false ∙ c.as_slice-2.ensures.value) c.in-Ok.ensures

@@ -1,20 +1,30 @@
-use Rattle.std.proofs.Common.{rules, ◌≡◌, ◌↔◌, ℕ, IsTrue, IfOk, OnOk, ◌+◌, ◌-◌, ◌*◌, ◌<◌, ◌≤◌, length, ◌/◌, ◌%◌, Bool, true, false, nat_eq, nat_lt, List, [], ◌∷◌, ◌++◌, slice_index_or, slice_set, bit_and, bit_or, Fits, w8, w32, w64, Bor, MutBor}
-use Rattle.later_versions.specs.Later.{Later}
-use Rattle.later_versions.specs.proving.Pairs.{AreKnown, AreNoted, IsFine, IsMemberPair, StandsIn, pair_of}
+use Rattle.std.proofs.Common.{arith, inl, inr, sym, ap, ◌∙◌}
+use Rattle.std.specs.Prelude.{option_map}
+use Rattle.later_versions.specs.Kept.{members_of}
+use Rattle.later_versions.specs.proving.Pairs.{pair_of}
+use Rattle.later_versions.proofs.Few.{few_members}
+use Rattle.later_versions.proofs.Places.{past_end}
+use Rattle.later_versions.proofs.Pairing.{noted_all, noted_next}
 use Rattle.later_versions.proofs.versions.note_members.Goals as goal
 
--- src/versions.rt:63:18
 pub returns-in_default-clause-members : goal.returns-in_default-clause-members
-returns-in_default-clause-members c = ?
+returns-in_default-clause-members c =
+    noted_all c.args.first.now c.args.second.now (pair_of c.args.pair) c.args.pairs.now c.loop-place.pairs c.loop-place.place (inr (sym c.in_default.ensures')) c.loop-place.invariant
 
--- src/versions.rt:63:18
 pub returns-in_default-2-clause-members : goal.returns-in_default-2-clause-members
-returns-in_default-2-clause-members c = ?
+returns-in_default-2-clause-members c =
+    noted_all c.args.first.now c.args.second.now (pair_of c.args.pair) c.args.pairs.now c.loop-place.pairs c.loop-place.place
+    (inl (sym c.member_at.ensures ∙ ap (λ o. option_map (λ t. t.index) o) c.in_default.is-0)) c.loop-place.invariant
 
--- src/versions.rt:51:5
 pub loop-place-preserved : goal.loop-place-preserved
-loop-place-preserved c = ?
+loop-place-preserved c =
+    noted_next c.args.first.now c.args.second.now (pair_of c.args.pair) (c.in-Some-Some.one.index, c.in-Some-Some.other.index) c.args.pairs.now c.loop-place.pairs c.note.new.pairs c.loop-place.place
+    (c.loop-place.place, sym c.in-Some-Some.ensures, sym c.in-Some-Some.ensures') (sym c.in-Some-Some.ensures) (sym c.in-Some-Some.ensures')
+    c.in_ok-note-in-Some-Some.ensures.known c.in_ok-note-in-Some-Some.ensures.stands c.in_ok-note-in-Some-Some.ensures.noted c.loop-place.invariant
 
--- src/versions.rt:38:1
 pub returns-clause-members : goal.returns-clause-members
-returns-clause-members c = ?
+returns-clause-members c =
+    let l = few_members c.args.first.now c.args.pair.first.index c.accepted.ensures in
+    let m = c.loop-place-test.false in
+    noted_all c.args.first.now c.args.second.now (pair_of c.args.pair) c.args.pairs.now c.loop-place.pairs c.loop-place.place
+    (inl (past_end (members_of c.args.first.now c.args.pair.first.index) c.loop-place.place (omega (arith, l, m)))) c.loop-place.invariant
