@@ -44,6 +44,6 @@ few_in s (a_choice root e more) h =
 pub few_members : (s : List Resolved) (t : ℕ) → IsSchema s → length (members_of s t) ≤ 320
 few_members s t h = of_type (slice_get s t) refl
   where
-    of_type : (o : Option Resolved) → slice_get s t ≡ o → length (elim o [ None ↦ [] | Some r ↦ types_in r.kind ]) ≤ 320
+    of_type : (o : Option Resolved) → slice_get s t ≡ o → length {A = ℕ} (elim o [ None ↦ [] | Some r ↦ types_in r.kind ]) ≤ 320
     of_type None e = omega arith
     of_type (Some r) e = few_in s r.kind (h.sound t r.tags r.kind (record { found = e }))

@@ -12,6 +12,7 @@ use Rattle.asn_base.specs.Names.{IsMember, is_first, is_later}
 use Rattle.asn_base.specs.Types.{Resolved}
 use Rattle.later_versions.specs.Kept.{members_of}
 use Rattle.later_versions.specs.Later.{IsLaterKind, IsLaterType, Later, leads}
+use Rattle.later_versions.proofs.Placing.{at_place}
 use Rattle.later_versions.specs.proving.Pairs.{AreKnown, AreNoted, IsFine, IsIn, IsMemberPair, IsSoFar, StandsIn, met, pair_cmp}
 use Rattle.later_versions.specs.declared.pairs.Pairs.{Pairs}
 
@@ -20,11 +21,6 @@ use Rattle.later_versions.specs.declared.pairs.Pairs.{Pairs}
 member_place : {A : Type 0} {x : A} {xs : List A} → IsMember x xs → (i : ℕ) × (slice_get xs i ≡ Some x)
 member_place is_first = (0, refl)
 member_place (is_later h) = let m = member_place h in (suc m.0, m.1)
-
-at_place : {A : Type 0} (xs : List A) (i : ℕ) (x : A) → slice_get xs i ≡ Some x → IsMember x xs
-at_place [] i x e = absurd cc
-at_place (y ∷ xs) zero x e = let h : y ≡ x = cc in subst (λ z. IsMember x (z ∷ xs)) (sym h) is_first
-at_place (y ∷ xs) (suc i) x e = is_later (at_place xs i x e)
 
 member_left : {A : Type 0} {x : A} {xs : List A} (ys : List A) → IsMember x xs → IsMember x (xs ++ ys)
 member_left ys is_first = is_first

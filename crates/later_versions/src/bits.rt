@@ -38,16 +38,14 @@ fn has(bits: &[NamedBit], places: &BTreeMap<usize, usize>, bit: &NamedBit) -> bo
     requires distinct { AreDistinct (map (λ b. b.place) (map named_bit_of bits.now)) }
     ensures { IsTrue result ↔ IsMember (named_bit_of bit.now) (map named_bit_of bits.now) }
 {
-    match places.get(&bit.place) {
-        Some(found) => {
-            let at = *found;
-            if at >= bits.len() {
-                return false;
-            }
-            have_same_name(&bits[at], bit)
-        }
-        None => false,
+    let found = match places.get(&bit.place) {
+        Some(place) => *place,
+        None => return false,
+    };
+    if found >= bits.len() {
+        return false;
     }
+    have_same_name(&bits[found], bit)
 }
 
 /// Whether the first bits have all of the others.

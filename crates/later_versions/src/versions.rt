@@ -94,6 +94,7 @@ fn are_later(
         }
         note_members(first, second, pair, &mut pairs)?;
     }
+    let _count = pairs.list.len();
     Ok(true)
 }
 

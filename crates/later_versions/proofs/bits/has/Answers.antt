@@ -10,15 +10,15 @@ pub returns-in-None : goal.returns-in-None
 returns-in-None c =
     no (no_bit (map named_bit_of c.args.bits.now) c.args.places.now (named_bit_of c.args.bit.now) c.requires.placed (sym c.in-None.ensures.value))
 
-pub returns-then-at-bits : goal.returns-then-at-bits
-returns-then-at-bits c =
+pub returns-then-found-bits : goal.returns-then-found-bits
+returns-then-found-bits c =
     let n = length-map c.args.bits.now named_bit_of in
-    let l = c.if-at-bits.true in
-    absurd (no_place (map named_bit_of c.args.bits.now) c.args.places.now c.in-Some.found.now (named_bit_of c.args.bit.now) c.requires.placed (sym c.in-Some.ensures.value)
-    (past_end (map named_bit_of c.args.bits.now) c.in-Some.found.now (omega (arith, n, l))))
+    let l = c.if-found-bits.true in
+    absurd (no_place (map named_bit_of c.args.bits.now) c.args.places.now c.in-Some.place.now (named_bit_of c.args.bit.now) c.requires.placed (sym c.in-Some.ensures.value)
+    (past_end (map named_bit_of c.args.bits.now) c.in-Some.place.now (omega (arith, n, l))))
 
 pub returns : goal.returns
 returns c =
-    let h = same_bit (map named_bit_of c.args.bits.now) c.args.places.now c.in-Some.found.now (named_bit_of c.index-bits-at.result) (named_bit_of c.args.bit.now) c.requires.placed c.requires.distinct (sym c.in-Some.ensures.value)
-      (mapped_at named_bit_of c.args.bits.now c.in-Some.found.now c.index-bits-at.result c.if-at-bits.false c.index-bits-at.is) in
+    let h = same_bit (map named_bit_of c.args.bits.now) c.args.places.now c.in-Some.place.now (named_bit_of c.index-bits-found.result) (named_bit_of c.args.bit.now) c.requires.placed c.requires.distinct (sym c.in-Some.ensures.value)
+      (mapped_at named_bit_of c.args.bits.now c.in-Some.place.now c.index-bits-found.result c.if-found-bits.false c.index-bits-found.is) in
     onward c.have_same_name.ensures h.0 h.1

@@ -2,7 +2,7 @@ use Rattle.std.proofs.Common.{map, ap, sym, ◌∙◌, refl, Some, None}
 use Rattle.std.specs.Prelude.{option_map}
 use Rattle.asn_base.specs.Abstract.{abstract}
 use Rattle.later_versions.specs.Kept.{members_of}
-use Rattle.later_versions.proofs.Keeps.{elements_left, elements_next, elements_whole, kept_absent, kept_present, kept_whole, left_present}
+use Rattle.later_versions.proofs.Keeps.{elements_left, elements_next, elements_whole, kept_absent, kept_present, kept_whole, left_behind, left_present}
 use Rattle.later_versions.proofs.keeping.+keeping.Goals.{keep_fields-in-Some+in-Some-member_at+in-Ok-Some+in_ok-add-in-Ok-Some, keep_fields-in-None+in_ok-pass-in-None}
 use Rattle.later_versions.proofs.keeping.+keeping.Goals as goal
 
@@ -44,3 +44,8 @@ keep_fields-returns-in-Ok-None t c =
 pub keep_fields-returns : goal.keep_fields-returns
 keep_fields-returns t c =
     kept_whole (option_map abstract) c.args.schema.now (members_of c.args.schema.now c.args.id.index) c.args.values.now c.loop-i.all.items c.loop-i.i c.loop-i-test.false c.loop-i.invariant
+
+pub keep_fields-returns-in-None-member_at : goal.keep_fields-returns-in-None-member_at
+keep_fields-returns-in-None-member_at t c =
+    left_behind (option_map abstract) c.args.schema.now (members_of c.args.schema.now c.args.id.index) c.args.values.now c.loop-i.all.items c.loop-i.i c.index-values-i.result (abstract c.in-Some.value)
+    c.loop-i-test.true c.index-values-i.is (sym c.in-None-member_at.ensures) (ap (option_map abstract) c.in-Some.is) c.loop-i.invariant

@@ -16,3 +16,7 @@ returns c =
       (beq_true c.reach_down-down.result c.reach_down-other_down.result c.if-down-other_down.false c.reach_down-down.ensures c.reach_down-other_down.ensures)
       (c.agree_at_all.ensures.0 c.if-not-agree_at_all.false) p)
     (λ h z e. h z)
+
+pub returns-then-not-agree_at_all : goal.returns-then-not-agree_at_all
+returns-then-not-agree_at_all c =
+    no (λ h. absurd (let e = c.agree_at_all.ensures.1 (λ z e. h z) in let f = c.if-not-agree_at_all.true in cc))
