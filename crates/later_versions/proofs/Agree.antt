@@ -15,28 +15,48 @@ LastOrNone P z =
 -- one number more
 one_more : (P : ℤ → Type 0) (k z : ℤ) → LastOrNone P z → LastOrNone (λ e. (e ≡ k) ⊎ P e) z
 one_more P k z (inl h) = by_lt_z z k
-    (λ lt. inl (h.0, inr h.1, h.2, λ e p l. elim p [
-      | inl q ↦ absurd (let m = subst (λ x. x ≤ℤ z) q l in omega (arith, ints))
-      | inr q ↦ h.3 e q l
-    ]))
+    (λ lt. inl (
+      h.0,
+      inr h.1,
+      h.2,
+      λ e p l. elim p [
+        | inl q ↦ absurd (let m = subst (λ x. x ≤ℤ z) q l in omega (arith, ints))
+        | inr q ↦ h.3 e q l
+      ],
+    ))
     (λ le. by_lt_z h.0 k
-      (λ lt. inl (k, inl refl, le, λ e p l. elim p [
+    (λ lt. inl (
+      k,
+      inl refl,
+      le,
+      λ e p l. elim p [
         | inl q ↦ (let m = subst (λ x. x ≤ℤ x) q (itself e) in subst (λ x. x ≤ℤ k) (sym q) (itself k))
         | inr q ↦ (let n = h.3 e q l in omega (arith, ints))
-      ]))
-      (λ ge. inl (h.0, inr h.1, h.2, λ e p l. elim p [
+      ],
+    ))
+    (λ ge. inl (
+      h.0,
+      inr h.1,
+      h.2,
+      λ e p l. elim p [
         | inl q ↦ subst (λ x. x ≤ℤ h.0) (sym q) ge
         | inr q ↦ h.3 e q l
-      ])))
+      ],
+    )))
   where
     itself : (x : ℤ) → x ≤ℤ x
     itself x = omega (arith, ints)
 one_more P k z (inr h) = by_lt_z z k
     (λ lt. inr (λ e p. elim p [ inl q ↦ subst (λ x. z <ℤ x) (sym q) lt | inr q ↦ h e q ]))
-    (λ le. inl (k, inl refl, le, λ e p l. elim p [
-      | inl q ↦ subst (λ x. x ≤ℤ k) (sym q) (itself k)
-      | inr q ↦ absurd (let n = h e q in omega (arith, ints))
-    ]))
+    (λ le. inl (
+      k,
+      inl refl,
+      le,
+      λ e p l. elim p [
+        | inl q ↦ subst (λ x. x ≤ℤ k) (sym q) (itself k)
+        | inr q ↦ absurd (let n = h e q in omega (arith, ints))
+      ],
+    ))
   where
     itself : (x : ℤ) → x ≤ℤ x
     itself x = omega (arith, ints)
@@ -92,23 +112,28 @@ in_range None None b z h n = (λ p. p, λ p. p)
 in_range (Some k) None b z h n = (λ p. (n k (inl refl) p.0, tt), λ p. (let q = p.0 in omega (arith, ints), tt))
 in_range None (Some g) b z h n = (
   λ p. (tt, let q = p.1 in omega (arith, ints)),
-  λ p. (tt, by_lt_z g z
-    (λ lt. absurd (let m = n (g +ℤ pos 1) (inr (g, refl, refl)) (omega (arith, ints)) in let q = p.1 in omega (arith, ints)))
-    (λ le. le)),
+  λ p. (
+    tt,
+    by_lt_z g z
+        (λ lt. absurd (let m = n (g +ℤ pos 1) (inr (g, refl, refl)) (omega (arith, ints)) in let q = p.1 in omega (arith, ints)))
+        (λ le. le),
+  ),
 )
 in_range (Some k) (Some g) b z h n = (
   λ p. (n k (inl refl) p.0, let q = p.1 in omega (arith, ints)),
-  λ p. (let q = p.0 in omega (arith, ints), by_lt_z g z
-    (λ lt. absurd (let m = n (g +ℤ pos 1) (inr (g, refl, refl)) (omega (arith, ints)) in let q = p.1 in omega (arith, ints)))
-    (λ le. le)),
+  λ p. (
+    let q = p.0 in omega (arith, ints),
+    by_lt_z g z
+        (λ lt. absurd (let m = n (g +ℤ pos 1) (inr (g, refl, refl)) (omega (arith, ints)) in let q = p.1 in omega (arith, ints)))
+        (λ le. le),
+  ),
 )
 
 in_some : (rs : List Range) (b z : ℤ) → b ≤ℤ z → NoneBetween (IsEdgeOfSome rs) b z → IsInSome z rs ↔ IsInSome b rs
 in_some [] b z h n = (λ p. p, λ p. p)
 in_some (r ∷ rs) b z h n =
     let a = in_range r.least r.greatest b z h (λ e p l. n e (inl p) l) in
-    let c = in_some rs b z h (λ e p l. n e (inr p) l) in
-    (
+    let c = in_some rs b z h (λ e p l. n e (inr p) l) in (
       λ p. elim p [ inl q ↦ inl (a.0 q) | inr q ↦ inr (c.0 q) ],
       λ p. elim p [ inl q ↦ inl (a.1 q) | inr q ↦ inr (c.1 q) ],
     )
@@ -140,8 +165,7 @@ below_all : (rs : List Range) (z : ℤ) → ((e : ℤ) → IsEdgeOfSome rs e →
 below_all [] z n = (λ p. p, λ p. p)
 below_all (r ∷ rs) z n =
     let a = below_range r.least r.greatest z (λ e p. n e (inl p)) in
-    let b = below_all rs z (λ e p. n e (inr p)) in
-    (
+    let b = below_all rs z (λ e p. n e (inr p)) in (
       λ p. elim p [ inl q ↦ inl (a.0 q) | inr q ↦ inr (b.0 q) ],
       λ p. elim p [ inl q ↦ inl (a.1 q) | inr q ↦ inr (b.1 q) ],
     )
@@ -155,16 +179,16 @@ agree_everywhere : (rs ss : List Range)
     → IsInSome z rs ↔ IsInSome z ss
 agree_everywhere rs ss low first second z = elim (last_edge (rs ++ ss) z) [
   | inl h ↦ (
-    let a = in_some rs h.0 z h.2 (λ e p l. h.3 e (edge_left rs ss e p) l) in
-    let b = in_some ss h.0 z h.2 (λ e p l. h.3 e (edge_right rs ss e p) l) in
-    let c : IsInSome h.0 rs ↔ IsInSome h.0 ss = elim (edge_of rs ss h.0 h.1) [ inl p ↦ first h.0 p | inr p ↦ second h.0 p ] in
-    (λ p. b.1 (c.0 (a.0 p)), λ p. a.1 (c.1 (b.0 p)))
-  )
+      let a = in_some rs h.0 z h.2 (λ e p l. h.3 e (edge_left rs ss e p) l) in
+      let b = in_some ss h.0 z h.2 (λ e p l. h.3 e (edge_right rs ss e p) l) in
+      let c : IsInSome h.0 rs ↔ IsInSome h.0 ss = elim (edge_of rs ss h.0 h.1) [ inl p ↦ first h.0 p | inr p ↦ second h.0 p ] in
+      (λ p. b.1 (c.0 (a.0 p)), λ p. a.1 (c.1 (b.0 p)))
+      )
   | inr h ↦ (
-    let a = below_all rs z (λ e p. h e (edge_left rs ss e p)) in
-    let b = below_all ss z (λ e p. h e (edge_right rs ss e p)) in
-    (λ p. b.1 (low.0 (a.0 p)), λ p. a.1 (low.1 (b.0 p)))
-  )
+      let a = below_all rs z (λ e p. h e (edge_left rs ss e p)) in
+      let b = below_all ss z (λ e p. h e (edge_right rs ss e p)) in
+      (λ p. b.1 (low.0 (a.0 p)), λ p. a.1 (low.1 (b.0 p)))
+      )
 ]
 
 -- and back: sets that agree everywhere agree below all edges
@@ -173,22 +197,25 @@ lowest [] = (pos 0, λ e p. absurd p)
 lowest (r ∷ rs) =
     let a = lowest rs in
     let b = below_end r.greatest a.0 in
-    let c = below_least r.least b.0 in
-    (c.0, λ e p. elim p [
-      | inl q ↦ elim q [ inl u ↦ c.2 e u | inr u ↦ (let m = b.2 e u in let n = c.1 in omega (arith, ints)) ]
-      | inr q ↦ (let m = a.1 e q in let n = b.1 in let o = c.1 in omega (arith, ints))
-    ])
+    let c = below_least r.least b.0 in (
+      c.0,
+      λ e p. elim p [
+        | inl q ↦ elim q [ inl u ↦ c.2 e u | inr u ↦ (let m = b.2 e u in let n = c.1 in omega (arith, ints)) ]
+        | inr q ↦ (let m = a.1 e q in let n = b.1 in let o = c.1 in omega (arith, ints))
+      ],
+    )
   where
     below_least : (o : Option ℤ) (y : ℤ) → (z : ℤ) × (z ≤ℤ y) × ((e : ℤ) → o ≡ Some e → z <ℤ e)
     below_least None y = (y, omega (arith, ints), λ e q. absurd (cc))
     below_least (Some k) y = by_lt_z y k
-      (λ lt. (y, omega (arith, ints), λ e q. (let s : k ≡ e = cc in subst (λ x. y <ℤ x) s lt)))
-      (λ le. (k -ℤ pos 1, omega (arith, ints), λ e q. (let s : k ≡ e = cc in subst (λ x. (k -ℤ pos 1) <ℤ x) s (omega (arith, ints)))))
+        (λ lt. (y, omega (arith, ints), λ e q. (let s : k ≡ e = cc in subst (λ x. y <ℤ x) s lt)))
+        (λ le. (k -ℤ pos 1, omega (arith, ints), λ e q. (let s : k ≡ e = cc in subst (λ x. (k -ℤ pos 1) <ℤ x) s (omega (arith, ints)))))
+
     below_end : (o : Option ℤ) (y : ℤ) → (z : ℤ) × (z ≤ℤ y) × ((e : ℤ) → IsEnd o e → z <ℤ e)
     below_end None y = (y, omega (arith, ints), λ e q. absurd (let r = q.1 in cc))
     below_end (Some k) y =
-      let h = below_least (Some (k +ℤ pos 1)) y in
-      (h.0, h.1, λ e q. h.2 e (let s : k ≡ q.0 = (let r = q.1 in cc) in ap (λ x. Some (x +ℤ pos 1)) s ∙ ap Some (sym q.2)))
+        let h = below_least (Some (k +ℤ pos 1)) y in
+        (h.0, h.1, λ e q. h.2 e (let s : k ≡ q.0 = (let r = q.1 in cc) in ap (λ x. Some (x +ℤ pos 1)) s ∙ ap Some (sym q.2)))
 
 agree_below : (rs ss : List Range)
     → ((z : ℤ) → IsInSome z rs ↔ IsInSome z ss)

@@ -1,6 +1,6 @@
 -- Lists that begin with the elements of others, one for one.
-use Rattle.std.proofs.Common.{arith, ◌≡◌, ℕ, zero, suc, ◌+◌, ◌<◌, ◌≤◌, List, [], ◌∷◌, length, map, drop, get_or, refl, sym, ap, subst, ◌∙◌, inl, inr, true, false}
-use Rattle.std.specs.Prelude.{slice_get, ◌⊎◌, ◌↔◌, IsTrue, Some, None, option_map, Bool}
+use Rattle.std.proofs.Common.{arith, ◌≡◌, ℕ, suc, ◌+◌, ◌<◌, ◌≤◌, List, [], ◌∷◌, length, map, drop, get_or, refl, sym, ap, subst, ◌∙◌, inl, inr, true, false}
+use Rattle.std.specs.Prelude.{slice_get, ◌⊎◌, ◌↔◌, IsTrue, Some, option_map, Bool}
 use mathlib.Core.Bool.{beq, not}
 use Rattle.std.proofs.lemmas.Bool.{cases_lt}
 use Rattle.std.proofs.lemmas.List.{drop_more, get_or-map, length-map}
@@ -38,11 +38,11 @@ pub front_next : {A B : Type 0} (f : A → B) (R : B → B → Type 0) (xs ys : 
 front_next f R xs ys i x y l m e g r so = λ j u v h a b. elim (cases_lt j i) [
   | inl k ↦ so j u v k a b
   | inr k ↦ (
-    let s : i ≡ j = omega (arith, h, k) in
-    let t = same_Some (f x) u (sym (mapped_at f xs i x l e) ∙ ap (slice_get (map f xs)) s ∙ a) in
-    let w = same_Some (f y) v (sym (mapped_at f ys i y m g) ∙ ap (slice_get (map f ys)) s ∙ b) in
-    subst (λ q. R q v) t (subst (R (f x)) w r)
-  )
+      let s : i ≡ j = omega (arith, h, k) in
+      let t = same_Some (f x) u (sym (mapped_at f xs i x l e) ∙ ap (slice_get (map f xs)) s ∙ a) in
+      let w = same_Some (f y) v (sym (mapped_at f ys i y m g) ∙ ap (slice_get (map f ys)) s ∙ b) in
+      subst (λ q. R q v) t (subst (R (f x)) w r)
+      )
 ]
 
 pub front_all : {A B : Type 0} (f : A → B) (R : B → B → Type 0) (xs ys : List A) (i : ℕ)
@@ -107,18 +107,23 @@ pub mapped_same : {A B : Type 0} (f : A → B) (xs ys : List A)
     → map f xs ≡ map f ys
     → (length xs ≡ length ys) × IsFront (λ x y. f x ≡ f y) xs ys
 mapped_same f xs ys e =
-    let many : length xs ≡ length ys = sym (length-map xs f) ∙ ap length e ∙ length-map ys f in
-    (many, record {
-      none_dropped = omega (arith, many);
-      kept = λ i x y a b. same_Some (f x) (f y)
-        (sym (slice_get-map f xs i ∙ ap (option_map f) a) ∙ ap (λ q. slice_get q i) e ∙ slice_get-map f ys i ∙ ap (option_map f) b);
-    })
+    let many : length xs ≡ length ys = sym (length-map xs f) ∙ ap length e ∙ length-map ys f in (
+      many,
+      record {
+        none_dropped = omega (arith, many);
+        kept = λ i x y a b. same_Some (f x) (f y)
+            (sym (slice_get-map f xs i ∙ ap (option_map f) a) ∙ ap (λ q. slice_get q i) e ∙ slice_get-map f ys i ∙ ap (option_map f) b);
+      },
+    )
 
 pub lists_same : {A : Type 0} (xs ys : List A) → xs ≡ ys → (length xs ≡ length ys) × IsFront (λ x y. x ≡ y) xs ys
-lists_same xs ys e = (ap length e, record {
-  none_dropped = (let l = ap length e in omega (arith, l));
-  kept = λ i x y a b. same_Some x y (sym a ∙ ap (λ q. slice_get q i) e ∙ b);
-})
+lists_same xs ys e = (
+  ap length e,
+  record {
+    none_dropped = (let l = ap length e in omega (arith, l));
+    kept = λ i x y a b. same_Some x y (sym a ∙ ap (λ q. slice_get q i) e ∙ b);
+  },
+)
 
 -- ---- lists from a place on
 

@@ -1,6 +1,6 @@
 -- Groups that stand together are told by neighbours.
 use Rattle.std.proofs.Common.{arith, inl, inr, ◌≡◌, ℕ, zero, suc, ◌+◌, ◌-◌, ◌<◌, ◌≤◌, List, [], ◌∷◌, ◌++◌, length, refl, sym, ap, subst, ◌∙◌, true, false}
-use Rattle.std.specs.Prelude.{slice_get, ◌⊎◌, ◌↔◌, Some}
+use Rattle.std.specs.Prelude.{slice_get, ◌↔◌, Some}
 use Rattle.std.specs.List.{AllByRecursion}
 use Rattle.std.proofs.lemmas.Bool.{cases_lt}
 use Rattle.std.proofs.lemmas.Option.{same_Some}
@@ -16,7 +16,13 @@ IsAt g cs i = (c : Component) × (slice_get cs i ≡ Some c) × IsOfGroup g c
 
 one_of : (cs : List Component) (i j g : ℕ) → IsAt g cs i → IsAt g cs j → AreInOneGroup cs i j
 one_of cs i j g a b = record {
-  group = g; first = a.0; second = b.0; at_first = a.1; at_second = b.1; of_first = a.2; of_second = b.2;
+  group = g;
+  first = a.0;
+  second = b.0;
+  at_first = a.1;
+  at_second = b.1;
+  of_first = a.2;
+  of_second = b.2;
 }
 
 left_of : {cs : List Component} {i j : ℕ} (o : AreInOneGroup cs i j) → IsAt o.group cs i
@@ -109,13 +115,13 @@ carried_all : (cs ds : List Component) (n : ℕ)
     → AreInOneGroup ds i j
 carried_all cs ds n t f g i j l m o = elim (cases_lt i j) [
   | inl a ↦ (
-    let e : j - i + i ≡ j = omega (arith, a) in
-    subst (AreInOneGroup ds i) e (carried cs ds n t f g i (j - i) (omega (arith, e, m)) (subst (AreInOneGroup cs i) (sym e) o))
-  )
+      let e : j - i + i ≡ j = omega (arith, a) in
+      subst (AreInOneGroup ds i) e (carried cs ds n t f g i (j - i) (omega (arith, e, m)) (subst (AreInOneGroup cs i) (sym e) o))
+      )
   | inr a ↦ (
-    let e : i - j + j ≡ i = omega (arith, a) in
-    turned ds j i (subst (AreInOneGroup ds j) e (carried cs ds n t f g j (i - j) (omega (arith, e, l)) (subst (AreInOneGroup cs j) (sym e) (turned cs i j o))))
-  )
+      let e : i - j + j ≡ i = omega (arith, a) in
+      turned ds j i (subst (AreInOneGroup ds j) e (carried cs ds n t f g j (i - j) (omega (arith, e, l)) (subst (AreInOneGroup cs j) (sym e) (turned cs i j o))))
+      )
 ]
 
 -- groups that are the same by neighbours are the same, and whole
@@ -172,7 +178,7 @@ not_of g c e h = of_presence c.presence refl
     of_presence optional q = absurd (let i = sym (ap group_of q) ∙ h in cc)
     of_presence (default d) q = absurd (let i = sym (ap group_of q) ∙ h in cc)
     of_presence (addition o k) q =
-      absurd (let i = sym (ap (λ p. elim p [ mandatory ↦ false | optional ↦ false | default d ↦ false | addition o g ↦ true ]) q) ∙ e in cc)
+        absurd (let i = sym (ap (λ p. elim p [ mandatory ↦ false | optional ↦ false | default d ↦ false | addition o g ↦ true ]) q) ∙ e in cc)
 
 -- components of the root are of no group
 pub together_append : (root more : List Component)

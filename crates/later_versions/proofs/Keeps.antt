@@ -2,7 +2,7 @@
 use Rattle.std.proofs.Common.{arith, ◌≡◌, ℕ, zero, suc, ◌+◌, ◌<◌, ◌≤◌, List, [], ◌∷◌, ◌++◌, length, map, drop, get_or, refl, sym, ap, subst, ◌∙◌, append_assoc}
 use Rattle.std.specs.Prelude.{slice_get, Some, None, Option, option_map}
 use Rattle.std.proofs.lemmas.List.{drop_all, length-map, map-append}
-use Rattle.asn_base.specs.Abstract.{AbstractValue, absent, present, end, row_of_list, row_of_options}
+use Rattle.asn_base.specs.Abstract.{AbstractValue, absent, present, row_of_list, row_of_options}
 use Rattle.asn_base.specs.Types.{Resolved}
 use Rattle.later_versions.specs.Kept.{kept, kept_elements, kept_row, left_out, left_out_of_elements, left_out_of_row}
 use Rattle.later_versions.proofs.Fronts.{drop_at}
@@ -96,12 +96,12 @@ kept_next f s us vs all new i u v one l e t z k n so =
     let rest = kept_list s (drop (i + 1) us) (drop (i + 1) (map f vs)) in
     record {
       kept =
-        ap (λ q. map f q ++ rest) n
-        ∙ ap (λ q. q ++ rest) (map-append f all (one ∷ []))
-        ∙ append_assoc (map f all) (f one ∷ []) rest
-        ∙ ap (λ q. map f all ++ q ∷ rest) k
-        ∙ ap (λ q. map f all ++ q) (sym h.0)
-        ∙ so.kept;
+          ap (λ q. map f q ++ rest) n
+          ∙ ap (λ q. q ++ rest) (map-append f all (one ∷ []))
+          ∙ append_assoc (map f all) (f one ∷ []) rest
+          ∙ ap (λ q. map f all ++ q ∷ rest) k
+          ∙ ap (λ q. map f all ++ q) (sym h.0)
+          ∙ so.kept;
       left = (let a = h.1 in let b = so.left in omega (arith, a, b, z));
     }
 
@@ -118,15 +118,15 @@ kept_past f s us vs all i v l e t z so =
     let os = drop (i + 1) (map f vs) in
     record {
       kept =
-        ap (λ q. map f all ++ q) (
+          ap (λ q. map f all ++ q) (
           ap (λ q. kept_list s q os) n.1 ∙ nothing_kept s os
           ∙ sym (ap (λ q. kept_list s q (drop i (map f vs))) n.0 ∙ ap (kept_list s []) d)
-        )
-        ∙ so.kept;
+          )
+          ∙ so.kept;
       left =
-        ap (λ q. left_list s q os) n.1
-        ∙ sym (ap (λ q. left_list s q (drop i (map f vs))) n.0 ∙ ap (left_list s []) d)
-        ∙ so.left;
+          ap (λ q. left_list s q os) n.1
+          ∙ sym (ap (λ q. left_list s q (drop i (map f vs))) n.0 ∙ ap (left_list s []) d)
+          ∙ so.left;
     }
   where
     nothing_kept : (s : List Resolved) (os : List (Option AbstractValue)) → kept_list s [] os ≡ []
@@ -140,19 +140,20 @@ pub kept_whole : {V : Type 0} (f : Option V → Option AbstractValue) (s : List 
     × (row_of_options (map f all) ≡ kept_row s us (row_of_options (map f vs)))
 kept_whole f s us vs all i l so =
     let m = length-map vs f in
-    let d : drop i (map f vs) ≡ [] = drop_all i (map f vs) (omega (arith, m, l)) in
-    (
+    let d : drop i (map f vs) ≡ [] = drop_all i (map f vs) (omega (arith, m, l)) in (
       row_left s us (map f vs) ∙ sym so.left ∙ ap (left_list s (drop i us)) d ∙ no_left s (drop i us),
       ap row_of_options (sym (append-none (map f all)) ∙ ap (λ q. map f all ++ q) (sym (ap (kept_list s (drop i us)) d ∙ no_kept s (drop i us))) ∙ so.kept)
-      ∙ sym (row_kept s us (map f vs)),
+          ∙ sym (row_kept s us (map f vs)),
     )
   where
     no_left : (s : List Resolved) (us : List ℕ) → left_list s us [] ≡ 0
     no_left s [] = refl
     no_left s (u ∷ us) = refl
+
     no_kept : (s : List Resolved) (us : List ℕ) → kept_list s us [] ≡ []
     no_kept s [] = refl
     no_kept s (u ∷ us) = refl
+
     append-none : {A : Type 0} (xs : List A) → xs ++ [] ≡ xs
     append-none [] = refl
     append-none (x ∷ xs) = ap (λ q. x ∷ q) (append-none xs)
@@ -179,7 +180,7 @@ left_behind f s us vs all i v w l e t z so =
     let d = drop_mapped f vs i v l e ∙ ap (λ q. q ∷ drop (i + 1) (map f vs)) z in
     let n = drop_none us i t in
     let a : left_list s (drop i us) (drop i (map f vs)) ≡ suc (left_list s [] (drop (i + 1) (map f vs))) =
-      ap (λ q. left_list s q (drop i (map f vs))) n.0 ∙ ap (left_list s []) d in
+    ap (λ q. left_list s q (drop i (map f vs))) n.0 ∙ ap (left_list s []) d in
     let b = so.left in let c = row_left s us (map f vs) in omega (arith, a, b, c)
 
 -- one component more, where it is known whether it is present
@@ -210,12 +211,12 @@ kept_absent f s us vs all new i o l e q n m so = of_option (slice_get us i) refl
   where
     of_option : (p : Option ℕ) → slice_get us i ≡ p → KeptSoFar (option_map f) s us vs new (i + 1)
     of_option None r =
-      subst (λ x. KeptSoFar (option_map f) s us vs x (i + 1)) (sym (m r))
-      (kept_past (option_map f) s us vs all i o l e r (ap (option_map f) q) so)
+        subst (λ x. KeptSoFar (option_map f) s us vs x (i + 1)) (sym (m r))
+        (kept_past (option_map f) s us vs all i o l e r (ap (option_map f) q) so)
     of_option (Some u) r =
-      kept_next (option_map f) s us vs all new i u o None l e r
-      (ap (λ x. left_out_of_one s u (option_map f x)) q)
-      (sym (ap (λ x. kept_one s u (option_map f x)) q)) (n u r) so
+        kept_next (option_map f) s us vs all new i u o None l e r
+        (ap (λ x. left_out_of_one s u (option_map f x)) q)
+        (sym (ap (λ x. kept_one s u (option_map f x)) q)) (n u r) so
 
 pub left_present : {V : Type 0} (f : V → AbstractValue) (s : List Resolved) (us : List ℕ) (vs all : List (Option V)) (i u : ℕ) (o : Option V) (v : V)
     → i < length vs
@@ -257,17 +258,17 @@ elements_next f s u vs all new i v one l e z k n so =
     let rest = map (kept s u) (drop (i + 1) (map f vs)) in
     record {
       kept =
-        ap (λ q. map f q ++ rest) n
-        ∙ ap (λ q. q ++ rest) (map-append f all (one ∷ []))
-        ∙ append_assoc (map f all) (f one ∷ []) rest
-        ∙ ap (λ q. map f all ++ q ∷ rest) k
-        ∙ ap (λ q. map f all ++ q) (sym (ap (map (kept s u)) d))
-        ∙ so.kept;
+          ap (λ q. map f q ++ rest) n
+          ∙ ap (λ q. q ++ rest) (map-append f all (one ∷ []))
+          ∙ append_assoc (map f all) (f one ∷ []) rest
+          ∙ ap (λ q. map f all ++ q ∷ rest) k
+          ∙ ap (λ q. map f all ++ q) (sym (ap (map (kept s u)) d))
+          ∙ so.kept;
       left = (
-        let a : left_out_of_elements s u (row_of_list (drop i (map f vs))) ≡ left_out s u (f v) + left_out_of_elements s u (row_of_list (drop (i + 1) (map f vs))) =
+          let a : left_out_of_elements s u (row_of_list (drop i (map f vs))) ≡ left_out s u (f v) + left_out_of_elements s u (row_of_list (drop (i + 1) (map f vs))) =
           ap (λ q. left_out_of_elements s u (row_of_list q)) d in
-        let b = so.left in omega (arith, a, b, z)
-      );
+          let b = so.left in omega (arith, a, b, z)
+          );
     }
 
 pub elements_whole : {V : Type 0} (f : V → AbstractValue) (s : List Resolved) (u : ℕ) (vs all : List V) (i : ℕ)
@@ -277,11 +278,10 @@ pub elements_whole : {V : Type 0} (f : V → AbstractValue) (s : List Resolved) 
     × (row_of_list (map f all) ≡ kept_elements s u (row_of_list (map f vs)))
 elements_whole f s u vs all i l so =
     let m = length-map vs f in
-    let d : drop i (map f vs) ≡ [] = drop_all i (map f vs) (omega (arith, m, l)) in
-    (
+    let d : drop i (map f vs) ≡ [] = drop_all i (map f vs) (omega (arith, m, l)) in (
       sym so.left ∙ ap (λ q. left_out_of_elements s u (row_of_list q)) d,
       ap row_of_list (sym (append-none (map f all)) ∙ ap (λ q. map f all ++ q) (sym (ap (map (kept s u)) d)) ∙ so.kept)
-      ∙ sym (list_kept s u (map f vs)),
+          ∙ sym (list_kept s u (map f vs)),
     )
   where
     append-none : {A : Type 0} (xs : List A) → xs ++ [] ≡ xs
@@ -296,5 +296,5 @@ pub elements_left : {V : Type 0} (f : V → AbstractValue) (s : List Resolved) (
     → 0 < left_out_of_elements s u (row_of_list (map f vs))
 elements_left f s u vs all i v l e z so =
     let a : left_out_of_elements s u (row_of_list (drop i (map f vs))) ≡ left_out s u (f v) + left_out_of_elements s u (row_of_list (drop (i + 1) (map f vs))) =
-      ap (λ q. left_out_of_elements s u (row_of_list q)) (drop_mapped f vs i v l e) in
+    ap (λ q. left_out_of_elements s u (row_of_list q)) (drop_mapped f vs i v l e) in
     let b = so.left in omega (arith, a, b, z)

@@ -1,5 +1,5 @@
 -- What types hold, kind by kind, where both kinds are known by equations.
-use Rattle.std.proofs.Common.{◌≡◌, ℕ, List, map, refl, sym, ap, subst, Bool, true}
+use Rattle.std.proofs.Common.{◌≡◌, ℕ, List, map, refl, sym, subst, Bool, true}
 use Rattle.std.specs.Prelude.{◌↔◌, IsTrue}
 use Rattle.asn_base.specs.declared.strings.StringKind.{StringKind}
 use Rattle.asn_base.specs.Types.{Alternative, Component, Constraint, Item, Kind, NamedBit, Resolved, a_boolean, an_integer, an_enumerated, a_bit_string, a_named_bit_string, an_octet_string, a_null, an_object_identifier, a_relative_oid, a_utf8_string, a_restricted_string, a_sequence, a_set, a_sequence_of, a_set_of, a_choice}
@@ -110,7 +110,7 @@ pub of_enumerated : {B : Type 0} {s : List Resolved} {e f : Bool} {root others m
     → B ↔ IsLaterKind s (an_enumerated root e more) (an_enumerated others f all)
 of_enumerated {s = s} {e = e} {f = f} {root = root} {others = others} {more = more} {all = all} h = (
   λ b. subst (λ x. IsLaterKind s (an_enumerated root e more) (an_enumerated others x all)) (h.0 b).0
-    (subst (λ x. IsLaterKind s (an_enumerated root e more) (an_enumerated x e all)) (h.0 b).1 (later_enumerated (h.0 b).2)),
+      (subst (λ x. IsLaterKind s (an_enumerated root e more) (an_enumerated x e all)) (h.0 b).1 (later_enumerated (h.0 b).2)),
   λ m. h.1 (back m),
 )
   where

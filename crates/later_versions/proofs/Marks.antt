@@ -105,8 +105,7 @@ pub joined_before : {B : Type 0} (cs : List Component) (i : ℕ) (c d : Componen
     → B ↔ AreOfOne c d
     → B ↔ AreJoined cs i
 joined_before cs i c d l e f h =
-    let j = joined_two cs (i - 1) i c d e f h in
-    (
+    let j = joined_two cs (i - 1) i c d e f h in (
       λ b. record { before = i - 1; next = omega (arith, l); one = j.0 b },
       λ o. j.1 (subst (λ k. AreInOneGroup cs k i) (let n = o.next in let p : o.before ≡ i - 1 = omega (arith, n) in p) o.one),
     )
@@ -176,9 +175,9 @@ pub add_next : (cs : List Component) (from i : ℕ) (x : Component)
 add_next cs from i x e h so = λ j d l m g. elim (cases_lt j i) [
   | inl k ↦ so j d l k g
   | inr k ↦ (
-    let s : i ≡ j = omega (arith, k, m) in
-    subst (λ y. is_addition y ≡ true) (same_Some x d (sym e ∙ ap (slice_get cs) s ∙ g)) h
-  )
+      let s : i ≡ j = omega (arith, k, m) in
+      subst (λ y. is_addition y ≡ true) (same_Some x d (sym e ∙ ap (slice_get cs) s ∙ g)) h
+      )
 ]
 
 pub add_all : (cs : List Component) (from i : ℕ)

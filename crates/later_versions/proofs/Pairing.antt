@@ -1,12 +1,12 @@
 -- Pairs of types, one after the other.
-use Rattle.std.proofs.Common.{arith, inl, inr, ◌≡◌, ℕ, zero, suc, ◌+◌, ◌<◌, ◌≤◌, List, [], ◌∷◌, ◌++◌, length, map, refl, sym, ap, subst, ◌∙◌, Bool, true, false, cond, append_assoc}
+use Rattle.std.proofs.Common.{arith, inl, inr, ◌≡◌, ℕ, zero, suc, ◌+◌, ◌<◌, ◌≤◌, List, [], ◌∷◌, ◌++◌, length, refl, sym, ap, subst, ◌∙◌, Bool, true, false, cond, append_assoc}
 use Rattle.std.specs.Prelude.{slice_get, ◌⊎◌, ◌↔◌, Some, None, Option}
 use Rattle.std.specs.List.{AllByRecursion, list_any}
 use Rattle.std.specs.Ordering.{is_eq, nat_cmp, ordering_then, MatchOrdering}
 use Rattle.std.specs.declared.cmp.Ordering.{Ordering}
 use Rattle.std.specs.declared.cmp.Ordering.TheVariants.{Less, Equal, Greater}
 use Rattle.std.proofs.lemmas.Bool.{cases_lt}
-use Rattle.std.proofs.lemmas.Cmp.{ranked, tied_itself, nat_cmp_total}
+use Rattle.std.proofs.lemmas.Cmp.{ranked}
 use Rattle.std.proofs.lemmas.Option.{slice_get_within, same_Some}
 use Rattle.asn_base.specs.Names.{IsMember, is_first, is_later}
 use Rattle.asn_base.specs.Types.{Resolved}
@@ -100,9 +100,9 @@ pub reached_first : (s : List Resolved) (t : ℕ) (s' : List Resolved) (t' : ℕ
 reached_first s t s' t' ps more e a m = record {
   start = m;
   reached = λ p h. (
-    let q = all_member (λ p. p ≡ (t, t')) a (subst (IsMember p) e h) in
-    ([], ap (λ r. Some r.0) (sym q), ap (λ r. Some r.1) (sym q))
-  );
+      let q = all_member (λ p. p ≡ (t, t')) a (subst (IsMember p) e h) in
+      ([], ap (λ r. Some r.0) (sym q), ap (λ r. Some r.1) (sym q))
+      );
   fine = λ i p l. absurd (omega (arith, l));
   members = λ i p q l. absurd (omega (arith, l));
 }
@@ -117,18 +117,18 @@ pub reached_next : (s : List Resolved) (t : ℕ) (s' : List Resolved) (t' : ℕ)
 reached_next s t s' t' ps new at p e f n m so =
     let within = slice_get_within ps at p e in
     let old : (i : ℕ) → i < at + 1 → slice_get new i ≡ slice_get ps i =
-      λ i l. ap (λ q. slice_get q i) n.1 ∙ get_left ps n.0 i (omega (arith, l, within)) in
+    λ i l. ap (λ q. slice_get q i) n.1 ∙ get_left ps n.0 i (omega (arith, l, within)) in
     let kept : (q : ℕ × ℕ) → IsMember q ps → IsMember q new =
-      λ q h. subst (IsMember q) (sym n.1) (member_left n.0 h) in
+    λ q h. subst (IsMember q) (sym n.1) (member_left n.0 h) in
     record {
       start = kept (t, t') so.start;
       reached = λ q h. elim (member_of_two ps n.0 (subst (IsMember q) n.1 h)) [
         | inl a ↦ so.reached q a
         | inr b ↦ (
-          let r = so.reached p (at_place ps at p e) in
-          let c = all_member (IsMemberPair s s' p) n.2 b in
-          (r.0 ++ c.0 ∷ [], leads_further s t p.0 q.0 c.0 r.0 r.1 c.1, leads_further s' t' p.1 q.1 c.0 r.0 r.2 c.2)
-        )
+            let r = so.reached p (at_place ps at p e) in
+            let c = all_member (IsMemberPair s s' p) n.2 b in
+            (r.0 ++ c.0 ∷ [], leads_further s t p.0 q.0 c.0 r.0 r.1 c.1, leads_further s' t' p.1 q.1 c.0 r.0 r.2 c.2)
+            )
       ];
       fine = λ i q l g. elim (cases_lt i at) [
         | inl b ↦ so.fine i q b (sym (old i l) ∙ g)
@@ -142,8 +142,8 @@ reached_next s t s' t' ps new at p e f n m so =
   where
     same_here : (i : ℕ) → i < at + 1 → at ≤ i → (q : ℕ × ℕ) → slice_get ps i ≡ Some q → p ≡ q
     same_here i l b q g =
-      let h : at ≡ i = omega (arith, l, b) in
-      same_Some p q (sym e ∙ ap (slice_get ps) h ∙ g)
+        let h : at ≡ i = omega (arith, l, b) in
+        same_Some p q (sym e ∙ ap (slice_get ps) h ∙ g)
 
 -- a pair that is reached and isn't fine
 pub not_later : (s : List Resolved) (t : ℕ) (s' : List Resolved) (t' : ℕ) (ps : List (ℕ × ℕ)) (at : ℕ) (p : ℕ × ℕ)
@@ -242,15 +242,15 @@ noted_next s s' p q old mid new n m a b k h more so = record {
   members = λ r c l. elim (cases_lt c.0 n) [
     | inl d ↦ subst (IsMember r) (sym more.1) (member_left more.0 (so.members r c d))
     | inr d ↦ (
-      let e : n ≡ c.0 = omega (arith, d, l) in
-      let f = same_Some q.0 r.0 (sym a ∙ ap (slice_get (members_of s p.0)) e ∙ c.1) in
-      let g = same_Some q.1 r.1 (sym b ∙ ap (slice_get (members_of s' p.1)) e ∙ c.2) in
-      let j : q ≡ r = ap (λ z. (z, q.1)) f ∙ ap (λ z. (r.0, z)) g in
-      subst (λ z. IsMember z (met new)) j h
-    )
+        let e : n ≡ c.0 = omega (arith, d, l) in
+        let f = same_Some q.0 r.0 (sym a ∙ ap (slice_get (members_of s p.0)) e ∙ c.1) in
+        let g = same_Some q.1 r.1 (sym b ∙ ap (slice_get (members_of s' p.1)) e ∙ c.2) in
+        let j : q ≡ r = ap (λ z. (z, q.1)) f ∙ ap (λ z. (r.0, z)) g in
+        subst (λ z. IsMember z (met new)) j h
+        )
   ];
   noted = noted_twice (IsMemberPair s s' p) (met old) (met mid) (met new) so.noted
-    (more.0, more.1, all_more (λ r. r ≡ q) (IsMemberPair s s' p) more.0 (λ r e. subst (IsMemberPair s s' p) (sym e) m) more.2);
+      (more.0, more.1, all_more (λ r. r ≡ q) (IsMemberPair s s' p) more.0 (λ r e. subst (IsMemberPair s s' p) (sym e) m) more.2);
 }
 
 -- behind the last member of one of the two
@@ -302,7 +302,7 @@ pub fine_pair : {B : Type 0} (s s' : List Resolved) (p : ℕ × ℕ) (q r : Reso
     → B ↔ IsFine s s' p
 fine_pair s s' p q r a b t h = (
   λ w x y d e.
-    subst (λ z. IsLaterType s z y) (same_Some q x (sym a ∙ d))
-    (subst (IsLaterType s q) (same_Some r y (sym b ∙ e)) (record { tags = t; kind = h.0 w })),
+      subst (λ z. IsLaterType s z y) (same_Some q x (sym a ∙ d))
+      (subst (IsLaterType s q) (same_Some r y (sym b ∙ e)) (record { tags = t; kind = h.0 w })),
   λ f. h.1 (f q r a b).kind,
 )

@@ -1,5 +1,5 @@
 -- The types of members, by their places.
-use Rattle.std.proofs.Common.{arith, ◌≡◌, ℕ, zero, suc, ◌+◌, ◌-◌, ◌<◌, ◌≤◌, List, [], ◌∷◌, ◌++◌, length, map, get_or, refl, sym, ap, subst, ◌∙◌, Some, None}
+use Rattle.std.proofs.Common.{arith, ◌≡◌, ℕ, zero, suc, ◌+◌, ◌-◌, ◌<◌, ◌≤◌, List, [], ◌∷◌, ◌++◌, length, map, get_or, refl, ap, ◌∙◌, Some, None}
 use Rattle.std.specs.Prelude.{slice_get, option_map}
 use Rattle.std.proofs.lemmas.List.{length-map}
 use Rattle.std.proofs.lemmas.Option.{slice_get-map}
@@ -53,9 +53,9 @@ in_second f g xs ys i y l m e =
     let p : i ≡ i - length xs + length (map f xs) = omega (arith, n, l) in
     slice_get-map g (map f xs ++ map f ys) i
     ∙ ap (option_map g) (
-      ap (slice_get (map f xs ++ map f ys)) p
-      ∙ back_get (map f xs) (map f ys) (i - length xs)
-      ∙ mapped_at f ys (i - length xs) y m e
+    ap (slice_get (map f xs ++ map f ys)) p
+    ∙ back_get (map f xs) (map f ys) (i - length xs)
+    ∙ mapped_at f ys (i - length xs) y m e
     )
     ∙ ap (λ q. Some (g (f q))) e
 

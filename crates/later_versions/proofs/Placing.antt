@@ -1,6 +1,6 @@
 -- Where bits stand, by their places.
 use Rattle.std.proofs.Common.{arith, inl, inr, ◌≡◌, ℕ, zero, suc, ◌+◌, ◌<◌, ◌≤◌, List, [], ◌∷◌, length, map, refl, sym, ap, subst, ◌∙◌, Bool, true, false, cond}
-use Rattle.std.specs.Prelude.{slice_get, ◌⊎◌, ◌↔◌, Some, None, Option, IsSome, IsTrue}
+use Rattle.std.specs.Prelude.{slice_get, ◌⊎◌, ◌↔◌, Some, None, Option, IsSome}
 use Rattle.std.specs.BTreeMap.{BTreeMap, get, is_at}
 use Rattle.std.specs.Ordering.{is_eq, nat_cmp, MatchOrdering}
 use Rattle.std.specs.declared.cmp.Ordering.{Ordering}
@@ -55,10 +55,10 @@ placed_next bs m n i b e f so = record {
   all = λ k x l g. subst IsSome (sym (f x.place)) (elim (cases_lt k i) [
     | inl h ↦ still_some (is_eq (nat_cmp b.place x.place)) i (get nat_cmp m x.place) (so.all k x h g)
     | inr h ↦ (
-      let s : k ≡ i = omega (arith, h, l) in
-      let t : b ≡ x = same_Some b x (sym e ∙ ap (slice_get bs) (sym s) ∙ g) in
-      subst (λ y. IsSome (cond (is_eq (nat_cmp b.place y.place)) (Some i) (get nat_cmp m y.place))) t (some_now b.place i (get nat_cmp m b.place))
-    )
+        let s : k ≡ i = omega (arith, h, l) in
+        let t : b ≡ x = same_Some b x (sym e ∙ ap (slice_get bs) (sym s) ∙ g) in
+        subst (λ y. IsSome (cond (is_eq (nat_cmp b.place y.place)) (Some i) (get nat_cmp m y.place))) t (some_now b.place i (get nat_cmp m b.place))
+        )
   ]);
 }
 
@@ -108,8 +108,7 @@ same_bit bs m k b x a d e f =
     let l = a.leads x.place k e in
     let s : b ≡ l.0 = same_Some b l.0 (sym f ∙ l.1) in
     let p : b.place ≡ x.place = ap (λ c. c.place) s ∙ l.2 in
-    let h = at_place bs k b f in
-    (
+    let h = at_place bs k b f in (
       λ n. subst (λ c. IsMember c bs) (same_parts b x n p) h,
       λ i. ap (λ c. c.name) (one_place d h i p),
     )
@@ -151,9 +150,9 @@ pub has_next : (bs cs : List NamedBit) (i : ℕ) (x : NamedBit)
 has_next bs cs i x e m so = λ j y l g. elim (cases_lt j i) [
   | inl h ↦ so j y h g
   | inr h ↦ (
-    let s : i ≡ j = omega (arith, h, l) in
-    subst (λ z. IsMember z bs) (same_Some x y (sym e ∙ ap (slice_get cs) s ∙ g)) m
-  )
+      let s : i ≡ j = omega (arith, h, l) in
+      subst (λ z. IsMember z bs) (same_Some x y (sym e ∙ ap (slice_get cs) s ∙ g)) m
+      )
 ]
 
 pub has_all : (bs cs : List NamedBit) (i : ℕ)

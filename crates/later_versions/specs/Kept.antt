@@ -1,8 +1,8 @@
 -- What a type keeps of a value of a later version: all but the components that were appended, which it doesn't know
 -- (X.680, clauses 7 and 25).
 use Rattle.std.specs.Prelude.{ℕ, suc, ◌+◌, List, [], ◌∷◌, Some, None, length, slice_get, get_or}
-use Rattle.asn_base.specs.Abstract.{AbstractValue, boolean, integer, enumerated, bits, octets, text, null, oid}
-use Rattle.asn_base.specs.Abstract.{relative_oid, fields, list, alternative, Row, end, absent, present}
+use Rattle.asn_base.specs.Abstract.{AbstractValue}
+use Rattle.asn_base.specs.Abstract.{fields, list, alternative, Row, end, absent, present}
 use Rattle.asn_base.specs.Types.{Resolved}
 use Rattle.asn_base.specs.Schemas.{types_in}
 

@@ -205,8 +205,9 @@ pub(crate) fn are_later(
         ↔ AreLater schema.now (map component_of components.now) (map component_of others.now)) }
 {
     match begin_with_components(alloc, schema, components, others) {
-        Ok(true) => Ok(are_additions_from(others, components.len())
-            && have_same_groups(components, others)),
+        Ok(true) => Ok(
+            are_additions_from(others, components.len()) && have_same_groups(components, others),
+        ),
         Ok(false) => Ok(false),
         Err(fault) => Err(fault),
     }

@@ -91,5 +91,8 @@ pub(crate) fn are_later_alternatives(alternatives: &Alternatives, others: &Alter
 {
     alternatives.extensible == others.extensible
         && are_same_alternatives(alternatives.root.as_slice(), others.root.as_slice())
-        && begin_with_alternatives(alternatives.additions.as_slice(), others.additions.as_slice())
+        && begin_with_alternatives(
+            alternatives.additions.as_slice(),
+            others.additions.as_slice(),
+        )
 }

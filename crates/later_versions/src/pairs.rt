@@ -3,7 +3,6 @@
 ghost use Rattle.std.specs.Prelude.{◌≡◌, OnOk};
 ghost use Rattle.later_versions.specs.proving.Pairs.{AreKnown, AreNoted, StandsIn, pair_of};
 
-
 use asn_base::schema::TypeId;
 use std::alloc::{AllocError, Global};
 use std::collections::BTreeSet;

@@ -20,5 +20,5 @@ returns-then-found-bits c =
 pub returns : goal.returns
 returns c =
     let h = same_bit (map named_bit_of c.args.bits.now) c.args.places.now c.in-Some.place.now (named_bit_of c.index-bits-found.result) (named_bit_of c.args.bit.now) c.requires.placed c.requires.distinct (sym c.in-Some.ensures.value)
-      (mapped_at named_bit_of c.args.bits.now c.in-Some.place.now c.index-bits-found.result c.if-found-bits.false c.index-bits-found.is) in
+    (mapped_at named_bit_of c.args.bits.now c.in-Some.place.now c.index-bits-found.result c.if-found-bits.false c.index-bits-found.is) in
     onward c.have_same_name.ensures h.0 h.1

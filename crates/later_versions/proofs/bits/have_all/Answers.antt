@@ -8,7 +8,7 @@ use Rattle.later_versions.proofs.bits.have_all.Goals as goal
 pub returns-then-not-has : goal.returns-then-not-has
 returns-then-not-has c =
     no (λ h. let m = h (named_bit_of c.index-others-i.result) (at_place (map named_bit_of c.args.others.now) c.loop-i.i (named_bit_of c.index-others-i.result)
-      (mapped_at named_bit_of c.args.others.now c.loop-i.i c.index-others-i.result c.loop-i-test.true c.index-others-i.is)) in
+    (mapped_at named_bit_of c.args.others.now c.loop-i.i c.index-others-i.result c.loop-i-test.true c.index-others-i.is)) in
     absurd (let e = c.has.ensures.1 m in let f = c.if-not-has.true in cc))
 
 pub loop-i-preserved : goal.loop-i-preserved

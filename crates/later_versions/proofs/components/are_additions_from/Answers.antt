@@ -8,12 +8,12 @@ use Rattle.later_versions.proofs.components.are_additions_from.Goals as goal
 pub returns-then-not-is_addition : goal.returns-then-not-is_addition
 returns-then-not-is_addition c =
     no (λ h. absurd (
-      let from : c.args.from ≤ c.loop-i.i = (let a = c.loop-i.auto.i in omega (arith, a)) in
-      let e = h c.loop-i.i (component_of c.index-components-i.result) from
-        (mapped_at component_of c.args.components.now c.loop-i.i c.index-components-i.result c.loop-i-test.true c.index-components-i.is) in
-      let f = c.is_addition.ensures in
-      let g = c.if-not-is_addition.true in
-      cc
+    let from : c.args.from ≤ c.loop-i.i = (let a = c.loop-i.auto.i in omega (arith, a)) in
+    let e = h c.loop-i.i (component_of c.index-components-i.result) from
+    (mapped_at component_of c.args.components.now c.loop-i.i c.index-components-i.result c.loop-i-test.true c.index-components-i.is) in
+    let f = c.is_addition.ensures in
+    let g = c.if-not-is_addition.true in
+    cc
     ))
 
 pub loop-i-preserved : goal.loop-i-preserved

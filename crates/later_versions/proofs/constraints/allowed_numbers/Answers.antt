@@ -1,4 +1,4 @@
-use Rattle.std.proofs.Common.{ap, map, subst, sym, ◌∙◌, Some, None}
+use Rattle.std.proofs.Common.{map, subst, sym}
 use Rattle.std.specs.Prelude.{◌↔◌, IfSome, option_map}
 use Rattle.asn_base.specs.Seen.{range_of}
 use Rattle.asn_base.specs.Typed.{IsInSome}

@@ -1,4 +1,4 @@
-use Rattle.std.proofs.Common.{map, ap, sym, ◌∙◌, refl, Some, None}
+use Rattle.std.proofs.Common.{ap, sym}
 use Rattle.std.specs.Prelude.{option_map}
 use Rattle.asn_base.specs.Abstract.{abstract}
 use Rattle.later_versions.specs.Kept.{members_of}
@@ -24,15 +24,15 @@ pub keep_fields-loop-i-preserved : goal.keep_fields-loop-i-preserved
 keep_fields-loop-i-preserved t c =
     elim c.match-values-i.branch [
       | keep_fields-in-Some+in-Some-member_at+in-Ok-Some+in_ok-add-in-Ok-Some w ↦ (
-        let e = rw w.in-Ok-Some.field-0-is at w.in-Ok-Some.ensures in
-        rw w.all-is
-        (kept_present abstract c.args.schema.now (members_of c.args.schema.now c.args.id.index) c.args.values.now c.loop-i.all.items w.add.new.list.items c.loop-i.i w.in-Some-member_at.ty.index c.index-values-i.result w.in-Some.value w.in-Ok-Some.one
-        c.loop-i-test.true c.index-values-i.is w.in-Some.is (sym w.in-Some-member_at.ensures) e.0 e.1 w.in_ok-add-in-Ok-Some.ensures c.loop-i.invariant)
-      )
+          let e = rw w.in-Ok-Some.field-0-is at w.in-Ok-Some.ensures in
+          rw w.all-is
+          (kept_present abstract c.args.schema.now (members_of c.args.schema.now c.args.id.index) c.args.values.now c.loop-i.all.items w.add.new.list.items c.loop-i.i w.in-Some-member_at.ty.index c.index-values-i.result w.in-Some.value w.in-Ok-Some.one
+          c.loop-i-test.true c.index-values-i.is w.in-Some.is (sym w.in-Some-member_at.ensures) e.0 e.1 w.in_ok-add-in-Ok-Some.ensures c.loop-i.invariant)
+          )
       | keep_fields-in-None+in_ok-pass-in-None w ↦
-        rw w.all-is
-        (kept_absent abstract c.args.schema.now (members_of c.args.schema.now c.args.id.index) c.args.values.now c.loop-i.all.items w.pass.new.list.items c.loop-i.i c.index-values-i.result
-        c.loop-i-test.true c.index-values-i.is w.in-None.is w.in_ok-pass-in-None.ensures.known w.in_ok-pass-in-None.ensures.unknown c.loop-i.invariant)
+          rw w.all-is
+          (kept_absent abstract c.args.schema.now (members_of c.args.schema.now c.args.id.index) c.args.values.now c.loop-i.all.items w.pass.new.list.items c.loop-i.i c.index-values-i.result
+          c.loop-i-test.true c.index-values-i.is w.in-None.is w.in_ok-pass-in-None.ensures.known w.in_ok-pass-in-None.ensures.unknown c.loop-i.invariant)
     ]
 
 pub keep_fields-returns-in-Ok-None : goal.keep_fields-returns-in-Ok-None

@@ -1,4 +1,4 @@
-use Rattle.std.proofs.Common.{ap, refl, sym, ◌∙◌}
+use Rattle.std.proofs.Common.{ap, refl, ◌∙◌}
 use Rattle.asn_base.specs.Seen.{kind_of}
 use Rattle.later_versions.proofs.Kindred.{by_equal, of_restricted_string}
 use Rattle.later_versions.proofs.kinds.is_same_string.Goals as goal

@@ -8,5 +8,5 @@ pub returns-then-alternatives-others : goal.returns-then-alternatives-others
 returns-then-alternatives-others c =
     onward c.begin_with_alternatives.ensures
     (same_mapped (λ a. a.name) (map alternative_of c.args.alternatives.now) (map alternative_of c.args.others.now)
-      (length-map c.args.alternatives.now alternative_of ∙ c.if-alternatives-others.true ∙ sym (length-map c.args.others.now alternative_of)))
+    (length-map c.args.alternatives.now alternative_of ∙ c.if-alternatives-others.true ∙ sym (length-map c.args.others.now alternative_of)))
     (λ e. (mapped_same (λ a. a.name) (map alternative_of c.args.alternatives.now) (map alternative_of c.args.others.now) e).1)

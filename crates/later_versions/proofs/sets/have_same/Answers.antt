@@ -13,8 +13,8 @@ pub returns : goal.returns
 returns c =
     onward c.agree_at_all-2.ensures
     (λ p. sets_same c.args.one.now c.args.other.now (map range_of c.ranges-listed.result.now) (map range_of c.ranges-others.result.now) c.ranges-listed.ensures.is c.ranges-others.ensures.is
-      (beq_true c.reach_down-down.result c.reach_down-other_down.result c.if-down-other_down.false c.reach_down-down.ensures c.reach_down-other_down.ensures)
-      (c.agree_at_all.ensures.0 c.if-not-agree_at_all.false) p)
+    (beq_true c.reach_down-down.result c.reach_down-other_down.result c.if-down-other_down.false c.reach_down-down.ensures c.reach_down-other_down.ensures)
+    (c.agree_at_all.ensures.0 c.if-not-agree_at_all.false) p)
     (λ h z e. h z)
 
 pub returns-then-not-agree_at_all : goal.returns-then-not-agree_at_all
