@@ -1,0 +1,191 @@
+-- Lists that begin with the elements of others, one for one.
+use Rattle.std.proofs.Common.{arith, ◌≡◌, ℕ, suc, ◌+◌, ◌<◌, ◌≤◌, List, [], ◌∷◌, length, map, drop, get_or, refl, sym, ap, subst, ◌∙◌, inl, inr, true, false}
+use Rattle.std.specs.Prelude.{slice_get, ◌⊎◌, ◌↔◌, IsTrue, Some, option_map, Bool}
+use mathlib.Core.Bool.{beq, not}
+use Rattle.std.proofs.lemmas.Bool.{cases_lt}
+use Rattle.std.proofs.lemmas.List.{drop_more, get_or-map, length-map}
+use Rattle.std.proofs.lemmas.Option.{slice_get_read, slice_get_within, slice_get-get_or, slice_get-map, same_Some}
+use Rattle.later_versions.specs.Later.{IsFront}
+
+pub yes : {P : Type 0} → P → IsTrue Bool.true ↔ P
+yes p = (λ t. p, λ q. refl)
+
+pub no : {P : Type 0} → (P → ⊥) → IsTrue Bool.false ↔ P
+no n = (λ t. absurd (cc), λ p. absurd (n p))
+
+pub onward : {P Q R : Type 0} → P ↔ Q → (Q → R) → (R → Q) → P ↔ R
+onward a f g = (λ p. f (a.0 p), λ r. a.1 (g r))
+
+-- the element at a place of a mapped list
+pub mapped_at : {A B : Type 0} (f : A → B) (xs : List A) (i : ℕ) (x : A)
+    → i < length xs
+    → x ≡ get_or xs i x
+    → slice_get (map f xs) i ≡ Some (f x)
+mapped_at f xs i x l e = slice_get-map f xs i ∙ ap (option_map f) (slice_get_read xs (length xs) i x refl l e)
+
+-- elements at places below n keep to the relation
+abbrev pub FrontTo : {A : Type 0} (R : A → A → Type 0) (xs ys : List A) (n : ℕ) → Type 0
+FrontTo {A} R xs ys n = (i : ℕ) (x y : A) → i < n → slice_get xs i ≡ Some x → slice_get ys i ≡ Some y → R x y
+
+pub front_next : {A B : Type 0} (f : A → B) (R : B → B → Type 0) (xs ys : List A) (i : ℕ) (x y : A)
+    → i < length xs
+    → i < length ys
+    → x ≡ get_or xs i x
+    → y ≡ get_or ys i y
+    → R (f x) (f y)
+    → FrontTo R (map f xs) (map f ys) i
+    → FrontTo R (map f xs) (map f ys) (i + 1)
+front_next f R xs ys i x y l m e g r so = λ j u v h a b. elim (cases_lt j i) [
+  | inl k ↦ so j u v k a b
+  | inr k ↦ (
+      let s : i ≡ j = omega (arith, h, k) in
+      let t = same_Some (f x) u (sym (mapped_at f xs i x l e) ∙ ap (slice_get (map f xs)) s ∙ a) in
+      let w = same_Some (f y) v (sym (mapped_at f ys i y m g) ∙ ap (slice_get (map f ys)) s ∙ b) in
+      subst (λ q. R q v) t (subst (R (f x)) w r)
+      )
+]
+
+pub front_all : {A B : Type 0} (f : A → B) (R : B → B → Type 0) (xs ys : List A) (i : ℕ)
+    → length xs ≤ i
+    → length xs ≤ length ys
+    → FrontTo R (map f xs) (map f ys) i
+    → IsFront R (map f xs) (map f ys)
+front_all f R xs ys i l m so = record {
+  none_dropped = (let a = length-map xs f in let b = length-map ys f in omega (arith, a, b, m));
+  kept = λ j u v a b. so j u v (let w = slice_get_within (map f xs) j u a in let n = length-map xs f in omega (arith, w, n, l)) a b;
+}
+
+-- not where one element doesn't
+pub front_not : {A B : Type 0} (f : A → B) (R : B → B → Type 0) (xs ys : List A) (i : ℕ) (x y : A)
+    → i < length xs
+    → i < length ys
+    → x ≡ get_or xs i x
+    → y ≡ get_or ys i y
+    → (R (f x) (f y) → ⊥)
+    → IsFront R (map f xs) (map f ys)
+    → ⊥
+front_not f R xs ys i x y l m e g n h = n (h.kept i (f x) (f y) (mapped_at f xs i x l e) (mapped_at f ys i y m g))
+
+-- nor where one is dropped
+pub front_short : {A B : Type 0} (f : A → B) (R : B → B → Type 0) (xs ys : List A)
+    → length ys < length xs
+    → IsFront R (map f xs) (map f ys)
+    → ⊥
+front_short f R xs ys l h =
+    let a = length-map xs f in let b = length-map ys f in let c = h.none_dropped in absurd (omega (arith, a, b, c, l))
+
+front_tail : {A : Type 0} {R : A → A → Type 0} {x y : A} {xs ys : List A}
+    → IsFront R (x ∷ xs) (y ∷ ys)
+    → IsFront R xs ys
+front_tail h = record {
+  none_dropped = (let a = h.none_dropped in omega (arith, a));
+  kept = λ i. h.kept (suc i);
+}
+
+-- where as many stand in both, what is compared is the same
+pub same_mapped : {A B : Type 0} (f : A → B) (xs ys : List A)
+    → length xs ≡ length ys
+    → IsFront (λ x y. f x ≡ f y) xs ys
+    → map f xs ≡ map f ys
+same_mapped f [] [] l h = refl
+same_mapped f [] (y ∷ ys) l h = absurd (omega (arith, l))
+same_mapped f (x ∷ xs) [] l h = absurd (omega (arith, l))
+same_mapped f (x ∷ xs) (y ∷ ys) l h =
+    ap (λ q. q ∷ map f xs) (h.kept 0 x y refl refl)
+    ∙ ap (λ q. f y ∷ q) (same_mapped f xs ys (omega (arith, l)) (front_tail h))
+
+pub same_lists : {A : Type 0} (xs ys : List A) → length xs ≡ length ys → IsFront (λ x y. x ≡ y) xs ys → xs ≡ ys
+same_lists [] [] l h = refl
+same_lists [] (y ∷ ys) l h = absurd (omega (arith, l))
+same_lists (x ∷ xs) [] l h = absurd (omega (arith, l))
+same_lists (x ∷ xs) (y ∷ ys) l h =
+    ap (λ q. q ∷ xs) (h.kept 0 x y refl refl)
+    ∙ ap (λ q. y ∷ q) (same_lists xs ys (omega (arith, l)) (front_tail h))
+
+-- and back
+pub mapped_same : {A B : Type 0} (f : A → B) (xs ys : List A)
+    → map f xs ≡ map f ys
+    → (length xs ≡ length ys) × IsFront (λ x y. f x ≡ f y) xs ys
+mapped_same f xs ys e =
+    let many : length xs ≡ length ys = sym (length-map xs f) ∙ ap length e ∙ length-map ys f in (
+      many,
+      record {
+        none_dropped = omega (arith, many);
+        kept = λ i x y a b. same_Some (f x) (f y)
+            (sym (slice_get-map f xs i ∙ ap (option_map f) a) ∙ ap (λ q. slice_get q i) e ∙ slice_get-map f ys i ∙ ap (option_map f) b);
+      },
+    )
+
+pub lists_same : {A : Type 0} (xs ys : List A) → xs ≡ ys → (length xs ≡ length ys) × IsFront (λ x y. x ≡ y) xs ys
+lists_same xs ys e = (
+  ap length e,
+  record {
+    none_dropped = (let l = ap length e in omega (arith, l));
+    kept = λ i x y a b. same_Some x y (sym a ∙ ap (λ q. slice_get q i) e ∙ b);
+  },
+)
+
+-- ---- lists from a place on
+
+pub drop_at : {A B : Type 0} (f : A → B) (xs : List A) (i : ℕ) (d : A)
+    → i < length xs
+    → drop i (map f xs) ≡ f (get_or xs i d) ∷ drop (i + 1) (map f xs)
+drop_at f xs i d h =
+    let l = length-map xs f in
+    drop_more (map f xs) i (f d) (omega (arith, h, l))
+    ∙ ap (λ q. q ∷ drop (i + 1) (map f xs)) (get_or-map f xs i d (f d) h)
+
+-- what holds of the whole just where it holds of what is left
+pub left_at : {B : Type 0} (P : List B → Type 0) (ys left : List B) (i : ℕ)
+    → drop i ys ≡ left
+    → P ys ↔ P (drop i ys)
+    → P ys ↔ P left
+left_at P ys left i e a = subst (λ q. P ys ↔ P q) e a
+
+-- a search that hasn't found it yet
+pub not_here : {P Q R : Type 0} → P ↔ (Q ⊎ R) → (Q → ⊥) → P ↔ R
+not_here a n = (λ p. elim (a.0 p) [ inl q ↦ absurd (n q) | inr r ↦ r ], λ r. a.1 (inr r))
+
+-- two tests that answer the same
+same_truth : {P Q : Type 0} (a b : Bool) → IsTrue a ↔ P → IsTrue b ↔ Q → P ↔ Q → a ≡ b
+same_truth true true f g h = refl
+same_truth true false f g h = absurd (let e = g.1 (h.0 (f.0 refl)) in cc)
+same_truth false true f g h = absurd (let e = f.1 (h.1 (g.0 refl)) in cc)
+same_truth false false f g h = refl
+
+both_true : {P Q : Type 0} (a b : Bool) → a ≡ b → IsTrue a ↔ P → IsTrue b ↔ Q → P ↔ Q
+both_true a b e f g = (λ p. g.0 (sym e ∙ f.1 p), λ q. f.0 (e ∙ g.1 q))
+
+same_beq : (a b : Bool) → not (beq a b) ≡ false → a ≡ b
+same_beq true true e = refl
+same_beq true false e = absurd cc
+same_beq false true e = absurd cc
+same_beq false false e = refl
+
+pub beq_true : {P Q : Type 0} (a b : Bool) → not (beq a b) ≡ false → IsTrue a ↔ P → IsTrue b ↔ Q → P ↔ Q
+beq_true a b e f g = both_true a b (same_beq a b e) f g
+
+pub beq_false : {P Q : Type 0} (a b : Bool) → not (beq a b) ≡ true → IsTrue a ↔ P → IsTrue b ↔ Q → P ↔ Q → ⊥
+beq_false a b e f g h = differ a b e (same_truth a b f g h)
+  where
+    differ : (a b : Bool) → not (beq a b) ≡ true → a ≡ b → ⊥
+    differ true true e s = absurd cc
+    differ true false e s = absurd cc
+    differ false true e s = absurd cc
+    differ false false e s = absurd cc
+
+-- the element at a place as code reads it
+pub mapped_got : {A B : Type 0} (f : A → B) (xs : List A) (i : ℕ) (x : A)
+    → i < length xs
+    → x ≡ get_or xs i x
+    → slice_get (map f xs) i ≡ Some (f (get_or xs i x))
+mapped_got f xs i x l e = mapped_at f xs i x l e ∙ ap (λ q. Some (f q)) e
+
+pub got : {A : Type 0} (xs : List A) (i : ℕ) (d : A) → i < length xs → slice_get xs i ≡ Some (get_or xs i d)
+got xs i d l = slice_get-get_or xs i d l
+
+pub beq_same : (a b : Bool) → IsTrue (beq a b) ↔ (a ≡ b)
+beq_same true true = yes refl
+beq_same true false = no (λ e. absurd cc)
+beq_same false true = no (λ e. absurd cc)
+beq_same false false = yes refl

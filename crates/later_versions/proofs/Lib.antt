@@ -1,0 +1,10 @@
+mod Fronts
+mod Keeps
+mod Agree
+mod Placing
+mod Joined
+mod Pairing
+mod Places
+mod Marks
+mod Kindred
+mod Few

@@ -1,0 +1,18 @@
+use Rattle.std.proofs.Common.{sym, ◌∙◌}
+use Rattle.asn_base.specs.Seen.{resolved_of}
+use Rattle.later_versions.proofs.Fronts.{no}
+use Rattle.later_versions.proofs.Pairing.{fine_pair, fine_tags}
+use Rattle.later_versions.proofs.versions.is_later_pair.Goals as goal
+
+pub returns-then-not-are_same_tags : goal.returns-then-not-are_same_tags
+returns-then-not-are_same_tags c =
+    no (λ f. absurd (
+    let e = c.are_same_tags.ensures.1 (c.as_slice.ensures.value ∙ fine_tags c.args.first.now c.args.second.now _ (resolved_of c.get-one.result.now) (resolved_of c.get-other.result.now) c.get-one.ensures.is c.get-other.ensures.is f ∙ sym c.as_slice-2.ensures.value) in
+    let g = c.if-not-are_same_tags.true in
+    cc
+    ))
+
+pub returns-in-Ok : goal.returns-in-Ok
+returns-in-Ok c =
+    fine_pair c.args.first.now c.args.second.now _ (resolved_of c.get-one.result.now) (resolved_of c.get-other.result.now) c.get-one.ensures.is c.get-other.ensures.is
+    (sym c.as_slice.ensures.value ∙ c.are_same_tags.ensures.0 c.if-not-are_same_tags.false ∙ c.as_slice-2.ensures.value) c.in-Ok.ensures

@@ -1,0 +1,20 @@
+-- Where a set of ranges begins and ends: between two edges all numbers are in it, or none.
+use Rattle.std.specs.Prelude.{◌≡◌, ◌⊎◌, ℤ, pos, ◌+ℤ◌, List, [], ◌∷◌, Some, None}
+use Rattle.asn_base.specs.Types.{Range}
+
+-- the number behind the other one
+abbrev pub IsBehind : ℤ → ℤ → Type 0
+IsBehind g z = z ≡ (g +ℤ pos 1)
+
+-- the range begins at the number, or ends before it
+abbrev pub IsEdge : Range → ℤ → Type 0
+IsEdge r z = (r.least ≡ Some z) ⊎ ((g : ℤ) × (r.greatest ≡ Some g) × IsBehind g z)
+
+abbrev pub IsEdgeOfSome : List Range → ℤ → Type 0
+IsEdgeOfSome [] z = ⊥
+IsEdgeOfSome (r ∷ rs) z = IsEdge r z ⊎ IsEdgeOfSome rs z
+
+-- one of the ranges has no beginning
+abbrev pub HasNoBeginning : List Range → Type 0
+HasNoBeginning [] = ⊥
+HasNoBeginning (r ∷ rs) = (r.least ≡ None) ⊎ HasNoBeginning rs

@@ -1,0 +1,21 @@
+-- Groups of components that stand together, told by neighbours.
+use Rattle.std.specs.Prelude.{◌≡◌, ◌↔◌, ℕ, ◌+◌, ◌<◌, List, length}
+use Rattle.asn_base.specs.Types.{Component}
+use Rattle.asn_base.specs.Typed.{IsOfGroup}
+use Rattle.later_versions.specs.Later.{AreInOneGroup}
+
+abbrev pub AreOfOne : Component → Component → Type 0
+AreOfOne c d = (g : ℕ) × IsOfGroup g c × IsOfGroup g d
+
+-- the component at place i and the one before it are of one group
+pub record AreJoined (cs : List Component) (i : ℕ) : Type 0 where
+  pub before : ℕ
+  pub next : i ≡ before + 1
+  pub one : AreInOneGroup cs before i
+
+-- the components of the first list stand in groups where the others do, and each is joined to the one before where the
+-- other one is; what follows isn't joined to them
+pub record HaveSameGroups (cs ds : List Component) : Type 0 where
+  pub grouped : (i : ℕ) → i < length cs → (AreInOneGroup cs i i ↔ AreInOneGroup ds i i)
+  pub joined : (i : ℕ) → i < length cs → (AreJoined cs i ↔ AreJoined ds i)
+  pub behind : AreJoined ds (length cs) → ⊥

@@ -1,0 +1,120 @@
+//! What constraints leave, compared (X.680, 51; X.691, 10.3).
+
+ghost use Rattle.std.specs.Prelude.{◌≡◌, ◌↔◌, ℤ, IsTrue, IfOk, IfSome, ◌≤ℤ◌, map};
+ghost use Rattle.asn_base.specs.Seen.{bounds_of, constraint_of, range_of};
+ghost use Rattle.asn_base.specs.Schemas.{IsNumber, IsSize};
+ghost use Rattle.asn_base.specs.Typed.{IsAllowed, IsInSome};
+ghost use Rattle.later_versions.specs.Later.{LeaveSame};
+
+use crate::sets::have_same;
+use asn_base::constraint::{Bounds, Constraint, Range};
+use ranges::Ranges;
+use std::alloc::{AllocError, Global};
+
+/// Whether two ends are the same.
+fn are_same_ends(one: Option<i128>, other: Option<i128>) -> bool
+    ensures { IsTrue result ↔ (one ≡ other) }
+{
+    match (one, other) {
+        (Some(one), Some(other)) => one == other,
+        (None, None) => true,
+        _ => false,
+    }
+}
+
+/// Whether the packed encoding sees the same.
+fn are_same_bounds(one: &Bounds, other: &Bounds) -> bool
+    ensures { IsTrue result ↔ (bounds_of one.now ≡ bounds_of other.now) }
+{
+    are_same_ends(one.least, other.least)
+        && are_same_ends(one.greatest, other.greatest)
+        && one.extensible == other.extensible
+}
+
+/// The numbers from the least one on, or all.
+fn numbers_from(alloc: Global, least: Option<i128>) -> Result<Ranges, AllocError>
+    ensures { IfOk result (λ all. (z : ℤ) → IsInSome z all ↔ IfSome least (λ l. l ≤ℤ z)) }
+{
+    let mut ranges = Vec::new(alloc);
+    ranges.push(Range {
+        least,
+        greatest: None,
+    })?;
+    match Ranges::union_of(alloc, ranges) {
+        Ok(all) => Ok(all),
+        Err(fault) => Err(fault),
+    }
+}
+
+/// The numbers of some ranges.
+fn numbers_in(alloc: Global, some: &[Range]) -> Result<Ranges, AllocError>
+    ensures { IfOk result (λ all. (z : ℤ) → IsInSome z all ↔ IsInSome z (map range_of some.now)) }
+{
+    let mut ranges = Vec::new(alloc);
+    ranges.extend_from_slice(some)?;
+    match Ranges::union_of(alloc, ranges) {
+        Ok(all) => Ok(all),
+        Err(fault) => Err(fault),
+    }
+}
+
+/// The numbers that the constraint allows.
+fn allowed_numbers(alloc: Global, constraint: &Constraint) -> Result<Ranges, AllocError>
+    ensures { IfOk result (λ all. (z : ℤ) → IsInSome z all ↔ IsAllowed (constraint_of constraint.now) z) }
+{
+    match &constraint.allowed {
+        Some(ranges) => match numbers_in(alloc, ranges.as_slice()) {
+            Ok(all) => Ok(all),
+            Err(fault) => Err(fault),
+        },
+        None => match numbers_from(alloc, None) {
+            Ok(all) => Ok(all),
+            Err(fault) => Err(fault),
+        },
+    }
+}
+
+/// The sizes that the constraint allows.
+fn allowed_sizes(alloc: Global, constraint: &Constraint) -> Result<Ranges, AllocError>
+    ensures { IfOk result (λ all. (z : ℤ) → IsInSome z all ↔ (IsAllowed (constraint_of constraint.now) z × IsSize z)) }
+{
+    let numbers = allowed_numbers(alloc, constraint)?;
+    let sizes = numbers_from(alloc, Some(0))?;
+    match numbers.meet(alloc, &sizes) {
+        Ok(both) => Ok(both),
+        Err(fault) => Err(fault),
+    }
+}
+
+/// Whether two constraints of INTEGER leave the same. For n ranges it takes time as n log n; it refuses for want of
+/// memory alone.
+pub(crate) fn leave_same_numbers(
+    alloc: Global,
+    one: &Constraint,
+    other: &Constraint,
+) -> Result<bool, AllocError>
+    ensures { IfOk result (λ b. IsTrue b ↔ LeaveSame IsNumber (constraint_of one.now) (constraint_of other.now)) }
+{
+    if !are_same_bounds(&one.visible, &other.visible) {
+        return Ok(false);
+    }
+    let numbers = allowed_numbers(alloc, one)?;
+    let others = allowed_numbers(alloc, other)?;
+    Ok(have_same(&numbers, &others))
+}
+
+/// Whether two constraints on sizes leave the same.
+pub(crate) fn leave_same_sizes(
+    alloc: Global,
+    one: &Constraint,
+    other: &Constraint,
+) -> Result<bool, AllocError>
+    ensures { IfOk result (λ b. IsTrue b ↔ LeaveSame IsSize (constraint_of one.now) (constraint_of other.now)) }
+{
+    if !are_same_bounds(&one.visible, &other.visible) {
+        return Ok(false);
+    }
+    let sizes = allowed_sizes(alloc, one)?;
+    let others = allowed_sizes(alloc, other)?;
+    Ok(have_same(&sizes, &others))
+}

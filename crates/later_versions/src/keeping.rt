@@ -1,0 +1,133 @@
+//! What a type keeps of a value of a later version.
+
+ghost use Rattle.std.specs.Prelude.{◌≡◌, ◌<◌, ◌++◌, ◌∷◌, [], ℕ, IfOk, OnOk, MatchOption, None, Some, map, option_map, slice_get};
+ghost use Rattle.asn_base.specs.Abstract.{abstract, row_of_list, row_of_options};
+ghost use Rattle.later_versions.specs.Kept.{kept, kept_elements, kept_row, left_out, left_out_of_elements, left_out_of_row, members_of};
+
+use crate::members::{member_at, member_or_none};
+use asn_base::law::abstract_values;
+use asn_base::schema::{Schema, TypeId};
+use asn_base::value::Value;
+use std::alloc::{AllocError, Global};
+
+/// Adds one more.
+fn add<T: Drop>(list: &mut Vec<T>, one: T) -> Result<(), AllocError>
+    ensures { OnOk result (list.new.items ≡ list.old.items ++ one ∷ []) }
+{
+    list.push(one)?;
+    Ok(())
+}
+
+/// Adds an absent component, where the type has one at this place.
+fn pass(
+    schema: &Schema,
+    id: TypeId,
+    place: usize,
+    list: &mut Vec<Option<Value>>,
+) -> Result<(), AllocError>
+    ensures known { (u : ℕ) →
+        slice_get (members_of schema.now id.index) place ≡ Some u → OnOk result (list.new.items ≡ list.old.items ++ None ∷ []) }
+    ensures unknown { slice_get (members_of schema.now id.index) place ≡ None → OnOk result (list.new.items ≡ list.old.items) }
+{
+    match member_at(schema, id, place) {
+        Some(_) => add(list, None),
+        None => Ok(()),
+    }
+}
+
+/// What the type keeps of a value, in memory of its own; None where it leaves out a component that is present. It calls
+/// itself once for each level of the value, and refuses for want of memory alone.
+#[cycle(keeping)]
+pub(crate) fn keep(
+    alloc: Global,
+    schema: &Schema,
+    id: TypeId,
+    value: &Value,
+) -> Result<Option<Value>, AllocError>
+    ensures { IfOk result (λ o. MatchOption o
+        (0 < left_out schema.now id.index (abstract value.now))
+        (λ w. (left_out schema.now id.index (abstract value.now) ≡ 0)
+        × (abstract w ≡ kept schema.now id.index (abstract value.now)))) }
+{
+    abstract_values();
+    match value {
+        Value::Fields(values) => match keep_fields(alloc, schema, id, values.as_slice()) {
+            Ok(Some(all)) => Ok(Some(Value::Fields(all))),
+            Ok(None) => Ok(None),
+            Err(fault) => Err(fault),
+        },
+        Value::List(values) => {
+            let element = member_or_none(schema, id, 0);
+            match keep_elements(alloc, schema, element, values.as_slice()) {
+                Ok(Some(all)) => Ok(Some(Value::List(all))),
+                Ok(None) => Ok(None),
+                Err(fault) => Err(fault),
+            }
+        }
+        Value::Alt(index, inner) => {
+            let chosen = member_or_none(schema, id, *index);
+            match keep(alloc, schema, chosen, inner) {
+                Ok(Some(one)) => Ok(Some(Value::Alt(*index, Box::new(alloc, one)?))),
+                Ok(None) => Ok(None),
+                Err(fault) => Err(fault),
+            }
+        }
+        _ => Ok(Some(value.copy(alloc)?)),
+    }
+}
+
+/// The same of components.
+#[cycle(keeping)]
+fn keep_fields(
+    alloc: Global,
+    schema: &Schema,
+    id: TypeId,
+    values: &[Option<Value>],
+) -> Result<Option<Vec<Option<Value>>>, AllocError>
+    ensures { IfOk result (λ o. MatchOption o
+        (0 < left_out_of_row schema.now (members_of schema.now id.index) (row_of_options (map (option_map abstract) values.now)))
+        (λ ws. (left_out_of_row schema.now (members_of schema.now id.index) (row_of_options (map (option_map abstract) values.now)) ≡ 0)
+        × (row_of_options (map (option_map abstract) ws.items)
+        ≡ kept_row schema.now (members_of schema.now id.index) (row_of_options (map (option_map abstract) values.now))))) }
+{
+    let mut all = Vec::new(alloc);
+    for i in 0..values.len() {
+        match &values[i] {
+            Some(value) => match member_at(schema, id, i) {
+                Some(ty) => match keep(alloc, schema, ty, value) {
+                    Ok(Some(one)) => add(&mut all, Some(one))?,
+                    Ok(None) => return Ok(None),
+                    Err(fault) => return Err(fault),
+                },
+                None => return Ok(None),
+            },
+            None => pass(schema, id, i, &mut all)?,
+        }
+    }
+    Ok(Some(all))
+}
+
+/// The same of elements.
+#[cycle(keeping)]
+fn keep_elements(
+    alloc: Global,
+    schema: &Schema,
+    element: TypeId,
+    values: &[Value],
+) -> Result<Option<Vec<Value>>, AllocError>
+    ensures { IfOk result (λ o. MatchOption o
+        (0 < left_out_of_elements schema.now element.index (row_of_list (map abstract values.now)))
+        (λ ws. (left_out_of_elements schema.now element.index (row_of_list (map abstract values.now)) ≡ 0)
+        × (row_of_list (map abstract ws.items)
+        ≡ kept_elements schema.now element.index (row_of_list (map abstract values.now))))) }
+{
+    let mut all = Vec::new(alloc);
+    for i in 0..values.len() {
+        match keep(alloc, schema, element, &values[i]) {
+            Ok(Some(one)) => add(&mut all, one)?,
+            Ok(None) => return Ok(None),
+            Err(fault) => return Err(fault),
+        }
+    }
+    Ok(Some(all))
+}

@@ -1,0 +1,16 @@
+//! Later versions of types: the same with additions appended at extension markers (X.680, 7, 20, 25 and 29).
+#![tactic(auto)]
+
+mod bits;
+mod components;
+mod constraints;
+mod keeping;
+mod kinds;
+mod lists;
+mod members;
+mod pairs;
+mod sets;
+mod tags;
+mod versions;
+
+pub use versions::later;

@@ -1,0 +1,82 @@
+//! The types of members, by their places.
+
+ghost use Rattle.std.specs.Prelude.{◌≡◌, ◌++◌, ◌∷◌, [], map, option_map, slice_get};
+ghost use Rattle.asn_base.specs.Seen.{alternative_of, component_of, kind_of};
+ghost use Rattle.asn_base.specs.Schemas.{types_in};
+ghost use Rattle.later_versions.specs.Kept.{member_of, members_of};
+
+use asn_base::schema::{Alternatives, Component, Core, Schema, TypeId};
+
+/// The type of the component at a place.
+fn component_type(components: &[Component], place: usize) -> Option<TypeId>
+    ensures { option_map (λ t. t.index) result ≡ slice_get (map (λ c. c.type) (map component_of components.now)) place }
+{
+    if place < components.len() {
+        return Some(components[place].ty);
+    }
+    None
+}
+
+/// The type of the alternative at a place, over both lists.
+fn alternative_type(alternatives: &Alternatives, place: usize) -> Option<TypeId>
+    ensures { option_map (λ t. t.index) result ≡ slice_get
+        (map (λ a. a.type)
+        (map alternative_of alternatives.now.root.items ++ map alternative_of alternatives.now.additions.items))
+        place }
+{
+    let root = alternatives.root.as_slice();
+    if place < root.len() {
+        return Some(root[place].ty);
+    }
+    let additions = alternatives.additions.as_slice();
+    if place - root.len() < additions.len() {
+        return Some(additions[place - root.len()].ty);
+    }
+    None
+}
+
+/// The type of the only member.
+fn element_type(element: TypeId, place: usize) -> Option<TypeId>
+    ensures { option_map (λ t. t.index) result ≡ slice_get (element.index ∷ []) place }
+{
+    if place == 0 {
+        return Some(element);
+    }
+    None
+}
+
+/// The type of the member at a place: of a component, of an alternative over both lists, or of the elements.
+pub(crate) fn member(core: &Core, place: usize) -> Option<TypeId>
+    ensures { option_map (λ t. t.index) result ≡ slice_get (types_in (kind_of core.now)) place }
+{
+    match core {
+        Core::Sequence(_, components) => component_type(components.as_slice(), place),
+        Core::Set(_, components) => component_type(components.as_slice(), place),
+        Core::SequenceOf(_, element) => element_type(*element, place),
+        Core::SetOf(_, element) => element_type(*element, place),
+        Core::Choice(alternatives) => alternative_type(alternatives, place),
+        _ => None,
+    }
+}
+
+/// The same of a type of the schema; none where the schema has no such type.
+pub(crate) fn member_at(schema: &Schema, id: TypeId, place: usize) -> Option<TypeId>
+    ensures { option_map (λ t. t.index) result ≡ slice_get (members_of schema.now id.index) place }
+{
+    if schema.has(id) {
+        return member(&schema.get(id).core, place);
+    }
+    None
+}
+
+/// The same; where there is none, the number of no type.
+pub(crate) fn member_or_none(schema: &Schema, id: TypeId, place: usize) -> TypeId
+    ensures { result.index ≡ member_of schema.now id.index place }
+{
+    match member_at(schema, id, place) {
+        Some(ty) => ty,
+        None => TypeId {
+            index: schema.types().len(),
+        },
+    }
+}

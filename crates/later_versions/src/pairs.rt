@@ -1,0 +1,39 @@
+//! Pairs of types, a type of an earlier schema and one of a later schema, of which each is to be compared once.
+
+ghost use Rattle.std.specs.Prelude.{◌≡◌, OnOk};
+ghost use Rattle.later_versions.specs.proving.Pairs.{AreKnown, AreNoted, StandsIn, pair_of};
+
+use asn_base::schema::TypeId;
+use std::alloc::{AllocError, Global};
+use std::collections::BTreeSet;
+
+/// A type of the earlier schema and one of the later schema.
+#[derive(Clone, Copy)]
+pub(crate) struct Pair {
+    pub first: TypeId,
+    pub second: TypeId,
+}
+
+/// Pairs in the order in which they were met, and the numbers of those.
+#[derive(Drop)]
+pub(crate) struct Pairs {
+    pub list: Vec<Pair>,
+    pub known: BTreeSet<(usize, usize)>,
+}
+
+/// Puts a pair behind the others, if it isn't among them.
+pub(crate) fn note(pairs: &mut Pairs, pair: Pair) -> Result<(), AllocError>
+    requires { AreKnown pairs.old }
+    ensures known { OnOk result (AreKnown pairs.new) }
+    ensures stands { OnOk result (StandsIn pairs.new (pair_of pair)) }
+    ensures noted { OnOk result (AreNoted pairs.old pairs.new (λ p. p ≡ pair_of pair)) }
+{
+    match pairs.known.insert((pair.first.index, pair.second.index)) {
+        Ok(true) => {
+            pairs.list.push(pair)?;
+            Ok(())
+        }
+        Ok(false) => Ok(()),
+        Err(_) => Err(AllocError),
+    }
+}
