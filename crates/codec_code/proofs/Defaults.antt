@@ -2,7 +2,7 @@
 use Rattle.std.proofs.Common.{◌≡◌, ℕ, Bool, false, List, refl, sym, ap, subst, ◌∙◌}
 use Rattle.std.specs.Prelude.{◌↔◌, IsTrue, Option, Some, None, slice_get}
 use Rattle.asn_base.specs.Abstract.{AbstractValue, null}
-use Rattle.asn_base.specs.Types.{Presence, mandatory, optional, default, addition, Component, Resolved, Is}
+use Rattle.asn_base.specs.Types.{Presence, mandatory, optional, default, addition, Component, Resolved}
 use Rattle.asn_base.specs.Same.{Same}
 use Rattle.asn_base.specs.Schemas.{components}
 use Rattle.codec_code.specs.Routines.{component_in}
