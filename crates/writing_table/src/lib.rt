@@ -2,13 +2,15 @@
 #![tactic(auto)]
 
 mod backend;
+mod fault;
 pub mod law;
-mod leaf;
+mod measurement;
 mod part;
 mod scratch;
 mod sort;
 mod steps;
 mod table;
-mod trial;
 
+pub use fault::MeasureFault;
+pub use measurement::{Measured, measure};
 pub use part::Part;

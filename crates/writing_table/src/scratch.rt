@@ -4,7 +4,7 @@ ghost use Rattle.std.specs.Prelude.{◌≡◌, ◌++◌, List, OnOk, ℕ};
 ghost use Rattle.writing_table.specs.Parts.{IsPart, Spell};
 
 use crate::part::Part;
-use crate::leaf::push_leaf;
+use leaf_contents::{leaf_len, push_leaf};
 use octets::{Form, write_header};
 use std::alloc::{AllocError, Global};
 
@@ -21,8 +21,10 @@ fn push_part<'a>(alloc: Global, part: Part<'a>, out: &mut Vec<u8>) -> Result<(),
             }
         }
         Part::Contents(kind, value, _) => {
-            push_leaf(kind, value, out)?;
-            Ok(())
+            match leaf_len(kind, value) {
+                Some(_) => push_leaf(kind, value, out),
+                None => Ok(()),
+            }
         }
     }
 }

@@ -16,7 +16,7 @@ use crate::table::{Group, Member, Open, Table};
 use asn_base::value::Value;
 use codec_code::{Head, LeafKind, RowKind};
 use codec_machine::RunFault;
-use crate::leaf::leaf_len;
+use leaf_contents::leaf_len;
 use octets::header_len;
 use std::alloc::AllocError;
 
