@@ -81,8 +81,9 @@ at_most_both (x ∷ xs) [] [] h k = h
 at_most_both (x ∷ xs) [] (z ∷ zs) h k = elim (zero_or z) [ inl l ↦ inl (let e = h.0 in omega arith) | inr f ↦ inr (h.0 ∙ f, at_most_both xs [] zs h.1 tt) ]
 at_most_both (x ∷ xs) (y ∷ ys) [] h k = elim h [ inl l ↦ absurd (let e = k.0 in omega arith) | inr p ↦ (p.0 ∙ k.0, at_most_both xs ys [] p.1 k.1) ]
 at_most_both (x ∷ xs) (y ∷ ys) (z ∷ zs) h k = elim h [
-    inl l ↦ elim k [ inl m ↦ inl (omega arith) | inr q ↦ inl (let e = q.0 in omega arith) ]
-  | inr p ↦ elim k [ inl m ↦ inl (let e = p.0 in omega arith) | inr q ↦ inr (p.0 ∙ q.0, at_most_both xs ys zs p.1 q.1) ] ]
+  | inl l ↦ elim k [ inl m ↦ inl (omega arith) | inr q ↦ inl (let e = q.0 in omega arith) ]
+  | inr p ↦ elim k [ inl m ↦ inl (let e = p.0 in omega arith) | inr q ↦ inr (p.0 ∙ q.0, at_most_both xs ys zs p.1 q.1) ]
+]
 
 either : (x y : ℕ) (xs ys : List ℕ) (b c : Bool) → nat_lt x y ≡ b → nat_lt y x ≡ c → AtMost xs ys ⊎ AtMost ys xs → AtMost (x ∷ xs) (y ∷ ys) ⊎ AtMost (y ∷ ys) (x ∷ xs)
 either x y xs ys true c e f h = inl (inl (ltb-true x y e))
@@ -103,16 +104,17 @@ true_not_false e f = let g : true ≡ false = sym e ∙ f in cc
 
 pub weak_order : IsStrictWeakOrder before
 weak_order = record {
-    one_way = λ x y h. elim (at_most_or (octets_in x) (octets_in y)) [ inl l ↦ from_at_most (octets_in x) (octets_in y) l | inr r ↦ absurd (true_not_false h (from_at_most (octets_in y) (octets_in x) r)) ];
-    chain = λ x y z h k. from_at_most (octets_in z) (octets_in x) (at_most_both (octets_in z) (octets_in y) (octets_in x) (at_most (octets_in z) (octets_in y) k) (at_most (octets_in y) (octets_in x) h)) }
+  one_way = λ x y h. elim (at_most_or (octets_in x) (octets_in y)) [ inl l ↦ from_at_most (octets_in x) (octets_in y) l | inr r ↦ absurd (true_not_false h (from_at_most (octets_in y) (octets_in x) r)) ];
+  chain = λ x y z h k. from_at_most (octets_in z) (octets_in x) (at_most_both (octets_in z) (octets_in y) (octets_in x) (at_most (octets_in z) (octets_in y) k) (at_most (octets_in y) (octets_in x) h));
+}
 
 pub ascending_from : (ms : List Member) → IsSortedBy before ms → Ascending AtMost (encodings_of (map placed_of ms))
 ascending_from [] h = ascending_none
 ascending_from (m ∷ []) h = ascending_one
 ascending_from (m ∷ n ∷ ms) h = ascending_more (at_most (octets_in m) (octets_in n) (h 0 m (omega arith) (omega arith)))
     (ascending_from (n ∷ ms) (λ k d l g.
-      let e : suc k + 1 ≡ suc (k + 1) = omega arith in
-      subst (λ q. before (slice_index_or (m ∷ n ∷ ms) q d) (slice_index_or (n ∷ ms) k d) ≡ false) e (h (suc k) d (omega arith) (omega arith))))
+    let e : suc k + 1 ≡ suc (k + 1) = omega arith in
+    subst (λ q. before (slice_index_or (m ∷ n ∷ ms) q d) (slice_index_or (n ∷ ms) k d) ≡ false) e (h (suc k) d (omega arith) (omega arith))))
 
 above : (m : Member) (ms : List Member) → ((k : ℕ) (d : Member) → k < length ms → m.rank ≤ (slice_index_or ms k d).rank) → AllByRecursion (λ q. m.rank ≤ q.rank) (map placed_of ms)
 above m [] h = tt
@@ -120,6 +122,7 @@ above m (n ∷ ms) h = (h 0 n (omega arith), above m ms (λ k d l. h (suc k) d (
 
 pub ranks_from : (ms : List Member) → IsNonDecreasingBy (λ m. m.rank) ms → RanksAscend (map placed_of ms)
 ranks_from [] h = tt
-ranks_from (m ∷ ms) h =
-    (above m ms (λ k d l. h 0 (suc k) d (omega arith) (omega arith)),
-     ranks_from ms (λ i j d l r. h (suc i) (suc j) d (omega arith) (omega arith)))
+ranks_from (m ∷ ms) h = (
+  above m ms (λ k d l. h 0 (suc k) d (omega arith) (omega arith)),
+  ranks_from ms (λ i j d l r. h (suc i) (suc j) d (omega arith) (omega arith)),
+)

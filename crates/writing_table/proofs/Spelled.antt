@@ -19,11 +19,12 @@ next_part (q ∷ ps) (suc i) p y l e h = next_part ps i p y (omega (arith, l)) e
 pub next_written : (ps : List Part) (i : ℕ) (p : Part) (out news all : List ℕ) → i < length ps → p ≡ get_or ps i p
     → ((x : List ℕ) → IsPart p x → news ≡ out ++ x)
     → ((o : List ℕ) → Spell ps o → (y : List ℕ) × Spell (drop i ps) y × (out ++ y ≡ all ++ o))
-    → (o : List ℕ) → Spell ps o → (y : List ℕ) × Spell (drop (suc i) ps) y × (news ++ y ≡ all ++ o)
+    → (o : List ℕ) → Spell ps o → (y : List ℕ) × Spell (drop (i + 1) ps) y × (news ++ y ≡ all ++ o)
 next_written ps i p out news all l e adds left o s =
     let k = left o s in
     let n = next_part ps i p k.0 l e k.1 in
-    (n.behind, n.spelled, ap (λ q. q ++ n.behind) (adds n.octets n.is_part) ∙ append_assoc out n.octets n.behind ∙ ap (λ q. out ++ q) (sym n.whole) ∙ k.2)
+    let e : suc i ≡ i + 1 = omega arith in
+    (n.behind, subst (λ j. Spell (drop j ps) n.behind) e n.spelled, ap (λ q. q ++ n.behind) (adds n.octets n.is_part) ∙ append_assoc out n.octets n.behind ∙ ap (λ q. out ++ q) (sym n.whole) ∙ k.2)
 
 none_left : (ps : List Part) (i : ℕ) (y : List ℕ) → length ps ≤ i → Spell (drop i ps) y → y ≡ []
 none_left [] zero y l h = h

@@ -273,7 +273,7 @@ grouped g b k o i t begins ends inner after es a c s h =
     let n = told (0 + length p.octets) in
     let y = ended o p.written a.opened a.groups m.group n z.within_it (a.parts ++ Header g b 0 ∷ []) [] m.before_is m.no_members (ends (taken f a.opened) z.within_it z.closing.group_ends) in
     let w : z.within_it ≡ state ((a.parts ++ Header g b 0 ∷ []) ++ p.written) a.opened a.groups n =
-        y.is ∙ ap (λ q. state ((a.parts ++ Header g b 0 ∷ []) ++ (parts_of q ++ p.written)) a.opened a.groups n) (none_sorted y.sorted y.in_order.same) in
+    y.is ∙ ap (λ q. state ((a.parts ++ Header g b 0 ∷ []) ++ (parts_of q ++ p.written)) a.opened a.groups n) (none_sorted y.sorted y.in_order.same) in
     let v = closed a z.within_it p.more.0 g b k p.written p.octets w z.closing.header_closes in
     let q = after es (added a (Header g b n ∷ p.written) (length (shortest_header g b (length p.octets) ++ p.octets))) c (told_most _) (subst (λ y. Runs (flat t ++ es) y c) v p.more.2) in
     framed (within g b k i t) t es a c g b p.written p.octets (ap (λ n. length (shortest_header g b n) + (n + octets_in t)) (sym p.as_many)) (λ l. (p.fine l).spelled) (λ l y j. (p.octets, y, (p.fine l).stands, j, refl)) q
@@ -292,15 +292,15 @@ content_of : (o : Order) (ms : Members) (placed : List Placed) (news sorted : Li
     → Content o ms placed sorted
 content_of o ms placed news sorted good are in_order = ⊎_elim
     (λ s.
-        let p = placed_same good s in
-        let same : IsPermutation placed (map placed_of sorted) = subst (λ q. IsPermutation q (map placed_of sorted)) p.0 (IsPermutation-map placed_of news sorted in_order.same) in
-        let all = recursion_from_All Spelled sorted (All-permutation Spelled news sorted in_order.same (All-from_recursion Spelled news p.1)) in
-        record {
-          octets = concat (encodings_of (map placed_of sorted));
-          as_many = permuted_length placed (map placed_of sorted) same;
-          spelled = λ l. spell_none (parts_of sorted) _ (spelled_all sorted all);
-          stands = λ l. (placed, map placed_of sorted, are s, record { same = same; in_order = in_order.in_order }, refl);
-        })
+    let p = placed_same good s in
+    let same : IsPermutation placed (map placed_of sorted) = subst (λ q. IsPermutation q (map placed_of sorted)) p.0 (IsPermutation-map placed_of news sorted in_order.same) in
+    let all = recursion_from_All Spelled sorted (All-permutation Spelled news sorted in_order.same (All-from_recursion Spelled news p.1)) in
+    record {
+      octets = concat (encodings_of (map placed_of sorted));
+      as_many = permuted_length placed (map placed_of sorted) same;
+      spelled = λ l. spell_none (parts_of sorted) _ (spelled_all sorted all);
+      stands = λ l. (placed, map placed_of sorted, are s, record { same = same; in_order = in_order.in_order }, refl);
+    })
     (λ l. record {
       octets = concat (encodings_of placed);
       as_many = refl;
@@ -325,7 +325,7 @@ in_their_order g o ms t begins ends inner after es a c s h =
     let y = ended o [] a.opened a.groups p.group n z.within_it (a.parts ++ Header g true 0 ∷ []) p.news (p.before_is ∙ m.before_is) (p.members_are ∙ ap (λ q. q ++ p.news) m.no_members) (ends (taken f a.opened) z.within_it z.closing.group_ends) in
     let x = content_of o ms p.placed p.news y.sorted p.good p.are y.in_order in
     let w : z.within_it ≡ state ((a.parts ++ Header g true 0 ∷ []) ++ (parts_of y.sorted ++ [])) a.opened a.groups (told (0 + length x.octets)) =
-        y.is ∙ ap (λ q. state ((a.parts ++ Header g true 0 ∷ []) ++ (parts_of y.sorted ++ [])) a.opened a.groups (told (0 + q))) (sym x.as_many) in
+    y.is ∙ ap (λ q. state ((a.parts ++ Header g true 0 ∷ []) ++ (parts_of y.sorted ++ [])) a.opened a.groups (told (0 + q))) (sym x.as_many) in
     let v = closed a z.within_it p.more.0 g true k (parts_of y.sorted ++ []) x.octets w z.closing.header_closes in
     let q = after es (added a (Header g true (told (0 + length x.octets)) ∷ (parts_of y.sorted ++ [])) (length (shortest_header g true (length x.octets) ++ x.octets))) c (told_most _) (subst (λ y. Runs (flat t ++ es) y c) v p.more.2) in
     framed (ordered g o ms t) t es a c g true (parts_of y.sorted ++ []) x.octets (ap (λ n. length (shortest_header g true n) + (n + octets_in t)) (sym (x.as_many ∙ p.as_many))) x.spelled

@@ -14,7 +14,11 @@ fn push_part<'a>(alloc: Global, part: Part<'a>, out: &mut Vec<u8>) -> Result<(),
 {
     match part {
         Part::Header(tag, constructed, contents) => {
-            let form = if constructed { Form::Constructed } else { Form::Primitive };
+            let form = if constructed {
+                Form::Constructed
+            } else {
+                Form::Primitive
+            };
             match write_header(alloc, tag, form, contents as u64, out) {
                 Ok(()) => Ok(()),
                 Err(_) => Err(AllocError),
@@ -30,7 +34,11 @@ fn push_part<'a>(alloc: Global, part: Part<'a>, out: &mut Vec<u8>) -> Result<(),
 }
 
 /// Adds the octets of parts, one behind the other.
-pub(crate) fn push_parts<'a>(alloc: Global, parts: &[Part<'a>], out: &mut Vec<u8>) -> Result<(), AllocError>
+pub(crate) fn push_parts<'a>(
+    alloc: Global,
+    parts: &[Part<'a>],
+    out: &mut Vec<u8>,
+) -> Result<(), AllocError>
     ensures { (o : List ℕ) → Spell parts.now o → OnOk result (out.new.items ≡ out.old.items ++ o) }
 {
     for i in 0..parts.len() {

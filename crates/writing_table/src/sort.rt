@@ -38,11 +38,7 @@ fn octet_at(octets: &[u8], i: usize) -> u8
 fn compare(a: &[u8], b: &[u8]) -> Ordering
     ensures { result ≡ order a.now b.now }
 {
-    let n = if a.len() < b.len() {
-        b.len()
-    } else {
-        a.len()
-    };
+    let n = if a.len() < b.len() { b.len() } else { a.len() };
     for i in 0..n {
         let x = octet_at(a, i);
         let y = octet_at(b, i);

@@ -110,14 +110,21 @@ fn begin_members<'a>(table: &mut Table<'a>) -> Result<(), AllocError>
 }
 
 /// Contents of a value. `NotOfType`: it has none of this kind.
-pub(crate) fn add_contents<'a>(table: &mut Table<'a>, kind: LeafKind, value: &'a Value) -> Result<(), RunFault>
+pub(crate) fn add_contents<'a>(
+    table: &mut Table<'a>,
+    kind: LeafKind,
+    value: &'a Value,
+) -> Result<(), RunFault>
     ensures adds { OnOk result ((x : List ℕ) × HasContents kind (abstract value.now) x
         × ContentsAdded x (state_of table.old) (state_of table.new)) }
     ensures not_of_type { IfErr result (λ e. e ≡ NotOfType → HasNoContents kind (abstract value.now)) }
 {
     match leaf_len(kind, value) {
         Some(octets) => {
-            add_part(&mut table.parts, Part::Contents(kind, value, octets as usize))?;
+            add_part(
+                &mut table.parts,
+                Part::Contents(kind, value, octets as usize),
+            )?;
             table.count = sum(table.count, octets as usize);
             Ok(())
         }
@@ -136,8 +143,21 @@ pub(crate) fn end_member<'a>(table: &mut Table<'a>, rank: usize) -> Result<(), A
             push_parts(table.alloc, table.parts.as_slice(), &mut octets)?;
             let parts = std::mem::replace(&mut table.parts, Vec::new(table.alloc));
             let mut members = group.members;
-            add_member(&mut members, Member { rank, octets, parts })?;
-            add_group(&mut table.groups, Group { before: group.before, members })?;
+            add_member(
+                &mut members,
+                Member {
+                    rank,
+                    octets,
+                    parts,
+                },
+            )?;
+            add_group(
+                &mut table.groups,
+                Group {
+                    before: group.before,
+                    members,
+                },
+            )?;
             Ok(())
         }
         None => Ok(()),
