@@ -3,8 +3,8 @@ use Rattle.std.specs.Prelude.{◌≡◌, ℕ, ◌+◌, ◌<◌, true, List, leng
 use Rattle.asn_base.specs.Abstract.{AbstractValue}
 use Rattle.asn_base.specs.Types.{TypeNumber, Resolved}
 use Rattle.encodings.specs.Fewest.{shortest_header}
-use Rattle.codec_code.specs.Events.{Event, Tree, done, piece, lacking, within, ordered, Members, no_member, no_component}
-use Rattle.codec_code.specs.Events.{member, flat}
+use Rattle.codec_code.specs.Events.{Event, Tree, done, piece, lacking, within, ordered, Members, no_member}
+use Rattle.codec_code.specs.Events.{no_component, member, flat}
 use Rattle.codec_code.specs.Routines.{routine_at}
 use Rattle.codec_code.specs.Steps.{Steps}
 

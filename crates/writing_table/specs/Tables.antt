@@ -34,7 +34,8 @@ abbrev pub told : ℕ → ℕ
 told n = min n 16777217
 
 abbrev pub an_open : ℕ → Tag → Bool → RowKind → ℕ → Open
-an_open place g c k before = record { place = place; head = record { tag = g; constructed = c; row = k }; before = before }
+an_open place g c k before =
+    record { place = place; head = record { tag = g; constructed = c; row = k }; before = before }
 
 -- a member with its encoding
 abbrev pub placed_of : Member → Placed

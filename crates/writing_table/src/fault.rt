@@ -1,13 +1,9 @@
 //! Why a value was not measured.
 
-ghost use Rattle.writing_table.specs.declared.fault.MeasureFault.TheVariants.{Memory};
-ghost use Rattle.std.specs.Prelude.{◌≡◌};
-
-use std::alloc::AllocError;
 use thiserror::Error;
 
-/// Why a value was not measured: `Memory`, where more memory was asked for and refused; `NotOfType`, where it is no value
-/// of the type; `TooLong`, where its encoding would have more than 16,777,216 octets.
+/// Why a value was not measured: `Memory`, where more memory was asked for and refused; `NotOfType`, where it is no
+/// value of the type; `TooLong`, where its encoding would have more than 16,777,216 octets.
 #[derive(Clone, Copy, Debug, PartialEq, Eq, Error)]
 pub enum MeasureFault {
     #[error("1 Memory")]

@@ -28,9 +28,9 @@ pub struct Measured<'a> {
     pub octets: usize,
 }
 
-/// The parts of the value's encoding by the distinguished rules (X.690, 10 and 11), in the order of writing: all lengths
-/// are known, and the members of each SET and SET OF stand in their order (10.3 and 11.6). The type's routine runs once;
-/// members of a SET or SET OF alone are encoded apart, to be compared.
+/// The parts of the value's encoding by the distinguished rules (X.690, 10 and 11), in the order of writing: all
+/// lengths are known, and the members of each SET and SET OF stand in their order (10.3 and 11.6). The type's routine
+/// runs once; members of a SET or SET OF alone are encoded apart, to be compared.
 ///
 /// - `NotOfType`: it is no value of the type.
 /// - `TooLong`: its routine tells more than 16,777,216 octets.

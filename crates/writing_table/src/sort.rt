@@ -9,8 +9,8 @@ use crate::table::Member;
 use std::alloc::AllocError;
 use std::cmp::Ordering;
 
-/// Members of a SET OF in ascending order of their octets, where the shorter ones are filled with zeros. Those with equal
-/// octets stay in their order.
+/// Members of a SET OF in ascending order of their octets, where the shorter ones are filled with zeros. Those with
+/// equal octets stay in their order.
 pub(crate) fn sort_by_octets<'a>(members: &mut Vec<Member<'a>>) -> Result<(), AllocError>
     ensures { OnOk result (Sorted by_octets members.old.items members.new.items) }
 {

@@ -6,8 +6,7 @@ ghost use Rattle.codec_code.specs.Steps.{HasContents};
 ghost use Rattle.codec_code.specs.Events.{by_octets, by_rank};
 ghost use Rattle.codec_machine.specs.Frames.{HasNoContents};
 ghost use Rattle.codec_machine.specs.declared.fault.RunFault.TheVariants.{NotOfType};
-ghost use Rattle.writing_table.specs.Parts.{Spell};
-ghost use Rattle.writing_table.specs.Tables.{GroupBegins, GroupEnds, HeaderCloses, HeaderOpens, MemberEnds, MembersBegin, MembersEnd, MembersEndIfAny, ContentsAdded, Sorted, an_open, parts_of, state_of, told};
+ghost use Rattle.writing_table.specs.Tables.{GroupBegins, GroupEnds, HeaderCloses, HeaderOpens, MemberEnds, MembersBegin, MembersEndIfAny, ContentsAdded, parts_of, state_of, told};
 
 use crate::part::Part;
 use crate::scratch::push_parts;

@@ -29,8 +29,8 @@ pub(crate) struct Group<'a> {
     pub members: Vec<Member<'a>>,
 }
 
-/// The parts so far, what is open, and how many octets the parts within the nearest open header have: at most 16,777,217,
-/// which stands for any more.
+/// The parts so far, what is open, and how many octets the parts within the nearest open header have: at most
+/// 16,777,217, which stands for any more.
 #[derive(Drop)]
 pub struct Table<'a> {
     pub(crate) alloc: Global,
