@@ -1,4 +1,0 @@
-use Rattle.writing_table.proofs.scratch.push_part.Goals as goal
-
-pub returns-in-None : goal.returns-in-None
-returns-in-None c = λ x h. absurd (c.in-None.ensures x h.0)
