@@ -1,5 +1,5 @@
 -- The routines of a schema stand for its types.
-use Rattle.std.proofs.Common.{◌≡◌, ℕ, zero, suc, ◌+◌, ◌<◌, ◌^◌, Bool, true, false, List, [], ◌∷◌, ◌++◌, length, refl, sym, ap, subst, ◌∙◌, arith, append_assoc, append-nil, length-append}
+use Rattle.std.proofs.Common.{◌≡◌, ℕ, zero, suc, ◌+◌, ◌<◌, ◌≤◌, ◌^◌, Bool, true, false, List, [], ◌∷◌, ◌++◌, length, refl, sym, ap, subst, ◌∙◌, arith, append_assoc, append-nil, length-append}
 use Rattle.std.specs.Prelude.{Some, slice_get, drop}
 use Rattle.std.specs.List.{concat, AllByRecursion}
 use Rattle.asn_base.specs.declared.tag.Tag.{Tag}
@@ -25,7 +25,7 @@ use Rattle.codec_code.proofs.Joins.{join, flat_join, joined}
 use Rattle.codec_code.proofs.Inversion.{field_in, ranked_in, leaf_in as leaf_step_in, each_in, sorted_in, pick_in, rest_in, ended}
 use Rattle.codec_code.proofs.Leaves.{LeafStep, leaf_step}
 use Rattle.codec_code.proofs.Permuted.{permutes_from, all_from, permuted_length}
-use Rattle.codec_code.proofs.Ranks.{HasRank, ordered_all}
+use Rattle.codec_code.proofs.Ranks.{HasRank, ordered_all, times, times_same, rising, members_at, once}
 use Rattle.codec_code.proofs.Told.{Told, Inside, plain, grouped, whole, Placed, Present, omitted, stood, present_in, absent_in, RowIn, row_none, row_absent, row_omitted, row_stood, has_rank, Rows, rows_none, rows_more, elements_in, set_in}
 
 pub none_lacking : {s : List Resolved} {cs : List Component} (e : Bool) → UnknownIf s cs e 0 []
@@ -64,7 +64,7 @@ record RankedTold (s : List Resolved) (t n : ℕ) (all cs : List Component) (vs 
   left : List Event
   is : es ≡ flats group ++ left
   rest : Steps s t ss (fields ws) left
-  holds : (ps : List Part) → PartsOf group ps → length (concat (encodings_of ps)) < 2 ^ 64 → RowIn s n cs vs (encodings_of ps) × AllByRecursion (HasRank s all) ps
+  holds : (ps : List Part) → PartsOf group ps → length (concat (encodings_of ps)) < 2 ^ 64 → RowIn s n cs vs (encodings_of ps) × AllByRecursion (HasRank s all) ps × ((r : ℕ) → times r ps ≤ members_at s all r cs)
 
 record ElementsTold (s : List Resolved) (n u : ℕ) (vs : Row) (es : List Event) : Type 0 where
   tree : Tree
@@ -158,7 +158,7 @@ module _ (s : List Resolved) (schema : IsSchema s)
     left = m.left;
     is = e ∙ ap (λ q. leaves_out d ∷ q) m.is;
     rest = m.rest;
-    holds = λ ps a lt. let h = m.holds ps a lt in (grow (encodings_of ps) h.0, h.1);
+    holds = λ ps a lt. let h = m.holds ps a lt in (grow (encodings_of ps) h.0, h.1, λ r. let z = h.2 r in omega (arith, z));
   }
 
   ranked_stood : {t n : ℕ} {all : List Component} {c : Component} {cs : List Component} {v : AbstractValue} {vs ws : Row} {ss : List Step} {es : List Event}
@@ -176,6 +176,7 @@ module _ (s : List Resolved) (schema : IsSchema s)
         let k = m.holds a.1 a.3 (omega (arith, l)) in (
           subst (λ q. RowIn s n (c ∷ cs) (present v vs) (encodings_of q)) (sym a.4) (row_stood s turn follow levels h b differs y k.0),
           subst (λ q. AllByRecursion (HasRank s all) q) (sym a.4) (has_rank g y.is, k.1),
+          λ r. let z = k.2 r in let w = ap (times r) a.4 in omega (arith, z, w),
         );
   }
 
@@ -206,8 +207,8 @@ module _ (s : List Resolved) (schema : IsSchema s)
             };
       }
 
-  set_inside : {t n : ℕ} (tags : List Tag) {e : Bool} {cs : List Component} {vs : Row} (fs : List Event) → (tags ≡ [] → ⊥) → GroupsAreWhole cs vs → RankedTold s t n cs cs vs vs (rest_if e ++ ends (length tags)) fs → Inside s n tags (a_set e cs) (fields vs) fs
-  set_inside tags {e} {cs} {vs} fs some g m =
+  set_inside : {t n : ℕ} (tags : List Tag) {e : Bool} {cs : List Component} {vs : Row} (fs : List Event) → (tags ≡ [] → ⊥) → ((r : ℕ) → members_at s cs r cs ≤ 1) → GroupsAreWhole cs vs → RankedTold s t n cs cs vs vs (rest_if e ++ ends (length tags)) fs → Inside s n tags (a_set e cs) (fields vs) fs
+  set_inside tags {e} {cs} {vs} fs some single g m =
       record {
         content = grouped by_rank m.group;
         suits = (refl, some);
@@ -224,7 +225,8 @@ module _ (s : List Resolved) (schema : IsSchema s)
               value = of_set r.values (groups cs vs r.row r.same g);
               same = alike_set r.same;
               is = subst (λ q. Holds s Distinguished (a_set e cs) (fields r.row) 0 true q) (sym ot.4)
-                  (set r.are perm (ordered_all s cs qs (all_from (HasRank s cs) ps qs ot.3.same h.1) ot.3.in_order) (none_lacking e) (merged_alone (encodings_of qs)));
+                  (set r.are perm (ordered_all s cs qs (all_from (HasRank s cs) ps qs ot.3.same h.1)
+                  (rising qs (λ r. let z = h.2 r in let o = single r in let w = times_same r ps qs ot.3.same in omega (arith, z, o, w)) ot.3.in_order)) (none_lacking e) (merged_alone (encodings_of qs)));
             };
       }
 
@@ -296,7 +298,7 @@ module _ (s : List Resolved) (schema : IsSchema s)
         (λ j c e. record { tags = tags; kind = _; is = i; at = ap (slice_get cs) (let z : 0 + j ≡ j = omega arith in z) ∙ e })
         (rest_if e ++ ends (length tags)) fs (subst (λ q. Steps s t q (fields vs) fs) (append_assoc (fields_from 0 cs) (rest_if e) (ends (length tags))) d))
     inside {t = t} {tags = tags} i (of_set {e = e} {cs = cs} {vs = vs} a g) fs d =
-        set_inside tags fs (set_tagged i) g (of_ranked cs vs 0 (schema.sound _ _ _ i).0.defaults (schema.sound _ _ _ i).1 a
+        set_inside tags fs (set_tagged i) (once s cs (schema.tellable _ _ _ i) (schema.sound _ _ _ i).1) g (of_ranked cs vs 0 (schema.sound _ _ _ i).0.defaults (schema.sound _ _ _ i).1 a
         (λ j. ap (component_at vs) (let z : 0 + j ≡ j = omega arith in z))
         (λ j c e. record { tags = tags; kind = _; is = i; at = ap (slice_get cs) (let z : 0 + j ≡ j = omega arith in z) ∙ e })
         (rest_if e ++ ends (length tags)) fs (subst (λ q. Steps s t q (fields vs) fs) (append_assoc (ranked_from s cs 0 cs) (rest_if e) (ends (length tags))) d))
@@ -334,7 +336,7 @@ module _ (s : List Resolved) (schema : IsSchema s)
       left = es;
       is = refl;
       rest = d;
-      holds = λ ps e lt. (subst (λ q. RowIn s n [] end (encodings_of q)) (sym e) (row_none s n), subst (λ q. AllByRecursion (HasRank s all) q) (sym e) tt);
+      holds = λ ps e lt. (subst (λ q. RowIn s n [] end (encodings_of q)) (sym e) (row_none s n), subst (λ q. AllByRecursion (HasRank s all) q) (sym e) tt, λ r. let w = ap (times r) e in omega (arith, w));
     }
     of_ranked {n} {t} all ws i h g (component_absent {c = c} m a) at placed ss es d =
         let p = absent_in c (ap (component_at ws) (let z : i ≡ i + 0 = omega arith in z) ∙ at 0) (ranked_in d) in

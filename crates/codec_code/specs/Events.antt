@@ -1,6 +1,6 @@
 -- What a routine tells when a value is written: headers that open and close, contents octets between them, components
 -- that are left out, and where the members of a SET or SET OF end. And what octets these stand for.
-use Rattle.std.specs.Prelude.{◌≡◌, ℕ, ◌<◌, Bool, true, List, [], ◌∷◌, ◌++◌, length, map}
+use Rattle.std.specs.Prelude.{◌≡◌, ℕ, ◌≤◌, Bool, true, List, [], ◌∷◌, ◌++◌, length, map}
 use Rattle.std.specs.List.{concat, AllByRecursion}
 use Rattle.std.specs.List.Sorted.{IsPermutation}
 use Rattle.asn_base.specs.declared.tag.Tag.{Tag}
@@ -67,7 +67,7 @@ pub record Part : Type 0 where
 -- the ranks ascend
 abbrev pub RanksAscend : List Part → Type 0
 RanksAscend [] = Unit {0}
-RanksAscend (p ∷ ps) = AllByRecursion (λ q. p.rank < q.rank) ps × RanksAscend ps
+RanksAscend (p ∷ ps) = AllByRecursion (λ q. p.rank ≤ q.rank) ps × RanksAscend ps
 
 abbrev pub encodings_of : List Part → Encodings
 encodings_of = map (λ p. p.octets)

@@ -1,0 +1,34 @@
+-- Lists of parts, and the last of a list.
+use Rattle.std.proofs.Common.{◌≡◌, ℕ, zero, suc, ◌+◌, ◌<◌, ◌≤◌, ◌⊎◌, inl, inr, List, [], ◌∷◌, ◌++◌, length, map, set, refl, sym, ap, subst, ◌∙◌, arith, append_assoc, append-nil, length-append}
+use Rattle.writing_table.specs.declared.part.Part.{Part}
+use Rattle.writing_table.specs.Parts.{IsPart, Spell}
+
+-- the last of two equal lists
+pub last_same : {A : Type 0} (xs ys : List A) (x y : A) → xs ++ x ∷ [] ≡ ys ++ y ∷ [] → (xs ≡ ys) × (x ≡ y)
+last_same [] [] x y e = (refl, cc)
+last_same [] (b ∷ ys) x y e = absurd (let f : length (x ∷ []) ≡ length (b ∷ (ys ++ y ∷ [])) = ap length e in let g = length-append ys (y ∷ []) in omega arith)
+last_same (a ∷ xs) [] x y e = absurd (let f : length (a ∷ (xs ++ x ∷ [])) ≡ length (y ∷ []) = ap length e in let g = length-append xs (x ∷ []) in omega arith)
+last_same (a ∷ xs) (b ∷ ys) x y e =
+    let h : a ≡ b = cc in
+    let t : xs ++ x ∷ [] ≡ ys ++ y ∷ [] = cc in
+    let p = last_same xs ys x y t in
+    (ap (λ q. q ∷ xs) h ∙ ap (λ q. b ∷ q) p.0, p.1)
+
+pub no_last : {A : Type 0} (xs : List A) (x : A) → xs ++ x ∷ [] ≡ [] → ⊥
+no_last [] x e = cc
+no_last (y ∷ xs) x e = cc
+
+pub set_last : {A : Type 0} (xs ys : List A) (x y : A) → set ((xs ++ x ∷ []) ++ ys) (length xs) y ≡ xs ++ (y ∷ ys)
+set_last [] ys x y = refl
+set_last (z ∷ xs) ys x y = ap (λ k. z ∷ k) (set_last xs ys x y)
+
+pub spell_both : (ps qs : List Part) (x y : List ℕ) → Spell ps x → Spell qs y → Spell (ps ++ qs) (x ++ y)
+spell_both [] qs x y h k = subst (λ q. Spell qs (q ++ y)) (sym h) k
+spell_both (p ∷ ps) qs x y h k = (h.0, h.1 ++ y, h.2, spell_both ps qs h.1 y h.3 k, ap (λ q. q ++ y) h.4 ∙ append_assoc h.0 h.1 y)
+
+pub spell_none : (ps : List Part) (x : List ℕ) → Spell ps x → Spell (ps ++ []) x
+spell_none ps x h = subst (λ q. Spell q x) (sym (append-nil ps)) h
+
+pub only_second : {P B : Type 0} → (P → ⊥) → P ⊎ B → B
+only_second n (inl p) = absurd (n p)
+only_second n (inr b) = b

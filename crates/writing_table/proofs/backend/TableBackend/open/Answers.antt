@@ -1,0 +1,6 @@
+use Rattle.std.proofs.Common.{refl}
+use Rattle.writing_table.specs.Tables.{state_of}
+use Rattle.writing_table.proofs.backend.TableBackend.open.Goals as goal
+
+pub returns : goal.returns
+returns c = (_, (_, c.in_ok-open_header.ensures, c.in_ok-begin_group.ensures), refl)

@@ -1,0 +1,13 @@
+use Rattle.std.proofs.Common.{inr, refl}
+use Rattle.writing_table.proofs.steps.end_set.Goals as goal
+
+pub returns-in_ok-put_members-in-Some : goal.returns-in_ok-put_members-in-Some
+returns-in_ok-put_members-in-Some c = inr (record {
+  group = c.in-Some.group;
+  sorted = c.sort_by_rank.new.members.items;
+  from = c.in-Some.ensures.items;
+  in_order = c.in_ok-sort_by_rank-in-Some.ensures;
+  parts_are = c.in_ok-put_members-in-Some.ensures;
+  opened_are = refl;
+  count_is = refl;
+})

@@ -1,0 +1,4 @@
+pub mod Parts
+pub mod Octets
+pub mod Tables
+pub mod Lengths

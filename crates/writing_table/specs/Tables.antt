@@ -1,0 +1,166 @@
+-- What a table holds after each event that a routine tells.
+use Rattle.std.specs.Prelude.{◌≡◌, ℕ, ◌+◌, ◌≤◌, ◌⊎◌, Bool, true, List, [], ◌∷◌, ◌++◌, length, map, min, set}
+use Rattle.std.specs.List.Sorted.{IsPermutation}
+use Rattle.std.proofs.Common.{subst, sym}
+use Rattle.asn_base.specs.declared.tag.Tag.{Tag}
+use Rattle.encodings.specs.Header.{Octets}
+use Rattle.encodings.specs.Fewest.{shortest_header}
+use Rattle.codec_code.specs.declared.step.RowKind.{RowKind}
+use Rattle.codec_code.specs.declared.step.RowKind.TheVariants.{Leaf, Wrap, Sequence, Set, SequenceOf, SetOf}
+use Rattle.codec_code.specs.declared.step.Head.{Head}
+use Rattle.codec_code.specs.Events.{Event, opens, puts, closes, leaves_out, parts, Order, by_octets, by_rank}
+use Rattle.codec_code.specs.Events.{Part as Placed, InOrder as StandInOrder}
+use Rattle.writing_table.specs.declared.part.Part.{Part}
+use Rattle.writing_table.specs.declared.part.Part.TheVariants.{Header}
+use Rattle.writing_table.specs.declared.table.Open.{Open}
+use Rattle.writing_table.specs.declared.table.Member.{Member}
+use Rattle.writing_table.specs.declared.table.Group.{Group}
+use Rattle.writing_table.specs.declared.table.Table.{Table}
+use Rattle.writing_table.specs.Parts.{IsPart, Spell}
+
+-- the parts so far, the headers that are open, the SETs and SET OFs that are open, and how many octets the parts within
+-- the nearest open header have
+pub record State : Type 0 where
+  pub parts : List Part
+  pub opened : List Open
+  pub groups : List Group
+  pub count : ℕ
+
+abbrev pub state_of : Table → State
+state_of t = record { parts = t.parts.items; opened = t.opened.items; groups = t.groups.items; count = t.count }
+
+-- numbers of octets are told up to one past the most that an encoding has
+abbrev pub told : ℕ → ℕ
+told n = min n 16777217
+
+abbrev pub an_open : ℕ → Tag → Bool → RowKind → ℕ → Open
+an_open place g c k before =
+    record { place = place; head = record { tag = g; constructed = c; row = k }; before = before }
+
+-- a member with its encoding
+abbrev pub placed_of : Member → Placed
+placed_of m = record { rank = m.rank; octets = m.octets.items }
+
+-- the parts of members, one behind the other
+abbrev pub parts_of : List Member → List Part
+parts_of [] = []
+parts_of (m ∷ ms) = m.parts.items ++ parts_of ms
+
+-- the same members in their order
+pub record Sorted (o : Order) (ms ns : List Member) : Type 0 where
+  pub same : IsPermutation ms ns
+  pub in_order : StandInOrder o (map placed_of ns)
+
+-- ---- where a header opens
+
+pub record HeaderOpens (g : Tag) (c : Bool) (k : RowKind) (a b : State) : Type 0 where
+  pub parts_are : b.parts ≡ a.parts ++ Header g c 0 ∷ []
+  pub opened_are : b.opened ≡ a.opened ++ an_open (length a.parts) g c k a.count ∷ []
+  pub groups_are : b.groups ≡ a.groups
+  pub count_is : b.count ≡ 0
+
+-- what stands before a SET or SET OF is set aside
+pub record MembersBegin (a b : State) : Type 0 where
+  pub group : Group
+  pub before_is : group.before.items ≡ a.parts
+  pub no_members : group.members.items ≡ []
+  pub parts_are : b.parts ≡ []
+  pub opened_are : b.opened ≡ a.opened
+  pub groups_are : b.groups ≡ a.groups ++ group ∷ []
+  pub count_is : b.count ≡ a.count
+
+abbrev pub GroupBegins : RowKind → State → State → Type 0
+GroupBegins Set a b = MembersBegin a b
+GroupBegins SetOf a b = MembersBegin a b
+GroupBegins Leaf a b = a ≡ b
+GroupBegins Wrap a b = a ≡ b
+GroupBegins Sequence a b = a ≡ b
+GroupBegins SequenceOf a b = a ≡ b
+
+-- ---- contents
+
+pub record ContentsAdded (x : Octets) (a b : State) : Type 0 where
+  pub part : Part
+  pub is_part : IsPart part x
+  pub parts_are : b.parts ≡ a.parts ++ part ∷ []
+  pub opened_are : b.opened ≡ a.opened
+  pub groups_are : b.groups ≡ a.groups
+  pub count_is : b.count ≡ told (a.count + length x)
+
+-- ---- where a member ends
+
+-- the parts so far are those of one more member, and its octets are theirs
+pub record MemberEnds (rank : ℕ) (a b : State) : Type 0 where
+  pub outer : List Group
+  pub group : Group
+  pub larger : Group
+  pub member : Member
+  pub from : a.groups ≡ outer ++ group ∷ []
+  pub groups_are : b.groups ≡ outer ++ larger ∷ []
+  pub before_is : larger.before.items ≡ group.before.items
+  pub members_are : larger.members.items ≡ group.members.items ++ member ∷ []
+  pub rank_is : member.rank ≡ rank
+  pub parts_of_member : member.parts.items ≡ a.parts
+  pub octets_of_member : (o : Octets) → Spell a.parts o → member.octets.items ≡ o
+  pub parts_are : b.parts ≡ []
+  pub opened_are : b.opened ≡ a.opened
+  pub count_is : b.count ≡ a.count
+
+-- ---- where a header closes
+
+pub record MembersEnd (o : Order) (a b : State) : Type 0 where
+  pub group : Group
+  pub sorted : List Member
+  pub from : a.groups ≡ b.groups ++ group ∷ []
+  pub in_order : Sorted o group.members.items sorted
+  pub parts_are : b.parts ≡ group.before.items ++ (parts_of sorted ++ a.parts)
+  pub opened_are : b.opened ≡ a.opened
+  pub count_is : b.count ≡ a.count
+
+abbrev pub MembersEndIfAny : Order → State → State → Type 0
+MembersEndIfAny o a b = ((a.groups ≡ []) × (a ≡ b)) ⊎ MembersEnd o a b
+
+abbrev pub GroupEnds : RowKind → State → State → Type 0
+GroupEnds Set a b = MembersEndIfAny by_rank a b
+GroupEnds SetOf a b = MembersEndIfAny by_octets a b
+GroupEnds Leaf a b = a ≡ b
+GroupEnds Wrap a b = a ≡ b
+GroupEnds Sequence a b = a ≡ b
+GroupEnds SequenceOf a b = a ≡ b
+
+abbrev pub taken : State → List Open → State
+taken a os = record { parts = a.parts; opened = os; groups = a.groups; count = a.count }
+
+-- the header gets its number of octets
+pub record HeaderCloses (one : Open) (a b : State) : Type 0 where
+  pub parts_are : b.parts ≡ set a.parts one.place (Header one.head.tag one.head.constructed a.count)
+  pub opened_are : b.opened ≡ a.opened
+  pub groups_are : b.groups ≡ a.groups
+  pub count_is : b.count
+      ≡ told (one.before + (length (shortest_header one.head.tag one.head.constructed a.count) + a.count))
+
+pub record Closes (a d : State) : Type 0 where
+  pub one : Open
+  pub others : List Open
+  pub within : State
+  pub from : a.opened ≡ others ++ one ∷ []
+  pub group_ends : GroupEnds one.head.row (taken a others) within
+  pub header_closes : HeaderCloses one within d
+
+-- ---- all events
+
+abbrev pub Stepped : Event → State → State → Type 0
+Stepped (opens g c k) a d = (b : State) × HeaderOpens g c k a b × GroupBegins k b d
+Stepped (puts x) a d = ContentsAdded x a d
+Stepped closes a d = ((a.opened ≡ []) × (a ≡ d)) ⊎ Closes a d
+Stepped (leaves_out b) a d = a ≡ d
+Stepped (parts r) a d = ((a.groups ≡ []) × (a ≡ d)) ⊎ MemberEnds r a d
+
+abbrev pub Runs : List Event → State → State → Type 0
+Runs [] a b = a ≡ b
+Runs (e ∷ es) a c = (b : State) × Stepped e a b × Runs es b c
+
+-- one run behind another
+pub runs_more : (es fs : List Event) (a b c : State) → Runs es a b → Runs fs b c → Runs (es ++ fs) a c
+runs_more [] fs a b c e k = subst (λ q. Runs fs q c) (sym e) k
+runs_more (e ∷ es) fs a b c h k = (h.0, h.1, runs_more es fs h.0 b c h.2 k)

@@ -1,0 +1,51 @@
+//! The table as a backend.
+
+use crate::steps::{add_contents, begin_group, close_header, end_group, end_member, open_header};
+use crate::table::Table;
+use asn_base::value::Value;
+use codec_code::{Head, LeafKind};
+use codec_machine::{Backend, RunFault};
+use std::alloc::AllocError;
+
+impl<'a> Backend<'a> for Table<'a> {
+    ghost use Rattle.writing_table.specs.Tables.{Runs, state_of};
+
+    ghost adds = { λ a es b. Runs es (state_of a) (state_of b) };
+
+    fn open(&mut self, head: Head) -> Result<(), AllocError> {
+        open_header(self, head)?;
+        begin_group(self, head.row)?;
+        Ok(())
+    }
+
+    fn leaf(&mut self, kind: LeafKind, value: &'a Value) -> Result<(), RunFault> {
+        add_contents(self, kind, value)
+    }
+
+    fn close(&mut self) -> Result<(), AllocError> {
+        match self.opened.pop() {
+            Some(one) => {
+                end_group(self, one.head.row)?;
+                close_header(self, one);
+                Ok(())
+            }
+            None => Ok(()),
+        }
+    }
+
+    fn leave_out(&mut self, _with_default: bool) -> Result<(), AllocError> {
+        Ok(())
+    }
+
+    fn part(&mut self, rank: usize) -> Result<(), AllocError> {
+        end_member(self, rank)?;
+        Ok(())
+    }
+
+    ghost use Rattle.writing_table.specs.Tables.{runs_more};
+    ghost use Rattle.std.specs.Prelude.{refl};
+
+    ghost nothing = { λ a. refl };
+
+    ghost joins = { λ a b c es fs h k. runs_more es fs (state_of a) (state_of b) (state_of c) h k };
+}

@@ -1,0 +1,16 @@
+//! What is written of a value, as a table of parts in the order of writing.
+#![tactic(auto)]
+
+mod backend;
+mod fault;
+pub mod law;
+mod measurement;
+mod part;
+mod scratch;
+mod sort;
+mod steps;
+mod table;
+
+pub use fault::MeasureFault;
+pub use measurement::{Measured, measure};
+pub use part::Part;

@@ -1,0 +1,99 @@
+//! What is to be written of a value.
+
+ghost use Rattle.asn_base.specs.Abstract.{abstract};
+ghost use Rattle.asn_base.specs.Typed.{IsValue};
+ghost use Rattle.encodings.specs.Encoding.{Der};
+ghost use Rattle.std.specs.Prelude.{◌≡◌, ◌≤◌, Err, IfErr, IfOk, List, length, ℕ};
+ghost use Rattle.writing_table.specs.Lengths.{IsTooLong};
+ghost use Rattle.writing_table.specs.Parts.{Spell};
+ghost use Rattle.writing_table.specs.declared.fault.MeasureFault.TheVariants.{NotOfType, TooLong};
+
+use crate::fault::MeasureFault;
+use crate::part::Part;
+use crate::table::Table;
+use asn_base::schema::TypeId;
+use asn_base::value::Value;
+use codec_code::Code;
+use codec_code::law::routine_laws;
+use codec_machine::{RunFault, run};
+use std::alloc::Global;
+
+/// The most octets of an encoding.
+const MOST_OCTETS: usize = 16_777_216;
+
+/// The parts of an encoding in the order of writing, and how many octets they have.
+#[derive(Drop)]
+pub struct Measured<'a> {
+    pub parts: Vec<Part<'a>>,
+    pub octets: usize,
+}
+
+/// The parts of the value's encoding by the distinguished rules (X.690, 10 and 11), in the order of writing: all
+/// lengths are known, and the members of each SET and SET OF stand in their order (10.3 and 11.6). The type's routine
+/// runs once; members of a SET or SET OF alone are encoded apart, to be compared.
+///
+/// - `NotOfType`: it is no value of the type.
+/// - `TooLong`: its routine tells more than 16,777,216 octets.
+/// - `Memory`: more memory was asked for and refused.
+pub fn measure<'a>(
+    alloc: Global,
+    code: &'a Code,
+    id: TypeId,
+    value: &'a Value,
+) -> Result<Measured<'a>, MeasureFault>
+    // What is measured is a value of the type.
+    ensures value { IfOk result (λ m. IsValue code.now id.index (abstract value.now)) }
+    // The parts spell its encoding by the distinguished rules, of as many octets.
+    ensures der { IfOk result (λ m. (o : List ℕ)
+        × Spell m.parts.items o
+        × (length o ≡ m.octets)
+        × Der code.now id.index (abstract value.now) 0 o) }
+    ensures not_too_long { IfOk result (λ m. m.octets ≤ 16777216) }
+    // It is refused as no value, or as too long, only where it is.
+    ensures not_of_type { IfErr result (λ e. e ≡ NotOfType → IsValue code.now id.index (abstract value.now) → ⊥) }
+    ensures no_value { (IsValue code.now id.index (abstract value.now) → ⊥) → result ≡ Err NotOfType }
+    ensures too_long { IfErr result (λ e. e ≡ TooLong → IsTooLong code.now id.index (abstract value.now)) }
+{
+    if !code.is_value(id, value) {
+        return Err(MeasureFault::NotOfType);
+    }
+    match table_of(alloc, code, id, value) {
+        Ok(parts) => Ok(parts),
+        Err(fault) => Err(fault),
+    }
+}
+
+/// The same of a value of the type.
+fn table_of<'a>(
+    alloc: Global,
+    code: &'a Code,
+    id: TypeId,
+    value: &'a Value,
+) -> Result<Measured<'a>, MeasureFault>
+    requires { IsValue code.now id.index (abstract value.now) }
+    ensures der { IfOk result (λ m. (o : List ℕ)
+        × Spell m.parts.items o
+        × (length o ≡ m.octets)
+        × Der code.now id.index (abstract value.now) 0 o) }
+    ensures not_too_long { IfOk result (λ m. m.octets ≤ 16777216) }
+    ensures not_of_type { IfErr result (λ e. e ≡ NotOfType → ⊥) }
+    ensures too_long { IfErr result (λ e. e ≡ TooLong → IsTooLong code.now id.index (abstract value.now)) }
+{
+    code.accepted();
+    routine_laws();
+    let mut table = Table::new(alloc);
+    match run(alloc, code, id, value, &mut table) {
+        Ok(()) => {
+            if table.count > MOST_OCTETS {
+                Err(MeasureFault::TooLong)
+            } else {
+                Ok(Measured {
+                    parts: table.parts,
+                    octets: table.count,
+                })
+            }
+        }
+        Err(RunFault::Memory) => Err(MeasureFault::Memory),
+        Err(RunFault::NotOfType) => Err(MeasureFault::NotOfType),
+    }
+}

@@ -1,0 +1,53 @@
+//! The order of the members of a SET OF (X.690, 11.6) and of the components of a SET (10.3).
+
+ghost use Rattle.std.specs.Prelude.{◌≡◌, OnOk, slice_index};
+ghost use Rattle.codec_code.specs.Events.{by_octets, by_rank};
+ghost use Rattle.writing_table.specs.Octets.{order};
+ghost use Rattle.writing_table.specs.Tables.{Sorted};
+
+use crate::table::Member;
+use std::alloc::AllocError;
+use std::cmp::Ordering;
+
+/// Members of a SET OF in ascending order of their octets, where the shorter ones are filled with zeros. Those with
+/// equal octets stay in their order.
+pub(crate) fn sort_by_octets<'a>(members: &mut Vec<Member<'a>>) -> Result<(), AllocError>
+    ensures { OnOk result (Sorted by_octets members.old.items members.new.items) }
+{
+    members.sort_by(|a, b| compare(a.octets.as_slice(), b.octets.as_slice()))?;
+    Ok(())
+}
+
+/// Components of a SET in ascending order of their ranks.
+pub(crate) fn sort_by_rank<'a>(members: &mut Vec<Member<'a>>) -> Result<(), AllocError>
+    ensures { OnOk result (Sorted by_rank members.old.items members.new.items) }
+{
+    members.sort_by_key(|a| a.rank)?;
+    Ok(())
+}
+
+/// The octet at a place, 0 past the end.
+fn octet_at(octets: &[u8], i: usize) -> u8
+    ensures { result ≡ slice_index octets.now i }
+{
+    if i < octets.len() { octets[i] } else { 0 }
+}
+
+/// The order of two encodings, where the shorter one is filled with zeros.
+#[tactic(auto, using(crate::proofs::Ordered::order_at, crate::proofs::Ordered::order_end))]
+fn compare(a: &[u8], b: &[u8]) -> Ordering
+    ensures { result ≡ order a.now b.now }
+{
+    let n = if a.len() < b.len() { b.len() } else { a.len() };
+    for i in 0..n {
+        let x = octet_at(a, i);
+        let y = octet_at(b, i);
+        if x < y {
+            return Ordering::Less;
+        }
+        if y < x {
+            return Ordering::Greater;
+        }
+    }
+    Ordering::Equal
+}

@@ -1,0 +1,254 @@
+//! What each event does to the table.
+
+ghost use Rattle.std.specs.Prelude.{◌≡◌, ◌+◌, ◌++◌, ◌∷◌, [], ◌⊎◌, List, IfErr, OnOk, set, ℕ};
+ghost use Rattle.asn_base.specs.Abstract.{abstract};
+ghost use Rattle.codec_code.specs.Steps.{HasContents};
+ghost use Rattle.codec_code.specs.Events.{by_octets, by_rank};
+ghost use Rattle.codec_machine.specs.Frames.{HasNoContents};
+ghost use Rattle.codec_machine.specs.declared.fault.RunFault.TheVariants.{NotOfType};
+ghost use Rattle.writing_table.specs.Tables.{GroupBegins, GroupEnds, HeaderCloses, HeaderOpens, MemberEnds, MembersBegin, MembersEndIfAny, ContentsAdded, parts_of, state_of, told};
+
+use crate::part::Part;
+use crate::scratch::push_parts;
+use crate::sort::{sort_by_octets, sort_by_rank};
+use crate::table::{Group, Member, Open, Table};
+use asn_base::value::Value;
+use codec_code::{Head, LeafKind, RowKind};
+use codec_machine::RunFault;
+use leaf_contents::leaf_len;
+use octets::header_len;
+use std::alloc::AllocError;
+
+/// More octets than an encoding has.
+const TOO_MANY: usize = 16_777_217;
+
+/// The sum of two numbers of octets, or 16,777,217 where it is greater.
+pub(crate) fn sum(a: usize, b: usize) -> usize
+    ensures { result ≡ told (a + b) }
+{
+    match a.checked_add(b) {
+        Some(n) => if n < TOO_MANY { n } else { TOO_MANY },
+        None => TOO_MANY,
+    }
+}
+
+fn add_part<'a>(list: &mut Vec<Part<'a>>, one: Part<'a>) -> Result<(), AllocError>
+    ensures { OnOk result (list.new.items ≡ list.old.items ++ one.entry ∷ []) }
+{
+    list.push(one)?;
+    Ok(())
+}
+
+fn add_open(list: &mut Vec<Open>, one: Open) -> Result<(), AllocError>
+    ensures { OnOk result (list.new.items ≡ list.old.items ++ one ∷ []) }
+{
+    list.push(one)?;
+    Ok(())
+}
+
+fn add_group<'a>(list: &mut Vec<Group<'a>>, one: Group<'a>) -> Result<(), AllocError>
+    ensures { OnOk result (list.new.items ≡ list.old.items ++ one.entry ∷ []) }
+{
+    list.push(one)?;
+    Ok(())
+}
+
+fn add_member<'a>(list: &mut Vec<Member<'a>>, one: Member<'a>) -> Result<(), AllocError>
+    ensures { OnOk result (list.new.items ≡ list.old.items ++ one.entry ∷ []) }
+{
+    list.push(one)?;
+    Ok(())
+}
+
+/// A header, before its contents are known.
+pub(crate) fn open_header<'a>(table: &mut Table<'a>, head: Head) -> Result<(), AllocError>
+    ensures { OnOk result (HeaderOpens head.tag head.constructed head.row (state_of table.old) (state_of table.new)) }
+{
+    add_open(
+        &mut table.opened,
+        Open {
+            place: table.parts.len(),
+            head,
+            before: table.count,
+        },
+    )?;
+    add_part(
+        &mut table.parts,
+        Part::Header(head.tag, head.constructed, 0),
+    )?;
+    table.count = 0;
+    Ok(())
+}
+
+/// In a SET or SET OF what stands before the members is set aside.
+pub(crate) fn begin_group<'a>(table: &mut Table<'a>, row: RowKind) -> Result<(), AllocError>
+    ensures { OnOk result (GroupBegins row (state_of table.old) (state_of table.new)) }
+{
+    match row {
+        RowKind::Set => begin_members(table),
+        RowKind::SetOf => begin_members(table),
+        RowKind::Leaf => Ok(()),
+        RowKind::Wrap => Ok(()),
+        RowKind::Sequence => Ok(()),
+        RowKind::SequenceOf => Ok(()),
+    }
+}
+
+fn begin_members<'a>(table: &mut Table<'a>) -> Result<(), AllocError>
+    ensures { OnOk result (MembersBegin (state_of table.old) (state_of table.new)) }
+{
+    let before = std::mem::replace(&mut table.parts, Vec::new(table.alloc));
+    add_group(
+        &mut table.groups,
+        Group {
+            before,
+            members: Vec::new(table.alloc),
+        },
+    )?;
+    Ok(())
+}
+
+/// Contents of a value. `NotOfType`: it has none of this kind.
+pub(crate) fn add_contents<'a>(
+    table: &mut Table<'a>,
+    kind: LeafKind,
+    value: &'a Value,
+) -> Result<(), RunFault>
+    ensures adds { OnOk result ((x : List ℕ) × HasContents kind (abstract value.now) x
+        × ContentsAdded x (state_of table.old) (state_of table.new)) }
+    ensures not_of_type { IfErr result (λ e. e ≡ NotOfType → HasNoContents kind (abstract value.now)) }
+{
+    match leaf_len(kind, value) {
+        Some(octets) => {
+            add_part(
+                &mut table.parts,
+                Part::Contents(kind, value, octets as usize),
+            )?;
+            table.count = sum(table.count, octets as usize);
+            Ok(())
+        }
+        None => Err(RunFault::NotOfType),
+    }
+}
+
+/// The parts since the last member are one more, where a SET or SET OF is open.
+pub(crate) fn end_member<'a>(table: &mut Table<'a>, rank: usize) -> Result<(), AllocError>
+    ensures { OnOk result (((state_of table.old).groups ≡ []) × (state_of table.old ≡ state_of table.new)
+        ⊎ MemberEnds rank (state_of table.old) (state_of table.new)) }
+{
+    match table.groups.pop() {
+        Some(group) => {
+            let mut octets = Vec::new(table.alloc);
+            push_parts(table.alloc, table.parts.as_slice(), &mut octets)?;
+            let parts = std::mem::replace(&mut table.parts, Vec::new(table.alloc));
+            let mut members = group.members;
+            add_member(
+                &mut members,
+                Member {
+                    rank,
+                    octets,
+                    parts,
+                },
+            )?;
+            add_group(
+                &mut table.groups,
+                Group {
+                    before: group.before,
+                    members,
+                },
+            )?;
+            Ok(())
+        }
+        None => Ok(()),
+    }
+}
+
+/// The parts of members, one behind the other, behind those that stand.
+fn append_members<'a>(parts: &mut Vec<Part<'a>>, members: Vec<Member<'a>>) -> Result<(), AllocError>
+    ensures { OnOk result (parts.new.items ≡ parts.old.items ++ parts_of members.entry.items) }
+{
+    for member in members {
+        let mut more = member.parts;
+        parts.append(&mut more)?;
+    }
+    Ok(())
+}
+
+/// The members of a SET or SET OF stand in their order behind what was set aside.
+pub(crate) fn end_group<'a>(table: &mut Table<'a>, row: RowKind) -> Result<(), AllocError>
+    ensures { OnOk result (GroupEnds row (state_of table.old) (state_of table.new)) }
+{
+    match row {
+        RowKind::Set => end_set(table),
+        RowKind::SetOf => end_set_of(table),
+        RowKind::Leaf => Ok(()),
+        RowKind::Wrap => Ok(()),
+        RowKind::Sequence => Ok(()),
+        RowKind::SequenceOf => Ok(()),
+    }
+}
+
+fn end_set<'a>(table: &mut Table<'a>) -> Result<(), AllocError>
+    ensures { OnOk result (MembersEndIfAny by_rank (state_of table.old) (state_of table.new)) }
+{
+    match table.groups.pop() {
+        Some(group) => {
+            let mut members = group.members;
+            sort_by_rank(&mut members)?;
+            put_members(&mut table.parts, group.before, members)?;
+            Ok(())
+        }
+        None => Ok(()),
+    }
+}
+
+fn end_set_of<'a>(table: &mut Table<'a>) -> Result<(), AllocError>
+    ensures { OnOk result (MembersEndIfAny by_octets (state_of table.old) (state_of table.new)) }
+{
+    match table.groups.pop() {
+        Some(group) => {
+            let mut members = group.members;
+            sort_by_octets(&mut members)?;
+            put_members(&mut table.parts, group.before, members)?;
+            Ok(())
+        }
+        None => Ok(()),
+    }
+}
+
+/// What was set aside, the parts of the members, and what stood here.
+fn put_members<'a>(
+    parts: &mut Vec<Part<'a>>,
+    before: Vec<Part<'a>>,
+    members: Vec<Member<'a>>,
+) -> Result<(), AllocError>
+    ensures { OnOk result (parts.new.items ≡ before.entry.items ++ (parts_of members.entry.items ++ parts.old.items)) }
+{
+    let mut behind = std::mem::replace(parts, before);
+    append_members(parts, members)?;
+    parts.append(&mut behind)?;
+    Ok(())
+}
+
+/// Puts a part in the place of another, where there is one.
+fn put_at<'a>(parts: &mut Vec<Part<'a>>, place: usize, part: Part<'a>)
+    ensures { parts.new.items ≡ set parts.old.items place part.entry }
+{
+    if place < parts.len() {
+        parts[place] = part;
+    }
+}
+
+/// The header gets its number of octets.
+pub(crate) fn close_header<'a>(table: &mut Table<'a>, one: Open)
+    ensures { HeaderCloses one (state_of table.old) (state_of table.new) }
+{
+    let contents = table.count;
+    put_at(
+        &mut table.parts,
+        one.place,
+        Part::Header(one.head.tag, one.head.constructed, contents),
+    );
+    let header = header_len(one.head.tag, contents as u64);
+    table.count = sum(one.before, sum(header, contents));
+}
