@@ -1,7 +1,7 @@
 -- The octets of parts that are left.
 use Rattle.std.proofs.Common.{◌≡◌, ℕ, zero, suc, ◌+◌, ◌<◌, ◌≤◌, List, [], ◌∷◌, ◌++◌, length, drop, get_or, refl, sym, ap, subst, ◌∙◌, arith, append_assoc, append-nil}
-use Rattle.writing_table.specs.declared.part.Part.{Part}
-use Rattle.writing_table.specs.Parts.{IsPart, Spell}
+use Rattle.der_parts.specs.declared.part.Part.{Part}
+use Rattle.der_parts.specs.Parts.{IsPart, Spell}
 
 -- the octets of the next part, and those behind it
 pub record Next (p : Part) (ps : List Part) (y : List ℕ) : Type 0 where

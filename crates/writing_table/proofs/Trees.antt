@@ -11,13 +11,13 @@ use Rattle.encodings.specs.Fewest.{shortest_header}
 use Rattle.codec_code.specs.declared.step.RowKind.{RowKind}
 use Rattle.codec_code.specs.declared.step.RowKind.TheVariants.{Leaf, Wrap, Sequence, Set, SequenceOf, SetOf}
 use Rattle.codec_code.specs.Events.{Event, opens, puts, closes, leaves_out, parts, Order, by_octets, by_rank, row_of_order, Tree, done, piece, lacking, within, ordered, Members, no_member, no_component, member, flat, flats, Part as Placed, encodings_of, InOrder, Arranged, StandsFor, PartsOf}
-use Rattle.writing_table.specs.declared.part.Part.{Part}
-use Rattle.writing_table.specs.declared.part.Part.TheVariants.{Header}
+use Rattle.der_parts.specs.declared.part.Part.{Part}
+use Rattle.der_parts.specs.declared.part.Part.TheVariants.{Header}
 use Rattle.writing_table.specs.declared.table.Open.{Open}
 use Rattle.writing_table.specs.declared.table.Member.{Member}
 use Rattle.writing_table.specs.declared.table.Group.{Group}
 use Rattle.writing_table.specs.Lengths.{octets_in, members_in}
-use Rattle.writing_table.specs.Parts.{IsPart, Spell}
+use Rattle.der_parts.specs.Parts.{IsPart, Spell}
 use Rattle.writing_table.specs.Tables.{State, told, an_open, placed_of, parts_of, Sorted, HeaderOpens, MembersBegin, GroupBegins, ContentsAdded, MemberEnds, MembersEnd, GroupEnds, taken, HeaderCloses, Closes, Stepped, Runs}
 use Rattle.writing_table.proofs.Lists.{last_same, no_last, set_last, spell_both, spell_none, only_second}
 

@@ -7,7 +7,7 @@ use Rattle.codec_code.specs.Routines.{routine_at}
 use Rattle.codec_code.specs.Events.{Event, flat}
 use Rattle.codec_code.specs.Meaning.{Tells}
 use Rattle.codec_code.specs.Steps.{Steps}
-use Rattle.writing_table.specs.Parts.{Spell}
+use Rattle.der_parts.specs.Parts.{Spell}
 use Rattle.writing_table.specs.Lengths.{IsTooLong, octets_in}
 use Rattle.writing_table.specs.Tables.{State, Runs, told}
 use Rattle.writing_table.proofs.Trees.{Counted, counted}

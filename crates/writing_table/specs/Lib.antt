@@ -1,4 +1,3 @@
-pub mod Parts
 pub mod Octets
 pub mod Tables
 pub mod Lengths

@@ -10,13 +10,13 @@ use Rattle.codec_code.specs.declared.step.RowKind.TheVariants.{Leaf, Wrap, Seque
 use Rattle.codec_code.specs.declared.step.Head.{Head}
 use Rattle.codec_code.specs.Events.{Event, opens, puts, closes, leaves_out, parts, Order, by_octets, by_rank}
 use Rattle.codec_code.specs.Events.{Part as Placed, InOrder as StandInOrder}
-use Rattle.writing_table.specs.declared.part.Part.{Part}
-use Rattle.writing_table.specs.declared.part.Part.TheVariants.{Header}
+use Rattle.der_parts.specs.declared.part.Part.{Part}
+use Rattle.der_parts.specs.declared.part.Part.TheVariants.{Header}
 use Rattle.writing_table.specs.declared.table.Open.{Open}
 use Rattle.writing_table.specs.declared.table.Member.{Member}
 use Rattle.writing_table.specs.declared.table.Group.{Group}
 use Rattle.writing_table.specs.declared.table.Table.{Table}
-use Rattle.writing_table.specs.Parts.{IsPart, Spell}
+use Rattle.der_parts.specs.Parts.{IsPart, Spell}
 
 -- the parts so far, the headers that are open, the SETs and SET OFs that are open, and how many octets the parts within
 -- the nearest open header have

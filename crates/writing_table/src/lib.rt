@@ -5,7 +5,6 @@ mod backend;
 mod fault;
 pub mod law;
 mod measurement;
-mod part;
 mod scratch;
 mod sort;
 mod steps;
@@ -13,4 +12,4 @@ mod table;
 
 pub use fault::MeasureFault;
 pub use measurement::{Measured, measure};
-pub use part::Part;
+pub use der_parts::Part;

@@ -5,11 +5,11 @@ ghost use Rattle.asn_base.specs.Typed.{IsValue};
 ghost use Rattle.encodings.specs.Encoding.{Der};
 ghost use Rattle.std.specs.Prelude.{◌≡◌, ◌≤◌, Err, IfErr, IfOk, List, length, ℕ};
 ghost use Rattle.writing_table.specs.Lengths.{IsTooLong};
-ghost use Rattle.writing_table.specs.Parts.{Spell};
+ghost use Rattle.der_parts.specs.Parts.{Spell};
 ghost use Rattle.writing_table.specs.declared.fault.MeasureFault.TheVariants.{NotOfType, TooLong};
 
 use crate::fault::MeasureFault;
-use crate::part::Part;
+use der_parts::Part;
 use crate::table::Table;
 use asn_base::schema::TypeId;
 use asn_base::value::Value;

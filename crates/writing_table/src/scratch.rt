@@ -3,9 +3,9 @@
 ghost use Rattle.std.specs.Prelude.{◌≡◌, ◌++◌, List, OnOk, ℕ};
 ghost use Rattle.asn_base.specs.Abstract.{abstract};
 ghost use Rattle.codec_code.specs.Steps.{HasContents};
-ghost use Rattle.writing_table.specs.Parts.{IsPart, Spell};
+ghost use Rattle.der_parts.specs.Parts.{IsPart, Spell};
 
-use crate::part::Part;
+use der_parts::Part;
 use asn_base::value::Value;
 use codec_code::LeafKind;
 use leaf_contents::{leaf_len, push_leaf};

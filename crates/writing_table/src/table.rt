@@ -2,7 +2,7 @@
 
 ghost use Rattle.std.specs.Prelude.{◌≡◌, []};
 
-use crate::part::Part;
+use der_parts::Part;
 use codec_code::Head;
 use std::alloc::Global;
 

@@ -1,5 +1,5 @@
 use Rattle.std.proofs.Common.{◌≡◌, ◌++◌, List, ℕ, drop}
-use Rattle.writing_table.specs.Parts.{Spell}
+use Rattle.der_parts.specs.Parts.{Spell}
 use Rattle.writing_table.proofs.scratch.push_parts.Given as goal
 
 abbrev pub invariant-loop-i : goal.invariant-loop-i

@@ -1,5 +1,5 @@
 use Rattle.std.proofs.Common.{rules, ◌≡◌, ◌+◌, length, refl, sym, ap, ◌∙◌}
-use Rattle.writing_table.specs.declared.part.Part.TheVariants.{Contents}
+use Rattle.der_parts.specs.declared.part.Part.TheVariants.{Contents}
 use Rattle.writing_table.specs.Tables.{told}
 use Rattle.writing_table.proofs.steps.add_contents.Goals as goal
 

@@ -1,5 +1,5 @@
 use Rattle.std.proofs.Common.{◌≡◌, ◌++◌, inr, refl, sym, ap, subst, ◌∙◌}
-use Rattle.writing_table.specs.Parts.{Spell}
+use Rattle.der_parts.specs.Parts.{Spell}
 use Rattle.writing_table.proofs.steps.end_member.Goals as goal
 
 pub returns-in_ok-add_group-in-Some : goal.returns-in_ok-add_group-in-Some
