@@ -1,0 +1,13 @@
+pub mod Places
+pub mod Following
+pub mod SameLeaf
+pub mod SameValue
+pub mod Groups
+pub mod Under
+pub mod Lists
+pub mod Inversions
+pub mod Alls
+pub mod Rooted
+pub mod Circles
+pub mod Excluding
+pub mod Opening

@@ -1,0 +1,4 @@
+-- What a notation tells by its form.
+pub mod Forms
+pub mod Opened
+pub mod Next

@@ -1,0 +1,10 @@
+//! What notations of values stand for.
+#![tactic(auto)]
+
+mod digits;
+mod forms;
+pub mod law;
+mod leaf;
+pub mod leaves;
+pub mod opened;
+pub mod references;
