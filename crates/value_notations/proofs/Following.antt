@@ -74,7 +74,7 @@ one_meaning ms M x a b apart (imported m o N e f g h) (imported n q L i j k l) =
     let there = one_some (under N ms) q o (subst (λ (y : Name). under y ms ≡ Some q) from k) g in
     one_some (under x o.assigned) a b h (subst (λ (y : Module). under x y.assigned ≡ Some b) there l)
 
-meaning_of : (ms : List (Name × Module)) (M : Name) (q : Option Name) (x : Name) (a : Assigned)
+pub meaning_of : (ms : List (Name × Module)) (M : Name) (q : Option Name) (x : Name) (a : Assigned)
     → Refers ms M q x a
     → Meaning ms M x a
 meaning_of ms M q x a (bare m) = m

@@ -1,5 +1,5 @@
 -- What a notation tells by its form where it stands for a value, and the other way round.
-use Rattle.std.proofs.Common.{◌≡◌, ℕ, ◌≤◌, refl, sym, ap, subst, Some, None, Bool, true, false, ℤ, pos, negsuc, arith}
+use Rattle.std.proofs.Common.{◌≡◌, ◌∙◌, ℕ, ◌≤◌, ◌<◌, refl, sym, ap, subst, Some, None, Bool, true, false, ℤ, pos, negsuc, arith}
 use Rattle.std.specs.Prelude.{List, [], ◌∷◌, map, length, IsTrue, IsUtf8}
 use Rattle.std.specs.List.{AllByRecursion}
 use Rattle.std.specs.Int.Digits.{AllBelowBase}
@@ -175,16 +175,33 @@ restricted_made k n o e a =
 
 -- ---- relative object identifiers
 
-relative_told : {n : Tree} {v : AbstractValue} → IsLeaf a_relative_oid n v → numbers_in n ≡ None → alone_in n ≡ None → ⊥
-relative_told leaves.relative e f = absurd cc
+relative_told : {n : Tree} {v : AbstractValue}
+    → IsLeaf a_relative_oid n v
+    → ((m : ℕ) (ns : List ℕ) → numbers_in n ≡ Some (m ∷ ns) → ⊥)
+    → alone_in n ≡ None
+    → ⊥
+relative_told (leaves.relative {n = m} {ns = ns}) e f = e m ns refl
 relative_told leaves.relative_alone e f = absurd cc
 
 pub no_relative : (n : Tree) → numbers_in n ≡ None → alone_in n ≡ None → IsNone a_relative_oid n
-no_relative n e f v l = relative_told l e f
+no_relative n e f v l = relative_told l (λ m ns g. absurd (let h = sym e ∙ g in cc)) f
 
-pub relative_made : (n : Tree) (ns : List ℕ) → numbers_in n ≡ Some ns → IsLeaf a_relative_oid n (relative_oid ns)
-relative_made n ns e =
-    subst (λ (x : Tree). IsLeaf a_relative_oid x (relative_oid ns)) (sym (numbers_is n ns e)) leaves.relative
+numbers_not_alone : (n : Tree) (ns : List ℕ) → numbers_in n ≡ Some ns → alone_in n ≡ None
+numbers_not_alone (numbers ms) ns e = refl
+numbers_not_alone n ns e = absurd cc
+
+-- a list of no numbers stands for none
+pub no_numbers : (n : Tree) (ns : List ℕ) → numbers_in n ≡ Some ns → length ns ≡ 0 → IsNone a_relative_oid n
+no_numbers n [] e z v l = relative_told l (λ m ns g. absurd (let h = sym e ∙ g in cc)) (numbers_not_alone n [] e)
+no_numbers n (m ∷ ns) e z v l = absurd (omega (arith, z))
+
+pub relative_made : (n : Tree) (ns : List ℕ)
+    → numbers_in n ≡ Some ns
+    → 0 < length ns
+    → IsLeaf a_relative_oid n (relative_oid ns)
+relative_made n [] e l = absurd (omega (arith, l))
+relative_made n (m ∷ ns) e l =
+    subst (λ (x : Tree). IsLeaf a_relative_oid x (relative_oid (m ∷ ns))) (sym (numbers_is n (m ∷ ns) e)) leaves.relative
 
 alone_is : (n : Tree) (m : ℕ) → alone_in n ≡ Some m → n ≡ items (tree_and (number (pos m)) no_tree)
 alone_is (items (tree_and (number (pos k)) no_tree)) m e = ap (λ (x : ℕ). items (tree_and (number (pos x)) no_tree)) (same_Some k m e)

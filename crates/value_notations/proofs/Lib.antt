@@ -11,3 +11,8 @@ pub mod Rooted
 pub mod Circles
 pub mod Excluding
 pub mod Opening
+pub mod Leading
+pub mod NamedBits
+pub mod BitForms
+pub mod Packing
+pub mod LeafValues

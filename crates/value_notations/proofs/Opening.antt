@@ -2,7 +2,7 @@
 use Rattle.std.proofs.Common.{◌≡◌, ℕ, zero, suc, ◌≤◌, ◌<◌, ◌+◌, ◌||◌, Bool, true, false, List, [], ◌∷◌, ◌++◌, length, take, Some, refl, sym, ap, ◌∙◌, subst, arith, eqb, inl, inr}
 use Rattle.std.specs.Prelude.{◌⊎◌, slice_get, reverse}
 use Rattle.std.specs.List.{IsDistinct, AllByRecursion, list_any}
-use Rattle.std.proofs.lemmas.Bool.{eqb-true, or_cases, cases_Bool}
+use Rattle.std.proofs.lemmas.Bool.{eqb-true, eq-eqb, or_cases, cases_Bool}
 use Rattle.std.proofs.lemmas.List.{reverse-append, reverse-reverse, length-reverse, take_at}
 use Rattle.std.proofs.lemmas.List.Sorted.{IsPermutation-reverse, list_any-IsPermutation}
 use Rattle.std.proofs.lemmas.Map.Steps.{length-le_from_distinct_below}
@@ -31,7 +31,7 @@ any_stands (y ∷ xs) x e =
     ]
 
 same_any : (x : ℕ) (b : Bool) → (eqb x x || b) ≡ true
-same_any x b = let e : eqb x x ≡ true = omega arith in rw e refl
+same_any x b = rw (eq-eqb x x refl) refl
 
 stands_any : (xs : List ℕ) (x i : ℕ) → slice_get xs i ≡ Some x → list_any (λ y. eqb y x) xs ≡ true
 stands_any [] x i e = absurd cc

@@ -10,7 +10,7 @@ one_some o x y e f = same_Some x y (sym e ∙ f)
 pub some_none : {A : Type 0} (o : Option A) (x : A) → o ≡ Some x → o ≡ None → ⊥
 some_none o x e f = none-some x (sym f ∙ e)
 
-less_or_more : (i j : ℕ) → (i ≡ j) ⊎ ((i < j) ⊎ (j < i))
+pub less_or_more : (i j : ℕ) → (i ≡ j) ⊎ ((i < j) ⊎ (j < i))
 less_or_more i j = grind arith
 
 -- what stands at two places of distinct members stands at one

@@ -57,3 +57,8 @@ IsLeafFault k n leaf.Oid = StandsForPast k n
 -- a value of the type but for its constraints
 abbrev pub IsUnconstrained : Plain → AbstractValue → Type 0
 IsUnconstrained k v = IsPlainValue (λ i z. Unit {0}) (λ i c. Unit {0}) 0 k v
+
+-- the notation stands for v, which is a value of the type but for its constraints
+pub record IsLeafValue (k : Plain) (n : Tree) (v : AbstractValue) : Type 0 where
+  pub stands : IsLeaf k n v
+  pub within : IsUnconstrained k v

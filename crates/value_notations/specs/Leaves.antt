@@ -91,7 +91,7 @@ pub data IsLeaf : Plain → Tree → AbstractValue → Type 0 where
   identifier : {ns : List ℕ} →
       IsRooted ns →
       IsLeaf an_object_identifier (numbers ns) (oid ns)
-  relative : {ns : List ℕ} → IsLeaf a_relative_oid (numbers ns) (relative_oid ns)
+  relative : {n : ℕ} {ns : List ℕ} → IsLeaf a_relative_oid (numbers (n ∷ ns)) (relative_oid (n ∷ ns))
   -- one number in braces is read as a list of one value
   relative_alone : {n : ℕ} → IsLeaf a_relative_oid (items (tree_and (number (pos n)) no_tree)) (relative_oid (n ∷ []))
   utf8 : {o : List ℕ} →

@@ -2,3 +2,4 @@
 pub mod Forms
 pub mod Opened
 pub mod Next
+pub mod Bits

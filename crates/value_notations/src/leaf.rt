@@ -1,13 +1,14 @@
 //! The values of types that hold no other types.
 
-ghost use Rattle.std.specs.Prelude.{◌≡◌, ℕ, IfOk, OnOk, IfErr, MatchResult, true, map, IsTrue};
+ghost use Rattle.std.specs.Prelude.{◌≡◌, ℕ, IfOk, OnOk, IfErr, MatchOption, MatchResult, true, map, IsTrue};
 ghost use Rattle.std.specs.List.{AllByRecursion};
+ghost use Rattle.asn_base.specs.Abstract.{integer as integer'};
 ghost use Rattle.asn_base.specs.Schemas.{is_character};
 ghost use Rattle.trees.specs.Values.{tree_of};
 ghost use Rattle.trees.specs.Types.{number_of, a_boolean, an_integer, an_octet_string, a_null, an_object_identifier, a_relative_oid, a_utf8_string, a_restricted_string};
 ghost use Rattle.names.specs.Names.{under};
-ghost use Rattle.value_notations.specs.Leaves.{IsRooted};
-ghost use Rattle.value_notations.specs.proving.Forms.{Tells, ArePastLimit, StandsPastLimit, IsLimitFault};
+ghost use Rattle.value_notations.specs.Leaves.{IsLeaf, IsRooted};
+ghost use Rattle.value_notations.specs.proving.Forms.{IsNone, Tells, ArePastLimit, StandsPastLimit, IsLimitFault};
 ghost use Rattle.value_notations.specs.declared.leaf.NumbersFault.TheVariants.{Memory as no_memory};
 
 use crate::digits::{are_below, bit_octets, hex_octets};
@@ -72,18 +73,18 @@ pub(crate) fn number_under(numbers: &[NamedNumber], name: &str) -> Option<i128>
 }
 
 /// The number that a notation stands for (X.680, 19.9 and 19.10).
-pub(crate) fn integer(numbers: &[NamedNumber], notation: &ValueSyntax) -> Option<Value>
-    ensures { Tells (an_integer (map number_of numbers.now)) (tree_of notation.now) result }
+pub(crate) fn integer(numbers: &[NamedNumber], notation: &ValueSyntax) -> Option<i128>
+    ensures { MatchOption result (IsNone (an_integer (map number_of numbers.now)) (tree_of notation.now))
+        (λ z. IsLeaf (an_integer (map number_of numbers.now)) (tree_of notation.now) (integer' z)) }
 {
-    abstract_values();
     if let Some(number) = number_in(notation) {
-        return Some(Value::Int(number));
+        return Some(number);
     }
     match name_in(notation) {
         None => None,
         Some(name) => match number_under(numbers, name) {
             None => None,
-            Some(number) => Some(Value::Int(number)),
+            Some(number) => Some(number),
         },
     }
 }
@@ -188,6 +189,9 @@ pub(crate) fn relative_identifier(
 {
     abstract_values();
     if let Some(numbers) = numbers_in(notation) {
+        if numbers.len() == 0 {
+            return Ok(None);
+        }
         return match within_limit(alloc, numbers) {
             Ok(all) => Ok(Some(Value::RelativeOid(all))),
             Err(fault) => Err(fault),

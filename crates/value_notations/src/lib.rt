@@ -1,6 +1,7 @@
 //! What notations of values stand for.
 #![tactic(auto)]
 
+mod bit_strings;
 mod digits;
 mod forms;
 pub mod law;

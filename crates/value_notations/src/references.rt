@@ -2,10 +2,11 @@
 
 ghost use Rattle.std.specs.Prelude.{◌≡◌, ◌<◌, ◌++◌, ℕ, List, length, map, true, false, IfOk, IfErr, IfSome, MatchOption, Some, slice_get, option_map, string_bytes};
 ghost use Rattle.trees.specs.Values.{tree_of};
-ghost use Rattle.trees.specs.Types.{item_of};
+ghost use Rattle.trees.specs.Types.{item_of, number_of};
 ghost use Rattle.names.specs.declared.scope.Assigned.TheVariants.{Value as AValue};
 ghost use Rattle.names.specs.Modules.{StandsIn};
 ghost use Rattle.names.specs.Names.{Refers, names_of};
+ghost use Rattle.names.specs.Sources.{value_of};
 ghost use Rattle.type_table.specs.Seen.{kind_of, root_of, more_of};
 ghost use Rattle.range_ends.specs.Ends.{IsValueAt};
 ghost use Rattle.value_notations.specs.References.{IsNamed, IsLast};
@@ -14,9 +15,9 @@ ghost use Rattle.value_notations.specs.proving.Next.{TellsNext};
 
 use crate::leaf::number_under;
 use crate::opened::Opened;
-use names::Assigned;
+use names::{Assigned, ValueAt};
 use resolve::Linked;
-use trees::{EnumeratedItem, EnumeratedSyntax, Reference, Simple, ValueForm, ValueSyntax};
+use trees::{EnumeratedItem, EnumeratedSyntax, NamedNumber, Reference, Simple, ValueForm, ValueSyntax};
 use type_table::Shape;
 
 /// Why a notation leads to none that tells a value by itself.
@@ -63,15 +64,27 @@ pub(crate) fn item_place(given: &EnumeratedSyntax, name: &str) -> Option<usize>
     ensures { MatchOption result (StandsIn (names_of (root_of given.now ++ more_of given.now)) name.now → ⊥)
         (λ i. slice_get (names_of (root_of given.now ++ more_of given.now)) i ≡ Some name.now) }
 {
-    match place_in(&given.root, name) {
+    let root = given.root.as_slice();
+    match place_in(root, name) {
         Some(place) => Some(place),
         None => match &given.additions {
             None => None,
-            Some(additions) => match place_in(additions, name) {
+            Some(additions) => match place_in(additions.as_slice(), name) {
                 None => None,
-                Some(place) => Some(given.root.len() + place),
+                Some(place) => Some(root.len() + place),
             },
         },
+    }
+}
+
+/// Is a name one of some numbers'?
+fn has_number(numbers: &[NamedNumber], name: &str) -> bool
+    ensures yes { result ≡ true → StandsIn (names_of (map number_of numbers.now)) name.now }
+    ensures no { result ≡ false → StandsIn (names_of (map number_of numbers.now)) name.now → ⊥ }
+{
+    match number_under(numbers, name) {
+        Some(_) => true,
+        None => false,
     }
 }
 
@@ -84,10 +97,7 @@ fn is_named(shape: &Shape, reference: &Reference) -> bool
 {
     match (shape, &reference.module) {
         (Shape::Simple(Simple::Integer(numbers)), None) => {
-            match number_under(numbers, reference.name.as_str()) {
-                Some(_) => true,
-                None => false,
-            }
+            has_number(numbers, reference.name.as_str())
         }
         (Shape::Simple(Simple::Enumerated(given)), None) => {
             match item_place(given, reference.name.as_str()) {
@@ -145,13 +155,21 @@ fn next_of(
     }
 }
 
+/// A value by its number.
+fn value_at(linked: &Linked, number: usize) -> &ValueAt
+    requires inside { number < length linked.now.values }
+    ensures { slice_get linked.now.values number ≡ Some (value_of result.now) }
+{
+    &linked.values()[number]
+}
+
 /// The module in which a value's notation is read, and the notation.
 fn notation_at(linked: &Linked, number: usize) -> (&str, &ValueSyntax)
     requires inside { number < length linked.now.values }
     ensures { IsValueAt linked.now number result.0.now (tree_of result.1.now) }
 {
     linked.whole();
-    let value = &linked.values()[number];
+    let value = value_at(linked, number);
     let home = linked.assigned(value.assignment);
     (home.module, &value.syntax)
 }

@@ -1,4 +1,4 @@
-use Rattle.std.proofs.Common.{sym, ◌∙◌, subst, ap, option_map, inr, [], ◌∷◌}
+use Rattle.std.proofs.Common.{sym, ◌∙◌, subst, ap, option_map, inr, [], ◌∷◌, arith}
 use Rattle.asn_base.specs.Abstract.{AbstractValue}
 use Rattle.trees.specs.Values.{tree_of}
 use Rattle.trees.specs.Types.{a_relative_oid}
@@ -13,7 +13,7 @@ returns-in-Ok-clause-ok c =
     let n = tree_of c.args.notation.now in
     let is = sym c.numbers_in.ensures ∙ ap (option_map (λ o. o.now)) c.in-Some.is in
     subst (λ (v : AbstractValue). IsLeaf a_relative_oid n v) (sym (c.abstract_values.ensures.relative_oid_ c.in-Ok.all))
-    (rw c.in-Ok.ensures.ok (relative_made n c.in-Some.numbers.now is))
+    (rw c.in-Ok.ensures.ok (relative_made n c.in-Some.numbers.now is (omega (arith, c.if-numbers-eq0.false))))
 
 pub returns-in-Err-clause-fault : goal.returns-in-Err-clause-fault
 returns-in-Err-clause-fault c =
@@ -21,7 +21,7 @@ returns-in-Err-clause-fault c =
     let ns = c.in-Some.numbers.now in
     let is = sym c.numbers_in.ensures ∙ ap (option_map (λ o. o.now)) c.in-Some.is in
     limit_more (ArePastLimit ns) (StandsPastLimit a_relative_oid n) c.in-Err.fault
-    (λ past. (ns, inr (relative_made n ns is), past)) c.in-Err.ensures.fault
+    (λ past. (ns, inr (relative_made n ns is (omega (arith, c.if-numbers-eq0.false))), past)) c.in-Err.ensures.fault
 
 pub returns-in-Ok-within_limit-clause-ok : goal.returns-in-Ok-within_limit-clause-ok
 returns-in-Ok-within_limit-clause-ok c =
