@@ -104,7 +104,7 @@ number_is : (n : Tree) (z : ℤ) → number_in n ≡ Some z → n ≡ number z
 number_is (number y) z e = ap number (same_Some y z e)
 number_is n z e = absurd cc
 
-name_is : (n : Tree) (x : Name) → name_in n ≡ Some x → n ≡ reference None x
+pub name_is : (n : Tree) (x : Name) → name_in n ≡ Some x → n ≡ reference None x
 name_is (reference None y) x e = ap (reference None) (same_Some y x e)
 name_is n x e = absurd cc
 

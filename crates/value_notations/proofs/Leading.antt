@@ -170,14 +170,14 @@ item_not_here is i r x l e t h =
     let u : bytes_eq x (name_at r.name) ≡ true = (bytes_eq-Decides x (name_at r.name)).1 (sym same) in
     absurd (let g = sym u ∙ t in cc)
 
-pub one_more_place : {Q : ℕ → Type 0} (i : ℕ)
+pub one_more_place : (Q : ℕ → Type 0) (i : ℕ)
     → ((j : ℕ) → j < i → Q j → ⊥)
     → (Q i → ⊥)
     → (j : ℕ)
     → j < i + 1
     → Q j
     → ⊥
-one_more_place {Q} i f g j l q =
+one_more_place Q i f g j l q =
     elim (less_or_more j i) [
       | inl e ↦ g (subst Q e q)
       | inr h ↦ elim h [

@@ -1,6 +1,6 @@
 -- What stands for a value of a kind that holds no others is one but for constraints.
-use Rattle.std.proofs.Common.{◌≡◌, ◌^◌, ℕ, zero, suc, ◌<◌, ◌≤◌, ◌+◌, ◌*◌, Bool, true, false, ℤ, List, [], ◌∷◌, ◌++◌, length, take, drop, refl, sym, ap, ◌∙◌, subst, arith, inl, inr}
-use Rattle.std.specs.Prelude.{◌⊎◌, Option, slice_index, replicate}
+use Rattle.std.proofs.Common.{◌≡◌, ◌^◌, ℕ, zero, ◌<◌, ◌≤◌, ◌+◌, ◌*◌, Bool, true, false, ℤ, pos, suc, Some, List, [], ◌∷◌, ◌++◌, length, take, drop, refl, sym, ap, ◌∙◌, subst, arith, inl, inr}
+use Rattle.std.specs.Prelude.{◌⊎◌, Option, slice_get, slice_index, replicate}
 use Rattle.std.specs.List.{AllByRecursion}
 use Rattle.std.specs.Int.Digits.{AllBelowBase}
 use Rattle.std.proofs.lemmas.Int.Digits.{number_lt}
@@ -10,7 +10,8 @@ use Rattle.asn_base.specs.Abstract.{AbstractValue, integer, bits, oid, relative_
 use Rattle.asn_base.specs.Typed.{IsWithinLimit, IsObjectIdentifier, arcs, IsRelativeOid}
 use Rattle.trees.specs.Values.{Name, Tree}
 use Rattle.trees.specs.Types.{Plain, a_boolean, an_integer, a_bit_string, an_octet_string, a_null, an_object_identifier, a_relative_oid, an_enumerated, a_utf8_string, a_restricted_string}
-use Rattle.type_table.specs.Items.{Item}
+use Rattle.type_table.specs.Items.{Item, additions_of, root_numbers, addition_numbers}
+use Rattle.type_table.specs.Lists.{IsSoundEnumeration}
 use Rattle.type_table.specs.Table.{simple}
 use Rattle.value_notations.specs.Leaves.{IsLeaf, AreOctets, IsRooted, is_rooted}
 use Rattle.value_notations.specs.Leaves as leaves
@@ -114,7 +115,8 @@ below_octets base most ds os z e a =
         let g = take most (drop (most * i) (ds ++ replicate a.zeros 0)) in
         let b = below_group base most (most * i) a.zeros ds (ds ++ replicate a.zeros 0) z a.digits_of refl in
         let m = number_lt base g b in
-        let p = pow-le-pow_right {base} z (short_take most (drop (most * i) (ds ++ replicate a.zeros 0))) in
+        let p : base ^ length g ≤ base ^ most =
+            pow-le-pow_right z (short_take most (drop (most * i) (ds ++ replicate a.zeros 0))) in
         let s = a.each i l in
         omega (arith, m, p, s, e))
 
@@ -176,9 +178,11 @@ small_numbers ns f =
 small_behind : (x y : ℕ) (ns : List ℕ)
     → AllByRecursion (λ n. n < 2 ^ 64) (x ∷ y ∷ ns)
     → (y < 2 ^ 64) × AllByRecursion (λ n. n < 2 ^ 64) ns
-small_behind x y ns (a, b, r) = (b, r)
+small_behind x y ns (a, (b, r)) = (b, r)
 
 identifier_of : (ns : List ℕ) → IsRooted ns → (ArePastLimit ns → ⊥) → IsObjectIdentifier ns
+identifier_of [] r f = elim r [ ]
+identifier_of (x ∷ []) r f = elim r [ ]
 identifier_of (x ∷ y ∷ ns) (is_rooted l m) f =
     let few = few_numbers (x ∷ y ∷ ns) f in
     let small = small_behind x y ns (small_numbers (x ∷ y ∷ ns) f) in
@@ -220,3 +224,22 @@ value_relative n v l f = record { stands = l; within = free_relative f l }
 pub past_stands : (k : Plain) (n : Tree) → StandsPastLimit k n → StandsForPast k n
 past_stands k n (ns, inl l, past) = record { value = oid ns; stands = l; past = past }
 past_stands k n (ns, inr l, past) = record { value = relative_oid ns; stands = l; past = past }
+
+-- ---- items
+
+slice_get_behind : {X : Type 0} (xs ys : List X) (i : ℕ) (x : X)
+    → slice_get ys i ≡ Some x
+    → slice_get (xs ++ ys) (length xs + i) ≡ Some x
+slice_get_behind [] ys i x e = let q : length {A = X} [] + i ≡ i = omega arith in rw q e
+slice_get_behind {X} (y ∷ xs) ys i x e =
+    let q : length (y ∷ xs) + i ≡ suc (length xs + i) = omega arith in
+    rw q (slice_get_behind xs ys i x e)
+
+pub no_great : (root more : List Item) (i : ℕ)
+    → IsSoundEnumeration root more
+    → slice_get (addition_numbers root more) i ≡ Some (pos (2 ^ 127))
+    → ⊥
+no_great root more i s e =
+    let there = slice_get_behind (root_numbers root) (addition_numbers root more) i (pos (2 ^ 127)) e in
+    let w = s.within (length (root_numbers root) + i) (pos (2 ^ 127)) there in
+    absurd (omega (arith, w))

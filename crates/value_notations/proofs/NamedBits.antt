@@ -2,6 +2,7 @@
 use Rattle.std.proofs.Common.{◌≡◌, ℕ, zero, suc, ◌<◌, ◌≤◌, ◌+◌, Bool, true, false, List, [], ◌∷◌, ◌++◌, length, take, cond, Some, None, Option, refl, sym, ap, ◌∙◌, subst, arith, inl, inr}
 use Rattle.std.specs.Prelude.{◌⊎◌, ◌↔◌, slice_get, slice_index_or, bytes_eq, replicate, set}
 use Rattle.std.specs.List.{AllByRecursion}
+use Rattle.std.proofs.lemmas.List.{take_all}
 use Rattle.std.proofs.lemmas.Option.{same_Some}
 use Rattle.trees.specs.Values.{Name, Tree, Trees, trees, reference, tree_and, no_tree}
 use Rattle.names.specs.Modules.{StandsIn}
@@ -12,6 +13,8 @@ use Rattle.value_notations.specs.Wrong.{IsUnknownBit}
 use Rattle.value_notations.specs.Wrong as wrong
 use Rattle.value_notations.specs.proving.Forms.{name_in}
 use Rattle.value_notations.specs.proving.Bits.{AreWithin}
+use Rattle.value_notations.proofs.Inversions.{name_is}
+use Rattle.value_notations.proofs.Lists.{taken_more}
 use Rattle.value_notations.proofs.Places.{some_none}
 
 -- ---- names
@@ -80,13 +83,13 @@ names_unknown bs (y ∷ xs) ps (suc i) x (leaves.bit_and {places = qs} f a) s e 
 
 -- ---- places within the limit
 
-first_or : {P : ℕ → Type 0} (b : Bool) (v q : ℕ) (o : Option ℕ)
+first_or : (P : ℕ → Type 0) (b : Bool) (v q : ℕ) (o : Option ℕ)
     → P v
     → (o ≡ Some q → P q)
     → cond b (Some v) o ≡ Some q
     → P q
-first_or {P} true v q o h go e = subst P (same_Some v q e) h
-first_or false v q o h go e = go e
+first_or P true v q o h go e = subst P (same_Some v q e) h
+first_or P false v q o h go e = go e
 
 under_within : (bs : List (Name × ℕ)) (x : Name) (q : ℕ)
     → ((i : ℕ) (b : Name × ℕ) → slice_get bs i ≡ Some b → b.1 ≤ 65535)
@@ -94,7 +97,7 @@ under_within : (bs : List (Name × ℕ)) (x : Name) (q : ℕ)
     → q ≤ 65535
 under_within [] x q h e = absurd cc
 under_within (b ∷ bs) x q h e =
-    first_or {P = λ z. z ≤ 65535} (bytes_eq x b.0) b.1 q (under x bs) (h 0 b refl)
+    first_or (λ z. z ≤ 65535) (bytes_eq x b.0) b.1 q (under x bs) (h 0 b refl)
     (under_within bs x q (λ i c f. h (suc i) c f)) e
 
 pub names_within : (bs : List (Name × ℕ)) (ts : Trees) (ps : List ℕ)
@@ -133,7 +136,8 @@ set_by (b ∷ s) (suc p) (suc i) e =
     elim (set_by s p i e) [ inl h ↦ inl (ap suc h) | inr h ↦ inr h ]
 
 stands_taken : (ps : List ℕ) (k x : ℕ) → StandsIn (take k ps) x → StandsIn (take (k + 1) ps) x
-stands_taken [] k x s = s
+stands_taken [] zero x s = absurd (let e = s.1 in cc)
+stands_taken [] (suc k) x s = absurd (let e = s.1 in cc)
 stands_taken (p ∷ ps) zero x s = absurd (let e = s.1 in cc)
 stands_taken (p ∷ ps) (suc k) x (zero, e) = let q : suc k + 1 ≡ suc (k + 1) = omega arith in rw q (zero, e)
 stands_taken (p ∷ ps) (suc k) x (suc i, e) =
@@ -149,6 +153,13 @@ stands_last (y ∷ ps) (suc k) p e =
     let s = stands_last ps k p e in
     rw q (suc s.0, s.1)
 
+one_behind : (y : ℕ) (xs zs : List ℕ) (x p : ℕ)
+    → (StandsIn xs x → (x ≡ p) ⊎ StandsIn zs x)
+    → StandsIn (y ∷ xs) x
+    → (x ≡ p) ⊎ StandsIn (y ∷ zs) x
+one_behind y xs zs x p go (zero, f) = inr (zero, f)
+one_behind y xs zs x p go (suc i, f) = elim (go (i, f)) [ inl h ↦ inl h | inr h ↦ inr (suc h.0, h.1) ]
+
 taken_by : (ps : List ℕ) (k p x : ℕ)
     → slice_get ps k ≡ Some p
     → StandsIn (take (k + 1) ps) x
@@ -158,11 +169,8 @@ taken_by (y ∷ ps) zero p x e (zero, f) = inl (same_Some x p (sym f ∙ e))
 taken_by (y ∷ ps) zero p x e (suc i, f) = absurd cc
 taken_by (y ∷ ps) (suc k) p x e s =
     let q : suc k + 1 ≡ suc (k + 1) = omega arith in
-    behind (subst (λ (z : ℕ). StandsIn (take z (y ∷ ps)) x) q s)
-  where
-    behind : StandsIn (y ∷ take (k + 1) ps) x → (x ≡ p) ⊎ StandsIn (y ∷ take k ps) x
-    behind (zero, f) = inr (zero, f)
-    behind (suc i, f) = elim (taken_by ps k p x e (i, f)) [ inl h ↦ inl h | inr h ↦ inr (suc h.0, h.1) ]
+    one_behind y (take (k + 1) ps) (take k ps) x p (taken_by ps k p x e)
+    (subst (λ (z : ℕ). StandsIn (take z (y ∷ ps)) x) q s)
 
 -- the bits at the first k places are set
 abbrev pub AreSet : List ℕ → ℕ → List Bool → Type 0
@@ -202,3 +210,37 @@ set_all ps k s l h g = record {
     all_taken [] (suc n) l = refl
     all_taken (x ∷ xs) zero l = absurd (omega (arith, l))
     all_taken (x ∷ xs) (suc n) l = ap (λ z. x ∷ z) (all_taken xs n (omega (arith, l)))
+
+-- ---- names one behind the other
+
+pub names_step : (bs : List (Name × ℕ)) (xs : List Tree) (ps : List ℕ) (i : ℕ) (n : Tree) (x : Name) (q : ℕ)
+    → AreBitNames bs (trees (take i xs)) ps
+    → slice_get xs i ≡ Some n
+    → name_in n ≡ Some x
+    → under x bs ≡ Some q
+    → AreBitNames bs (trees (take (i + 1) xs)) (ps ++ q ∷ [])
+names_step bs xs ps i n x q a s e f =
+    subst (λ (z : List Tree). AreBitNames bs (trees z) (ps ++ q ∷ []))
+    (sym (taken_more xs i (reference None x) (s ∙ ap Some (name_is n x e)))) (names_more bs (take i xs) ps x q a f)
+
+pub names_wrong : (bs : List (Name × ℕ)) (xs : List Tree) (ps : List ℕ) (i : ℕ) (n : Tree)
+    → AreBitNames bs (trees (take i xs)) ps
+    → slice_get xs i ≡ Some n
+    → name_in n ≡ None
+    → ((qs : List ℕ) → AreBitNames bs (trees xs) qs → ⊥) × ((x : Name) → IsUnknownBit bs x (trees xs) → ⊥)
+names_wrong bs xs ps i n a s e = let r = names_stop bs xs ps i n a s e in (r.none, r.unknown)
+
+pub names_lost : (bs : List (Name × ℕ)) (xs : List Tree) (ps : List ℕ) (i : ℕ) (n : Tree) (x : Name)
+    → AreBitNames bs (trees (take i xs)) ps
+    → slice_get xs i ≡ Some n
+    → name_in n ≡ Some x
+    → under x bs ≡ None
+    → (y : Name) × (n ≡ reference None y) × IsUnknownBit bs y (trees xs)
+names_lost bs xs ps i n x a s e f =
+    (x, name_is n x e, names_unknown bs xs ps i x a (s ∙ ap Some (name_is n x e)) f)
+
+pub names_all : (bs : List (Name × ℕ)) (xs : List Tree) (ps : List ℕ) (i : ℕ)
+    → length xs ≤ i
+    → AreBitNames bs (trees (take i xs)) ps
+    → AreBitNames bs (trees xs) ps
+names_all bs xs ps i l a = subst (λ (z : List Tree). AreBitNames bs (trees z) ps) (take_all i xs l) a

@@ -1,6 +1,6 @@
 //! What a notation is behind its references.
 
-ghost use Rattle.std.specs.Prelude.{◌≡◌, ◌<◌, ◌++◌, ℕ, List, length, map, true, false, IfOk, IfErr, IfSome, MatchOption, Some, slice_get, option_map, string_bytes};
+ghost use Rattle.std.specs.Prelude.{IsUtf8, ◌≡◌, ◌<◌, ◌++◌, ℕ, List, length, map, true, false, IfOk, IfErr, IfSome, MatchOption, Some, slice_get, option_map, string_bytes};
 ghost use Rattle.trees.specs.Values.{tree_of};
 ghost use Rattle.trees.specs.Types.{item_of, number_of};
 ghost use Rattle.names.specs.declared.scope.Assigned.TheVariants.{Value as AValue};
@@ -166,7 +166,8 @@ fn value_at(linked: &Linked, number: usize) -> &ValueAt
 /// The module in which a value's notation is read, and the notation.
 fn notation_at(linked: &Linked, number: usize) -> (&str, &ValueSyntax)
     requires inside { number < length linked.now.values }
-    ensures { IsValueAt linked.now number result.0.now (tree_of result.1.now) }
+    ensures stands { IsValueAt linked.now number result.0.now (tree_of result.1.now) }
+    ensures text { IsUtf8 result.0.now }
 {
     linked.whole();
     let value = value_at(linked, number);

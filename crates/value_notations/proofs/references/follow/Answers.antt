@@ -39,11 +39,11 @@ loop-step-preserved c =
     let e = c.in-Ok.ensures.ok in
     record {
       leads = subst (λ (z : List ℕ). LeadsTo p k os c.args.within.now (tree_of c.args.notation.now) z N m) (sym e)
-          (leads_more i c.loop-step.invariant.leads c.in-Behind.ensures.0 c.in-Behind.ensures.1 c.notation_at.ensures);
+          (leads_more i c.loop-step.invariant.leads c.in-Behind.ensures.0 c.in-Behind.ensures.1 c.notation_at.ensures.stands);
       grown = subst (λ (z : List ℕ). IsGrown os z (length p.values) (c.loop-step.step + 1)) (sym e)
           (one_more os ps (length p.values) c.loop-step.step i c.loop-step.invariant.grown c.in-Behind.ensures.2
           c.in-Behind.ensures.1);
-      text = c.notation_at.type_inv;
+      text = c.notation_at.ensures.text;
     }
 
 pub returns-clause-fault : goal.returns-clause-fault
