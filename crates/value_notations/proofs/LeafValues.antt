@@ -1,24 +1,31 @@
 -- What stands for a value of a kind that holds no others is one but for constraints.
-use Rattle.std.proofs.Common.{◌≡◌, ◌^◌, ℕ, zero, ◌<◌, ◌≤◌, ◌+◌, ◌*◌, Bool, true, false, ℤ, pos, suc, Some, List, [], ◌∷◌, ◌++◌, length, take, drop, refl, sym, ap, ◌∙◌, subst, arith, inl, inr}
+use Rattle.std.proofs.Common.{◌≡◌, ◌^◌, ℕ, zero, ◌<◌, ◌≤◌, ◌+◌, ◌*◌, Bool, true, false, ℤ, pos, suc, Some, None, option_map, List, [], ◌∷◌, ◌++◌, length, take, drop, refl, sym, ap, ◌∙◌, subst, arith, inl, inr}
 use Rattle.std.specs.Prelude.{◌⊎◌, Option, slice_get, slice_index, replicate}
 use Rattle.std.specs.List.{AllByRecursion}
 use Rattle.std.specs.Int.Digits.{AllBelowBase}
 use Rattle.std.proofs.lemmas.Int.Digits.{number_lt}
+use Rattle.std.proofs.lemmas.Option.{same_Some, slice_get-map}
 use Rattle.std.proofs.Math.Nat.{pow-le-pow_right}
 use Rattle.asn_base.specs.declared.strings.StringKind.{StringKind}
-use Rattle.asn_base.specs.Abstract.{AbstractValue, integer, bits, oid, relative_oid}
+use Rattle.asn_base.specs.Abstract.{AbstractValue, integer, enumerated, bits, oid, relative_oid}
 use Rattle.asn_base.specs.Typed.{IsWithinLimit, IsObjectIdentifier, arcs, IsRelativeOid}
 use Rattle.trees.specs.Values.{Name, Tree}
 use Rattle.trees.specs.Types.{Plain, a_boolean, an_integer, a_bit_string, an_octet_string, a_null, an_object_identifier, a_relative_oid, an_enumerated, a_utf8_string, a_restricted_string}
-use Rattle.type_table.specs.Items.{Item, additions_of, root_numbers, addition_numbers}
+use Rattle.names.specs.Names.{names_of}
+use Rattle.type_table.specs.Items.{Item, additions_of, root_numbers, addition_numbers, numbers_of}
 use Rattle.type_table.specs.Lists.{IsSoundEnumeration}
 use Rattle.type_table.specs.Table.{simple}
-use Rattle.value_notations.specs.Leaves.{IsLeaf, AreOctets, IsRooted, is_rooted}
+use Rattle.value_notations.specs.Leaves.{IsLeaf, IsItem, AreOctets, IsRooted, is_rooted}
 use Rattle.value_notations.specs.Leaves as leaves
 use Rattle.value_notations.specs.Wrong.{IsMisfit, HasUnknownBit}
-use Rattle.value_notations.specs.Faults.{IsUnconstrained, IsLeafValue, StandsForPast}
-use Rattle.value_notations.specs.proving.Forms.{IsNone, ArePastLimit, StandsPastLimit}
+use Rattle.value_notations.specs.declared.leaves.LeafFault.{LeafFault}
+use Rattle.value_notations.specs.declared.leaves.LeafFault.TheVariants as fault
+use Rattle.value_notations.specs.Faults.{IsUnconstrained, IsLeafFault, IsLeafValue, StandsForPast}
+use Rattle.value_notations.specs.proving.Items.{IsNumberless}
+use Rattle.value_notations.specs.proving.Forms.{name_in, IsNone, ArePastLimit, StandsPastLimit}
 use Rattle.value_notations.proofs.Groups.{below_group}
+use Rattle.value_notations.proofs.Inversions.{name_is}
+use Rattle.value_notations.proofs.Places.{one_place, some_none}
 
 -- ---- no value, and no unknown bit
 
@@ -230,8 +237,8 @@ past_stands k n (ns, inr l, past) = record { value = relative_oid ns; stands = l
 slice_get_behind : {X : Type 0} (xs ys : List X) (i : ℕ) (x : X)
     → slice_get ys i ≡ Some x
     → slice_get (xs ++ ys) (length xs + i) ≡ Some x
-slice_get_behind [] ys i x e = let q : length {A = X} [] + i ≡ i = omega arith in rw q e
-slice_get_behind {X} (y ∷ xs) ys i x e =
+slice_get_behind {X = X} [] ys i x e = let q : length {A = X} [] + i ≡ i = omega arith in rw q e
+slice_get_behind (y ∷ xs) ys i x e =
     let q : length (y ∷ xs) + i ≡ suc (length xs + i) = omega arith in
     rw q (slice_get_behind xs ys i x e)
 
@@ -243,3 +250,54 @@ no_great root more i s e =
     let there = slice_get_behind (root_numbers root) (addition_numbers root more) i (pos (2 ^ 127)) e in
     let w = s.within (length (root_numbers root) + i) (pos (2 ^ 127)) there in
     absurd (omega (arith, w))
+
+item_named : (is : List Item) (x : Name) (i : ℕ)
+    → slice_get (names_of is) i ≡ Some x
+    → (t : Item) × (slice_get is i ≡ Some t) × (t.0 ≡ x)
+item_named [] x i e = absurd cc
+item_named (t ∷ is) x zero e = (t, refl, same_Some t.0 x e)
+item_named (t ∷ is) x (suc i) e = item_named is x i e
+
+pub value_item : (root : List Item) (more : Option (List Item)) (n : Tree) (x : Name) (place : ℕ) (z : ℤ)
+    → name_in n ≡ Some x
+    → slice_get (names_of (root ++ additions_of more)) place ≡ Some x
+    → slice_get (numbers_of root (additions_of more)) place ≡ Some z
+    → IsLeafValue (an_enumerated root more) n (enumerated z)
+value_item root more n x place z e f g =
+    let i = item_named (root ++ additions_of more) x place f in
+    let l = leaves.named_item (record { place = place; item = i.0; there = i.1; named = i.2; numbered = g }) in
+    value_enumerated root more n (enumerated z)
+    (subst (λ (t : Tree). IsLeaf (an_enumerated root more) t (enumerated z)) (sym (name_is n x e)) l)
+
+not_item : {root : List Item} {more : Option (List Item)} {n : Tree} {v : AbstractValue}
+    → ((x : Name) (z : ℤ) → name_in n ≡ Some x → IsItem root (additions_of more) x z → ⊥)
+    → IsLeaf (an_enumerated root more) n v
+    → ⊥
+not_item f (leaves.named_item {x = x} {z = z} a) = f x z refl a
+
+pub misfit_item : (root : List Item) (more : Option (List Item)) (n : Tree) (x : Name) (place : ℕ)
+    → IsSoundEnumeration root (additions_of more)
+    → name_in n ≡ Some x
+    → slice_get (names_of (root ++ additions_of more)) place ≡ Some x
+    → slice_get (numbers_of root (additions_of more)) place ≡ None
+    → IsMisfit (simple (an_enumerated root more)) n
+misfit_item root more n x place s e f g =
+    misfit_enumerated root more n (λ v l. not_item {root} {more} {n} {v} (λ y z h a.
+        let same : y ≡ x = same_Some y x (sym h ∙ e) in
+        let there : slice_get (names_of (root ++ additions_of more)) a.place ≡ Some x =
+            slice_get-map (λ i. i.0) (root ++ additions_of more) a.place ∙ ap (option_map (λ i. i.0)) a.there
+            ∙ ap Some (a.named ∙ same) in
+        let one = one_place (names_of (root ++ additions_of more)) x a.place place s.names there f in
+        some_none (slice_get (numbers_of root (additions_of more)) place) z
+        (subst (λ (j : ℕ). slice_get (numbers_of root (additions_of more)) j ≡ Some z) one a.numbered) g) l)
+
+pub numberless : (root : List Item) (more : Option (List Item)) (n : Tree) (x : Name) (place : ℕ) (f : LeafFault)
+    → IsSoundEnumeration root (additions_of more)
+    → name_in n ≡ Some x
+    → slice_get (names_of (root ++ additions_of more)) place ≡ Some x
+    → IsNumberless root (additions_of more) place f
+    → IsLeafFault (an_enumerated root more) n f
+numberless root more n x place fault.Memory s e g h = tt
+numberless root more n x place fault.NotOfType s e g h = misfit_item root more n x place s e g h
+numberless root more n x place (fault.UnknownBit b) s e g h = absurd h
+numberless root more n x place fault.Oid s e g h = absurd h

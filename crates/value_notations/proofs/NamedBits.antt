@@ -2,8 +2,7 @@
 use Rattle.std.proofs.Common.{◌≡◌, ℕ, zero, suc, ◌<◌, ◌≤◌, ◌+◌, Bool, true, false, List, [], ◌∷◌, ◌++◌, length, take, cond, Some, None, Option, refl, sym, ap, ◌∙◌, subst, arith, inl, inr}
 use Rattle.std.specs.Prelude.{◌⊎◌, ◌↔◌, slice_get, slice_index_or, bytes_eq, replicate, set}
 use Rattle.std.specs.List.{AllByRecursion}
-use Rattle.std.proofs.lemmas.List.{take_all}
-use Rattle.std.proofs.lemmas.Option.{same_Some}
+use Rattle.std.proofs.lemmas.Option.{same_Some, slice_get-get_or}
 use Rattle.trees.specs.Values.{Name, Tree, Trees, trees, reference, tree_and, no_tree}
 use Rattle.names.specs.Modules.{StandsIn}
 use Rattle.names.specs.Names.{under}
@@ -13,6 +12,7 @@ use Rattle.value_notations.specs.Wrong.{IsUnknownBit}
 use Rattle.value_notations.specs.Wrong as wrong
 use Rattle.value_notations.specs.proving.Forms.{name_in}
 use Rattle.value_notations.specs.proving.Bits.{AreWithin}
+use Rattle.value_notations.proofs.Alls.{all_more, each_weaker}
 use Rattle.value_notations.proofs.Inversions.{name_is}
 use Rattle.value_notations.proofs.Lists.{taken_more}
 use Rattle.value_notations.proofs.Places.{some_none}
@@ -239,8 +239,30 @@ pub names_lost : (bs : List (Name × ℕ)) (xs : List Tree) (ps : List ℕ) (i :
 names_lost bs xs ps i n x a s e f =
     (x, name_is n x e, names_unknown bs xs ps i x a (s ∙ ap Some (name_is n x e)) f)
 
-pub names_all : (bs : List (Name × ℕ)) (xs : List Tree) (ps : List ℕ) (i : ℕ)
-    → length xs ≤ i
-    → AreBitNames bs (trees (take i xs)) ps
-    → AreBitNames bs (trees xs) ps
-names_all bs xs ps i l a = subst (λ (z : List Tree). AreBitNames bs (trees z) ps) (take_all i xs l) a
+-- ---- how many bits there are
+
+pub count_all : (ps : List ℕ) (i old new : ℕ)
+    → i < length ps
+    → old ≤ new
+    → slice_index_or ps i 0 < new
+    → AllByRecursion (λ p. p < old) (take i ps)
+    → AllByRecursion (λ p. p < new) (take (i + 1) ps)
+count_all ps i old new l le h a =
+    all_more (λ (p : ℕ). p < new) ps i 0 l
+    (each_weaker (λ (p : ℕ). p < old) (λ (p : ℕ). p < new) (take i ps) (λ x b. omega (arith, b, le)) a) h
+
+pub count_greatest : (ps : List ℕ) (i old new : ℕ)
+    → i < length ps
+    → (new ≡ suc (slice_index_or ps i 0)) ⊎ (new ≡ old)
+    → ((n : ℕ) → old ≡ suc n → StandsIn ps n)
+    → (n : ℕ)
+    → new ≡ suc n
+    → StandsIn ps n
+count_greatest ps i old new l w g n e =
+    elim w [
+      | inl h ↦ (i, slice_get-get_or ps i 0 l ∙ ap Some (omega (arith, h, e)))
+      | inr h ↦ g n (sym h ∙ e)
+    ]
+
+pub place_there : (ps : List ℕ) (i : ℕ) → i < length ps → slice_get ps i ≡ Some (slice_index_or ps i 0)
+place_there ps i l = slice_get-get_or ps i 0 l

@@ -3,3 +3,4 @@ pub mod Forms
 pub mod Opened
 pub mod Next
 pub mod Bits
+pub mod Items

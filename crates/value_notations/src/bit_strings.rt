@@ -199,6 +199,31 @@ fn braced_bits<'a>(
     }
 }
 
+/// The bits that a notation which is no binary text stands for (X.680, clauses 22.5 to 22.10).
+fn other_bits<'a>(
+    alloc: Global,
+    bits: &[NamedBit],
+    notation: &'a ValueSyntax,
+) -> Result<Vec<bool>, LeafFault<'a>>
+    requires sound { IsSoundPlain (a_bit_string (map bit_of bits.now)) }
+    requires not_binary { binary_in (tree_of notation.now) ≡ None }
+    ensures ok { IfOk result (λ s. IsLeaf (a_bit_string (map bit_of bits.now)) (tree_of notation.now) (bits' s.items)) }
+    ensures fault { IfErr result (IsLeafFault (a_bit_string (map bit_of bits.now)) (tree_of notation.now)) }
+{
+    match hex_in(notation) {
+        None => braced_bits(alloc, bits, notation),
+        Some(digits) => {
+            if !are_below(digits, 16) {
+                return Err(LeafFault::NotOfType);
+            }
+            match hex_bits(alloc, digits) {
+                Ok(all) => Ok(all),
+                Err(_) => Err(LeafFault::Memory),
+            }
+        }
+    }
+}
+
 /// The bits that a notation stands for (X.680, clauses 22.5 to 22.10).
 pub(crate) fn bits_in<'a>(
     alloc: Global,
@@ -209,23 +234,16 @@ pub(crate) fn bits_in<'a>(
     ensures ok { IfOk result (λ s. IsLeaf (a_bit_string (map bit_of bits.now)) (tree_of notation.now) (bits' s.items)) }
     ensures fault { IfErr result (IsLeafFault (a_bit_string (map bit_of bits.now)) (tree_of notation.now)) }
 {
-    if let Some(digits) = binary_in(notation) {
-        if !are_below(digits, 2) {
-            return Err(LeafFault::NotOfType);
+    match binary_in(notation) {
+        None => other_bits(alloc, bits, notation),
+        Some(digits) => {
+            if !are_below(digits, 2) {
+                return Err(LeafFault::NotOfType);
+            }
+            match binary_bits(alloc, digits) {
+                Ok(all) => Ok(all),
+                Err(_) => Err(LeafFault::Memory),
+            }
         }
-        return match binary_bits(alloc, digits) {
-            Ok(all) => Ok(all),
-            Err(_) => Err(LeafFault::Memory),
-        };
     }
-    if let Some(digits) = hex_in(notation) {
-        if !are_below(digits, 16) {
-            return Err(LeafFault::NotOfType);
-        }
-        return match hex_bits(alloc, digits) {
-            Ok(all) => Ok(all),
-            Err(_) => Err(LeafFault::Memory),
-        };
-    }
-    braced_bits(alloc, bits, notation)
 }

@@ -1,16 +1,15 @@
 //! The values of types that hold no other types, and why there is none.
 
 ghost use Rattle.std.specs.Prelude.{◌≡◌, ◌++◌, map, option_map, IfOk, IfErr, MatchResult, MatchOption, Some, slice_get};
-ghost use Rattle.asn_base.specs.Abstract.{abstract, integer as integer', bits as bits'};
+ghost use Rattle.asn_base.specs.Abstract.{abstract, integer as integer', enumerated};
 ghost use Rattle.asn_base.specs.Typed.{IsWithinLimit};
 ghost use Rattle.trees.specs.Values.{tree_of};
 ghost use Rattle.trees.specs.Types.{plain_of, number_of, bit_of, a_boolean, an_integer, a_bit_string, an_octet_string, a_null, an_object_identifier, a_relative_oid, an_enumerated, a_utf8_string, a_restricted_string};
 ghost use Rattle.type_table.specs.Items.{numbers_of};
 ghost use Rattle.type_table.specs.Lists.{IsSoundPlain, IsSoundEnumeration};
 ghost use Rattle.type_table.specs.Seen.{root_of, behind_marker, more_of};
-ghost use Rattle.value_notations.specs.declared.leaves.LeafFault.TheVariants.{Memory as no_memory};
 ghost use Rattle.value_notations.specs.Faults.{IsLeafFault, IsLeafValue};
-ghost use Rattle.value_notations.specs.proving.Forms.{Tells};
+ghost use Rattle.value_notations.specs.proving.Items.{IsNumberless};
 
 use crate::bit_strings::{bits_in, packed};
 use crate::forms::name_in;
@@ -156,20 +155,31 @@ fn restricted_value<'a>(alloc: Global, kind: StringKind, notation: &'a ValueSynt
     }
 }
 
+/// The number of an item as a value.
+fn item_value(number: i128) -> Value
+    ensures { abstract result ≡ enumerated number }
+{
+    abstract_values();
+    Value::Enum(number)
+}
+
 /// The number that an item has at its place among those of an enumeration.
 fn item_number<'a>(
     alloc: Global,
     given: &EnumeratedSyntax,
     place: usize,
-) -> Result<Option<i128>, LeafFault<'a>>
+) -> Result<i128, LeafFault<'a>>
     requires sound { IsSoundEnumeration (root_of given.now) (more_of given.now) }
-    ensures number { IfOk result (λ z. z ≡ slice_get (numbers_of (root_of given.now) (more_of given.now)) place) }
-    ensures fault { IfErr result (λ e. e ≡ no_memory) }
+    ensures number { IfOk result (λ z. slice_get (numbers_of (root_of given.now) (more_of given.now)) place ≡ Some z) }
+    ensures fault { IfErr result (IsNumberless (root_of given.now) (more_of given.now) place) }
 {
     match item_numbers(alloc, given) {
-        Ok(numbers) => Ok(numbers.get(place).copied()),
+        Ok(numbers) => match numbers.get(place).copied() {
+            Some(number) => Ok(number),
+            None => Err(LeafFault::NotOfType),
+        },
         Err(NumberFault::Memory) => Err(LeafFault::Memory),
-        Err(NumberFault::TooGreat(_)) => Ok(None),
+        Err(NumberFault::TooGreat(_)) => Err(LeafFault::NotOfType),
     }
 }
 
@@ -185,15 +195,13 @@ fn enumerated_value<'a>(
     ensures fault { IfErr result
         (IsLeafFault (an_enumerated (root_of given.now) (behind_marker given.now)) (tree_of notation.now)) }
 {
-    abstract_values();
     match name_in(notation) {
         None => Err(LeafFault::NotOfType),
         Some(name) => match item_place(given, name) {
             None => Err(LeafFault::NotOfType),
             Some(place) => match item_number(alloc, given, place) {
-                Ok(Some(number)) => Ok(Value::Enum(number)),
-                Ok(None) => Err(LeafFault::NotOfType),
-                Err(_) => Err(LeafFault::Memory),
+                Ok(number) => Ok(item_value(number)),
+                Err(fault) => Err(fault),
             },
         },
     }
@@ -239,7 +247,7 @@ pub fn leaf<'a>(
     match simple {
         Simple::Boolean => boolean_value(notation),
         Simple::Integer(numbers) => integer_value(numbers, notation),
-        Simple::BitString(bits) => bits_value(alloc, bits, notation),
+        Simple::BitString(bits) => bits_value(alloc, bits.as_slice(), notation),
         Simple::OctetString => octets_value(alloc, notation),
         Simple::Null => null_value(notation),
         Simple::ObjectIdentifier => identifier_value(alloc, notation),

@@ -5,8 +5,8 @@ use Rattle.type_table.specs.proving.Checks.{IsGreatAt}
 use Rattle.value_notations.proofs.LeafValues.{no_great}
 use Rattle.value_notations.proofs.leaves.item_number.Goals as goal
 
-pub returns-in-Err-TooGreat-clause-number : goal.returns-in-Err-TooGreat-clause-number
-returns-in-Err-TooGreat-clause-number c =
+pub returns-in-Err-TooGreat-clause-fault : goal.returns-in-Err-TooGreat-clause-fault
+returns-in-Err-TooGreat-clause-fault c =
     let root = root_of c.args.given.now in
     let more = more_of c.args.given.now in
     absurd (no_great root more c.in-Err-TooGreat.field-0-0 c.requires.sound
