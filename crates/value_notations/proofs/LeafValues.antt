@@ -282,7 +282,7 @@ pub misfit_item : (root : List Item) (more : Option (List Item)) (n : Tree) (x :
     → slice_get (numbers_of root (additions_of more)) place ≡ None
     → IsMisfit (simple (an_enumerated root more)) n
 misfit_item root more n x place s e f g =
-    misfit_enumerated root more n (λ v l. not_item {root} {more} {n} {v} (λ y z h a.
+    misfit_enumerated root more n (λ v l. not_item {root = root} {more = more} {n = n} {v = v} (λ y z h a.
         let same : y ≡ x = same_Some y x (sym h ∙ e) in
         let there : slice_get (names_of (root ++ additions_of more)) a.place ≡ Some x =
             slice_get-map (λ i. i.0) (root ++ additions_of more) a.place ∙ ap (option_map (λ i. i.0)) a.there

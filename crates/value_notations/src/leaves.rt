@@ -8,6 +8,7 @@ ghost use Rattle.trees.specs.Types.{plain_of, number_of, bit_of, a_boolean, an_i
 ghost use Rattle.type_table.specs.Items.{numbers_of};
 ghost use Rattle.type_table.specs.Lists.{IsSoundPlain, IsSoundEnumeration};
 ghost use Rattle.type_table.specs.Seen.{root_of, behind_marker, more_of};
+ghost use Rattle.value_notations.specs.declared.leaves.LeafFault.TheVariants.{Memory as no_memory};
 ghost use Rattle.value_notations.specs.Faults.{IsLeafFault, IsLeafValue};
 ghost use Rattle.value_notations.specs.proving.Items.{IsNumberless};
 
@@ -163,6 +164,23 @@ fn item_value(number: i128) -> Value
     Value::Enum(number)
 }
 
+/// The number that stands at a place among those of an enumeration, if there is one.
+fn number_at<'a>(
+    alloc: Global,
+    given: &EnumeratedSyntax,
+    place: usize,
+) -> Result<Option<i128>, LeafFault<'a>>
+    requires sound { IsSoundEnumeration (root_of given.now) (more_of given.now) }
+    ensures number { IfOk result (λ z. z ≡ slice_get (numbers_of (root_of given.now) (more_of given.now)) place) }
+    ensures fault { IfErr result (λ e. e ≡ no_memory) }
+{
+    match item_numbers(alloc, given) {
+        Ok(numbers) => Ok(numbers.get(place).copied()),
+        Err(NumberFault::Memory) => Err(LeafFault::Memory),
+        Err(NumberFault::TooGreat(_)) => Ok(None),
+    }
+}
+
 /// The number that an item has at its place among those of an enumeration.
 fn item_number<'a>(
     alloc: Global,
@@ -173,13 +191,10 @@ fn item_number<'a>(
     ensures number { IfOk result (λ z. slice_get (numbers_of (root_of given.now) (more_of given.now)) place ≡ Some z) }
     ensures fault { IfErr result (IsNumberless (root_of given.now) (more_of given.now) place) }
 {
-    match item_numbers(alloc, given) {
-        Ok(numbers) => match numbers.get(place).copied() {
-            Some(number) => Ok(number),
-            None => Err(LeafFault::NotOfType),
-        },
-        Err(NumberFault::Memory) => Err(LeafFault::Memory),
-        Err(NumberFault::TooGreat(_)) => Err(LeafFault::NotOfType),
+    match number_at(alloc, given, place) {
+        Ok(Some(number)) => Ok(number),
+        Ok(None) => Err(LeafFault::NotOfType),
+        Err(_) => Err(LeafFault::Memory),
     }
 }
 

@@ -1,5 +1,8 @@
-use Rattle.std.proofs.Common.{◌∙◌, ap, sym, subst, option_map}
-use Rattle.asn_base.specs.Abstract.{AbstractValue}
+use mir.Val.{SFits}
+use Rattle.std.specs.Int.{w128}
+use Rattle.std.proofs.lemmas.Int.{to_z-of_z}
+use Rattle.std.proofs.Common.{◌∙◌, ap, sym, subst, option_map, rules}
+use Rattle.asn_base.specs.Abstract.{AbstractValue, enumerated}
 use Rattle.trees.specs.Values.{tree_of}
 use Rattle.trees.specs.Types.{an_enumerated}
 use Rattle.type_table.specs.Seen.{root_of, behind_marker}
@@ -12,7 +15,9 @@ returns-in-Ok-clause-value c =
     let root = root_of c.args.given.now in
     let more = behind_marker c.args.given.now in
     let n = tree_of c.args.notation.now in
-    subst (λ (v : AbstractValue). IsLeafValue (an_enumerated root more) n v) (sym c.item_value.ensures)
+    let f : SFits w128 c.in-Ok.number = search rules in
+    subst (λ (v : AbstractValue). IsLeafValue (an_enumerated root more) n v)
+    (sym (c.item_value.ensures ∙ ap enumerated (to_z-of_z w128 c.in-Ok.number f)))
     (value_item root more n c.in-Some.name.now c.in-Some-item_place.place c.in-Ok.number
     (sym c.name_in.ensures ∙ ap (option_map (λ x. x.now)) c.in-Some.is) c.in-Some-item_place.ensures c.in-Ok.ensures.number)
 

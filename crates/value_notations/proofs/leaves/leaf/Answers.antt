@@ -5,5 +5,7 @@ use Rattle.value_notations.proofs.leaves.leaf.Goals as goal
 
 pub bits_value-requires : goal.bits_value-requires
 bits_value-requires c =
-    subst (λ z. IsSoundPlain (a_bit_string (map bit_of z))) (sym c.as_slice.ensures.value)
-    (subst (λ s. IsSoundPlain (plain_of s)) c.in-BitString.is c.requires.sound)
+    record {
+      sound = subst (λ z. IsSoundPlain (a_bit_string (map bit_of z))) (sym c.as_slice.ensures.value)
+          (subst (λ s. IsSoundPlain (plain_of s)) c.in-BitString.is c.requires.sound);
+    }
