@@ -119,13 +119,13 @@ short_take (suc n) (d ∷ ds) = let r = short_take n ds in omega (arith, r)
 below_octets : (base most : ℕ) (ds os : List ℕ) → 0 < base → base ^ most ≡ 256 → AreOctets base most ds os → AllBelowBase 256 os
 below_octets base most ds os z e a =
     each_below os (λ i l.
-        let g = take most (drop (most * i) (ds ++ replicate a.zeros 0)) in
-        let b = below_group base most (most * i) a.zeros ds (ds ++ replicate a.zeros 0) z a.digits_of refl in
-        let m = number_lt base g b in
-        let p : base ^ length g ≤ base ^ most =
-            pow-le-pow_right z (short_take most (drop (most * i) (ds ++ replicate a.zeros 0))) in
-        let s = a.each i l in
-        omega (arith, m, p, s, e))
+    let g = take most (drop (most * i) (ds ++ replicate a.zeros 0)) in
+    let b = below_group base most (most * i) a.zeros ds (ds ++ replicate a.zeros 0) z a.digits_of refl in
+    let m = number_lt base g b in
+    let p : base ^ length g ≤ base ^ most =
+    pow-le-pow_right z (short_take most (drop (most * i) (ds ++ replicate a.zeros 0))) in
+    let s = a.each i l in
+    omega (arith, m, p, s, e))
 
 free_octets : {n : Tree} {v : AbstractValue} → IsLeaf an_octet_string n v → IsUnconstrained an_octet_string v
 free_octets (leaves.octet_digits {ds = ds} {os = os} a) = (below_octets 2 8 ds os (omega arith) refl a, tt)
@@ -283,13 +283,13 @@ pub misfit_item : (root : List Item) (more : Option (List Item)) (n : Tree) (x :
     → IsMisfit (simple (an_enumerated root more)) n
 misfit_item root more n x place s e f g =
     misfit_enumerated root more n (λ v l. not_item {root = root} {more = more} {n = n} {v = v} (λ y z h a.
-        let same : y ≡ x = same_Some y x (sym h ∙ e) in
-        let there : slice_get (names_of (root ++ additions_of more)) a.place ≡ Some x =
-            slice_get-map (λ i. i.0) (root ++ additions_of more) a.place ∙ ap (option_map (λ i. i.0)) a.there
-            ∙ ap Some (a.named ∙ same) in
-        let one = one_place (names_of (root ++ additions_of more)) x a.place place s.names there f in
-        some_none (slice_get (numbers_of root (additions_of more)) place) z
-        (subst (λ (j : ℕ). slice_get (numbers_of root (additions_of more)) j ≡ Some z) one a.numbered) g) l)
+    let same : y ≡ x = same_Some y x (sym h ∙ e) in
+    let there : slice_get (names_of (root ++ additions_of more)) a.place ≡ Some x =
+    slice_get-map (λ i. i.0) (root ++ additions_of more) a.place ∙ ap (option_map (λ i. i.0)) a.there
+    ∙ ap Some (a.named ∙ same) in
+    let one = one_place (names_of (root ++ additions_of more)) x a.place place s.names there f in
+    some_none (slice_get (numbers_of root (additions_of more)) place) z
+    (subst (λ (j : ℕ). slice_get (numbers_of root (additions_of more)) j ≡ Some z) one a.numbered) g) l)
 
 pub numberless : (root : List Item) (more : Option (List Item)) (n : Tree) (x : Name) (place : ℕ) (f : LeafFault)
     → IsSoundEnumeration root (additions_of more)

@@ -225,7 +225,8 @@ pub data IsRead (p : Program)
       StandsIn ts m →
       IsRead p ps K a m qs N j u →
       IsRead p os M i n qs N j u
-  in_alternative : {os ps qs : List ℕ} {M K N : Name} {i j : ℕ} {n m u : Tree} {e : Bool} {cs : List Part} {x : Name} {c : Part} →
+  in_alternative : {os ps qs : List ℕ} {M K N : Name} {i j : ℕ} {n m u : Tree} {e : Bool} {cs : List Part} {x : Name}
+      {c : Part} →
       IsOfKind p.types i (members Choice e cs) →
       IsLast p (members Choice e cs) os M n ps K (chosen x m) →
       StandsIn cs c →

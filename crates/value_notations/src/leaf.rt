@@ -158,7 +158,10 @@ fn within_limit(alloc: Global, numbers: &[u128]) -> Result<Vec<u64>, NumbersFaul
 }
 
 /// The object identifier that a notation stands for (X.680, 32.3).
-pub(crate) fn identifier(alloc: Global, notation: &ValueSyntax) -> Result<Option<Value>, NumbersFault>
+pub(crate) fn identifier(
+    alloc: Global,
+    notation: &ValueSyntax,
+) -> Result<Option<Value>, NumbersFault>
     ensures ok { IfOk result (Tells an_object_identifier (tree_of notation.now)) }
     ensures within { OnOk result (StandsPastLimit an_object_identifier (tree_of notation.now) → ⊥) }
     ensures fault { IfErr result (IsLimitFault (StandsPastLimit an_object_identifier (tree_of notation.now))) }

@@ -145,7 +145,11 @@ fn utf8_value<'a>(alloc: Global, notation: &'a ValueSyntax) -> Result<Value, Lea
 
 /// The text of a string type that a notation stands for.
 #[tactic(auto, using(crate::proofs::LeafValues::value_restricted, crate::proofs::LeafValues::misfit_restricted))]
-fn restricted_value<'a>(alloc: Global, kind: StringKind, notation: &'a ValueSyntax) -> Result<Value, LeafFault<'a>>
+fn restricted_value<'a>(
+    alloc: Global,
+    kind: StringKind,
+    notation: &'a ValueSyntax,
+) -> Result<Value, LeafFault<'a>>
     ensures value { IfOk result (λ v. IsLeafValue (a_restricted_string kind) (tree_of notation.now) (abstract v)) }
     ensures fault { IfErr result (IsLeafFault (a_restricted_string kind) (tree_of notation.now)) }
 {

@@ -17,7 +17,9 @@ use crate::leaf::number_under;
 use crate::opened::Opened;
 use names::{Assigned, ValueAt};
 use resolve::Linked;
-use trees::{EnumeratedItem, EnumeratedSyntax, NamedNumber, Reference, Simple, ValueForm, ValueSyntax};
+use trees::{
+    EnumeratedItem, EnumeratedSyntax, NamedNumber, Reference, Simple, ValueForm, ValueSyntax,
+};
 use type_table::Shape;
 
 /// Why a notation leads to none that tells a value by itself.

@@ -39,5 +39,5 @@ loop-name-preserved c =
     (sym c.bit_place.ensures ∙ c.in-Some-bit_place.is) in
     subst
     (λ (z : List ℕ).
-        AreBitNames (map bit_of c.args.bits.now) (trees (take (c.loop-name.name-index + 1) (map tree_of c.args.names.now))) z)
+    AreBitNames (map bit_of c.args.bits.now) (trees (take (c.loop-name.name-index + 1) (map tree_of c.args.names.now))) z)
     (sym c.in-Ok.ensures.items) more

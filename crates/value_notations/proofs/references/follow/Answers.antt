@@ -51,5 +51,5 @@ returns-clause-fault c =
     let p = c.args.linked.now in
     let few = few_more c.args.opened.now c.loop-step.opened (length p.values) c.loop-step.step c.loop-step.invariant.grown in
     let long : length p.values ≡ length c.values-count.result.now =
-        sym (ap length c.values-count.ensures) ∙ length-map c.values-count.result.now value_of in
+    sym (ap length c.values-count.ensures) ∙ length-map c.values-count.result.now value_of in
     absurd (omega (arith, few, long, c.loop-step-test.false, c.loop-step.auto.step-end))

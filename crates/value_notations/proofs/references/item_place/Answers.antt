@@ -32,7 +32,7 @@ returns-in-Some-place_in c =
     let i = c.in-Some-place_in.place in
     let more = ap (λ o. additions_of (option_map (λ is. map item_of is.items) o)) c.in-Some-additions.is in
     let long : length c.as_slice-root.result.now ≡ length root =
-        ap length c.as_slice-root.ensures.value ∙ sym (length-map c.args.given.now.root.items item_of) in
+    ap length c.as_slice-root.ensures.value ∙ sym (length-map c.args.given.now.root.items item_of) in
     subst (λ z. slice_get (names_of (root ++ z)) (length c.as_slice-root.result.now + i) ≡ Some x) (sym more)
     (name_behind x root (map item_of c.in-Some-additions.additions.items) (length c.as_slice-root.result.now) i long
     (subst (λ z. slice_get (names_of (map item_of z)) i ≡ Some x) c.as_slice.ensures.value c.in-Some-place_in.ensures))
