@@ -1,0 +1,64 @@
+-- What the faults of one notation tell: of following its references, and of a value that holds no others. Each holds the
+-- notation at which something is wrong, whose place in the text is its own.
+use Rattle.std.specs.Prelude.{◌≡◌, ℕ, List, Option, Some, None}
+use Rattle.asn_base.specs.Abstract.{AbstractValue}
+use Rattle.trees.specs.Values.{Name, Tree, tree_of, reference}
+use Rattle.trees.specs.Types.{Plain}
+use Rattle.type_table.specs.Table.{Kind, simple}
+use Rattle.resolve.specs.Program.{Program}
+use Rattle.value_notations.specs.declared.references.FollowFault.{FollowFault}
+use Rattle.value_notations.specs.declared.references.FollowFault.TheVariants as follow
+use Rattle.value_notations.specs.declared.leaves.LeafFault.{LeafFault}
+use Rattle.value_notations.specs.declared.leaves.LeafFault.TheVariants as leaf
+use Rattle.value_notations.specs.Leaves.{IsLeaf}
+use Rattle.value_notations.specs.Values.{IsPlainValue}
+use Rattle.value_notations.specs.Outside.{HasPast}
+use Rattle.value_notations.specs.Wrong.{IsLost, ComesRound, IsMisfit, HasUnknownBit}
+
+-- the references of notation n lead to notation l, a name that is read in module K and means neither something of the
+-- type nor a value
+pub record IsLostAt (p : Program) (k : Kind) (os : List ℕ) (M : Name) (n : Tree) (K : Name) (l : Tree) : Type 0 where
+  pub prefix : Option Name
+  pub name : Name
+  pub lost : IsLost p k os M n prefix name
+  pub within : lost.within ≡ K
+  pub notation : reference prefix name ≡ l
+
+-- they lead to notation l, a name that is read in module K and means value i, whose notation is being read already
+pub record ComesRoundAt (p : Program) (k : Kind) (os : List ℕ) (M : Name) (n : Tree) (i : ℕ) (K : Name) (l : Tree)
+    : Type 0 where
+  pub round : ComesRound p k os M n i
+  pub within : round.within ≡ K
+  pub notation : reference round.prefix round.name ≡ l
+
+abbrev pub IsFollowFault : Program → Kind → List ℕ → Name → Tree → FollowFault → Type 0
+IsFollowFault p k os M n follow.Memory = Unit {0}
+IsFollowFault p k os M n (follow.Lost K l) = IsLostAt p k os M n K.now (tree_of l.now)
+IsFollowFault p k os M n (follow.Circular i K l) = ComesRoundAt p k os M n i K.now (tree_of l.now)
+
+-- notation b in braces is a name, and no bit of the type
+pub record IsUnknownBitAt (k : Plain) (n b : Tree) : Type 0 where
+  pub name : Name
+  pub unknown : HasUnknownBit k n name
+  pub notation : b ≡ reference None name
+
+-- the notation stands for an object identifier, relative or not, that passes the limit
+pub record StandsForPast (k : Plain) (n : Tree) : Type 0 where
+  pub value : AbstractValue
+  pub stands : IsLeaf k n value
+  pub past : HasPast value
+
+abbrev pub IsLeafFault : Plain → Tree → LeafFault → Type 0
+IsLeafFault k n leaf.Memory = Unit {0}
+IsLeafFault k n leaf.NotOfType = IsMisfit (simple k) n
+IsLeafFault k n (leaf.UnknownBit b) = IsUnknownBitAt k n (tree_of b.now)
+IsLeafFault k n leaf.Oid = StandsForPast k n
+
+-- a value of the type but for its constraints
+abbrev pub IsUnconstrained : Plain → AbstractValue → Type 0
+IsUnconstrained k v = IsPlainValue (λ i z. Unit {0}) (λ i c. Unit {0}) 0 k v
+
+-- the notation stands for v, which is a value of the type but for its constraints
+pub record IsLeafValue (k : Plain) (n : Tree) (v : AbstractValue) : Type 0 where
+  pub stands : IsLeaf k n v
+  pub within : IsUnconstrained k v

@@ -1,0 +1,102 @@
+-- The values of types that hold no other types, and what stands for them (X.680, clauses 18 to 24, 32, 33 and 41).
+use Rattle.std.specs.Prelude.{◌≡◌, ◌↔◌, ◌≢◌, ℕ, suc, ◌*◌, ◌+◌, ◌≤◌, ◌<◌, ◌/◌, ◌%◌, ◌==◌, ℤ, pos, Bool, true, false, List, [], ◌∷◌, ◌++◌}
+use Rattle.std.specs.Prelude.{length, take, drop, replicate, map, flat_map, Option, Some, None, slice_get, slice_index, IsTrue, IsUtf8}
+use Rattle.std.specs.Int.Digits.{number_from_digits, AllBelowBase}
+use Rattle.std.specs.List.{AllByRecursion}
+use Rattle.asn_base.specs.declared.strings.StringKind.{StringKind}
+use Rattle.asn_base.specs.Abstract.{AbstractValue, boolean, integer, enumerated, bits, octets, text, null, oid, relative_oid}
+use Rattle.asn_base.specs.Schemas.{is_character}
+use Rattle.trees.specs.Values.{Name, Tree, yes, no, number, binary, hex, chars, reference, nothing, numbers, items, Trees, no_tree, tree_and}
+use Rattle.trees.specs.Values as trees
+use Rattle.trees.specs.Types.{Plain, a_boolean, an_integer, a_bit_string, an_octet_string, a_null, an_object_identifier, a_relative_oid, an_enumerated, a_utf8_string, a_restricted_string}
+use Rattle.names.specs.Modules.{StandsIn}
+use Rattle.names.specs.Names.{under}
+use Rattle.type_table.specs.Items.{Item, additions_of, numbers_of}
+
+-- item x of an enumeration has number z
+pub record IsItem (root more : List Item) (x : Name) (z : ℤ) : Type 0 where
+  pub place : ℕ
+  pub item : Item
+  pub there : slice_get (root ++ more) place ≡ Some item
+  pub named : item.0 ≡ x
+  pub numbered : slice_get (numbers_of root more) place ≡ Some z
+
+-- the four bits of a hexadecimal digit, the highest first
+abbrev pub bits_of_digit : ℕ → List Bool
+bits_of_digit n = (n / 8 == 1) ∷ (n / 4 % 2 == 1) ∷ (n / 2 % 2 == 1) ∷ (n % 2 == 1) ∷ []
+
+-- digits in groups of `most`, the last one filled with zeros, each an octet: its number, the first digit the highest
+pub record AreOctets (base most : ℕ) (digits os : List ℕ) : Type 0 where
+  pub digits_of : AllBelowBase base digits
+  pub zeros : ℕ
+  pub few : zeros < most
+  pub long : length digits + zeros ≡ most * length os
+  pub each : (i : ℕ) →
+      i < length os →
+      slice_index os i ≡ number_from_digits base (take most (drop (most * i) (digits ++ replicate zeros 0)))
+
+-- each notation is the name of a bit, and these are their places
+pub data AreBitNames (bs : List (Name × ℕ)) : Trees → List ℕ → Type 0 where
+  no_bit : AreBitNames bs no_tree []
+  bit_and : {x : Name} {ts : Trees} {place : ℕ} {places : List ℕ} →
+      under x bs ≡ Some place →
+      AreBitNames bs ts places →
+      AreBitNames bs (tree_and (reference None x) ts) (place ∷ places)
+
+-- the bits at these places are set, and no others, up to the greatest of them
+pub record AreSetBits (places : List ℕ) (s : List Bool) : Type 0 where
+  pub set : (i : ℕ) → (slice_get s i ≡ Some true ↔ StandsIn places i)
+  pub greatest : (n : ℕ) → length s ≡ suc n → StandsIn places n
+
+-- the first two numbers of an object identifier: 0 or 1 and at most 39, or 2 and any (X.680, 32; X.660)
+pub data IsRooted : List ℕ → Type 0 where
+  is_rooted : {x y : ℕ} {ns : List ℕ} →
+      x ≤ 2 →
+      (x < 2 → y < 40) →
+      IsRooted (x ∷ y ∷ ns)
+
+-- a notation that stands for a value of the type, without its constraints and limits
+pub data IsLeaf : Plain → Tree → AbstractValue → Type 0 where
+  truth : IsLeaf a_boolean yes (boolean true)
+  falsehood : IsLeaf a_boolean no (boolean false)
+  written_number : {ns : List (Name × ℤ)} {z : ℤ} → IsLeaf (an_integer ns) (number z) (integer z)
+  named_number : {ns : List (Name × ℤ)} {x : Name} {z : ℤ} →
+      under x ns ≡ Some z →
+      IsLeaf (an_integer ns) (reference None x) (integer z)
+  named_item : {root : List Item} {more : Option (List Item)} {x : Name} {z : ℤ} →
+      IsItem root (additions_of more) x z →
+      IsLeaf (an_enumerated root more) (reference None x) (enumerated z)
+  bit_digits : {bs : List (Name × ℕ)} {ds : List ℕ} {s : List Bool} →
+      AllBelowBase 2 ds →
+      s ≡ map (λ d. d == 1) ds →
+      IsLeaf (a_bit_string bs) (binary ds) (bits s)
+  bit_hex : {bs : List (Name × ℕ)} {ds : List ℕ} {s : List Bool} →
+      AllBelowBase 16 ds →
+      s ≡ flat_map bits_of_digit ds →
+      IsLeaf (a_bit_string bs) (hex ds) (bits s)
+  no_named_bit : {bs : List (Name × ℕ)} →
+      bs ≢ [] →
+      IsLeaf (a_bit_string bs) nothing (bits [])
+  named_bits : {bs : List (Name × ℕ)} {ts : Trees} {places : List ℕ} {s : List Bool} →
+      AreBitNames bs ts places →
+      AreSetBits places s →
+      IsLeaf (a_bit_string bs) (items ts) (bits s)
+  octet_digits : {ds os : List ℕ} →
+      AreOctets 2 8 ds os →
+      IsLeaf an_octet_string (binary ds) (octets os)
+  octet_hex : {ds os : List ℕ} →
+      AreOctets 16 2 ds os →
+      IsLeaf an_octet_string (hex ds) (octets os)
+  nothing_more : IsLeaf a_null trees.null null
+  identifier : {ns : List ℕ} →
+      IsRooted ns →
+      IsLeaf an_object_identifier (numbers ns) (oid ns)
+  relative : {n : ℕ} {ns : List ℕ} → IsLeaf a_relative_oid (numbers (n ∷ ns)) (relative_oid (n ∷ ns))
+  -- one number in braces is read as a list of one value
+  relative_alone : {n : ℕ} → IsLeaf a_relative_oid (items (tree_and (number (pos n)) no_tree)) (relative_oid (n ∷ []))
+  utf8 : {o : List ℕ} →
+      IsUtf8 o →
+      IsLeaf a_utf8_string (chars o) (text o)
+  restricted : {k : StringKind} {o : List ℕ} →
+      AllByRecursion (λ c. IsTrue (is_character k c)) o →
+      IsLeaf (a_restricted_string k) (chars o) (text o)

@@ -1,0 +1,142 @@
+-- The value that a notation stands for under a type (X.680, clause 17). Constraints and limits are no part of it.
+use Rattle.std.specs.Prelude.{◌≡◌, ℕ, Bool, true, false, List, [], ◌∷◌, map, Option, Some, None, slice_get, IsTrue}
+use Rattle.asn_base.specs.Abstract.{AbstractValue, fields, list, alternative, Row, end, absent, present}
+use Rattle.asn_base.specs.Types.{Component, Presence}
+use Rattle.asn_base.specs.Types as types
+use Rattle.asn_base.specs.Typed.{GroupsAreWhole}
+use Rattle.trees.specs.declared.types.ListKind.{ListKind}
+use Rattle.trees.specs.declared.types.ListKind.TheVariants.{Sequence, Set, Choice}
+use Rattle.trees.specs.declared.types.ElementsKind.{ElementsKind}
+use Rattle.trees.specs.declared.types.Standing.{Standing}
+use Rattle.trees.specs.declared.types.Standing.TheVariants.{Root, Addition}
+use Rattle.trees.specs.Values.{Name, Tree, chosen, nothing, items, Trees, no_tree, tree_and, Members, no_member, member_and}
+use Rattle.trees.specs.Values as trees
+use Rattle.trees.specs.Types.{Plain, PresenceTree, mandatory, optional, default}
+use Rattle.names.specs.Modules.{StandsIn, AreDistinct}
+use Rattle.type_table.specs.Table.{Kind, simple, members, elements, Part}
+use Rattle.resolve.specs.Program.{Program}
+use Rattle.range_ends.specs.Ends.{IsOfKind}
+use Rattle.value_notations.specs.References.{IsLast}
+use Rattle.value_notations.specs.Leaves.{IsLeaf}
+
+-- ---- braces
+
+abbrev pub list_of : Trees → List Tree
+list_of no_tree = []
+list_of (tree_and t ts) = t ∷ list_of ts
+
+abbrev pub named_list : Members → List (Name × Tree)
+named_list no_member = []
+named_list (member_and x n ms) = (x, n) ∷ named_list ms
+
+-- the values in braces: `{}` holds none
+abbrev pub values_in : Tree → Option (List Tree)
+values_in nothing = Some []
+values_in (items ts) = Some (list_of ts)
+values_in n = None
+
+-- the values with names in braces
+abbrev pub fields_in : Tree → Option (List (Name × Tree))
+fields_in nothing = Some []
+fields_in (trees.fields ms) = Some (named_list ms)
+fields_in n = None
+
+abbrev pub field_names : List (Name × Tree) → List Name
+field_names fs = map (λ f. f.0) fs
+
+abbrev pub part_names : List Part → List Name
+part_names cs = map (λ (c : Part). c.name) cs
+
+-- ---- components
+
+-- a component may be absent where it is OPTIONAL, has a DEFAULT, or is an addition
+abbrev pub presence_of : PresenceTree → Standing → Presence
+presence_of mandatory Root = types.mandatory
+presence_of optional Root = types.optional
+presence_of (default d) Root = types.optional
+presence_of mandatory (Addition g) = types.addition false g
+presence_of optional (Addition g) = types.addition true g
+presence_of (default d) (Addition g) = types.addition true g
+
+abbrev pub component_of : Part → Component
+component_of c = record { name = c.name; type = c.ty; presence = presence_of c.presence c.standing }
+
+abbrev pub may_be_absent : Part → Bool
+may_be_absent c = elim (presence_of c.presence c.standing) [
+  | types.mandatory ↦ false
+  | types.optional ↦ true
+  | types.default d ↦ true
+  | types.addition o g ↦ true
+]
+
+-- the one list is the other one without some of its members
+pub data IsPartOf {A : Type 0} : List A → List A → Type 0 where
+  none_left : IsPartOf [] []
+  left_out : {x : A} {xs ys : List A} → IsPartOf xs ys → IsPartOf xs (x ∷ ys)
+  taken : {x : A} {xs ys : List A} → IsPartOf xs ys → IsPartOf (x ∷ xs) (x ∷ ys)
+
+-- Names of components in braces: those of a SEQUENCE in the order of definition (narrower: X.680 asks the same), those of
+-- a SET in any order, none twice.
+abbrev pub AreArranged : ListKind → (parts fields : List Name) → Type 0
+AreArranged Sequence cs fs = AreDistinct fs × IsPartOf fs cs
+AreArranged Set cs fs = AreDistinct fs × ((x : Name) → StandsIn fs x → StandsIn cs x)
+AreArranged Choice cs fs = ⊥
+
+-- ---- notations
+
+-- Below, `os` are the values whose notations are being read already.
+mutual
+  -- notation n, read in module M under type i, stands for the value
+  pub data Notation (p : Program) : (os : List ℕ) (M : Name) (i : ℕ) (n : Tree) → AbstractValue → Type 0 where
+    notation : {os ps : List ℕ} {M K : Name} {i : ℕ} {n l : Tree} {k : Kind} {v : AbstractValue} →
+        IsOfKind p.types i k →
+        IsLast p k os M n ps K l →
+        NotationOf p ps K k l v →
+        Notation p os M i n v
+
+  -- the notation, which is no reference and is read in module M, stands for the value under a type of this kind
+  pub data NotationOf (p : Program) : (os : List ℕ) (M : Name) → Kind → Tree → AbstractValue → Type 0 where
+    of_leaf : {os : List ℕ} {M : Name} {n : Tree} {k : Plain} {v : AbstractValue} →
+        IsLeaf k n v →
+        NotationOf p os M (simple k) n v
+    of_fields : {os : List ℕ} {M : Name} {n : Tree} {k : ListKind} {e : Bool} {cs : List Part}
+        {fs : List (Name × Tree)} {r : Row} →
+        fields_in n ≡ Some fs →
+        AreArranged k (part_names cs) (field_names fs) →
+        Fields p os M fs cs r →
+        GroupsAreWhole (map component_of cs) r →
+        NotationOf p os M (members k e cs) n (fields r)
+    of_list : {os : List ℕ} {M : Name} {n : Tree} {k : ElementsKind} {j : ℕ} {ts : List Tree} {r : Row} →
+        values_in n ≡ Some ts →
+        Elements p os M j ts r →
+        NotationOf p os M (elements k j) n (list r)
+    -- the alternatives are counted over root and additions
+    of_choice : {os : List ℕ} {M : Name} {n : Tree} {x : Name} {e : Bool} {cs : List Part} {c : Part} {a : ℕ}
+        {v : AbstractValue} →
+        slice_get cs a ≡ Some c →
+        c.name ≡ x →
+        Notation p os M c.ty n v →
+        NotationOf p os M (members Choice e cs) (chosen x n) (alternative a v)
+
+  -- a place for each component, with the value of the field that has its name
+  pub data Fields (p : Program) : (os : List ℕ) (M : Name) (fs : List (Name × Tree)) → List Part → Row → Type 0 where
+    no_part : {os : List ℕ} {M : Name} {fs : List (Name × Tree)} → Fields p os M fs [] end
+    part_absent : {os : List ℕ} {M : Name} {fs : List (Name × Tree)} {c : Part} {cs : List Part} {r : Row} →
+        (StandsIn (field_names fs) c.name → ⊥) →
+        IsTrue (may_be_absent c) →
+        Fields p os M fs cs r →
+        Fields p os M fs (c ∷ cs) (absent r)
+    part_present : {os : List ℕ} {M : Name} {fs : List (Name × Tree)} {c : Part} {cs : List Part} {n : Tree}
+        {v : AbstractValue} {r : Row} →
+        StandsIn fs (c.name, n) →
+        Notation p os M c.ty n v →
+        Fields p os M fs cs r →
+        Fields p os M fs (c ∷ cs) (present v r)
+
+  -- a value for each notation
+  pub data Elements (p : Program) : (os : List ℕ) (M : Name) (i : ℕ) → List Tree → Row → Type 0 where
+    no_element : {os : List ℕ} {M : Name} {i : ℕ} → Elements p os M i [] end
+    one_element : {os : List ℕ} {M : Name} {i : ℕ} {n : Tree} {ts : List Tree} {v : AbstractValue} {r : Row} →
+        Notation p os M i n v →
+        Elements p os M i ts r →
+        Elements p os M i (n ∷ ts) (present v r)

@@ -1,0 +1,235 @@
+-- Why a notation stands for no value under a type: what is wrong, and at which notation within it. Constraints and limits
+-- are no part of it.
+use Rattle.std.specs.Prelude.{◌≡◌, ℕ, ◌<◌, Bool, false, List, ◌∷◌, Option, Some, None, slice_get}
+use Rattle.asn_base.specs.Abstract.{AbstractValue}
+use Rattle.trees.specs.declared.types.ListKind.{ListKind}
+use Rattle.trees.specs.declared.types.ListKind.TheVariants.{Sequence, Set, Choice}
+use Rattle.trees.specs.declared.types.ElementsKind.{ElementsKind}
+use Rattle.trees.specs.declared.types.Standing.TheVariants.{Addition}
+use Rattle.trees.specs.Values.{Name, Tree, reference, chosen, items, Trees, tree_and}
+use Rattle.trees.specs.Types.{Plain, a_bit_string, mandatory}
+use Rattle.names.specs.declared.scope.Assigned.TheVariants as assigned
+use Rattle.names.specs.Modules.{StandsIn, StandsTwice, AreDistinct}
+use Rattle.names.specs.Names.{Refers, under}
+use Rattle.type_table.specs.Table.{Kind, simple, members, elements, Part}
+use Rattle.resolve.specs.Program.{Program}
+use Rattle.range_ends.specs.Ends.{IsOfKind, IsValueAt}
+use Rattle.value_notations.specs.References.{IsNamed, IsLast}
+use Rattle.value_notations.specs.Leaves.{IsLeaf}
+use Rattle.value_notations.specs.Notations.{values_in, fields_in, field_names, part_names, may_be_absent, IsPartOf}
+
+-- what is wrong
+pub data Trouble : Type 0 where
+  -- a name behind a module's name that means no value
+  unknown_name : Name → Trouble
+  -- references lead to this value, which leads back to itself
+  circular : ℕ → Trouble
+  -- the notation is of another form than the type's
+  not_of_type : Trouble
+  -- a name that is neither a component, alternative, item or bit of the type nor a value
+  unknown_item : Name → Trouble
+  -- a component that has to be there
+  missing : Name → Trouble
+  -- a component that stands twice
+  repeated : Name → Trouble
+  -- components in another order: the first one has to stand before the second
+  out_of_order : (first second : Name) → Trouble
+
+-- ---- references
+
+-- notation n, read in module M under a type of kind k, is notation l, read in module K, or refers to it
+pub data LeadsTo (p : Program) (k : Kind)
+    : (os : List ℕ) (M : Name) (n : Tree) (ps : List ℕ) (K : Name) (l : Tree) → Type 0 where
+  there : {os : List ℕ} {M : Name} {n : Tree} → LeadsTo p k os M n os M n
+  onward : {os ps : List ℕ} {M N K : Name} {q : Option Name} {x : Name} {m l : Tree} (i : ℕ) →
+      (IsNamed k q x → ⊥) →
+      Refers p.modules M q x (assigned.Value i) →
+      (StandsIn os i → ⊥) →
+      IsValueAt p i N m →
+      LeadsTo p k (i ∷ os) N m ps K l →
+      LeadsTo p k os M (reference q x) ps K l
+
+-- the references lead to name x, which means neither something of the type nor a value
+pub record IsLost (p : Program) (k : Kind) (os : List ℕ) (M : Name) (n : Tree) (q : Option Name) (x : Name) : Type 0 where
+  pub opened : List ℕ
+  pub within : Name
+  pub leads : LeadsTo p k os M n opened within (reference q x)
+  pub none : IsNamed k q x → ⊥
+  pub no_value : (i : ℕ) → Refers p.modules within q x (assigned.Value i) → ⊥
+
+-- the references lead to a name that means value i, whose notation is being read already
+pub record ComesRound (p : Program) (k : Kind) (os : List ℕ) (M : Name) (n : Tree) (i : ℕ) : Type 0 where
+  pub opened : List ℕ
+  pub within : Name
+  pub prefix : Option Name
+  pub name : Name
+  pub leads : LeadsTo p k os M n opened within (reference prefix name)
+  pub none : IsNamed k prefix name → ⊥
+  pub refers : Refers p.modules within prefix name (assigned.Value i)
+  pub again : StandsIn opened i
+
+-- ---- forms
+
+-- the first of the notations that is no bit's name is name x
+pub data IsUnknownBit (bs : List (Name × ℕ)) (x : Name) : Trees → Type 0 where
+  first_bit : {ts : Trees} →
+      under x bs ≡ None →
+      IsUnknownBit bs x (tree_and (reference None x) ts)
+  later_bit : {y : Name} {place : ℕ} {ts : Trees} →
+      under y bs ≡ Some place →
+      IsUnknownBit bs x ts →
+      IsUnknownBit bs x (tree_and (reference None y) ts)
+
+-- name x is no bit of the type, and stands as one
+pub record HasUnknownBit (k : Plain) (l : Tree) (x : Name) : Type 0 where
+  pub bits : List (Name × ℕ)
+  pub is : k ≡ a_bit_string bits
+  pub names : Trees
+  pub in_braces : l ≡ items names
+  pub unknown : IsUnknownBit bits x names
+
+-- the notation, which is no reference, has not the form of a value of the type
+abbrev pub IsMisfit : Kind → Tree → Type 0
+IsMisfit (simple k) l = ((v : AbstractValue) → IsLeaf k l v → ⊥) × ((x : Name) → HasUnknownBit k l x → ⊥)
+IsMisfit (members Choice e cs) l = (x : Name) (m : Tree) → l ≡ chosen x m → ⊥
+IsMisfit (members Sequence e cs) l = fields_in l ≡ None
+IsMisfit (members Set e cs) l = fields_in l ≡ None
+IsMisfit (elements k j) l = values_in l ≡ None
+IsMisfit k l = ⊥
+
+-- ---- components
+
+-- each name of one list stands in the other
+abbrev pub AreIn : List Name → List Name → Type 0
+AreIn xs ys = (x : Name) → StandsIn xs x → StandsIn ys x
+
+-- a component of the name has no field, though it is one of the root that has to be there
+pub record IsMissing (cs : List Part) (fs : List Name) (x : Name) : Type 0 where
+  pub part : Part
+  pub there : StandsIn cs part
+  pub named : part.name ≡ x
+  pub needed : may_be_absent part ≡ false
+  pub none : StandsIn fs x → ⊥
+
+-- an addition of the name has no field, though it has to be there where another one of its group is, and one is
+pub record IsMissingInGroup (cs : List Part) (fs : List Name) (x : Name) : Type 0 where
+  pub group : ℕ
+  pub part : Part
+  pub there : StandsIn cs part
+  pub named : part.name ≡ x
+  pub standing : part.standing ≡ Addition (Some group)
+  pub needed : part.presence ≡ mandatory
+  pub none : StandsIn fs x → ⊥
+  pub other : Part
+  pub other_there : StandsIn cs other
+  pub other_standing : other.standing ≡ Addition (Some group)
+  pub other_present : StandsIn fs other.name
+
+-- name x stands before name y
+pub record IsBefore (xs : List Name) (x y : Name) : Type 0 where
+  pub first : ℕ
+  pub second : ℕ
+  pub apart : first < second
+  pub here : slice_get xs first ≡ Some x
+  pub there : slice_get xs second ≡ Some y
+
+-- What is wrong with the names of fields, which are sought in this order: one that no component has, one that stands
+-- twice, one that is missing, and in a SEQUENCE their order.
+pub data IsDisarranged : ListKind → List Part → List Name → Trouble → Type 0 where
+  strange : {k : ListKind} {cs : List Part} {fs : List Name} {x : Name} →
+      StandsIn fs x →
+      (StandsIn (part_names cs) x → ⊥) →
+      IsDisarranged k cs fs (unknown_item x)
+  twice : {k : ListKind} {cs : List Part} {fs : List Name} {x : Name} →
+      AreIn fs (part_names cs) →
+      StandsTwice fs x →
+      IsDisarranged k cs fs (repeated x)
+  lacking : {k : ListKind} {cs : List Part} {fs : List Name} {x : Name} →
+      AreIn fs (part_names cs) →
+      AreDistinct fs →
+      IsMissing cs fs x →
+      IsDisarranged k cs fs (missing x)
+  lacking_in_group : {k : ListKind} {cs : List Part} {fs : List Name} {x : Name} →
+      AreIn fs (part_names cs) →
+      AreDistinct fs →
+      IsMissingInGroup cs fs x →
+      IsDisarranged k cs fs (missing x)
+  jumbled : {cs : List Part} {fs : List Name} {x y : Name} →
+      AreIn fs (part_names cs) →
+      AreDistinct fs →
+      ((x : Name) → IsMissing cs fs x → ⊥) →
+      ((x : Name) → IsMissingInGroup cs fs x → ⊥) →
+      (IsPartOf fs (part_names cs) → ⊥) →
+      IsBefore (part_names cs) x y →
+      IsBefore fs y x →
+      IsDisarranged Sequence cs fs (out_of_order x y)
+
+-- ---- what is wrong, and where
+
+-- what is wrong with notation n itself, read in module M under type i
+pub data IsWrongHere (p : Program) (os : List ℕ) (M : Name) (i : ℕ) (n : Tree) : Trouble → Type 0 where
+  lost_name : {k : Kind} {q x : Name} →
+      IsOfKind p.types i k →
+      IsLost p k os M n (Some q) x →
+      IsWrongHere p os M i n (unknown_name x)
+  lost_item : {k : Kind} {x : Name} →
+      IsOfKind p.types i k →
+      IsLost p k os M n None x →
+      IsWrongHere p os M i n (unknown_item x)
+  round : {k : Kind} {j : ℕ} →
+      IsOfKind p.types i k →
+      ComesRound p k os M n j →
+      IsWrongHere p os M i n (circular j)
+  misfit : {ps : List ℕ} {k : Kind} {K : Name} {l : Tree} →
+      IsOfKind p.types i k →
+      IsLast p k os M n ps K l →
+      IsMisfit k l →
+      IsWrongHere p os M i n not_of_type
+  bit : {ps : List ℕ} {k : Plain} {K : Name} {l : Tree} {x : Name} →
+      IsOfKind p.types i (simple k) →
+      IsLast p (simple k) os M n ps K l →
+      HasUnknownBit k l x →
+      IsWrongHere p os M i n (unknown_item x)
+  other_alternative : {ps : List ℕ} {e : Bool} {cs : List Part} {K : Name} {x : Name} {m : Tree} →
+      IsOfKind p.types i (members Choice e cs) →
+      IsLast p (members Choice e cs) os M n ps K (chosen x m) →
+      (StandsIn (part_names cs) x → ⊥) →
+      IsWrongHere p os M i n (unknown_item x)
+  names : {ps : List ℕ} {k : ListKind} {e : Bool} {cs : List Part} {K : Name} {l : Tree}
+      {fs : List (Name × Tree)} {t : Trouble} →
+      IsOfKind p.types i (members k e cs) →
+      (k ≡ Choice → ⊥) →
+      IsLast p (members k e cs) os M n ps K l →
+      fields_in l ≡ Some fs →
+      IsDisarranged k cs (field_names fs) t →
+      IsWrongHere p os M i n t
+
+-- Notation m, read in module K under type j, is notation n, read in module M under type i, or stands in it.
+pub data IsRead (p : Program)
+    : (os : List ℕ) (M : Name) (i : ℕ) (n : Tree) (qs : List ℕ) (K : Name) (j : ℕ) (m : Tree) → Type 0 where
+  itself : {os : List ℕ} {M : Name} {i : ℕ} {n : Tree} → IsRead p os M i n os M i n
+  in_field : {os ps qs : List ℕ} {M K N : Name} {i j : ℕ} {n l m u : Tree} {k : ListKind} {e : Bool} {cs : List Part}
+      {fs : List (Name × Tree)} {c : Part} →
+      IsOfKind p.types i (members k e cs) →
+      (k ≡ Choice → ⊥) →
+      IsLast p (members k e cs) os M n ps K l →
+      fields_in l ≡ Some fs →
+      StandsIn cs c →
+      StandsIn fs (c.name, m) →
+      IsRead p ps K c.ty m qs N j u →
+      IsRead p os M i n qs N j u
+  in_element : {os ps qs : List ℕ} {M K N : Name} {i j a : ℕ} {n l m u : Tree} {k : ElementsKind} {ts : List Tree} →
+      IsOfKind p.types i (elements k a) →
+      IsLast p (elements k a) os M n ps K l →
+      values_in l ≡ Some ts →
+      StandsIn ts m →
+      IsRead p ps K a m qs N j u →
+      IsRead p os M i n qs N j u
+  in_alternative : {os ps qs : List ℕ} {M K N : Name} {i j : ℕ} {n m u : Tree} {e : Bool} {cs : List Part} {x : Name}
+      {c : Part} →
+      IsOfKind p.types i (members Choice e cs) →
+      IsLast p (members Choice e cs) os M n ps K (chosen x m) →
+      StandsIn cs c →
+      c.name ≡ x →
+      IsRead p ps K c.ty m qs N j u →
+      IsRead p os M i n qs N j u

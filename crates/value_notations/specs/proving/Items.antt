@@ -1,0 +1,11 @@
+-- Items that have no number.
+use Rattle.std.specs.Prelude.{◌≡◌, ℕ, List, None, slice_get}
+use Rattle.type_table.specs.Items.{Item, numbers_of}
+use Rattle.value_notations.specs.declared.leaves.LeafFault.{LeafFault}
+use Rattle.value_notations.specs.declared.leaves.LeafFault.TheVariants as leaf
+
+-- memory ran out, or no number stands at the place
+abbrev pub IsNumberless : List Item → List Item → ℕ → LeafFault → Type 0
+IsNumberless root more place leaf.Memory = Unit {0}
+IsNumberless root more place leaf.NotOfType = slice_get (numbers_of root more) place ≡ None
+IsNumberless root more place f = ⊥

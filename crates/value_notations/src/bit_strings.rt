@@ -1,0 +1,249 @@
+//! The bits that notations stand for.
+
+ghost use Rattle.std.specs.Prelude.{◌≡◌, ◌≤◌, ◌<◌, ◌==◌, ℕ, suc, List, [], ◌∷◌, length, map, flat_map, Some, None, IfOk, IfErr, OnOk, MatchOption, slice_get};
+ghost use Rattle.std.specs.List.{AllByRecursion};
+ghost use Rattle.std.specs.Int.Digits.{AllBelowBase};
+ghost use Rattle.asn_base.specs.Abstract.{bits_of, bits as bits'};
+ghost use Rattle.names.specs.Modules.{StandsIn};
+ghost use Rattle.trees.specs.Values.{tree_of, trees};
+ghost use Rattle.trees.specs.Types.{bit_of, a_bit_string};
+ghost use Rattle.names.specs.Names.{under};
+ghost use Rattle.type_table.specs.Lists.{IsSoundPlain};
+ghost use Rattle.value_notations.specs.Faults.{IsLeafFault};
+ghost use Rattle.value_notations.specs.Leaves.{IsLeaf, bits_of_digit, AreBitNames, AreSetBits};
+ghost use Rattle.value_notations.specs.proving.Forms.{binary_in, hex_in};
+ghost use Rattle.value_notations.specs.proving.Bits.{AreWithin, AreNamesWrong, AreNamedBits};
+
+use crate::digits::are_below;
+use crate::forms::{binary_in, hex_in, is_nothing, items_in, name_in};
+use crate::leaves::LeafFault;
+use asn_base::value::BitString;
+use bits::buffer::BitBuf;
+use std::alloc::{AllocError, Global};
+use trees::{NamedBit, ValueSyntax};
+
+/// How many octets there are.
+fn octet_count(octets: &[u8]) -> usize
+    ensures count { result ≡ length octets.now }
+    ensures below { AllBelowBase 256 octets.now }
+{
+    octets.len()
+}
+
+/// Puts bits into an empty list of bits.
+fn fill(bits: &[bool], buffer: &mut BitBuf) -> Result<(), AllocError>
+    requires empty { buffer.old ≡ [] }
+    ensures { OnOk result (buffer.new ≡ bits.now) }
+{
+    for bit in bits {
+        buffer.push(*bit)?;
+    }
+    Ok(())
+}
+
+/// Bits in octets, the last one filled with zeros.
+pub(crate) fn packed(alloc: Global, bits: &[bool]) -> Result<BitString, AllocError>
+    ensures { IfOk result (λ b. bits_of b ≡ bits.now) }
+{
+    let mut buffer = BitBuf::new(alloc);
+    fill(bits, &mut buffer)?;
+    buffer.pad()?;
+    let octets = buffer.into_octets()?;
+    let count = octet_count(octets.as_slice());
+    let unused = (8 - bits.len() % 8) % 8;
+    Ok(BitString::of(octets, unused as u8))
+}
+
+/// The bits of binary digits.
+fn binary_bits(alloc: Global, digits: &[u8]) -> Result<Vec<bool>, AllocError>
+    ensures { IfOk result (λ s. s.items ≡ map (λ d. d == 1) digits.now) }
+{
+    let mut bits = Vec::new(alloc);
+    for digit in digits {
+        bits.push(*digit == 1)?;
+    }
+    Ok(bits)
+}
+
+/// The bits of hexadecimal digits, four a digit.
+fn hex_bits(alloc: Global, digits: &[u8]) -> Result<Vec<bool>, AllocError>
+    ensures { IfOk result (λ s. s.items ≡ flat_map bits_of_digit digits.now) }
+{
+    let mut bits = Vec::new(alloc);
+    for digit in digits {
+        bits.push(*digit / 8 == 1)?;
+        bits.push(*digit / 4 % 2 == 1)?;
+        bits.push(*digit / 2 % 2 == 1)?;
+        bits.push(*digit % 2 == 1)?;
+    }
+    Ok(bits)
+}
+
+/// The place of a bit by its name.
+fn bit_place(bits: &[NamedBit], name: &str) -> Option<u128>
+    ensures { result ≡ under name.now (map bit_of bits.now) }
+{
+    for bit in bits {
+        if name == bit.name.it.as_str() {
+            return Some(bit.place);
+        }
+    }
+    None
+}
+
+/// The places of named bits.
+fn places_of<'a>(
+    alloc: Global,
+    bits: &[NamedBit],
+    names: &'a [ValueSyntax],
+) -> Result<Vec<u128>, LeafFault<'a>>
+    ensures ok { IfOk result (λ ps. AreBitNames (map bit_of bits.now) (trees (map tree_of names.now)) ps.items) }
+    ensures fault { IfErr result (AreNamesWrong (map bit_of bits.now) (trees (map tree_of names.now))) }
+{
+    let mut places = Vec::new(alloc);
+    for name in names {
+        match name_in(name) {
+            None => return Err(LeafFault::NotOfType),
+            Some(word) => match bit_place(bits, word) {
+                None => return Err(LeafFault::UnknownBit(name)),
+                Some(place) => match places.push(place) {
+                    Ok(()) => {}
+                    Err(_) => return Err(LeafFault::Memory),
+                },
+            },
+        }
+    }
+    Ok(places)
+}
+
+/// How many bits there are up to the greatest of some places.
+fn bit_count(places: &[u128]) -> usize
+    requires within { AreWithin places.now }
+    ensures all { AllByRecursion (λ p. p < result) places.now }
+    ensures greatest { (n : ℕ) → result ≡ suc n → StandsIn places.now n }
+    ensures few { result ≤ 65536 }
+{
+    let mut count = 0;
+    for place in places {
+        if *place as usize >= count {
+            count = *place as usize + 1;
+        }
+    }
+    count
+}
+
+/// Bits that are set at some places, up to the greatest of them.
+fn set_bits(alloc: Global, places: &[u128]) -> Result<Vec<bool>, AllocError>
+    requires within { AreWithin places.now }
+    ensures { IfOk result (λ s. AreSetBits places.now s.items) }
+{
+    let count = bit_count(places);
+    let mut bits = Vec::new(alloc);
+    for bit in 0..count {
+        bits.push(false)?;
+    }
+    for place in places {
+        bits[*place as usize] = true;
+    }
+    Ok(bits)
+}
+
+/// The bits that names in braces set.
+#[tactic(auto, using(crate::proofs::NamedBits::names_within))]
+fn named_bits<'a>(
+    alloc: Global,
+    bits: &[NamedBit],
+    names: &'a [ValueSyntax],
+) -> Result<Vec<bool>, LeafFault<'a>>
+    requires sound { IsSoundPlain (a_bit_string (map bit_of bits.now)) }
+    ensures ok { IfOk result (λ s. AreNamedBits (map bit_of bits.now) (trees (map tree_of names.now)) s.items) }
+    ensures fault { IfErr result (AreNamesWrong (map bit_of bits.now) (trees (map tree_of names.now))) }
+{
+    let places = match places_of(alloc, bits, names) {
+        Ok(places) => places,
+        Err(fault) => return Err(fault),
+    };
+    match set_bits(alloc, places.as_slice()) {
+        Ok(set) => Ok(set),
+        Err(_) => Err(LeafFault::Memory),
+    }
+}
+
+/// The bits that a notation in braces stands for (X.680, clause 22.10).
+fn braced_bits<'a>(
+    alloc: Global,
+    bits: &[NamedBit],
+    notation: &'a ValueSyntax,
+) -> Result<Vec<bool>, LeafFault<'a>>
+    requires sound { IsSoundPlain (a_bit_string (map bit_of bits.now)) }
+    requires not_binary { binary_in (tree_of notation.now) ≡ None }
+    requires not_hex { hex_in (tree_of notation.now) ≡ None }
+    ensures ok { IfOk result (λ s. IsLeaf (a_bit_string (map bit_of bits.now)) (tree_of notation.now) (bits' s.items)) }
+    ensures fault { IfErr result (IsLeafFault (a_bit_string (map bit_of bits.now)) (tree_of notation.now)) }
+{
+    if is_nothing(notation) {
+        if bits.len() == 0 {
+            return Err(LeafFault::NotOfType);
+        }
+        return Ok(Vec::new(alloc));
+    }
+    match items_in(notation) {
+        None => Err(LeafFault::NotOfType),
+        Some(names) => match named_bits(alloc, bits, names) {
+            Ok(set) => Ok(set),
+            Err(LeafFault::Memory) => Err(LeafFault::Memory),
+            Err(LeafFault::NotOfType) => Err(LeafFault::NotOfType),
+            Err(LeafFault::UnknownBit(name)) => Err(LeafFault::UnknownBit(name)),
+            Err(LeafFault::Oid) => Err(LeafFault::Oid),
+        },
+    }
+}
+
+/// The bits that a notation which is no binary text stands for (X.680, clauses 22.5 to 22.10).
+fn other_bits<'a>(
+    alloc: Global,
+    bits: &[NamedBit],
+    notation: &'a ValueSyntax,
+) -> Result<Vec<bool>, LeafFault<'a>>
+    requires sound { IsSoundPlain (a_bit_string (map bit_of bits.now)) }
+    requires not_binary { binary_in (tree_of notation.now) ≡ None }
+    ensures ok { IfOk result (λ s. IsLeaf (a_bit_string (map bit_of bits.now)) (tree_of notation.now) (bits' s.items)) }
+    ensures fault { IfErr result (IsLeafFault (a_bit_string (map bit_of bits.now)) (tree_of notation.now)) }
+{
+    match hex_in(notation) {
+        None => braced_bits(alloc, bits, notation),
+        Some(digits) => {
+            if !are_below(digits, 16) {
+                return Err(LeafFault::NotOfType);
+            }
+            match hex_bits(alloc, digits) {
+                Ok(all) => Ok(all),
+                Err(_) => Err(LeafFault::Memory),
+            }
+        }
+    }
+}
+
+/// The bits that a notation stands for (X.680, clauses 22.5 to 22.10).
+pub(crate) fn bits_in<'a>(
+    alloc: Global,
+    bits: &[NamedBit],
+    notation: &'a ValueSyntax,
+) -> Result<Vec<bool>, LeafFault<'a>>
+    requires sound { IsSoundPlain (a_bit_string (map bit_of bits.now)) }
+    ensures ok { IfOk result (λ s. IsLeaf (a_bit_string (map bit_of bits.now)) (tree_of notation.now) (bits' s.items)) }
+    ensures fault { IfErr result (IsLeafFault (a_bit_string (map bit_of bits.now)) (tree_of notation.now)) }
+{
+    match binary_in(notation) {
+        None => other_bits(alloc, bits, notation),
+        Some(digits) => {
+            if !are_below(digits, 2) {
+                return Err(LeafFault::NotOfType);
+            }
+            match binary_bits(alloc, digits) {
+                Ok(all) => Ok(all),
+                Err(_) => Err(LeafFault::Memory),
+            }
+        }
+    }
+}

@@ -1,0 +1,31 @@
+//! Laws of notations of values, for the crates above.
+
+ghost use Rattle.std.specs.Prelude.{◌≡◌, ℕ, List};
+ghost use Rattle.asn_base.specs.Abstract.{AbstractValue};
+ghost use Rattle.trees.specs.Values.{Name, Tree};
+ghost use Rattle.names.specs.Names.{IsApart};
+ghost use Rattle.type_table.specs.Lists.{AreSound};
+ghost use Rattle.resolve.specs.Program.{Program};
+ghost use Rattle.value_notations.specs.Notations.{Notation};
+ghost use Rattle.value_notations.specs.Wrong.{Trouble, IsRead, IsWrongHere};
+
+/// In linked modules a notation stands for at most one value under a type.
+pub fn one_value()
+    ensures { (p : Program) (os : List ℕ) (M : Name) (i : ℕ) (n : Tree) (v w : AbstractValue)
+        → IsApart p.modules
+        → AreSound p.types
+        → Notation p os M i n v
+        → Notation p os M i n w
+        → v ≡ w }
+{}
+
+/// In linked modules a notation stands for no value where something is wrong with it, or with one that stands in it.
+pub fn wrong_stand_for_none()
+    ensures { (p : Program) (os qs : List ℕ) (M K : Name) (i j : ℕ) (n m : Tree) (t : Trouble) (v : AbstractValue)
+        → IsApart p.modules
+        → AreSound p.types
+        → IsRead p os M i n qs K j m
+        → IsWrongHere p qs K j m t
+        → Notation p os M i n v
+        → ⊥ }
+{}

@@ -1,0 +1,68 @@
+//! The values whose notations are being read.
+
+ghost use Rattle.std.specs.Prelude.{◌≡◌, ℕ, List, [], ◌∷◌, ◌++◌, length, true, false, OnErr, OnOk};
+ghost use Rattle.names.specs.Modules.{StandsIn};
+
+use std::alloc::{AllocError, Global};
+use std::marker::Model;
+
+/// The numbers of the values whose notations are being read, the latest first.
+#[derive(Drop)]
+pub struct Opened {
+    /// The latest last.
+    numbers: Vec<usize>,
+}
+
+impl Model for Opened {
+    ghost use Rattle.std.specs.Prelude.{ℕ, List, reverse};
+
+    ghost Value = { List ℕ };
+
+    ghost view = { λ o. reverse o.numbers.items };
+}
+
+impl Opened {
+    /// None. It takes no memory.
+    pub fn new(alloc: Global) -> Self
+        ensures { result ≡ [] }
+    {
+        Opened {
+            numbers: Vec::new(alloc),
+        }
+    }
+
+    /// How many there are.
+    #[tactic(auto, using(crate::proofs::Opening::counted))]
+    pub fn count(&self) -> usize
+        ensures { result ≡ length self.now }
+    {
+        self.numbers.len()
+    }
+
+    /// Leaves the earliest ones, as many as are counted.
+    #[tactic(auto, using(crate::proofs::Opening::closed))]
+    pub fn close(&mut self, count: usize)
+        ensures { (xs os : List ℕ) → self.old ≡ xs ++ os → length os ≡ count → self.new ≡ os }
+    {
+        self.numbers.truncate(count);
+    }
+
+    /// Is a value among them?
+    #[tactic(auto, using(crate::proofs::Opening::held, crate::proofs::Opening::not_held))]
+    pub(crate) fn holds(&self, number: usize) -> bool
+        ensures yes { result ≡ true → StandsIn self.now number }
+        ensures no { result ≡ false → StandsIn self.now number → ⊥ }
+    {
+        self.numbers.as_slice().contains(&number)
+    }
+
+    /// One more, the latest. An `Err` adds none.
+    #[tactic(auto, using(crate::proofs::Opening::opened_more))]
+    pub(crate) fn open(&mut self, number: usize) -> Result<(), AllocError>
+        ensures ok { OnOk result (self.new ≡ number ∷ self.old) }
+        ensures err { OnErr result (self.new ≡ self.old) }
+    {
+        self.numbers.push(number)?;
+        Ok(())
+    }
+}

@@ -1,0 +1,216 @@
+//! What a notation is behind its references.
+
+ghost use Rattle.std.specs.Prelude.{IsUtf8, ◌≡◌, ◌<◌, ◌++◌, ℕ, List, length, map, true, false, IfOk, IfErr, IfSome, MatchOption, Some, slice_get, option_map, string_bytes};
+ghost use Rattle.trees.specs.Values.{tree_of};
+ghost use Rattle.trees.specs.Types.{item_of, number_of};
+ghost use Rattle.names.specs.declared.scope.Assigned.TheVariants.{Value as AValue};
+ghost use Rattle.names.specs.Modules.{StandsIn};
+ghost use Rattle.names.specs.Names.{Refers, names_of};
+ghost use Rattle.names.specs.Sources.{value_of};
+ghost use Rattle.type_table.specs.Seen.{kind_of, root_of, more_of};
+ghost use Rattle.range_ends.specs.Ends.{IsValueAt};
+ghost use Rattle.value_notations.specs.References.{IsNamed, IsLast};
+ghost use Rattle.value_notations.specs.Faults.{IsFollowFault};
+ghost use Rattle.value_notations.specs.proving.Next.{TellsNext};
+
+use crate::leaf::number_under;
+use crate::opened::Opened;
+use names::{Assigned, ValueAt};
+use resolve::Linked;
+use trees::{
+    EnumeratedItem, EnumeratedSyntax, NamedNumber, Reference, Simple, ValueForm, ValueSyntax,
+};
+use type_table::Shape;
+
+/// Why a notation leads to none that tells a value by itself.
+#[derive(Clone, Copy)]
+pub enum FollowFault<'a> {
+    /// There was not enough memory.
+    Memory,
+    /// The notation is, or leads to, this name, which is read in this module and means neither something of the type nor a
+    /// value (X.680, clause 13).
+    Lost(&'a str, &'a ValueSyntax),
+    /// The notation is, or leads to, this name, which is read in this module and means the value of this number, whose
+    /// notation is being read already.
+    Circular(usize, &'a str, &'a ValueSyntax),
+}
+
+/// What stands behind a notation.
+#[derive(Clone, Copy)]
+pub(crate) enum Next {
+    /// Nothing: it is no name, or one of the type's.
+    Itself,
+    /// The value of this number.
+    Behind(usize),
+    /// Nothing, though it is a name.
+    Nothing,
+    /// The value of this number, which is being read already.
+    Again(usize),
+}
+
+/// Where an item stands in a list.
+fn place_in(items: &[EnumeratedItem], name: &str) -> Option<usize>
+    ensures { MatchOption result (StandsIn (names_of (map item_of items.now)) name.now → ⊥)
+        (λ i. slice_get (names_of (map item_of items.now)) i ≡ Some name.now) }
+{
+    for place in 0..items.len() {
+        if name == items[place].name.it.as_str() {
+            return Some(place);
+        }
+    }
+    None
+}
+
+/// Where an item stands among those of the root and then the additions.
+pub(crate) fn item_place(given: &EnumeratedSyntax, name: &str) -> Option<usize>
+    ensures { MatchOption result (StandsIn (names_of (root_of given.now ++ more_of given.now)) name.now → ⊥)
+        (λ i. slice_get (names_of (root_of given.now ++ more_of given.now)) i ≡ Some name.now) }
+{
+    let root = given.root.as_slice();
+    match place_in(root, name) {
+        Some(place) => Some(place),
+        None => match &given.additions {
+            None => None,
+            Some(additions) => match place_in(additions.as_slice(), name) {
+                None => None,
+                Some(place) => Some(root.len() + place),
+            },
+        },
+    }
+}
+
+/// Is a name one of some numbers'?
+fn has_number(numbers: &[NamedNumber], name: &str) -> bool
+    ensures yes { result ≡ true → StandsIn (names_of (map number_of numbers.now)) name.now }
+    ensures no { result ≡ false → StandsIn (names_of (map number_of numbers.now)) name.now → ⊥ }
+{
+    match number_under(numbers, name) {
+        Some(_) => true,
+        None => false,
+    }
+}
+
+/// Is a name one of the numbers or items of a type?
+fn is_named(shape: &Shape, reference: &Reference) -> bool
+    ensures yes { result ≡ true → IsNamed (kind_of shape.now)
+        (option_map string_bytes reference.now.module) (string_bytes reference.now.name) }
+    ensures no { result ≡ false → IsNamed (kind_of shape.now)
+        (option_map string_bytes reference.now.module) (string_bytes reference.now.name) → ⊥ }
+{
+    match (shape, &reference.module) {
+        (Shape::Simple(Simple::Integer(numbers)), None) => {
+            has_number(numbers, reference.name.as_str())
+        }
+        (Shape::Simple(Simple::Enumerated(given)), None) => {
+            match item_place(given, reference.name.as_str()) {
+                Some(_) => true,
+                None => false,
+            }
+        }
+        _ => false,
+    }
+}
+
+/// The value that a name stands for in a module.
+fn named_value(linked: &Linked, within: &str, reference: &Reference) -> Option<usize>
+    ensures means { (j : ℕ) → result ≡ Some j → Refers linked.now.modules within.now
+        (option_map string_bytes reference.now.module) (string_bytes reference.now.name) (AValue j) }
+    ensures none { (j : ℕ) → Refers linked.now.modules within.now
+        (option_map string_bytes reference.now.module) (string_bytes reference.now.name) (AValue j) → result ≡ Some j }
+    ensures inside { IfSome result (λ j. j < length linked.now.values) }
+{
+    linked.whole();
+    match linked.refers(within, &reference.module, reference.name.as_str()) {
+        Some(Assigned::Value(number)) => Some(number),
+        Some(Assigned::Type(_)) => None,
+        None => None,
+    }
+}
+
+/// What stands behind a notation that is read in a module under a type of a shape.
+fn next_of(
+    linked: &Linked,
+    opened: &Opened,
+    shape: &Shape,
+    within: &str,
+    notation: &ValueSyntax,
+) -> Next
+    ensures { TellsNext linked.now (kind_of shape.now) opened.now within.now (tree_of notation.now) result }
+{
+    match &notation.form {
+        ValueForm::Reference(reference) => {
+            if is_named(shape, reference) {
+                return Next::Itself;
+            }
+            match named_value(linked, within, reference) {
+                None => Next::Nothing,
+                Some(number) => {
+                    if opened.holds(number) {
+                        Next::Again(number)
+                    } else {
+                        Next::Behind(number)
+                    }
+                }
+            }
+        }
+        _ => Next::Itself,
+    }
+}
+
+/// A value by its number.
+fn value_at(linked: &Linked, number: usize) -> &ValueAt
+    requires inside { number < length linked.now.values }
+    ensures { slice_get linked.now.values number ≡ Some (value_of result.now) }
+{
+    &linked.values()[number]
+}
+
+/// The module in which a value's notation is read, and the notation.
+fn notation_at(linked: &Linked, number: usize) -> (&str, &ValueSyntax)
+    requires inside { number < length linked.now.values }
+    ensures stands { IsValueAt linked.now number result.0.now (tree_of result.1.now) }
+    ensures text { IsUtf8 result.0.now }
+{
+    linked.whole();
+    let value = value_at(linked, number);
+    let home = linked.assigned(value.assignment);
+    (home.module, &value.syntax)
+}
+
+/// The notation that a notation is behind its references, and the module that it is read in (X.680, clauses 13.2, 17.11,
+/// 19.10 and 20.8): the first that is no name, or is the name of a number or an item of the type. The notation is read in
+/// `within` under a type of this shape, which is no reference and no tag. `opened` are the values that are being read; those
+/// whose notations are passed become the latest of them. Each step looks through them all.
+pub fn follow<'a>(
+    linked: &'a Linked,
+    opened: &mut Opened,
+    shape: &Shape,
+    within: &'a str,
+    notation: &'a ValueSyntax,
+) -> Result<(&'a str, &'a ValueSyntax), FollowFault<'a>>
+    ensures last { IfOk result (λ e. IsLast linked.now (kind_of shape.now) opened.old within.now (tree_of notation.now)
+        opened.new e.0.now (tree_of e.1.now)) }
+    ensures grown { (xs : List ℕ) × (opened.new ≡ xs ++ opened.old) }
+    ensures fault { IfErr result (IsFollowFault linked.now (kind_of shape.now) opened.old within.now (tree_of notation.now)) }
+{
+    let count = linked.values().len();
+    let mut module = within;
+    let mut at = notation;
+    for step in 0..count + 1 {
+        match next_of(linked, opened, shape, module, at) {
+            Next::Itself => return Ok((module, at)),
+            Next::Nothing => return Err(FollowFault::Lost(module, at)),
+            Next::Again(number) => return Err(FollowFault::Circular(number, module, at)),
+            Next::Behind(number) => {
+                match opened.open(number) {
+                    Ok(()) => {}
+                    Err(_) => return Err(FollowFault::Memory),
+                }
+                let (home, behind) = notation_at(linked, number);
+                module = home;
+                at = behind;
+            }
+        }
+    }
+    Err(FollowFault::Lost(module, at))
+}
