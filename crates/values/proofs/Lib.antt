@@ -1,0 +1,5 @@
+pub mod Lookups
+pub mod Orders
+pub mod Missings
+pub mod Arrangings
+pub mod Wholes
