@@ -3,3 +3,4 @@ pub mod Orders
 pub mod Missings
 pub mod Arrangings
 pub mod Wholes
+pub mod Judgings
