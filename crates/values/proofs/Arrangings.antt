@@ -1,0 +1,89 @@
+-- Names of fields that are arranged, and those that are not, as the checks find them one behind the other.
+use Rattle.std.proofs.Common.{◌≡◌, ℕ, List, Some, Option, refl, sym, subst, true, false, arith}
+use Rattle.std.specs.Prelude.{slice_get}
+use Rattle.trees.specs.declared.types.ListKind.{ListKind}
+use Rattle.trees.specs.declared.types.ListKind.TheVariants.{Sequence, Set, Choice}
+use Rattle.trees.specs.Values.{Name}
+use Rattle.names.specs.Modules.{StandsIn, StandsTwice, AreDistinct}
+use Rattle.type_table.specs.Table.{Part}
+use Rattle.value_notations.specs.Notations.{part_names, IsPartOf, may_be_absent}
+use Rattle.value_notations.specs.Wrong.{AreIn, IsMissing, IsMissingInGroup, strange, twice, lacking, lacking_in_group, jumbled}
+use Rattle.values.specs.Arranged.{IsArranged, IsWrongField, IsRepeatedField, IsMissingPart, IsBehind}
+use Rattle.values.specs.proving.Arranging.{IsAbsent, IsDue, IsJumbled}
+use Rattle.values.proofs.Missings.{places_of, none_missing, one_missing, none_lacking, one_lacking}
+use Rattle.values.proofs.Orders.{turned_none}
+
+-- what has no field may be absent
+abbrev pub AllThere : List Part → List (Option ℕ) → Type 0
+AllThere cs ps = (i : ℕ) (c : Part) → IsAbsent cs ps i c → may_be_absent c ≡ true
+
+-- what has no field isn't due
+abbrev pub AllWhole : List Part → List (Option ℕ) → Type 0
+AllWhole cs ps = (i : ℕ) (c : Part) → IsAbsent cs ps i c → IsDue c cs ps → ⊥
+
+module _ (k : ListKind) (cs : List Part) (fs : List Name) where
+  pub strange_at : (i : ℕ) → (x : Name) × (slice_get fs i ≡ Some x) × (StandsIn (part_names cs) x → ⊥) → IsWrongField k cs fs i
+  strange_at i h = record { name = h.0; there = h.1; wrong = strange (i, h.1) h.2 }
+
+  pub twice_at : (i : ℕ) → AreIn fs (part_names cs) → (x : Name) × (slice_get fs i ≡ Some x) × StandsTwice fs x →
+      IsRepeatedField k cs fs i
+  twice_at i a h = record { name = h.0; there = h.1; wrong = twice a h.2 }
+
+  pub lacking_at : (ps : List (Option ℕ)) (i : ℕ) → ps ≡ places_of cs fs → AreIn fs (part_names cs) → AreDistinct fs →
+      (c : Part) × IsAbsent cs ps i c × (may_be_absent c ≡ false) → IsMissingPart k cs fs i
+  lacking_at ps i e a d h =
+      record {
+        part = h.0;
+        there = h.1.there;
+        wrong = lacking a d (one_missing cs fs i h.0 (subst (λ qs. IsAbsent cs qs i h.0) e h.1) h.2);
+      }
+
+  pub due_at : (ps : List (Option ℕ)) (i : ℕ) → ps ≡ places_of cs fs → AreIn fs (part_names cs) → AreDistinct fs →
+      (c : Part) × IsAbsent cs ps i c × IsDue c cs ps → IsMissingPart k cs fs i
+  due_at ps i e a d h =
+      record {
+        part = h.0;
+        there = h.1.there;
+        wrong = lacking_in_group a d
+            (one_lacking cs fs i h.0 (subst (λ qs. IsAbsent cs qs i h.0) e h.1) (subst (λ qs. IsDue h.0 cs qs) e h.2));
+      }
+
+  module _ (ps : List (Option ℕ)) (e : ps ≡ places_of cs fs)
+      (m : AllThere cs ps)
+      (n : AllWhole cs ps) where
+    pub complete : (x : Name) → IsMissing cs fs x → ⊥
+    complete = none_missing cs fs (subst (AllThere cs) e m)
+
+    pub whole : (x : Name) → IsMissingInGroup cs fs x → ⊥
+    whole = none_lacking cs fs (subst (AllWhole cs) e n)
+
+    pub in_order : k ≡ Sequence → AreDistinct fs → IsPartOf fs (part_names cs) → IsArranged k cs fs ps
+    in_order q d h =
+        subst (λ (l : ListKind). IsArranged l cs fs ps) (sym q)
+        (record { arranged = (d, h); complete = complete; whole = whole; placed = e })
+
+    pub in_any_order : (k ≡ Sequence → ⊥) → (k ≡ Choice → ⊥) → AreDistinct fs → AreIn fs (part_names cs) → IsArranged k cs fs ps
+    in_any_order s c d a = any k refl
+      where
+        any : (l : ListKind) → l ≡ k → IsArranged k cs fs ps
+        any Sequence q = absurd (s (sym q))
+        any Choice q = absurd (c (sym q))
+        any Set q =
+            subst (λ (l : ListKind). IsArranged l cs fs ps) q
+            (record { arranged = (d, a); complete = complete; whole = whole; placed = e })
+
+    pub behind_at : (i : ℕ) → k ≡ Sequence → AreDistinct (part_names cs) → AreDistinct fs → AreIn fs (part_names cs) →
+        IsJumbled (part_names cs) fs i → IsBehind k cs fs i
+    behind_at i q s d a j =
+        let n = j.next in
+        subst (λ (l : ListKind). IsBehind l cs fs i) (sym q)
+        (record {
+          before = j.before;
+          next = j.next;
+          name = j.name;
+          other = j.other;
+          there = j.there;
+          other_there = j.other_there;
+          wrong = jumbled a d complete whole (turned_none s j) j.turned
+              (record { first = j.before; second = i; apart = omega (arith, n); here = j.other_there; there = j.there });
+        })

@@ -1,0 +1,6 @@
+pub mod Lookups
+pub mod Orders
+pub mod Missings
+pub mod Arrangings
+pub mod Wholes
+pub mod Judgings

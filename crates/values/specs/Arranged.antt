@@ -1,0 +1,58 @@
+-- When the names of fields in braces are arranged as those of components (X.680, clauses 25.18, 25.19 and 27.3), which
+-- field each component has, and what faults say.
+use Rattle.std.specs.Prelude.{◌≡◌, ℕ, suc, List, [], ◌∷◌, Option, Some, None, cond, map, option_map, bytes_eq, slice_get}
+use Rattle.trees.specs.declared.types.ListKind.{ListKind}
+use Rattle.trees.specs.Values.{Name}
+use Rattle.type_table.specs.Table.{Part}
+use Rattle.value_notations.specs.Notations.{AreArranged, part_names}
+use Rattle.value_notations.specs.Wrong.{IsDisarranged, IsMissing, IsMissingInGroup, unknown_item, repeated, missing, out_of_order}
+use Rattle.values.specs.declared.arranging.NamesFault.{NamesFault}
+use Rattle.values.specs.declared.arranging.NamesFault.TheVariants.{Memory, Unknown, Repeated, Missing, Behind}
+
+-- the first place of a name
+abbrev pub place_of : Name → List Name → Option ℕ
+place_of x [] = None
+place_of x (y ∷ ys) = cond (bytes_eq x y) (Some 0) (option_map suc (place_of x ys))
+
+-- The names of fields are those of components as they have to be, none is missing, and these are the places of the
+-- fields, in the order of components.
+pub record IsArranged (k : ListKind) (cs : List Part) (fs : List Name) (ps : List (Option ℕ)) : Type 0 where
+  pub arranged : AreArranged k (part_names cs) fs
+  pub complete : (x : Name) → IsMissing cs fs x → ⊥
+  pub whole : (x : Name) → IsMissingInGroup cs fs x → ⊥
+  pub placed : ps ≡ map (λ x. place_of x fs) (part_names cs)
+
+-- a name that stands at this place is wrong
+pub record IsWrongField (k : ListKind) (cs : List Part) (fs : List Name) (i : ℕ) : Type 0 where
+  pub name : Name
+  pub there : slice_get fs i ≡ Some name
+  pub wrong : IsDisarranged k cs fs (unknown_item name)
+
+-- the name at this place stands twice
+pub record IsRepeatedField (k : ListKind) (cs : List Part) (fs : List Name) (i : ℕ) : Type 0 where
+  pub name : Name
+  pub there : slice_get fs i ≡ Some name
+  pub wrong : IsDisarranged k cs fs (repeated name)
+
+-- the component at this place is missing
+pub record IsMissingPart (k : ListKind) (cs : List Part) (fs : List Name) (i : ℕ) : Type 0 where
+  pub part : Part
+  pub there : slice_get cs i ≡ Some part
+  pub wrong : IsDisarranged k cs fs (missing part.name)
+
+-- the name at this place goes before the one that stands directly before it
+pub record IsBehind (k : ListKind) (cs : List Part) (fs : List Name) (i : ℕ) : Type 0 where
+  pub before : ℕ
+  pub next : i ≡ suc before
+  pub name : Name
+  pub other : Name
+  pub there : slice_get fs i ≡ Some name
+  pub other_there : slice_get fs before ≡ Some other
+  pub wrong : IsDisarranged k cs fs (out_of_order name other)
+
+abbrev pub IsNamesFault : ListKind → List Part → List Name → NamesFault → Type 0
+IsNamesFault k cs fs Memory = Unit {0}
+IsNamesFault k cs fs (Unknown i) = IsWrongField k cs fs i
+IsNamesFault k cs fs (Repeated i) = IsRepeatedField k cs fs i
+IsNamesFault k cs fs (Missing i) = IsMissingPart k cs fs i
+IsNamesFault k cs fs (Behind i) = IsBehind k cs fs i

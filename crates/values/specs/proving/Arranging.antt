@@ -1,0 +1,73 @@
+-- What the single checks of names answer.
+use Rattle.std.specs.Prelude.{◌≡◌, ℕ, suc, true, false, List, Option, Some, None, MatchOption, slice_get}
+use Rattle.trees.specs.declared.types.Standing.{Standing}
+use Rattle.trees.specs.declared.types.Standing.TheVariants.{Root, Addition}
+use Rattle.trees.specs.Types.{PresenceTree, mandatory, optional, default}
+use Rattle.trees.specs.Values.{Name}
+use Rattle.names.specs.Modules.{StandsIn, StandsTwice, AreDistinct}
+use Rattle.type_table.specs.Table.{Part}
+use Rattle.value_notations.specs.Notations.{IsPartOf, may_be_absent}
+use Rattle.value_notations.specs.Wrong.{AreIn, IsBefore}
+
+abbrev pub IsUnknownAt : (parts fields : List Name) → Option ℕ → Type 0
+IsUnknownAt cs fs o =
+    MatchOption o (AreIn fs cs) (λ i. (x : Name) × (slice_get fs i ≡ Some x) × (StandsIn cs x → ⊥))
+
+abbrev pub IsRepeatedAt : List Name → Option ℕ → Type 0
+IsRepeatedAt fs o =
+    MatchOption o (AreDistinct fs) (λ i. (x : Name) × (slice_get fs i ≡ Some x) × StandsTwice fs x)
+
+-- component i is c, and has no field
+pub record IsAbsent (cs : List Part) (places : List (Option ℕ)) (i : ℕ) (c : Part) : Type 0 where
+  pub there : slice_get cs i ≡ Some c
+  pub none : slice_get places i ≡ Some None
+
+abbrev pub IsMissingAt : List Part → List (Option ℕ) → Option ℕ → Type 0
+IsMissingAt cs ps o =
+    MatchOption o
+    ((i : ℕ) (c : Part) → IsAbsent cs ps i c → may_be_absent c ≡ true)
+    (λ i. (c : Part) × IsAbsent cs ps i c × (may_be_absent c ≡ false))
+
+abbrev pub group_in : Standing → Option ℕ
+group_in Root = None
+group_in (Addition g) = g
+
+-- the group of which it has to be there wherever another one is
+abbrev pub needed_in : PresenceTree → Standing → Option ℕ
+needed_in mandatory s = group_in s
+needed_in optional s = None
+needed_in (default d) s = None
+
+-- an addition of group g has a field
+pub record HasOther (g : ℕ) (cs : List Part) (places : List (Option ℕ)) : Type 0 where
+  pub place : ℕ
+  pub part : Part
+  pub field : ℕ
+  pub there : slice_get cs place ≡ Some part
+  pub present : slice_get places place ≡ Some (Some field)
+  pub grouped : group_in part.standing ≡ Some g
+
+-- it has to be there, since another one of its group is
+pub record IsDue (c : Part) (cs : List Part) (places : List (Option ℕ)) : Type 0 where
+  pub group : ℕ
+  pub needed : needed_in c.presence c.standing ≡ Some group
+  pub other : HasOther group cs places
+
+abbrev pub IsMissingInGroupAt : List Part → List (Option ℕ) → Option ℕ → Type 0
+IsMissingInGroupAt cs ps o =
+    MatchOption o
+    ((i : ℕ) (c : Part) → IsAbsent cs ps i c → IsDue c cs ps → ⊥)
+    (λ i. (c : Part) × IsAbsent cs ps i c × IsDue c cs ps)
+
+-- the name at place i goes before the one that stands directly before it
+pub record IsJumbled (cs fs : List Name) (i : ℕ) : Type 0 where
+  pub before : ℕ
+  pub next : i ≡ suc before
+  pub name : Name
+  pub other : Name
+  pub there : slice_get fs i ≡ Some name
+  pub other_there : slice_get fs before ≡ Some other
+  pub turned : IsBefore cs name other
+
+abbrev pub IsJumbledAt : (parts fields : List Name) → Option ℕ → Type 0
+IsJumbledAt cs fs o = MatchOption o (IsPartOf fs cs) (IsJumbled cs fs)

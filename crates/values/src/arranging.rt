@@ -1,0 +1,71 @@
+//! The names of fields, against those of components.
+
+ghost use Rattle.std.specs.Prelude.{◌≡◌, MatchResult, map};
+ghost use Rattle.names.specs.Modules.{AreDistinct};
+ghost use Rattle.trees.specs.Values.{member_of};
+ghost use Rattle.trees.specs.declared.types.ListKind.TheVariants.{Choice as choice};
+ghost use Rattle.type_table.specs.Seen.{part_of};
+ghost use Rattle.value_notations.specs.Notations.{field_names, part_names};
+ghost use Rattle.values.specs.Arranged.{IsArranged, IsNamesFault};
+
+use crate::lookup::{places, repeated, unknown};
+use crate::order::{jumbled, missing, missing_in_group};
+use std::alloc::Global;
+use trees::{ListKind, Named, ValueSyntax};
+use type_table::Component;
+
+/// Why the names of fields are not those of components as they have to be. Fields and components are counted from 0.
+#[derive(Clone, Copy, Debug, PartialEq, Eq)]
+pub enum NamesFault {
+    /// There was not enough memory.
+    Memory,
+    /// No component has the name of this field.
+    Unknown(usize),
+    /// An earlier field has the name of this one.
+    Repeated(usize),
+    /// This component has no field, though it has to be there, by itself or since another one of its group is.
+    Missing(usize),
+    /// This field of a SEQUENCE goes before the one that stands directly before it.
+    Behind(usize),
+}
+
+/// For each component the place of its field, where the names of fields in braces are arranged as those of components: those
+/// of a SEQUENCE in the order of definition, those of a SET in any order, none twice, and none missing (X.680, clauses 25.18,
+/// 25.19 and 27.3). The cost is at most that of comparing each field's name with each component's and with each field's
+/// before it; a list with more fields than components has a fault among the first ones that are too many.
+pub fn arranged(
+    alloc: Global,
+    kind: ListKind,
+    components: &[Component],
+    fields: &[Named<ValueSyntax>],
+) -> Result<Vec<Option<usize>>, NamesFault>
+    requires list { kind ≡ choice → ⊥ }
+    requires distinct { AreDistinct (part_names (map part_of components.now)) }
+    ensures { MatchResult result
+        (λ v. IsArranged kind (map part_of components.now) (field_names (map member_of fields.now)) v.items)
+        (IsNamesFault kind (map part_of components.now) (field_names (map member_of fields.now))) }
+{
+    if let Some(i) = unknown(components, fields) {
+        return Err(NamesFault::Unknown(i));
+    }
+    if let Some(i) = repeated(fields) {
+        return Err(NamesFault::Repeated(i));
+    }
+    let places = match places(alloc, components, fields) {
+        Ok(places) => places,
+        Err(_) => return Err(NamesFault::Memory),
+    };
+    if let Some(i) = missing(components, &places) {
+        return Err(NamesFault::Missing(i));
+    }
+    if let Some(i) = missing_in_group(components, &places) {
+        return Err(NamesFault::Missing(i));
+    }
+    match kind {
+        ListKind::Sequence => match jumbled(components, fields) {
+            Some(i) => Err(NamesFault::Behind(i)),
+            None => Ok(places),
+        },
+        _ => Ok(places),
+    }
+}
