@@ -307,13 +307,13 @@ once_in : (s : List Resolved) (all ds : List Component) → AllApart s (map (λ 
 once_in s all [] apart own r = omega arith
 once_in s all (d ∷ ds) apart own r = ⊎_elim
     (λ b.
-        let k : one_at r (rank s all d.type) ≡ 1 = ap one_if b in
-        let z = none_else s all d.type r ds own.0 (eqb-true (rank s all d.type) r b) apart.0 own.1 in
-        omega (arith, k, z))
+    let k : one_at r (rank s all d.type) ≡ 1 = ap one_if b in
+    let z = none_else s all d.type r ds own.0 (eqb-true (rank s all d.type) r b) apart.0 own.1 in
+    omega (arith, k, z))
     (λ b.
-        let k : one_at r (rank s all d.type) ≡ 0 = ap one_if b in
-        let z = once_in s all ds apart.1 own.1 r in
-        omega (arith, k, z))
+    let k : one_at r (rank s all d.type) ≡ 0 = ap one_if b in
+    let z = once_in s all ds apart.1 own.1 r in
+    omega (arith, k, z))
     (bool_cases (rank s all d.type == r))
 
 -- components of a SET have a rank each

@@ -10,6 +10,6 @@ mod sort;
 mod steps;
 mod table;
 
+pub use der_parts::Part;
 pub use fault::MeasureFault;
 pub use measurement::{Measured, measure};
-pub use der_parts::Part;

@@ -9,13 +9,13 @@ ghost use Rattle.der_parts.specs.Parts.{Spell};
 ghost use Rattle.writing_table.specs.declared.fault.MeasureFault.TheVariants.{NotOfType, TooLong};
 
 use crate::fault::MeasureFault;
-use der_parts::Part;
 use crate::table::Table;
 use asn_base::schema::TypeId;
 use asn_base::value::Value;
 use codec_code::Code;
 use codec_code::law::routine_laws;
 use codec_machine::{RunFault, run};
+use der_parts::Part;
 use std::alloc::Global;
 
 /// The most octets of an encoding.

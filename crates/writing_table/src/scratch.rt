@@ -5,9 +5,9 @@ ghost use Rattle.asn_base.specs.Abstract.{abstract};
 ghost use Rattle.codec_code.specs.Steps.{HasContents};
 ghost use Rattle.der_parts.specs.Parts.{IsPart, Spell};
 
-use der_parts::Part;
 use asn_base::value::Value;
 use codec_code::LeafKind;
+use der_parts::Part;
 use leaf_contents::{leaf_len, push_leaf};
 use octets::{Form, write_header};
 use std::alloc::{AllocError, Global};

@@ -8,13 +8,13 @@ ghost use Rattle.codec_machine.specs.Frames.{HasNoContents};
 ghost use Rattle.codec_machine.specs.declared.fault.RunFault.TheVariants.{NotOfType};
 ghost use Rattle.writing_table.specs.Tables.{GroupBegins, GroupEnds, HeaderCloses, HeaderOpens, MemberEnds, MembersBegin, MembersEndIfAny, ContentsAdded, parts_of, state_of, told};
 
-use der_parts::Part;
 use crate::scratch::push_parts;
 use crate::sort::{sort_by_octets, sort_by_rank};
 use crate::table::{Group, Member, Open, Table};
 use asn_base::value::Value;
 use codec_code::{Head, LeafKind, RowKind};
 use codec_machine::RunFault;
+use der_parts::Part;
 use leaf_contents::leaf_len;
 use octets::header_len;
 use std::alloc::AllocError;

@@ -2,8 +2,8 @@
 
 ghost use Rattle.std.specs.Prelude.{◌≡◌, []};
 
-use der_parts::Part;
 use codec_code::Head;
+use der_parts::Part;
 use std::alloc::Global;
 
 /// A header that is open: its place in the table, and how many octets stand before it within the header round it.
