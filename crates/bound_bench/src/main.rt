@@ -1,0 +1,269 @@
+//! Finds what the constraints of modules leave, each at two sizes, and writes how many types each module has.
+//! How long `bound` took, the least of five runs, in microseconds, is written on standard error.
+#![tactic(auto)]
+
+use constraints::bound;
+use resolve::{Linked, link};
+use std::alloc::{AllocError, Global};
+use std::io;
+use std::process::ExitCode;
+use std::time::{Duration, Instant};
+use tagging::tag;
+use trees::{
+    Assignment, At, ConstraintForm, ConstraintSyntax, EndSyntax, Module, RangeSyntax, RangesSyntax,
+    Reference, Simple, TagDefault, TypeAssignment, TypeForm, TypeSyntax, ValueAssignment,
+    ValueForm, ValueSyntax,
+};
+
+/// What a module is full of.
+#[derive(Clone, Copy)]
+enum Shape {
+    /// One constraint of so many numbers, the greatest first, and one behind it.
+    Numbers,
+    /// The same in SIZE.
+    Sizes,
+    /// So many ends that name a value, whose notation is a number.
+    NamedEnds,
+    /// So many values, each the name of the next one, and a type with one end that names the first.
+    Chain,
+    /// So many types, each with a constraint of its own behind the one before.
+    Types,
+}
+
+const SHAPES: [Shape; 5] = [
+    Shape::Numbers,
+    Shape::Sizes,
+    Shape::NamedEnds,
+    Shape::Chain,
+    Shape::Types,
+];
+
+fn named(alloc: Global, name: &str) -> Result<At<String>, AllocError> {
+    let it = String::from_str(alloc, name)?;
+    Ok(At { at: 0, it })
+}
+
+fn reference(alloc: Global, name: &str) -> Result<Reference, AllocError> {
+    let name = String::from_str(alloc, name)?;
+    Ok(Reference {
+        at: 0,
+        module: None,
+        name,
+    })
+}
+
+fn number(it: usize) -> EndSyntax {
+    let it = it as i128;
+    EndSyntax::Number(At { at: 0, it })
+}
+
+/// A constraint of these ranges, on numbers or on sizes.
+fn constraint(is_size: bool, ranges: Vec<RangeSyntax>) -> ConstraintSyntax {
+    let ranges = RangesSyntax {
+        ranges,
+        marker: false,
+    };
+    let form = if is_size {
+        ConstraintForm::Size(ranges)
+    } else {
+        ConstraintForm::Values(ranges)
+    };
+    ConstraintSyntax { at: 0, form }
+}
+
+/// A constraint of one range.
+fn alone(alloc: Global, is_size: bool, range: RangeSyntax) -> Result<ConstraintSyntax, AllocError> {
+    let mut ranges = Vec::new(alloc);
+    ranges.push(range)?;
+    Ok(constraint(is_size, ranges))
+}
+
+/// `name ::= TYPE` with these constraints.
+fn type_of(
+    alloc: Global,
+    name: &str,
+    form: TypeForm<TypeSyntax>,
+    constraints: Vec<ConstraintSyntax>,
+) -> Result<Assignment, AllocError> {
+    let name = named(alloc, name)?;
+    let syntax = TypeSyntax {
+        at: 0,
+        form,
+        constraints,
+    };
+    Ok(Assignment::Type(TypeAssignment { name, syntax }))
+}
+
+/// `name INTEGER ::= VALUE`.
+fn value_of(
+    alloc: Global,
+    name: &str,
+    form: ValueForm<ValueSyntax>,
+) -> Result<Assignment, AllocError> {
+    let name = named(alloc, name)?;
+    let syntax = TypeSyntax {
+        at: 0,
+        form: integer(alloc),
+        constraints: Vec::new(alloc),
+    };
+    let value = ValueSyntax { at: 0, form };
+    Ok(Assignment::Value(ValueAssignment {
+        name,
+        syntax,
+        value,
+    }))
+}
+
+fn integer(alloc: Global) -> TypeForm<TypeSyntax> {
+    TypeForm::Simple(Simple::Integer(Vec::new(alloc)))
+}
+
+/// A type with a constraint of so many numbers or sizes, the greatest first, and one from 1 behind it.
+fn numbers(alloc: Global, is_size: bool, count: usize) -> Result<Vec<Assignment>, AllocError> {
+    let mut ranges = Vec::new(alloc);
+    for at in 0..count {
+        let end = number(count.wrapping_sub(at).wrapping_mul(2));
+        ranges.push(RangeSyntax::Single(end))?;
+    }
+    let mut constraints = Vec::new(alloc);
+    constraints.push(constraint(is_size, ranges))?;
+    let from_1 = RangeSyntax::Between(Some(number(1)), None);
+    constraints.push(alone(alloc, is_size, from_1)?)?;
+    let form = if is_size {
+        TypeForm::Simple(Simple::OctetString)
+    } else {
+        integer(alloc)
+    };
+    let mut all = Vec::new(alloc);
+    all.push(type_of(alloc, "T", form, constraints)?)?;
+    Ok(all)
+}
+
+/// A type with a constraint of so many names of one value.
+fn named_ends(alloc: Global, count: usize) -> Result<Vec<Assignment>, AllocError> {
+    let mut ranges = Vec::new(alloc);
+    for _ in 0..count {
+        ranges.push(RangeSyntax::Single(EndSyntax::Reference(reference(alloc, "a")?)))?;
+    }
+    let mut constraints = Vec::new(alloc);
+    constraints.push(constraint(false, ranges))?;
+    let mut all = Vec::new(alloc);
+    all.push(value_of(alloc, "a", ValueForm::Number(7))?)?;
+    all.push(type_of(alloc, "T", integer(alloc), constraints)?)?;
+    Ok(all)
+}
+
+/// A chain of so many values, and a type with an end that names the first.
+fn chain(alloc: Global, count: usize) -> Result<Vec<Assignment>, AllocError> {
+    let mut all = Vec::new(alloc);
+    for at in 1..count {
+        let name = format!(in alloc; "v{at}")?;
+        let next = at.wrapping_add(1);
+        let next = format!(in alloc; "v{next}")?;
+        let form = ValueForm::Reference(reference(alloc, next.as_str())?);
+        all.push(value_of(alloc, name.as_str(), form)?)?;
+    }
+    let last = format!(in alloc; "v{count}")?;
+    all.push(value_of(alloc, last.as_str(), ValueForm::Number(9))?)?;
+    let up_to = RangeSyntax::Between(None, Some(EndSyntax::Reference(reference(alloc, "v1")?)));
+    let mut constraints = Vec::new(alloc);
+    constraints.push(alone(alloc, false, up_to)?)?;
+    all.push(type_of(alloc, "T", integer(alloc), constraints)?)?;
+    Ok(all)
+}
+
+/// So many types, each with a constraint behind the one before.
+fn types(alloc: Global, count: usize) -> Result<Vec<Assignment>, AllocError> {
+    let mut all = Vec::new(alloc);
+    all.push(type_of(alloc, "T0", integer(alloc), Vec::new(alloc))?)?;
+    for at in 0..count {
+        let before = format!(in alloc; "T{at}")?;
+        let next = at.wrapping_add(1);
+        let name = format!(in alloc; "T{next}")?;
+        let form = TypeForm::Reference(reference(alloc, before.as_str())?);
+        let up_to = RangeSyntax::Between(None, Some(number(count.wrapping_sub(at))));
+        let mut constraints = Vec::new(alloc);
+        constraints.push(alone(alloc, false, up_to)?)?;
+        all.push(type_of(alloc, name.as_str(), form, constraints)?)?;
+    }
+    Ok(all)
+}
+
+impl Shape {
+    fn name(self) -> &'static str {
+        match self {
+            Shape::Numbers => "numbers",
+            Shape::Sizes => "sizes",
+            Shape::NamedEnds => "named ends",
+            Shape::Chain => "chain of values",
+            Shape::Types => "types",
+        }
+    }
+
+    /// So many parts as a module of 65,536 types and 4,096 type assignments has place for.
+    fn most(self) -> usize {
+        match self {
+            Shape::Types => 4_000,
+            _ => 60_000,
+        }
+    }
+
+    /// The assignments of a module with so many parts.
+    fn assignments(self, alloc: Global, count: usize) -> Result<Vec<Assignment>, AllocError> {
+        match self {
+            Shape::Numbers => numbers(alloc, false, count),
+            Shape::Sizes => numbers(alloc, true, count),
+            Shape::NamedEnds => named_ends(alloc, count),
+            Shape::Chain => chain(alloc, count),
+            Shape::Types => types(alloc, count),
+        }
+    }
+}
+
+/// The module, linked; None where it is refused.
+fn linked_of(alloc: Global, shape: Shape, count: usize) -> Result<Option<Linked>, AllocError> {
+    let module = Module {
+        name: named(alloc, "M")?,
+        tag_default: TagDefault::Explicit,
+        exports: None,
+        imports: Vec::new(alloc),
+        assignments: shape.assignments(alloc, count)?,
+    };
+    let mut modules = Vec::new(alloc);
+    modules.push(module)?;
+    Ok(link(alloc, modules).ok())
+}
+
+/// How long `bound` takes, the least of five runs; how many types there are is written.
+fn least_time(rt: &HostRuntime, shape: Shape, count: usize) -> io::Result<Duration> {
+    let mut least = Duration::MAX;
+    let mut bounded = 0;
+    if let Some(linked) = linked_of(rt.alloc(), shape, count)? {
+        if let Ok(tagged) = tag(rt.alloc(), &linked) {
+            for _ in 0..5 {
+                let start = Instant::now(rt)?;
+                if let Ok(limits) = bound(rt.alloc(), &tagged) {
+                    bounded = limits.linked().types().len();
+                }
+                least = least.min(start.elapsed(rt)?);
+            }
+        }
+    }
+    println!(rt; "{}: {count} parts, {bounded} types bounded", shape.name())?;
+    Ok(least)
+}
+
+fn main(rt: HostRuntime) -> io::Result<ExitCode> {
+    for shape in &SHAPES {
+        let count = shape.most();
+        let half = least_time(&rt, *shape, count / 2)?;
+        let whole = least_time(&rt, *shape, count)?;
+        eprintln!(rt;
+            "{}: {} us, {} us",
+            shape.name(),
+            half.as_micros(),
+            whole.as_micros()
+        )?;
+    }
+    Ok(ExitCode::SUCCESS)
+}
