@@ -1,11 +1,11 @@
 -- From reference to reference.
 use Rattle.std.proofs.Common.{◌≡◌, ℕ, zero, suc, ◌<◌, ◌≤◌, Bool, map, get_or, option_map, inl, inr, true, false, List, [], ◌∷◌, ◌++◌, ◌+◌, length, arith, cond, Some, None, Option, refl, sym, ap, ◌∙◌, subst}
-use Rattle.std.specs.Prelude.{◌⊎◌, slice_get, bytes_eq}
+use Rattle.std.specs.Prelude.{slice_get, bytes_eq}
 use Rattle.std.proofs.lemmas.Option.{same_Some, slice_get-map, slice_get_within}
 use Rattle.std.proofs.lemmas.List.{length-map}
 use Rattle.std.proofs.lemmas.Slice.Eq.{bytes_eq-Decides}
 use Rattle.trees.specs.declared.types.EnumeratedItem.{EnumeratedItem}
-use Rattle.trees.specs.Values.{Name, Tree, reference, name_at}
+use Rattle.trees.specs.Values.{Name, Tree, name_at}
 use Rattle.trees.specs.Types.{item_of}
 use Rattle.names.specs.declared.scope.Assigned.{Assigned}
 use Rattle.names.specs.declared.scope.Assigned.TheVariants as assigned

@@ -1,5 +1,5 @@
 -- What stands for a value of a kind that holds no others is one but for constraints.
-use Rattle.std.proofs.Common.{◌≡◌, ◌^◌, ℕ, zero, ◌<◌, ◌≤◌, ◌+◌, ◌*◌, Bool, true, false, ℤ, pos, suc, Some, None, option_map, List, [], ◌∷◌, ◌++◌, length, take, drop, refl, sym, ap, ◌∙◌, subst, arith, inl, inr}
+use Rattle.std.proofs.Common.{◌≡◌, ◌^◌, ℕ, zero, ◌<◌, ◌≤◌, ◌+◌, ◌*◌, Bool, ℤ, pos, suc, Some, None, option_map, List, [], ◌∷◌, ◌++◌, length, take, drop, refl, sym, ap, ◌∙◌, subst, arith, inl, inr}
 use Rattle.std.specs.Prelude.{◌⊎◌, Option, slice_get, slice_index, replicate}
 use Rattle.std.specs.List.{AllByRecursion}
 use Rattle.std.specs.Int.Digits.{AllBelowBase}
@@ -17,7 +17,7 @@ use Rattle.type_table.specs.Lists.{IsSoundEnumeration}
 use Rattle.type_table.specs.Table.{simple}
 use Rattle.value_notations.specs.Leaves.{IsLeaf, IsItem, AreOctets, IsRooted, is_rooted}
 use Rattle.value_notations.specs.Leaves as leaves
-use Rattle.value_notations.specs.Wrong.{IsMisfit, HasUnknownBit}
+use Rattle.value_notations.specs.Wrong.{IsMisfit}
 use Rattle.value_notations.specs.declared.leaves.LeafFault.{LeafFault}
 use Rattle.value_notations.specs.declared.leaves.LeafFault.TheVariants as fault
 use Rattle.value_notations.specs.Faults.{IsUnconstrained, IsLeafFault, IsLeafValue, StandsForPast}

@@ -3,7 +3,7 @@ use Rattle.std.proofs.Common.{◌≡◌, ℕ, zero, suc, ◌<◌, ◌≤◌, ◌
 use Rattle.std.specs.Prelude.{◌⊎◌, ◌↔◌, slice_get, slice_index_or, bytes_eq, replicate, set}
 use Rattle.std.specs.List.{AllByRecursion}
 use Rattle.std.proofs.lemmas.Option.{same_Some, slice_get-get_or}
-use Rattle.trees.specs.Values.{Name, Tree, Trees, trees, reference, tree_and, no_tree}
+use Rattle.trees.specs.Values.{Name, Tree, Trees, trees, reference, tree_and}
 use Rattle.names.specs.Modules.{StandsIn}
 use Rattle.names.specs.Names.{under}
 use Rattle.value_notations.specs.Leaves.{AreBitNames, AreSetBits}

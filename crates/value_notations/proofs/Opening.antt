@@ -1,6 +1,6 @@
 -- The values whose notations are being read: in memory the latest is the last.
 use Rattle.std.proofs.Common.{◌≡◌, ℕ, zero, suc, ◌≤◌, ◌<◌, ◌+◌, ◌||◌, Bool, true, false, List, [], ◌∷◌, ◌++◌, length, take, Some, refl, sym, ap, ◌∙◌, subst, arith, eqb, inl, inr}
-use Rattle.std.specs.Prelude.{◌⊎◌, slice_get, reverse}
+use Rattle.std.specs.Prelude.{slice_get, reverse}
 use Rattle.std.specs.List.{IsDistinct, AllByRecursion, list_any}
 use Rattle.std.proofs.lemmas.Bool.{eqb-true, eq-eqb, or_cases, cases_Bool}
 use Rattle.std.proofs.lemmas.List.{reverse-append, reverse-reverse, length-reverse, take_at}

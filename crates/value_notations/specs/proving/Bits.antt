@@ -1,7 +1,7 @@
 -- Named bits and their places.
 use Rattle.std.specs.Prelude.{◌≡◌, ◌≤◌, ℕ, Bool, List, None}
 use Rattle.std.specs.List.{AllByRecursion}
-use Rattle.trees.specs.Values.{Name, Tree, tree_of, reference, Trees}
+use Rattle.trees.specs.Values.{Name, tree_of, reference, Trees}
 use Rattle.value_notations.specs.Leaves.{AreBitNames, AreSetBits}
 use Rattle.value_notations.specs.Wrong.{IsUnknownBit}
 use Rattle.value_notations.specs.declared.leaves.LeafFault.{LeafFault}

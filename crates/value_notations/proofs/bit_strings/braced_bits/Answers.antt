@@ -1,4 +1,4 @@
-use Rattle.std.proofs.Common.{◌≡◌, ◌∙◌, ap, sym, subst, map, length, option_map, arith, List, Bool}
+use Rattle.std.proofs.Common.{◌∙◌, ap, sym, subst, map, length, option_map, arith, List, Bool}
 use Rattle.std.proofs.lemmas.List.{length-map}
 use Rattle.asn_base.specs.Abstract.{bits}
 use Rattle.trees.specs.Values.{tree_of, trees}

@@ -1,4 +1,4 @@
-use Rattle.std.proofs.Common.{◌≡◌, ◌+◌, ap, sym, ◌∙◌, subst, map, take, option_map, arith, List, ℕ}
+use Rattle.std.proofs.Common.{◌+◌, ap, sym, ◌∙◌, subst, map, take, option_map, arith, List, ℕ}
 use Rattle.trees.specs.Values.{tree_of, trees, no_tree}
 use Rattle.trees.specs.Types.{bit_of}
 use Rattle.value_notations.specs.Leaves.{AreBitNames}

@@ -1,4 +1,4 @@
-use Rattle.std.proofs.Common.{◌≡◌, ◌<◌, ◌∙◌, sym, length, arith, ℕ, true}
+use Rattle.std.proofs.Common.{◌<◌, ◌∙◌, sym, length, arith, ℕ, true}
 use Rattle.std.specs.Prelude.{slice_index_or}
 use Rattle.std.proofs.lemmas.List.{length-set}
 use Rattle.value_notations.proofs.Alls.{one_of}
