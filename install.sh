@@ -1,8 +1,9 @@
 #!/usr/bin/env bash
-# install.sh PREFIX: copies the programs, under their product names, into PREFIX/bin.
+# install.sh PREFIX: copies the programs, under their product names, into PREFIX/bin, and the man page and the
+# completions of bash and zsh into PREFIX/share.
 set -euo pipefail
 
-usage="usage: install.sh PREFIX   (builds the programs where that is due, and copies them into PREFIX/bin)"
+usage="usage: install.sh PREFIX   (builds the programs where that is due; copies them, man page and completions there)"
 if [[ $# -eq 1 && ($1 == --help || $1 == -h) ]]; then
   printf '%s\n' "$usage"
   exit 0
@@ -13,15 +14,24 @@ if [[ $# -ne 1 || -z $1 || $1 == -* ]]; then
 fi
 top=$(cd "$(dirname "$(readlink -f "${BASH_SOURCE[0]}")")" && pwd)
 prefix=$1
+folders=(bin share/man/man1 share/bash-completion/completions share/zsh/site-functions)
 
-# check_prefix: stops before anything is built where PREFIX/bin can't be written.
+# check_prefix: stops before anything is built where a folder of PREFIX can't be written.
 check_prefix() {
-  local trial
-  if ! mkdir -p -- "$prefix/bin" || ! trial=$(mktemp "$prefix/bin/.asnc.XXXXXX"); then
-    printf '%s\n' "install.sh: $prefix/bin is not a folder that can be written to" >&2
-    exit 1
-  fi
-  rm -f -- "$trial"
+  local folder trial
+  for folder in "${folders[@]}"; do
+    if ! mkdir -p -- "$prefix/$folder" || ! trial=$(mktemp "$prefix/$folder/.asnc.XXXXXX"); then
+      printf '%s\n' "install.sh: $prefix/$folder is not a folder that can be written to" >&2
+      exit 1
+    fi
+    rm -f -- "$trial"
+  done
+}
+
+# put MODE FROM TO: copies a file to its place below PREFIX.
+put() {
+  install -D -m "$1" -- "$2" "$prefix/$3"
+  printf '%s\n' "$prefix/$3"
 }
 
 # place CRATE NAME: copies the program of a crate under a name.
@@ -31,8 +41,7 @@ place() {
     printf '%s\n' "install.sh: $built is not there" >&2
     exit 1
   fi
-  install -D -m 755 -- "$built" "$prefix/bin/$2"
-  printf '%s\n' "$prefix/bin/$2"
+  put 755 "$built" "bin/$2"
 }
 
 check_prefix
@@ -41,3 +50,6 @@ place asnc_main asnc
 if [[ -d $top/crates/octcheck ]]; then
   place octcheck octcheck
 fi
+put 644 "$top/man/asnc.1" share/man/man1/asnc.1
+put 644 "$top/completions/asnc.bash" share/bash-completion/completions/asnc
+put 644 "$top/completions/_asnc" share/zsh/site-functions/_asnc

@@ -1,6 +1,7 @@
 #!/usr/bin/env bash
 # Says how long the program takes to open modules of growing size, ordinary ones and those that cost a careless front end
-# more than their length: the least of five runs each, in milliseconds. The time grows as the text does.
+# more than their length: the least of five runs each, in milliseconds. The time grows as the text does. Where the program
+# bound_bench is built, it says too how long constraints take, one of 60,000 numbers among them, in microseconds.
 set -euo pipefail
 
 if [[ $# -eq 1 && ($1 == --help || $1 == -h) ]]; then
@@ -130,3 +131,11 @@ measure alike_numbers 16000 32000 64000
 measure defaulted_chain 1000 2000 4000
 measure endless 180 360 720
 measure long_name 1 2 4
+
+# Constraints are bounded by a program of their own, since asnc doesn't ask for bounds yet.
+bounds=$here/crates/bound_bench/out/bound_bench
+if [[ -x $bounds ]]; then
+  { "$bounds" >/dev/null; } 2>&1
+else
+  printf '%s\n' "bounds: bound_bench is not built (rt run in crates/bound_bench)"
+fi

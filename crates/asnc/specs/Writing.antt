@@ -9,7 +9,7 @@ use Rattle.resolve.specs.Program.{Program}
 use Rattle.asnc.specs.Named.{TypeNamed, ValueNamed}
 use Rattle.first_path.specs.Notations.{IsValueAt, Notation, Tells}
 use Rattle.asn_base.specs.Typed.{IsValue}
-use Rattle.der_writer.specs.Long.{IsTooLong}
+use Rattle.first_writer.specs.Long.{IsTooLong}
 use Rattle.messages.specs.declared.fault.Fault.{Fault}
 use Rattle.messages.specs.declared.fault.Fault.TheVariants as faults
 use Rattle.first_path.specs.declared.fault.ValueFault.{ValueFault}

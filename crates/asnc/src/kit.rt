@@ -23,7 +23,7 @@ ghost use Rattle.asnc.specs.Writing.{IsEncoded, IsNotEncoded};
 use crate::opening::modules_of;
 use asn_base::law::accepted_are_schemas;
 use asn_base::schema::{Schema, TypeId};
-use der_writer::{WriteFault, write_der};
+use first_writer::{WriteFault, write_der};
 use first_path::{
     FirstSchema, ProgramFault, Scope, ValueFault, check_program, notation_at, table_types, typed,
 };

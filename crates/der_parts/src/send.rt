@@ -14,7 +14,10 @@ use sinks::{Sink, send_all};
 pub(crate) fn send_more<S: Sink>(sink: &mut S, done: u64, octets: &[u8]) -> Result<u64, u64>
     requires room { S.failed sink.old < u64.MAX }
     requires few { done + length octets.now < 2 ^ 64 }
-    ensures { Sends (state (S.taken sink.old) (S.failed sink.old)) (state (S.taken sink.new) (S.failed sink.new)) octets.now done result }
+    ensures { Sends
+        (state (S.taken sink.old) (S.failed sink.old))
+        (state (S.taken sink.new) (S.failed sink.new))
+        octets.now done result }
 {
     match send_all(sink, octets) {
         Ok(()) => Ok(done + octets.len() as u64),
@@ -26,7 +29,10 @@ pub(crate) fn send_more<S: Sink>(sink: &mut S, done: u64, octets: &[u8]) -> Resu
 pub(crate) fn send_pieces<S: Sink>(sink: &mut S, done: u64, octets: &LeafOctets) -> Result<u64, u64>
     requires room { S.failed sink.old < u64.MAX }
     requires few { done + length (joined_pieces octets.now) < 2 ^ 64 }
-    ensures { Sends (state (S.taken sink.old) (S.failed sink.old)) (state (S.taken sink.new) (S.failed sink.new)) (joined_pieces octets.now) done result }
+    ensures { Sends
+        (state (S.taken sink.old) (S.failed sink.old))
+        (state (S.taken sink.new) (S.failed sink.new))
+        (joined_pieces octets.now) done result }
 {
     match octets {
         LeafOctets::Few(few) => send_more(sink, done, few.as_slice()),
@@ -41,7 +47,10 @@ pub(crate) fn send_pieces<S: Sink>(sink: &mut S, done: u64, octets: &LeafOctets)
 fn send_numbers<S: Sink>(sink: &mut S, done: u64, first: u128, others: &[u64]) -> Result<u64, u64>
     requires room { S.failed sink.old < u64.MAX }
     requires few { done + length (septets first ++ flat_map septets others.now) < 2 ^ 64 }
-    ensures { Sends (state (S.taken sink.old) (S.failed sink.old)) (state (S.taken sink.new) (S.failed sink.new)) (septets first ++ flat_map septets others.now) done result }
+    ensures { Sends
+        (state (S.taken sink.old) (S.failed sink.old))
+        (state (S.taken sink.new) (S.failed sink.new))
+        (septets first ++ flat_map septets others.now) done result }
 {
     match send_arc(sink, done, first) {
         Ok(done) => send_arcs(sink, done, others),
@@ -59,7 +68,10 @@ fn send_bits<S: Sink>(
 ) -> Result<u64, u64>
     requires room { S.failed sink.old < u64.MAX }
     requires few { done + length (unused ∷ (whole.now ++ last_of last)) < 2 ^ 64 }
-    ensures { Sends (state (S.taken sink.old) (S.failed sink.old)) (state (S.taken sink.new) (S.failed sink.new)) (unused ∷ (whole.now ++ last_of last)) done result }
+    ensures { Sends
+        (state (S.taken sink.old) (S.failed sink.old))
+        (state (S.taken sink.new) (S.failed sink.new))
+        (unused ∷ (whole.now ++ last_of last)) done result }
 {
     match send_more(sink, done, &[unused]) {
         Ok(done) => match send_more(sink, done, whole) {
@@ -74,7 +86,10 @@ fn send_bits<S: Sink>(
 fn send_last<S: Sink>(sink: &mut S, done: u64, last: Option<u8>) -> Result<u64, u64>
     requires room { S.failed sink.old < u64.MAX }
     requires few { done + length (last_of last) < 2 ^ 64 }
-    ensures { Sends (state (S.taken sink.old) (S.failed sink.old)) (state (S.taken sink.new) (S.failed sink.new)) (last_of last) done result }
+    ensures { Sends
+        (state (S.taken sink.old) (S.failed sink.old))
+        (state (S.taken sink.new) (S.failed sink.new))
+        (last_of last) done result }
 {
     match last {
         Some(octet) => send_more(sink, done, &[octet]),
@@ -86,7 +101,10 @@ fn send_last<S: Sink>(sink: &mut S, done: u64, last: Option<u8>) -> Result<u64, 
 fn send_arc<S: Sink>(sink: &mut S, done: u64, number: u128) -> Result<u64, u64>
     requires room { S.failed sink.old < u64.MAX }
     requires few { done + length (septets number) < 2 ^ 64 }
-    ensures { Sends (state (S.taken sink.old) (S.failed sink.old)) (state (S.taken sink.new) (S.failed sink.new)) (septets number) done result }
+    ensures { Sends
+        (state (S.taken sink.old) (S.failed sink.old))
+        (state (S.taken sink.new) (S.failed sink.new))
+        (septets number) done result }
 {
     let few = arc_octets(number);
     send_more(sink, done, few.as_slice())
@@ -105,7 +123,10 @@ fn arc_octets(number: u128) -> ArrayVec<u8, 24>
 fn send_arcs<S: Sink>(sink: &mut S, done: u64, numbers: &[u64]) -> Result<u64, u64>
     requires room { S.failed sink.old < u64.MAX }
     requires few { done + length (flat_map septets numbers.now) < 2 ^ 64 }
-    ensures { Sends (state (S.taken sink.old) (S.failed sink.old)) (state (S.taken sink.new) (S.failed sink.new)) (flat_map septets numbers.now) done result }
+    ensures { Sends
+        (state (S.taken sink.old) (S.failed sink.old))
+        (state (S.taken sink.new) (S.failed sink.new))
+        (flat_map septets numbers.now) done result }
 {
     match numbers.split_first() {
         Some((number, others)) => send_numbers(sink, done, *number as u128, others),

@@ -20,11 +20,16 @@ pub fn write_parts<S: Sink>(sink: &mut S, parts: &[Part]) -> Result<(), u64>
     // The sink has taken just their octets, and no call failed.
     ensures ok { (o : List ℕ)
         → Spell parts.now o
-        → OnOk result (SentAll (state (S.taken sink.old) (S.failed sink.old)) (state (S.taken sink.new) (S.failed sink.new)) o) }
+        → OnOk result
+        (SentAll (state (S.taken sink.old) (S.failed sink.old)) (state (S.taken sink.new) (S.failed sink.new)) o) }
     // It has taken just the first n, fewer than there are, and one call failed.
     ensures err { (o : List ℕ)
         → Spell parts.now o
-        → IfErr result (λ n. SentFront (state (S.taken sink.old) (S.failed sink.old)) (state (S.taken sink.new) (S.failed sink.new)) o n) }
+        → IfErr result (λ n. SentFront
+        (state (S.taken sink.old) (S.failed sink.old))
+        (state (S.taken sink.new) (S.failed sink.new))
+        o
+        n) }
 {
     match write_all_parts(sink, parts) {
         Ok(_) => Ok(()),
@@ -38,7 +43,10 @@ fn write_all_parts<S: Sink>(sink: &mut S, parts: &[Part]) -> Result<u64, u64>
     requires spelled { (o : List ℕ) × Spell parts.now o × (length o < 2 ^ 64) }
     ensures { (o : List ℕ)
         → Spell parts.now o
-        → Sends (state (S.taken sink.old) (S.failed sink.old)) (state (S.taken sink.new) (S.failed sink.new)) o 0 result }
+        → Sends
+        (state (S.taken sink.old) (S.failed sink.old))
+        (state (S.taken sink.new) (S.failed sink.new))
+        o 0 result }
 {
     let mut done = 0;
     for i in 0..parts.len() {
@@ -56,7 +64,10 @@ fn write_part<S: Sink>(sink: &mut S, done: u64, part: Part) -> Result<u64, u64>
     requires is { (x : List ℕ) × IsPart part x × (done + length x < 2 ^ 64) }
     ensures { (x : List ℕ)
         → IsPart part.entry x
-        → Sends (state (S.taken sink.old) (S.failed sink.old)) (state (S.taken sink.new) (S.failed sink.new)) x done result }
+        → Sends
+        (state (S.taken sink.old) (S.failed sink.old))
+        (state (S.taken sink.new) (S.failed sink.new))
+        x done result }
 {
     match part {
         Part::Header(tag, constructed, contents) => {

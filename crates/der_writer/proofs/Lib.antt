@@ -1,7 +1,1 @@
-pub mod TwosComplement
-pub mod Signed
-pub mod LeafSteps
-pub mod FrameSteps
-pub mod Values
-pub mod Going
-pub mod Limits
+pub mod Spellings

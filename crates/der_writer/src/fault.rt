@@ -1,15 +1,16 @@
 //! Why a value was not written.
 
-ghost use Rattle.der_writer.specs.declared.fault.EncodeFault.TheVariants.{Memory, NotOfType};
-ghost use Rattle.der_writer.specs.declared.fault.WriteFault.TheVariants.{Memory as WriteMemory, NotOfType as WriteNotOfType};
+ghost use Rattle.der_writer.specs.declared.fault.WriteFault.TheVariants.{Memory, NotOfType, TooLong};
 ghost use Rattle.std.specs.Prelude.{◌≡◌};
+ghost use Rattle.writing_table.specs.declared.fault.MeasureFault.TheVariants as measured;
 
-use octets::Fault;
 use std::alloc::AllocError;
 use thiserror::Error;
+use writing_table::MeasureFault;
 
 /// Why a value was not written: `Memory`, where more memory was asked for and refused; `NotOfType`, where it is no value
-/// of the type; `TooLong`, where its encoding has more than 16,777,216 octets.
+/// of the type; `TooLong`, where its encoding has more than 16,777,216 octets; `Device`, where the sink failed, and just
+/// so many octets of the encoding went out.
 #[derive(Clone, Copy, Debug, PartialEq, Eq, Error)]
 pub enum WriteFault {
     #[error("1 Memory")]
@@ -18,38 +19,26 @@ pub enum WriteFault {
     NotOfType,
     #[error("71 TooLong")]
     TooLong,
+    #[error("72 Device({0})")]
+    Device(u64),
 }
 
-/// Why a value has no encoding of any length.
-#[derive(Clone, Copy)]
-pub enum EncodeFault {
-    Memory,
-    NotOfType,
-}
+impl From<MeasureFault> for WriteFault {
+    ghost from_gives = { λ f e. e ≡ elim f [ measured.Memory ↦ Memory | measured.NotOfType ↦ NotOfType | measured.TooLong ↦ TooLong ] };
 
-impl From<AllocError> for EncodeFault {
-    ghost from_gives = { λ _ e. e ≡ Memory };
-
-    fn from(_e: AllocError) -> EncodeFault {
-        EncodeFault::Memory
-    }
-}
-
-impl From<Fault> for EncodeFault {
-    ghost from_gives = { λ _ e. e ≡ Memory };
-
-    fn from(_e: Fault) -> EncodeFault {
-        EncodeFault::Memory
-    }
-}
-
-impl From<EncodeFault> for WriteFault {
-    ghost from_gives = { λ f e. e ≡ elim f [ Memory ↦ WriteMemory | NotOfType ↦ WriteNotOfType ] };
-
-    fn from(e: EncodeFault) -> WriteFault {
-        match e {
-            EncodeFault::Memory => WriteFault::Memory,
-            EncodeFault::NotOfType => WriteFault::NotOfType,
+    fn from(fault: MeasureFault) -> WriteFault {
+        match fault {
+            MeasureFault::Memory => WriteFault::Memory,
+            MeasureFault::NotOfType => WriteFault::NotOfType,
+            MeasureFault::TooLong => WriteFault::TooLong,
         }
+    }
+}
+
+impl From<AllocError> for WriteFault {
+    ghost from_gives = { λ _ e. e ≡ Memory };
+
+    fn from(_error: AllocError) -> WriteFault {
+        WriteFault::Memory
     }
 }

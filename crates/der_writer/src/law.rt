@@ -1,28 +1,50 @@
-//! The laws of distinguished encodings, for whoever signs or compares them.
+//! The laws of encodings by the distinguished rules, for whoever signs or compares them.
 
 ghost use Rattle.asn_base.specs.Abstract.{AbstractValue};
-ghost use Rattle.asn_base.specs.Accepted.{IsAccepted};
 ghost use Rattle.asn_base.specs.Same.{Same};
+ghost use Rattle.asn_base.specs.Schemas.{IsSchema};
 ghost use Rattle.asn_base.specs.Types.{Resolved};
 ghost use Rattle.encodings.specs.Encoding.{Der};
-ghost use Rattle.std.specs.Prelude.{◌≡◌, List, ℕ};
+ghost use Rattle.asn_base.specs.Typed.{IsValue};
+ghost use Rattle.der_writer.specs.Encoded.{IsEncoding};
+ghost use Rattle.std.specs.Prelude.{◌≡◌, ◌≤◌, List, length, ℕ};
 
-use asn_base::law::accepted_are_told_apart;
-use encodings::{der_laws, writer_laws};
+use asn_base::law::sameness;
+use encodings::schema_laws;
 
 /// One value has one encoding by the distinguished rules, and so have values that are the same.
 pub fn one_encoding()
     ensures { (s : List Resolved) (t : ℕ) (v w : AbstractValue) (o p : List ℕ)
-        → IsAccepted s → Same s t v w → Der s t v 0 o → Der s t w 0 p → o ≡ p }
+        → IsSchema s
+        → Same s t v w
+        → Der s t v 0 o
+        → Der s t w 0 p
+        → o ≡ p }
 {
-    accepted_are_told_apart();
-    der_laws();
+    schema_laws();
 }
 
-/// One encoding by the distinguished rules says one value: two that it encodes are the same.
+/// One encoding by the distinguished rules says one value: octets answered for a value are those of no other one.
 pub fn one_value()
     ensures { (s : List Resolved) (t : ℕ) (v w : AbstractValue) (o : List ℕ)
-        → IsAccepted s → Der s t v 0 o → Der s t w 0 o → Same s t v w }
+        → IsSchema s
+        → Der s t v 0 o
+        → Der s t w 0 o
+        → Same s t v w }
 {
-    writer_laws();
+    schema_laws();
+}
+
+/// Octets within the limit that encode a value of a type by the distinguished rules are its one encoding, and none by the
+/// basic rules is shorter.
+pub fn encodings_of_values()
+    ensures { (s : List Resolved) (t : ℕ) (v : AbstractValue) (o : List ℕ)
+        → IsSchema s
+        → IsValue s t v
+        → Der s t v 0 o
+        → length o ≤ 16777216
+        → IsEncoding s t v o }
+{
+    schema_laws();
+    sameness();
 }

@@ -1,13 +1,13 @@
-//! The distinguished encoding of a value (X.690, 8, 10 and 11).
+//! The encoding of a value by the distinguished rules (X.690, 8, 10 and 11), in one forward pass: into a list, or to any
+//! sink. All lengths are known, and all memory is there, before the first octet goes out.
 #![tactic(auto)]
 
-mod der;
-mod encode;
 mod fault;
-mod frame;
 pub mod law;
-mod leaf;
-mod number;
+mod to_list;
+mod to_sink;
 
-pub use der::write_der;
 pub use fault::WriteFault;
+pub use sinks::{Counted, InMemory, Sink, Stops};
+pub use to_list::{Written, write_der};
+pub use to_sink::{Sent, write_der_to};

@@ -25,9 +25,11 @@ fn pass(
     place: usize,
     list: &mut Vec<Option<Value>>,
 ) -> Result<(), AllocError>
-    ensures known { (u : ℕ) →
-        slice_get (members_of schema.now id.index) place ≡ Some u → OnOk result (list.new.items ≡ list.old.items ++ None ∷ []) }
-    ensures unknown { slice_get (members_of schema.now id.index) place ≡ None → OnOk result (list.new.items ≡ list.old.items) }
+    ensures known { (u : ℕ)
+        → slice_get (members_of schema.now id.index) place ≡ Some u
+        → OnOk result (list.new.items ≡ list.old.items ++ None ∷ []) }
+    ensures unknown { slice_get (members_of schema.now id.index) place ≡ None
+        → OnOk result (list.new.items ≡ list.old.items) }
 {
     match member_at(schema, id, place) {
         Some(_) => add(list, None),
@@ -85,10 +87,13 @@ fn keep_fields(
     values: &[Option<Value>],
 ) -> Result<Option<Vec<Option<Value>>>, AllocError>
     ensures { IfOk result (λ o. MatchOption o
-        (0 < left_out_of_row schema.now (members_of schema.now id.index) (row_of_options (map (option_map abstract) values.now)))
-        (λ ws. (left_out_of_row schema.now (members_of schema.now id.index) (row_of_options (map (option_map abstract) values.now)) ≡ 0)
+        (0 < left_out_of_row schema.now (members_of schema.now id.index)
+        (row_of_options (map (option_map abstract) values.now)))
+        (λ ws. (left_out_of_row schema.now (members_of schema.now id.index)
+        (row_of_options (map (option_map abstract) values.now)) ≡ 0)
         × (row_of_options (map (option_map abstract) ws.items)
-        ≡ kept_row schema.now (members_of schema.now id.index) (row_of_options (map (option_map abstract) values.now))))) }
+        ≡ kept_row schema.now (members_of schema.now id.index)
+        (row_of_options (map (option_map abstract) values.now))))) }
 {
     let mut all = Vec::new(alloc);
     for i in 0..values.len() {

@@ -74,7 +74,8 @@ fn begin_with_alternatives(alternatives: &[Alternative], others: &[Alternative])
 /// Whether two lists have alternatives of the same names.
 fn are_same_alternatives(alternatives: &[Alternative], others: &[Alternative]) -> bool
     ensures { IsTrue result
-        ↔ (map (λ a. a.name) (map alternative_of alternatives.now) ≡ map (λ a. a.name) (map alternative_of others.now)) }
+        ↔ (map (λ a. a.name) (map alternative_of alternatives.now)
+        ≡ map (λ a. a.name) (map alternative_of others.now)) }
 {
     alternatives.len() == others.len() && begin_with_alternatives(alternatives, others)
 }

@@ -35,7 +35,9 @@ pub enum LeafOctets<'a> {
 /// The contents octets of the value, where it has contents of this kind, and None where it has none: it is of another kind,
 /// or its numbers are those of no OBJECT IDENTIFIER or RELATIVE-OID.
 pub fn leaf_octets(kind: LeafKind, value: &Value) -> Option<LeafOctets<'_>>
-    ensures { MatchOption result (HasNone kind (abstract value.now)) (λ l. HasContents kind (abstract value.now) (joined_pieces l)) }
+    ensures { MatchOption result
+        (HasNone kind (abstract value.now))
+        (λ l. HasContents kind (abstract value.now) (joined_pieces l)) }
 {
     match kind {
         LeafKind::Boolean => of_boolean(value),
@@ -60,7 +62,9 @@ fn truth_octet(truth: bool) -> u8
 }
 
 fn of_boolean(value: &Value) -> Option<LeafOctets<'_>>
-    ensures { MatchOption result (HasNone Boolean (abstract value.now)) (λ l. HasContents Boolean (abstract value.now) (joined_pieces l)) }
+    ensures { MatchOption result
+        (HasNone Boolean (abstract value.now))
+        (λ l. HasContents Boolean (abstract value.now) (joined_pieces l)) }
 {
     abstract_values();
     match value {
@@ -74,7 +78,9 @@ fn of_boolean(value: &Value) -> Option<LeafOctets<'_>>
 }
 
 fn of_integer(value: &Value) -> Option<LeafOctets<'_>>
-    ensures { MatchOption result (HasNone Integer (abstract value.now)) (λ l. HasContents Integer (abstract value.now) (joined_pieces l)) }
+    ensures { MatchOption result
+        (HasNone Integer (abstract value.now))
+        (λ l. HasContents Integer (abstract value.now) (joined_pieces l)) }
 {
     abstract_values();
     match value {
@@ -84,7 +90,9 @@ fn of_integer(value: &Value) -> Option<LeafOctets<'_>>
 }
 
 fn of_enumerated(value: &Value) -> Option<LeafOctets<'_>>
-    ensures { MatchOption result (HasNone Enumerated (abstract value.now)) (λ l. HasContents Enumerated (abstract value.now) (joined_pieces l)) }
+    ensures { MatchOption result
+        (HasNone Enumerated (abstract value.now))
+        (λ l. HasContents Enumerated (abstract value.now) (joined_pieces l)) }
 {
     abstract_values();
     match value {
@@ -94,7 +102,9 @@ fn of_enumerated(value: &Value) -> Option<LeafOctets<'_>>
 }
 
 fn of_bits(value: &Value) -> Option<LeafOctets<'_>>
-    ensures { MatchOption result (HasNone BitString (abstract value.now)) (λ l. HasContents BitString (abstract value.now) (joined_pieces l)) }
+    ensures { MatchOption result
+        (HasNone BitString (abstract value.now))
+        (λ l. HasContents BitString (abstract value.now) (joined_pieces l)) }
 {
     abstract_values();
     match value {
@@ -104,7 +114,9 @@ fn of_bits(value: &Value) -> Option<LeafOctets<'_>>
 }
 
 fn of_named_bits(value: &Value) -> Option<LeafOctets<'_>>
-    ensures { MatchOption result (HasNone NamedBits (abstract value.now)) (λ l. HasContents NamedBits (abstract value.now) (joined_pieces l)) }
+    ensures { MatchOption result
+        (HasNone NamedBits (abstract value.now))
+        (λ l. HasContents NamedBits (abstract value.now) (joined_pieces l)) }
 {
     abstract_values();
     match value {
@@ -114,7 +126,9 @@ fn of_named_bits(value: &Value) -> Option<LeafOctets<'_>>
 }
 
 fn of_octets(value: &Value) -> Option<LeafOctets<'_>>
-    ensures { MatchOption result (HasNone OctetString (abstract value.now)) (λ l. HasContents OctetString (abstract value.now) (joined_pieces l)) }
+    ensures { MatchOption result
+        (HasNone OctetString (abstract value.now))
+        (λ l. HasContents OctetString (abstract value.now) (joined_pieces l)) }
 {
     abstract_values();
     match value {
@@ -127,7 +141,9 @@ fn of_octets(value: &Value) -> Option<LeafOctets<'_>>
 }
 
 fn of_null(value: &Value) -> Option<LeafOctets<'_>>
-    ensures { MatchOption result (HasNone Null (abstract value.now)) (λ l. HasContents Null (abstract value.now) (joined_pieces l)) }
+    ensures { MatchOption result
+        (HasNone Null (abstract value.now))
+        (λ l. HasContents Null (abstract value.now) (joined_pieces l)) }
 {
     abstract_values();
     match value {
@@ -137,7 +153,9 @@ fn of_null(value: &Value) -> Option<LeafOctets<'_>>
 }
 
 fn of_object_identifier(value: &Value) -> Option<LeafOctets<'_>>
-    ensures { MatchOption result (HasNone ObjectIdentifier (abstract value.now)) (λ l. HasContents ObjectIdentifier (abstract value.now) (joined_pieces l)) }
+    ensures { MatchOption result
+        (HasNone ObjectIdentifier (abstract value.now))
+        (λ l. HasContents ObjectIdentifier (abstract value.now) (joined_pieces l)) }
 {
     abstract_values();
     match value {
@@ -153,7 +171,9 @@ fn of_object_identifier(value: &Value) -> Option<LeafOctets<'_>>
 }
 
 fn of_relative_oid(value: &Value) -> Option<LeafOctets<'_>>
-    ensures { MatchOption result (HasNone RelativeOid (abstract value.now)) (λ l. HasContents RelativeOid (abstract value.now) (joined_pieces l)) }
+    ensures { MatchOption result
+        (HasNone RelativeOid (abstract value.now))
+        (λ l. HasContents RelativeOid (abstract value.now) (joined_pieces l)) }
 {
     abstract_values();
     match value {
@@ -169,7 +189,9 @@ fn of_relative_oid(value: &Value) -> Option<LeafOctets<'_>>
 }
 
 fn of_utf8(value: &Value) -> Option<LeafOctets<'_>>
-    ensures { MatchOption result (HasNone Utf8String (abstract value.now)) (λ l. HasContents Utf8String (abstract value.now) (joined_pieces l)) }
+    ensures { MatchOption result
+        (HasNone Utf8String (abstract value.now))
+        (λ l. HasContents Utf8String (abstract value.now) (joined_pieces l)) }
 {
     abstract_values();
     match value {

@@ -19,7 +19,9 @@ use std::alloc::AllocError;
 /// Adds the contents octets of this kind that the value has. An `Err` is want of memory, and adds nothing.
 pub fn push_leaf(kind: LeafKind, value: &Value, out: &mut Vec<u8>) -> Result<(), AllocError>
     requires { HasSome kind (abstract value.now) }
-    ensures ok { (x : List ℕ) → HasContents kind (abstract value.now) x → OnOk result (out.new.items ≡ out.old.items ++ x) }
+    ensures ok { (x : List ℕ)
+        → HasContents kind (abstract value.now) x
+        → OnOk result (out.new.items ≡ out.old.items ++ x) }
     ensures err { OnErr result (out.new.items ≡ out.old.items) }
 {
     one_contents();

@@ -26,7 +26,7 @@ le_or (suc a) (suc b) =
       | inr h ↦ inr (omega (arith, h))
     ]
 
-after_end : (next : ℕ → Option ℕ) (r c d : ℕ) → next c ≡ None → follow next r c ≡ Some d → d ≡ c
+pub after_end : (next : ℕ → Option ℕ) (r c d : ℕ) → next c ≡ None → follow next r c ≡ Some d → d ≡ c
 after_end next zero c d e f = let q : c ≡ d = cc in sym q
 after_end next (suc r) c d e f = let g = ap (λ o. onward o (λ j. follow next r j)) e in absurd cc
 

@@ -1,6 +1,8 @@
 mod Circles
+mod Doubling
 mod Under
 mod References
 mod Lists
 mod Following
+mod Nameless
 mod Bounds

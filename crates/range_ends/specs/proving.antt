@@ -2,3 +2,4 @@
 pub mod Steps
 pub mod Ways
 pub mod Bounds
+pub mod Far

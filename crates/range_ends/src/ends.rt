@@ -1,6 +1,6 @@
 //! The numbers that ends of ranges stand for.
 
-ghost use Rattle.std.specs.Prelude.{◌≡◌, ◌<◌, ◌↔◌, ℕ, ℤ, Some, None, MatchResult, MatchOption, length, map, option_map, string_bytes};
+ghost use Rattle.std.specs.Prelude.{◌≡◌, ◌<◌, true, ◌↔◌, ℕ, ℤ, Some, None, MatchResult, MatchOption, length, map, option_map, string_bytes};
 ghost use Rattle.trees.specs.Constraints.{end_of};
 ghost use Rattle.trees.specs.Types.{number_of};
 ghost use Rattle.trees.specs.Values.{tree_of};
@@ -10,6 +10,7 @@ ghost use Rattle.range_ends.specs.Answers.{StandsForOnly, IsEndFault};
 ghost use Rattle.range_ends.specs.Ends.{named as named', told as told', notation_of};
 ghost use Rattle.range_ends.specs.proving.Steps.{next, told_at, AreReferred};
 ghost use Rattle.range_ends.specs.proving.Ways.{Ends, IsWayFault};
+ghost use Rattle.range_ends.specs.proving.Far.{AreFar, IsNameless};
 
 use crate::program::{named_value, notation_at};
 use crate::scope::Scope;
@@ -62,9 +63,48 @@ fn told(shape: &Shape, notation: &ValueSyntax) -> Option<i128>
     }
 }
 
-/// The number that a value stands for where a type of a shape is constrained: that which is told at the end of the
-/// references.
-fn followed(
+/// Whether a type has no named number.
+fn is_nameless(shape: &Shape) -> bool
+    ensures { result ≡ true → IsNameless (kind_of shape.now) }
+{
+    match shape {
+        Shape::Simple(Simple::Integer(numbers)) => numbers.is_empty(),
+        _ => true,
+    }
+}
+
+/// The number that a value stands for where a type without named numbers is constrained: that which is told where the
+/// references end.
+fn farthest_told(
+    linked: &Linked,
+    behind: &[Option<usize>],
+    far: &[usize],
+    shape: &Shape,
+    start: usize,
+) -> Result<i128, EndFault>
+    requires inside { start < length linked.now.values }
+    requires referred { AreReferred linked.now behind.now }
+    requires far { AreFar behind.now (length behind.now) far.now }
+    requires nameless { IsNameless (kind_of shape.now) }
+    ensures { MatchResult result
+        (Ends linked.now (kind_of shape.now) behind.now start)
+        (IsWayFault linked.now (kind_of shape.now) behind.now start) }
+{
+    linked.whole();
+    let at = far[start];
+    let (_, notation) = notation_at(linked, at);
+    match told(shape, notation) {
+        Some(number) => Ok(number),
+        None => match behind[at] {
+            None => Err(EndFault::Lost),
+            Some(next) => Err(EndFault::Circular(at)),
+        },
+    }
+}
+
+/// The number that a value stands for where a type of a shape is constrained: that which is told at the first named number of
+/// the type, or at the end of the references.
+fn first_told(
     linked: &Linked,
     behind: &[Option<usize>],
     shape: &Shape,
@@ -91,6 +131,28 @@ fn followed(
     Err(EndFault::Circular(at))
 }
 
+/// The number that a value stands for where a type of a shape is constrained.
+fn followed(
+    linked: &Linked,
+    behind: &[Option<usize>],
+    far: &[usize],
+    shape: &Shape,
+    start: usize,
+) -> Result<i128, EndFault>
+    requires inside { start < length linked.now.values }
+    requires referred { AreReferred linked.now behind.now }
+    requires far { AreFar behind.now (length behind.now) far.now }
+    ensures { MatchResult result
+        (Ends linked.now (kind_of shape.now) behind.now start)
+        (IsWayFault linked.now (kind_of shape.now) behind.now start) }
+{
+    if is_nameless(shape) {
+        farthest_told(linked, behind, far, shape, start)
+    } else {
+        first_told(linked, behind, shape, start)
+    }
+}
+
 /// The number that an end of a range stands for, read in a module, where a type of a shape is constrained.
 pub(crate) fn end_at(
     scope: &Scope<'_>,
@@ -110,7 +172,10 @@ pub(crate) fn end_at(
             Some(number) => Ok(number),
             None => match named_value(linked, within, reference) {
                 None => Err(EndFault::Lost),
-                Some(start) => followed(linked, scope.behind(), shape, start),
+                Some(start) => {
+                    let (behind, far) = scope.ways();
+                    followed(linked, behind, far, shape, start)
+                }
             },
         },
     }

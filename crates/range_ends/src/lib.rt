@@ -2,6 +2,7 @@
 #![tactic(auto)]
 
 mod ends;
+mod far;
 mod program;
 mod ranges;
 mod scope;

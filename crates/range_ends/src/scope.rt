@@ -1,18 +1,22 @@
-//! A linked program, and the value that each value refers to.
+//! A linked program, and where the references of its values lead.
 
-ghost use Rattle.std.specs.Prelude.{◌≡◌, IfOk};
+ghost use Rattle.std.specs.Prelude.{◌≡◌, IfOk, length};
 ghost use Rattle.range_ends.specs.proving.Steps.{AreReferred};
+ghost use Rattle.range_ends.specs.proving.Far.{AreFar};
 
+use crate::far::farthest;
 use crate::program::referred;
 use resolve::Linked;
 use std::alloc::{AllocError, Global};
 use std::marker::Model;
 
-/// A linked program, and the value that each value refers to, which is found once.
+/// A linked program, and of each value the one that it refers to, and where its references end. Both are found once, in time
+/// as n log n for n values.
 #[derive(Drop)]
 pub struct Scope<'a> {
     linked: &'a Linked,
     behind: Vec<Option<usize>>,
+    far: Vec<usize>,
 }
 
 impl<'a> Model for Scope<'a> {
@@ -26,9 +30,12 @@ impl<'a> Model for Scope<'a> {
 
     ghost view = { λ s. s.linked.now };
 
+    ghost use Rattle.std.specs.Prelude.{length};
     ghost use Rattle.range_ends.specs.proving.Steps.{AreReferred};
+    ghost use Rattle.range_ends.specs.proving.Far.{AreFar};
 
-    ghost invariant = { λ s. AreReferred s.linked.now s.behind.items };
+    ghost invariant = { λ s. AreReferred s.linked.now s.behind.items
+        × AreFar s.behind.items (length s.behind.items) s.far.items };
 }
 
 /// The value that each value refers to.
@@ -47,8 +54,14 @@ impl<'a> Scope<'a> {
     pub fn of(alloc: Global, linked: &'a Linked) -> Result<Scope<'a>, AllocError>
         ensures { IfOk result (λ s. s ≡ linked.now) }
     {
+        linked.whole();
         let behind = referred_by_all(alloc, linked)?;
-        Ok(Scope { linked, behind })
+        let far = farthest(alloc, &behind)?;
+        Ok(Scope {
+            linked,
+            behind,
+            far,
+        })
     }
 
     /// The program.
@@ -58,10 +71,11 @@ impl<'a> Scope<'a> {
         self.linked
     }
 
-    /// The value that each value refers to.
-    pub(crate) fn behind(&self) -> &[Option<usize>]
-        ensures { AreReferred self.now result.now }
+    /// The value that each value refers to, and where its references end.
+    pub(crate) fn ways(&self) -> (&[Option<usize>], &[usize])
+        ensures referred { AreReferred self.now result.0.now }
+        ensures far { AreFar result.0.now (length result.0.now) result.1.now }
     {
-        &self.behind
+        (&self.behind, &self.far)
     }
 }

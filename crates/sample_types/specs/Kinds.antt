@@ -20,7 +20,10 @@ told n k = record { numbers = n ∷ []; kind = k }
 -- 1 to 3, and 8
 abbrev pub one_to_three_or_eight : Constraint
 one_to_three_or_eight = record {
-  allowed = Some (record { least = Some (pos 1); greatest = Some (pos 3) } ∷ record { least = Some (pos 8); greatest = Some (pos 8) } ∷ []);
+  allowed = Some (
+      record { least = Some (pos 1); greatest = Some (pos 3) }
+      ∷ record { least = Some (pos 8); greatest = Some (pos 8) }
+      ∷ []);
   visible = record { least = Some (pos 1); greatest = Some (pos 8); extensible = false };
 }
 
@@ -35,7 +38,9 @@ one_or_two = record {
 abbrev pub the_items : Kind
 the_items =
     an_enumerated
-    (record { name = 108 ∷ 111 ∷ 119 ∷ []; number = negsuc 4 } ∷ record { name = 114 ∷ 101 ∷ 100 ∷ []; number = pos 0 } ∷ [])
+    (record { name = 108 ∷ 111 ∷ 119 ∷ []; number = negsuc 4 }
+    ∷ record { name = 114 ∷ 101 ∷ 100 ∷ []; number = pos 0 }
+    ∷ [])
     true
     (record { name = 110 ∷ 101 ∷ 119 ∷ []; number = pos 2 } ∷ [])
 
@@ -50,7 +55,11 @@ three =
 -- {a SET OF INTEGER DEFAULT {1, 2}}
 abbrev pub with_a_set : List Component
 with_a_set =
-    record { name = 97 ∷ []; type = 16; presence = default (list (present (integer (pos 1)) (present (integer (pos 2)) end))) } ∷ []
+    record {
+      name = 97 ∷ [];
+      type = 16;
+      presence = default (list (present (integer (pos 1)) (present (integer (pos 2)) end)));
+    } ∷ []
 
 -- {a BOOLEAN, ..., [[b INTEGER, c NULL OPTIONAL]]}
 abbrev pub grouped : List Component

@@ -10,9 +10,16 @@ use crate::sink::Sink;
 pub fn send_all<S: Sink>(sink: &mut S, octets: &[u8]) -> Result<(), u64>
     requires { S.failed sink.old < u64.MAX }
     // The sink has taken just these octets, and no call failed.
-    ensures ok { OnOk result (SentAll (state (S.taken sink.old) (S.failed sink.old)) (state (S.taken sink.new) (S.failed sink.new)) octets.now) }
+    ensures ok { OnOk result (SentAll
+        (state (S.taken sink.old) (S.failed sink.old))
+        (state (S.taken sink.new) (S.failed sink.new))
+        octets.now) }
     // It has taken just the first n, fewer than there are, and one call failed.
-    ensures err { IfErr result (λ n. SentFront (state (S.taken sink.old) (S.failed sink.old)) (state (S.taken sink.new) (S.failed sink.new)) octets.now n) }
+    ensures err { IfErr result (λ n. SentFront
+        (state (S.taken sink.old) (S.failed sink.old))
+        (state (S.taken sink.new) (S.failed sink.new))
+        octets.now
+        n) }
 {
     let mut at = 0;
     while at < octets.len() {

@@ -1,4 +1,4 @@
-//! Tests of the crates `asn_base` and `der_writer` whose values no notation gives; the rows of the program `rows` are
+//! Tests of the crates `asn_base` and `first_writer` whose values no notation gives; the rows of the program `rows` are
 //! all others. They stand apart, so that no crate is proved a second time for them.
 #![tactic(auto)]
 

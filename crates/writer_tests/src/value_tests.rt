@@ -5,7 +5,7 @@ ghost use Rattle.asn_base.specs.Accepted.{IsAccepted};
 use crate::schema::{BOOLEAN, EMPTY, INTEGER, OCTETS, PAIR, TAGGED, schema};
 use asn_base::schema::{Schema, TypeId};
 use asn_base::value::Value;
-use der_writer::{WriteFault, write_der};
+use first_writer::{WriteFault, write_der};
 use std::alloc::{AllocError, Global};
 use std::test::Fail;
 

@@ -1,8 +1,8 @@
 -- How many octets a tree stands for.
-use Rattle.std.proofs.Common.{◌≡◌, ℕ, ◌+◌, true, List, [], ◌∷◌, ◌++◌, length, refl, sym, ap, ◌∙◌, length-append}
-use Rattle.std.specs.List.{concat, sum_by}
+use Rattle.std.proofs.Common.{◌≡◌, ℕ, ◌+◌, true, List, ◌++◌, length, ap, ◌∙◌, length-append}
+use Rattle.std.specs.List.{concat}
 use Rattle.encodings.specs.Fewest.{shortest_header}
-use Rattle.codec_code.specs.Events.{Order, Tree, done, piece, lacking, within, ordered, Members, no_member, no_component, member, Part as Placed, encodings_of, StandsFor, PartsOf}
+use Rattle.codec_code.specs.Events.{Tree, done, piece, lacking, within, ordered, Members, no_member, no_component, member, Part as Placed, encodings_of, StandsFor, PartsOf}
 use Rattle.writing_table.specs.Lengths.{octets_in, members_in}
 use Rattle.writing_table.proofs.Trees.{permuted_length}
 

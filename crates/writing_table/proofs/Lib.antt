@@ -1,6 +1,10 @@
 pub mod Lengths
 pub mod Lists
 pub mod Ordered
+pub mod Placing
+pub mod Seen
+pub mod Small
 pub mod Spelled
+pub mod Standing
 pub mod Trees
 pub mod Whole

@@ -1,3 +1,4 @@
 pub mod Octets
+pub mod Rows
 pub mod Tables
 pub mod Lengths

@@ -1,5 +1,5 @@
 -- What a table holds after each event that a routine tells.
-use Rattle.std.specs.Prelude.{◌≡◌, ℕ, ◌+◌, ◌≤◌, ◌⊎◌, Bool, true, List, [], ◌∷◌, ◌++◌, length, map, min, set}
+use Rattle.std.specs.Prelude.{◌≡◌, ℕ, ◌+◌, ◌⊎◌, Bool, List, [], ◌∷◌, ◌++◌, length, map, set}
 use Rattle.std.specs.List.Sorted.{IsPermutation}
 use Rattle.std.proofs.Common.{subst, sym}
 use Rattle.asn_base.specs.declared.tag.Tag.{Tag}
@@ -7,7 +7,6 @@ use Rattle.encodings.specs.Header.{Octets}
 use Rattle.encodings.specs.Fewest.{shortest_header}
 use Rattle.codec_code.specs.declared.step.RowKind.{RowKind}
 use Rattle.codec_code.specs.declared.step.RowKind.TheVariants.{Leaf, Wrap, Sequence, Set, SequenceOf, SetOf}
-use Rattle.codec_code.specs.declared.step.Head.{Head}
 use Rattle.codec_code.specs.Events.{Event, opens, puts, closes, leaves_out, parts, Order, by_octets, by_rank}
 use Rattle.codec_code.specs.Events.{Part as Placed, InOrder as StandInOrder}
 use Rattle.der_parts.specs.declared.part.Part.{Part}
@@ -17,25 +16,40 @@ use Rattle.writing_table.specs.declared.table.Member.{Member}
 use Rattle.writing_table.specs.declared.table.Group.{Group}
 use Rattle.writing_table.specs.declared.table.Table.{Table}
 use Rattle.der_parts.specs.Parts.{IsPart, Spell}
+use Rattle.octet_account.specs.Flat.{FlatRow, an_absent}
+use Rattle.octet_account.specs.Seen.{flat}
+use Rattle.account_rows.specs.Told.{header_row, left_row}
+use Rattle.writing_table.specs.Rows.{told, told_numbers, numbers_in, places_by}
 
--- the parts so far, the headers that are open, the SETs and SET OFs that are open, and how many octets the parts within
--- the nearest open header have
+-- the parts so far, the headers that are open, the SETs and SET OFs that are open, how many octets the parts within the
+-- nearest open header have, the rows so far, and how many members stand in that header
 pub record State : Type 0 where
   pub parts : List Part
   pub opened : List Open
   pub groups : List Group
   pub count : ℕ
+  pub rows : List FlatRow
+  pub members : ℕ
 
 abbrev pub state_of : Table → State
-state_of t = record { parts = t.parts.items; opened = t.opened.items; groups = t.groups.items; count = t.count }
+state_of t = record {
+  parts = t.parts.items;
+  opened = t.opened.items;
+  groups = t.groups.items;
+  count = t.count;
+  rows = flat t.rows.items;
+  members = t.members;
+}
 
--- numbers of octets are told up to one past the most that an encoding has
-abbrev pub told : ℕ → ℕ
-told n = min n 16777217
-
-abbrev pub an_open : ℕ → Tag → Bool → RowKind → ℕ → Open
-an_open place g c k before =
-    record { place = place; head = record { tag = g; constructed = c; row = k }; before = before }
+-- a header that opens in a state
+abbrev pub an_open : Tag → Bool → RowKind → State → Open
+an_open g c k a = record {
+  place = length a.parts;
+  row = length a.rows;
+  head = record { tag = g; constructed = c; row = k };
+  before = a.count;
+  members_before = a.members;
+}
 
 -- a member with its encoding
 abbrev pub placed_of : Member → Placed
@@ -55,9 +69,11 @@ pub record Sorted (o : Order) (ms ns : List Member) : Type 0 where
 
 pub record HeaderOpens (g : Tag) (c : Bool) (k : RowKind) (a b : State) : Type 0 where
   pub parts_are : b.parts ≡ a.parts ++ Header g c 0 ∷ []
-  pub opened_are : b.opened ≡ a.opened ++ an_open (length a.parts) g c k a.count ∷ []
+  pub opened_are : b.opened ≡ a.opened ++ an_open g c k a ∷ []
   pub groups_are : b.groups ≡ a.groups
   pub count_is : b.count ≡ 0
+  pub rows_are : b.rows ≡ a.rows ++ an_absent ∷ []
+  pub members_are : b.members ≡ 0
 
 -- what stands before a SET or SET OF is set aside
 pub record MembersBegin (a b : State) : Type 0 where
@@ -68,6 +84,8 @@ pub record MembersBegin (a b : State) : Type 0 where
   pub opened_are : b.opened ≡ a.opened
   pub groups_are : b.groups ≡ a.groups ++ group ∷ []
   pub count_is : b.count ≡ a.count
+  pub rows_are : b.rows ≡ a.rows
+  pub members_are : b.members ≡ a.members
 
 abbrev pub GroupBegins : RowKind → State → State → Type 0
 GroupBegins Set a b = MembersBegin a b
@@ -86,6 +104,18 @@ pub record ContentsAdded (x : Octets) (a b : State) : Type 0 where
   pub opened_are : b.opened ≡ a.opened
   pub groups_are : b.groups ≡ a.groups
   pub count_is : b.count ≡ told (a.count + length x)
+  pub rows_are : b.rows ≡ a.rows
+  pub members_are : b.members ≡ a.members
+
+-- ---- a component that isn't written
+
+pub record LeftOut (d : Bool) (a b : State) : Type 0 where
+  pub parts_are : b.parts ≡ a.parts
+  pub opened_are : b.opened ≡ a.opened
+  pub groups_are : b.groups ≡ a.groups
+  pub count_is : b.count ≡ a.count
+  pub rows_are : b.rows ≡ a.rows ++ left_row d ∷ []
+  pub members_are : b.members ≡ told (a.members + 1)
 
 -- ---- where a member ends
 
@@ -98,17 +128,21 @@ pub record MemberEnds (rank : ℕ) (a b : State) : Type 0 where
   pub from : a.groups ≡ outer ++ group ∷ []
   pub groups_are : b.groups ≡ outer ++ larger ∷ []
   pub before_is : larger.before.items ≡ group.before.items
-  pub members_are : larger.members.items ≡ group.members.items ++ member ∷ []
+  pub larger_are : larger.members.items ≡ group.members.items ++ member ∷ []
   pub rank_is : member.rank ≡ rank
+  pub number_is : member.number ≡ length group.members.items
   pub parts_of_member : member.parts.items ≡ a.parts
   pub octets_of_member : (o : Octets) → Spell a.parts o → member.octets.items ≡ o
   pub parts_are : b.parts ≡ []
   pub opened_are : b.opened ≡ a.opened
   pub count_is : b.count ≡ a.count
+  pub rows_are : b.rows ≡ a.rows
+  pub members_are : b.members ≡ a.members
 
 -- ---- where a header closes
 
-pub record MembersEnd (o : Order) (a b : State) : Type 0 where
+-- p are the places of the members, and q the numbers of those that stand there
+pub record MembersEnd (o : Order) (p q : List ℕ) (a b : State) : Type 0 where
   pub group : Group
   pub sorted : List Member
   pub from : a.groups ≡ b.groups ++ group ∷ []
@@ -116,36 +150,56 @@ pub record MembersEnd (o : Order) (a b : State) : Type 0 where
   pub parts_are : b.parts ≡ group.before.items ++ (parts_of sorted ++ a.parts)
   pub opened_are : b.opened ≡ a.opened
   pub count_is : b.count ≡ a.count
+  pub rows_are : b.rows ≡ a.rows
+  pub members_are : b.members ≡ a.members
+  pub places_are : p ≡ map told (places_by (numbers_in sorted))
+  pub inverse_are : q ≡ map told (numbers_in sorted)
 
-abbrev pub MembersEndIfAny : Order → State → State → Type 0
-MembersEndIfAny o a b = ((a.groups ≡ []) × (a ≡ b)) ⊎ MembersEnd o a b
+abbrev pub MembersEndIfAny : Order → List ℕ → List ℕ → State → State → Type 0
+MembersEndIfAny o p q a b = ((a.groups ≡ []) × (a ≡ b)) ⊎ MembersEnd o p q a b
 
-abbrev pub GroupEnds : RowKind → State → State → Type 0
-GroupEnds Set a b = MembersEndIfAny by_rank a b
-GroupEnds SetOf a b = MembersEndIfAny by_octets a b
-GroupEnds Leaf a b = a ≡ b
-GroupEnds Wrap a b = a ≡ b
-GroupEnds Sequence a b = a ≡ b
-GroupEnds SequenceOf a b = a ≡ b
+abbrev pub NoneEnds : List ℕ → List ℕ → State → State → Type 0
+NoneEnds p q a b = (p ≡ []) × (q ≡ []) × (a ≡ b)
+
+abbrev pub GroupEnds : RowKind → List ℕ → List ℕ → State → State → Type 0
+GroupEnds Set p q a b = MembersEndIfAny by_rank p q a b
+GroupEnds SetOf p q a b = MembersEndIfAny by_octets p q a b
+GroupEnds Leaf p q a b = NoneEnds p q a b
+GroupEnds Wrap p q a b = NoneEnds p q a b
+GroupEnds Sequence p q a b = NoneEnds p q a b
+GroupEnds SequenceOf p q a b = NoneEnds p q a b
 
 abbrev pub taken : State → List Open → State
-taken a os = record { parts = a.parts; opened = os; groups = a.groups; count = a.count }
+taken a os = record {
+  parts = a.parts;
+  opened = os;
+  groups = a.groups;
+  count = a.count;
+  rows = a.rows;
+  members = a.members;
+}
 
--- the header gets its number of octets
-pub record HeaderCloses (one : Open) (a b : State) : Type 0 where
+-- the header gets its number of octets, and its row what it tells
+pub record HeaderCloses (one : Open) (p q : List ℕ) (a b : State) : Type 0 where
   pub parts_are : b.parts ≡ set a.parts one.place (Header one.head.tag one.head.constructed a.count)
   pub opened_are : b.opened ≡ a.opened
   pub groups_are : b.groups ≡ a.groups
   pub count_is : b.count
       ≡ told (one.before + (length (shortest_header one.head.tag one.head.constructed a.count) + a.count))
+  pub rows_are : b.rows
+      ≡ set a.rows one.row
+      (header_row one.head.row (told_numbers one.head.tag one.head.constructed a.count) (told a.members) p q)
+  pub members_are : b.members ≡ told (one.members_before + 1)
 
 pub record Closes (a d : State) : Type 0 where
   pub one : Open
   pub others : List Open
   pub within : State
+  pub places : List ℕ
+  pub inverse : List ℕ
   pub from : a.opened ≡ others ++ one ∷ []
-  pub group_ends : GroupEnds one.head.row (taken a others) within
-  pub header_closes : HeaderCloses one within d
+  pub group_ends : GroupEnds one.head.row places inverse (taken a others) within
+  pub header_closes : HeaderCloses one places inverse within d
 
 -- ---- all events
 
@@ -153,7 +207,7 @@ abbrev pub Stepped : Event → State → State → Type 0
 Stepped (opens g c k) a d = (b : State) × HeaderOpens g c k a b × GroupBegins k b d
 Stepped (puts x) a d = ContentsAdded x a d
 Stepped closes a d = ((a.opened ≡ []) × (a ≡ d)) ⊎ Closes a d
-Stepped (leaves_out b) a d = a ≡ d
+Stepped (leaves_out b) a d = LeftOut b a d
 Stepped (parts r) a d = ((a.groups ≡ []) × (a ≡ d)) ⊎ MemberEnds r a d
 
 abbrev pub Runs : List Event → State → State → Type 0

@@ -1,6 +1,8 @@
 //! The table as a backend.
 
-use crate::steps::{add_contents, begin_group, close_header, end_group, end_member, open_header};
+use crate::steps::{
+    add_contents, add_left_out, begin_group, close_header, end_group, end_member, open_header,
+};
 use crate::table::Table;
 use asn_base::value::Value;
 use codec_code::{Head, LeafKind};
@@ -25,15 +27,16 @@ impl<'a> Backend<'a> for Table<'a> {
     fn close(&mut self) -> Result<(), AllocError> {
         match self.opened.pop() {
             Some(one) => {
-                end_group(self, one.head.row)?;
-                close_header(self, one);
+                let arrangement = end_group(self, one.head.row)?;
+                close_header(self, one, arrangement)?;
                 Ok(())
             }
             None => Ok(()),
         }
     }
 
-    fn leave_out(&mut self, _with_default: bool) -> Result<(), AllocError> {
+    fn leave_out(&mut self, with_default: bool) -> Result<(), AllocError> {
+        add_left_out(self, with_default)?;
         Ok(())
     }
 

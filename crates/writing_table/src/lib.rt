@@ -5,6 +5,8 @@ mod backend;
 mod fault;
 pub mod law;
 mod measurement;
+mod places;
+mod rows;
 mod scratch;
 mod sort;
 mod steps;

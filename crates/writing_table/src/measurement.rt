@@ -2,38 +2,47 @@
 
 ghost use Rattle.asn_base.specs.Abstract.{abstract};
 ghost use Rattle.asn_base.specs.Typed.{IsValue};
+ghost use Rattle.encodings.specs.Account.{Account, Tells};
 ghost use Rattle.encodings.specs.Encoding.{Der};
-ghost use Rattle.std.specs.Prelude.{◌≡◌, ◌≤◌, Err, IfErr, IfOk, List, length, ℕ};
+ghost use Rattle.octet_account.specs.Flat.{AreRows};
+ghost use Rattle.octet_account.specs.Seen.{flat};
+ghost use Rattle.std.specs.Prelude.{◌≡◌, ◌<◌, ◌≤◌, Err, IfErr, IfOk, List, length, ℕ};
 ghost use Rattle.writing_table.specs.Lengths.{IsTooLong};
 ghost use Rattle.der_parts.specs.Parts.{Spell};
 ghost use Rattle.writing_table.specs.declared.fault.MeasureFault.TheVariants.{NotOfType, TooLong};
 
 use crate::fault::MeasureFault;
 use crate::table::Table;
+use account_rows::law::told_rows;
 use asn_base::schema::TypeId;
 use asn_base::value::Value;
 use codec_code::Code;
 use codec_code::law::routine_laws;
 use codec_machine::{RunFault, run};
 use der_parts::Part;
+use encodings::account_laws;
+use octet_account::law::accounts_within_bounds;
+use octet_account::row::Row;
 use std::alloc::Global;
 
 /// The most octets of an encoding.
 const MOST_OCTETS: usize = 16_777_216;
 
-/// The parts of an encoding in the order of writing, and how many octets they have.
+/// The parts of an encoding in the order of writing, how many octets they have, and the rows of their account.
 #[derive(Drop)]
 pub struct Measured<'a> {
     pub parts: Vec<Part<'a>>,
     pub octets: usize,
+    pub rows: Vec<Row>,
 }
 
 /// The parts of the value's encoding by the distinguished rules (X.690, 10 and 11), in the order of writing: all
 /// lengths are known, and the members of each SET and SET OF stand in their order (10.3 and 11.6). The type's routine
-/// runs once; members of a SET or SET OF alone are encoded apart, to be compared.
+/// runs once; members of a SET or SET OF alone are encoded apart, to be compared. Beside them stand the rows of the
+/// account of these octets, in the order of the value, with the place of each member of a SET or SET OF.
 ///
 /// - `NotOfType`: it is no value of the type.
-/// - `TooLong`: its routine tells more than 16,777,216 octets.
+/// - `TooLong`: its encoding has more than 16,777,216 octets.
 /// - `Memory`: more memory was asked for and refused.
 pub fn measure<'a>(
     alloc: Global,
@@ -48,11 +57,20 @@ pub fn measure<'a>(
         × Spell m.parts.items o
         × (length o ≡ m.octets)
         × Der code.now id.index (abstract value.now) 0 o) }
+    // The rows are those of an account of the octets that the parts spell.
+    ensures account { IfOk result (λ m. (a : Account) × (o : List ℕ)
+        × Spell m.parts.items o
+        × Tells code.now id.index (abstract value.now) o a
+        × AreRows a (flat m.rows.items)) }
     ensures not_too_long { IfOk result (λ m. m.octets ≤ 16777216) }
     // It is refused as no value, or as too long, only where it is.
     ensures not_of_type { IfErr result (λ e. e ≡ NotOfType → IsValue code.now id.index (abstract value.now) → ⊥) }
     ensures no_value { (IsValue code.now id.index (abstract value.now) → ⊥) → result ≡ Err NotOfType }
     ensures too_long { IfErr result (λ e. e ≡ TooLong → IsTooLong code.now id.index (abstract value.now)) }
+    // Each encoding by the distinguished rules is then longer than 16,777,216 octets.
+    ensures longer { IfErr result (λ e. e ≡ TooLong → (o : List ℕ)
+        → Der code.now id.index (abstract value.now) 0 o
+        → 16777216 < length o) }
 {
     if !code.is_value(id, value) {
         return Err(MeasureFault::NotOfType);
@@ -75,12 +93,22 @@ fn table_of<'a>(
         × Spell m.parts.items o
         × (length o ≡ m.octets)
         × Der code.now id.index (abstract value.now) 0 o) }
+    ensures account { IfOk result (λ m. (a : Account) × (o : List ℕ)
+        × Spell m.parts.items o
+        × Tells code.now id.index (abstract value.now) o a
+        × AreRows a (flat m.rows.items)) }
     ensures not_too_long { IfOk result (λ m. m.octets ≤ 16777216) }
     ensures not_of_type { IfErr result (λ e. e ≡ NotOfType → ⊥) }
     ensures too_long { IfErr result (λ e. e ≡ TooLong → IsTooLong code.now id.index (abstract value.now)) }
+    ensures longer { IfErr result (λ e. e ≡ TooLong → (o : List ℕ)
+        → Der code.now id.index (abstract value.now) 0 o
+        → 16777216 < length o) }
 {
     code.accepted();
     routine_laws();
+    told_rows();
+    accounts_within_bounds();
+    account_laws();
     let mut table = Table::new(alloc);
     match run(alloc, code, id, value, &mut table) {
         Ok(()) => {
@@ -90,6 +118,7 @@ fn table_of<'a>(
                 Ok(Measured {
                     parts: table.parts,
                     octets: table.count,
+                    rows: table.rows,
                 })
             }
         }

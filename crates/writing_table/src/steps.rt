@@ -1,13 +1,17 @@
 //! What each event does to the table.
 
-ghost use Rattle.std.specs.Prelude.{◌≡◌, ◌+◌, ◌++◌, ◌∷◌, [], ◌⊎◌, List, IfErr, OnOk, set, ℕ};
+ghost use Rattle.std.specs.Prelude.{◌≡◌, ◌+◌, ◌++◌, ◌∷◌, [], ◌⊎◌, List, IfErr, IfOk, OnOk, set, ℕ};
 ghost use Rattle.asn_base.specs.Abstract.{abstract};
 ghost use Rattle.codec_code.specs.Steps.{HasContents};
 ghost use Rattle.codec_code.specs.Events.{by_octets, by_rank};
 ghost use Rattle.codec_machine.specs.Frames.{HasNoContents};
 ghost use Rattle.codec_machine.specs.declared.fault.RunFault.TheVariants.{NotOfType};
-ghost use Rattle.writing_table.specs.Tables.{GroupBegins, GroupEnds, HeaderCloses, HeaderOpens, MemberEnds, MembersBegin, MembersEndIfAny, ContentsAdded, parts_of, state_of, told};
+ghost use Rattle.octet_account.specs.Seen.{flat, told_of};
+ghost use Rattle.writing_table.specs.Tables.{GroupBegins, GroupEnds, HeaderCloses, HeaderOpens, LeftOut, MemberEnds, MembersBegin, MembersEndIfAny, ContentsAdded, parts_of, state_of};
+ghost use Rattle.writing_table.specs.Rows.{told};
 
+use crate::places::{Arrangement, arrangement_of};
+use crate::rows::{header_row, sum};
 use crate::scratch::push_parts;
 use crate::sort::{sort_by_octets, sort_by_rank};
 use crate::table::{Group, Member, Open, Table};
@@ -16,21 +20,9 @@ use codec_code::{Head, LeafKind, RowKind};
 use codec_machine::RunFault;
 use der_parts::Part;
 use leaf_contents::leaf_len;
+use octet_account::row::{Row, Told};
 use octets::header_len;
 use std::alloc::AllocError;
-
-/// More octets than an encoding has.
-const TOO_MANY: usize = 16_777_217;
-
-/// The sum of two numbers of octets, or 16,777,217 where it is greater.
-pub(crate) fn sum(a: usize, b: usize) -> usize
-    ensures { result ≡ told (a + b) }
-{
-    match a.checked_add(b) {
-        Some(n) => if n < TOO_MANY { n } else { TOO_MANY },
-        None => TOO_MANY,
-    }
-}
 
 fn add_part<'a>(list: &mut Vec<Part<'a>>, one: Part<'a>) -> Result<(), AllocError>
     ensures { OnOk result (list.new.items ≡ list.old.items ++ one.entry ∷ []) }
@@ -60,6 +52,13 @@ fn add_member<'a>(list: &mut Vec<Member<'a>>, one: Member<'a>) -> Result<(), All
     Ok(())
 }
 
+fn add_row(list: &mut Vec<Row>, told: Told) -> Result<(), AllocError>
+    ensures { OnOk result (flat list.new.items ≡ flat list.old.items ++ told_of told ∷ []) }
+{
+    list.push(Row::of(told))?;
+    Ok(())
+}
+
 /// A header, before its contents are known.
 pub(crate) fn open_header<'a>(table: &mut Table<'a>, head: Head) -> Result<(), AllocError>
     ensures { OnOk result (HeaderOpens head.tag head.constructed head.row (state_of table.old) (state_of table.new)) }
@@ -68,15 +67,33 @@ pub(crate) fn open_header<'a>(table: &mut Table<'a>, head: Head) -> Result<(), A
         &mut table.opened,
         Open {
             place: table.parts.len(),
+            row: table.rows.len(),
             head,
             before: table.count,
+            members_before: table.members,
         },
     )?;
     add_part(
         &mut table.parts,
         Part::Header(head.tag, head.constructed, 0),
     )?;
+    add_row(&mut table.rows, Told::Absent)?;
     table.count = 0;
+    table.members = 0;
+    Ok(())
+}
+
+/// The row of a component that isn't written.
+pub(crate) fn add_left_out<'a>(table: &mut Table<'a>, with_default: bool) -> Result<(), AllocError>
+    ensures { OnOk result (LeftOut with_default (state_of table.old) (state_of table.new)) }
+{
+    let told = if with_default {
+        Told::Default
+    } else {
+        Told::Absent
+    };
+    add_row(&mut table.rows, told)?;
+    table.members = sum(table.members, 1);
     Ok(())
 }
 
@@ -142,10 +159,12 @@ pub(crate) fn end_member<'a>(table: &mut Table<'a>, rank: usize) -> Result<(), A
             push_parts(table.alloc, table.parts.as_slice(), &mut octets)?;
             let parts = std::mem::replace(&mut table.parts, Vec::new(table.alloc));
             let mut members = group.members;
+            let number = members.len();
             add_member(
                 &mut members,
                 Member {
                     rank,
+                    number,
                     octets,
                     parts,
                 },
@@ -175,44 +194,46 @@ fn append_members<'a>(parts: &mut Vec<Part<'a>>, members: Vec<Member<'a>>) -> Re
 }
 
 /// The members of a SET or SET OF stand in their order behind what was set aside.
-pub(crate) fn end_group<'a>(table: &mut Table<'a>, row: RowKind) -> Result<(), AllocError>
-    ensures { OnOk result (GroupEnds row (state_of table.old) (state_of table.new)) }
+pub(crate) fn end_group<'a>(table: &mut Table<'a>, row: RowKind) -> Result<Arrangement, AllocError>
+    ensures { IfOk result (λ r. GroupEnds row r.places.items r.inverse.items (state_of table.old) (state_of table.new)) }
 {
     match row {
         RowKind::Set => end_set(table),
         RowKind::SetOf => end_set_of(table),
-        RowKind::Leaf => Ok(()),
-        RowKind::Wrap => Ok(()),
-        RowKind::Sequence => Ok(()),
-        RowKind::SequenceOf => Ok(()),
+        RowKind::Leaf => Ok(Arrangement::none(table.alloc)),
+        RowKind::Wrap => Ok(Arrangement::none(table.alloc)),
+        RowKind::Sequence => Ok(Arrangement::none(table.alloc)),
+        RowKind::SequenceOf => Ok(Arrangement::none(table.alloc)),
     }
 }
 
-fn end_set<'a>(table: &mut Table<'a>) -> Result<(), AllocError>
-    ensures { OnOk result (MembersEndIfAny by_rank (state_of table.old) (state_of table.new)) }
+fn end_set<'a>(table: &mut Table<'a>) -> Result<Arrangement, AllocError>
+    ensures { IfOk result (λ r. MembersEndIfAny by_rank r.places.items r.inverse.items (state_of table.old) (state_of table.new)) }
 {
     match table.groups.pop() {
         Some(group) => {
             let mut members = group.members;
             sort_by_rank(&mut members)?;
+            let arrangement = arrangement_of(table.alloc, members.as_slice())?;
             put_members(&mut table.parts, group.before, members)?;
-            Ok(())
+            Ok(arrangement)
         }
-        None => Ok(()),
+        None => Ok(Arrangement::none(table.alloc)),
     }
 }
 
-fn end_set_of<'a>(table: &mut Table<'a>) -> Result<(), AllocError>
-    ensures { OnOk result (MembersEndIfAny by_octets (state_of table.old) (state_of table.new)) }
+fn end_set_of<'a>(table: &mut Table<'a>) -> Result<Arrangement, AllocError>
+    ensures { IfOk result (λ r. MembersEndIfAny by_octets r.places.items r.inverse.items (state_of table.old) (state_of table.new)) }
 {
     match table.groups.pop() {
         Some(group) => {
             let mut members = group.members;
             sort_by_octets(&mut members)?;
+            let arrangement = arrangement_of(table.alloc, members.as_slice())?;
             put_members(&mut table.parts, group.before, members)?;
-            Ok(())
+            Ok(arrangement)
         }
-        None => Ok(()),
+        None => Ok(Arrangement::none(table.alloc)),
     }
 }
 
@@ -239,11 +260,26 @@ fn put_at<'a>(parts: &mut Vec<Part<'a>>, place: usize, part: Part<'a>)
     }
 }
 
-/// The header gets its number of octets.
-pub(crate) fn close_header<'a>(table: &mut Table<'a>, one: Open)
-    ensures { HeaderCloses one (state_of table.old) (state_of table.new) }
+/// Puts a row in the place of another, where there is one.
+fn put_row(rows: &mut Vec<Row>, place: usize, told: Told)
+    ensures { flat rows.new.items ≡ set (flat rows.old.items) place (told_of told) }
+{
+    if place < rows.len() {
+        rows[place] = Row::of(told);
+    }
+}
+
+/// The header gets its number of octets, and its row what it tells.
+pub(crate) fn close_header<'a>(
+    table: &mut Table<'a>,
+    one: Open,
+    arrangement: Arrangement,
+) -> Result<(), AllocError>
+    ensures { OnOk result (HeaderCloses one arrangement.places.items arrangement.inverse.items (state_of table.old) (state_of table.new)) }
 {
     let contents = table.count;
+    let row = header_row(table.alloc, one.head, contents, table.members, arrangement)?;
+    put_row(&mut table.rows, one.row, row);
     put_at(
         &mut table.parts,
         one.place,
@@ -251,4 +287,6 @@ pub(crate) fn close_header<'a>(table: &mut Table<'a>, one: Open)
     );
     let header = header_len(one.head.tag, contents as u64);
     table.count = sum(one.before, sum(header, contents));
+    table.members = sum(one.members_before, 1);
+    Ok(())
 }

@@ -4,20 +4,26 @@ ghost use Rattle.std.specs.Prelude.{◌≡◌, []};
 
 use codec_code::Head;
 use der_parts::Part;
+use octet_account::row::Row;
 use std::alloc::Global;
 
-/// A header that is open: its place in the table, and how many octets stand before it within the header round it.
+/// A header that is open: its place in the table and that of its row, and how many octets and members stand before it
+/// within the header round it.
 #[derive(Clone, Copy)]
 pub(crate) struct Open {
     pub place: usize,
+    pub row: usize,
     pub head: Head,
     pub before: usize,
+    pub members_before: usize,
 }
 
-/// A member of a SET OF, or a component of a SET with its rank: its parts, and its octets, by which it is compared.
+/// A member of a SET OF, or a component of a SET with its rank: its number among those that are written, its parts, and
+/// its octets, by which it is compared.
 #[derive(Drop)]
 pub(crate) struct Member<'a> {
     pub rank: usize,
+    pub number: usize,
     pub octets: Vec<u8>,
     pub parts: Vec<Part<'a>>,
 }
@@ -30,7 +36,8 @@ pub(crate) struct Group<'a> {
 }
 
 /// The parts so far, what is open, and how many octets the parts within the nearest open header have: at most
-/// 16,777,217, which stands for any more.
+/// 16,777,217, which stands for any more. The rows of the account so far, and how many members the nearest open header
+/// has, counted so too.
 #[derive(Drop)]
 pub struct Table<'a> {
     pub(crate) alloc: Global,
@@ -38,6 +45,8 @@ pub struct Table<'a> {
     pub(crate) opened: Vec<Open>,
     pub(crate) groups: Vec<Group<'a>>,
     pub(crate) count: usize,
+    pub(crate) rows: Vec<Row>,
+    pub(crate) members: usize,
 }
 
 impl<'a> Table<'a> {
@@ -46,6 +55,8 @@ impl<'a> Table<'a> {
         ensures opened { result.opened.items ≡ [] }
         ensures groups { result.groups.items ≡ [] }
         ensures count { result.count ≡ 0 }
+        ensures rows { result.rows.items ≡ [] }
+        ensures members { result.members ≡ 0 }
     {
         Table {
             alloc,
@@ -53,6 +64,8 @@ impl<'a> Table<'a> {
             opened: Vec::new(alloc),
             groups: Vec::new(alloc),
             count: 0,
+            rows: Vec::new(alloc),
+            members: 0,
         }
     }
 }

@@ -13,7 +13,7 @@ use asn_base::law::{accepted_are_schemas, schemas_grow};
 use asn_base::schema::{Component, Core, Presence, Resolved, Schema, TypeId};
 use asn_base::tag::{Class, Tag};
 use asn_base::value::Value;
-use der_writer::{WriteFault, write_der};
+use first_writer::{WriteFault, write_der};
 use first_path::FirstSchema;
 use std::alloc::{AllocError, Global};
 use std::test::Fail;

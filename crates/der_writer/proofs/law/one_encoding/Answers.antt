@@ -2,4 +2,4 @@ use Rattle.std.proofs.Common.{sym}
 use Rattle.der_writer.proofs.law.one_encoding.Goals as goal
 
 pub returns : goal.returns
-returns c = λ s t v w o p accepted same a b. sym (c.der_laws.ensures.one s t v w o p (c.accepted_are_told_apart.ensures.tagged s accepted) same a b)
+returns c = λ s t v w o p i same a b. sym (c.schema_laws.ensures.one_der s t v w o p i same a b)

@@ -1,7 +1,8 @@
-use Rattle.std.proofs.Common.{◌≡◌}
+use Rattle.std.proofs.Common.{ap}
 use Rattle.asn_base.specs.Abstract.{abstract}
+use Rattle.octet_account.specs.Seen.{flat}
 use Rattle.writing_table.specs.Tables.{state_of}
-use Rattle.writing_table.proofs.Whole.{whole, too_long}
+use Rattle.writing_table.proofs.Whole.{Empty, whole, whole_rows, too_long, longer}
 use Rattle.writing_table.proofs.measurement.table_of.Goals as goal
 
 pub returns-then-table-gt-MOST_OCTETS-clause-too_long : goal.returns-then-table-gt-MOST_OCTETS-clause-too_long
@@ -10,9 +11,12 @@ returns-then-table-gt-MOST_OCTETS-clause-too_long c = λ e.
     let t = c.args.id.index in
     let v = abstract c.args.value.now in
     let ran = c.in-Ok.ensures.ok in
-    too_long s t v ran.events (state_of c.new-table.result) (state_of c.run.new.backend) ran.steps
+    let n = c.new-table.ensures in
+    let a = state_of c.new-table.result in
+    let empty : Empty a = record { parts = n.parts; count = n.count; rows = ap flat n.rows; members = n.members } in
+    too_long s t v ran.events a (state_of c.run.new.backend) ran.steps
     (c.routine_laws.ensures.tells s t v ran.events c.accepted.ensures c.requires.shaped ran.steps)
-    ran.added c.new-table.ensures.count c.if-table-gt-MOST_OCTETS.true
+    ran.added empty c.if-table-gt-MOST_OCTETS.true
 
 pub returns-in-Ok-clause-der : goal.returns-in-Ok-clause-der
 returns-in-Ok-clause-der c =
@@ -20,7 +24,39 @@ returns-in-Ok-clause-der c =
     let t = c.args.id.index in
     let v = abstract c.args.value.now in
     let ran = c.in-Ok.ensures.ok in
-    let w = whole s t v ran.events (state_of c.new-table.result) (state_of c.run.new.backend)
+    let n = c.new-table.ensures in
+    let a = state_of c.new-table.result in
+    let empty : Empty a = record { parts = n.parts; count = n.count; rows = ap flat n.rows; members = n.members } in
+    let w = whole c.told_rows.ensures.stand s t v ran.events a (state_of c.run.new.backend)
     (c.routine_laws.ensures.tells s t v ran.events c.accepted.ensures c.requires.shaped ran.steps)
-    ran.added c.new-table.ensures.parts c.new-table.ensures.count c.if-table-gt-MOST_OCTETS.false in
+    ran.added empty c.if-table-gt-MOST_OCTETS.false in
     (w.octets, w.spelled, w.counted_all, w.der)
+
+pub returns-in-Ok-clause-account : goal.returns-in-Ok-clause-account
+returns-in-Ok-clause-account c =
+    let s = c.args.code.now in
+    let t = c.args.id.index in
+    let v = abstract c.args.value.now in
+    let ran = c.in-Ok.ensures.ok in
+    let n = c.new-table.ensures in
+    let a = state_of c.new-table.result in
+    let empty : Empty a = record { parts = n.parts; count = n.count; rows = ap flat n.rows; members = n.members } in
+    let w = whole_rows s t v ran.events a (state_of c.run.new.backend)
+    (λ o b l h. c.accounts_within_bounds.ensures s t v o b c.accepted.ensures c.requires.shaped l h)
+    (c.told_rows.ensures.rows s t v ran.events c.accepted.ensures c.requires.shaped ran.steps)
+    ran.added empty c.if-table-gt-MOST_OCTETS.false in
+    (w.account, w.octets, w.spelled, w.tells, w.are)
+
+pub returns-then-table-gt-MOST_OCTETS-clause-longer : goal.returns-then-table-gt-MOST_OCTETS-clause-longer
+returns-then-table-gt-MOST_OCTETS-clause-longer c = λ e.
+    let s = c.args.code.now in
+    let t = c.args.id.index in
+    let v = abstract c.args.value.now in
+    let ran = c.in-Ok.ensures.ok in
+    let n = c.new-table.ensures in
+    let a = state_of c.new-table.result in
+    let empty : Empty a = record { parts = n.parts; count = n.count; rows = ap flat n.rows; members = n.members } in
+    longer s t v ran.events a (state_of c.run.new.backend)
+    (λ o d. c.account_laws.ensures.exists s t v o c.accepted.ensures d)
+    (c.told_rows.ensures.rows s t v ran.events c.accepted.ensures c.requires.shaped ran.steps)
+    ran.added empty c.if-table-gt-MOST_OCTETS.true

@@ -1,4 +1,4 @@
-use Rattle.std.proofs.Common.{rules, ◌≡◌, ◌<◌, ◌≤◌, ◌++◌, length}
+use Rattle.std.proofs.Common.{rules, ◌<◌, ◌≤◌, length}
 use Rattle.writing_table.proofs.Spelled.{next_written, all_written}
 use Rattle.writing_table.proofs.scratch.push_parts.Goals as goal
 

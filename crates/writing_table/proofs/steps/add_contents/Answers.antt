@@ -1,6 +1,6 @@
-use Rattle.std.proofs.Common.{rules, ◌≡◌, ◌+◌, length, refl, sym, ap, ◌∙◌}
+use Rattle.std.proofs.Common.{◌+◌, refl, sym, ap, ◌∙◌}
 use Rattle.der_parts.specs.declared.part.Part.TheVariants.{Contents}
-use Rattle.writing_table.specs.Tables.{told}
+use Rattle.writing_table.specs.Rows.{told}
 use Rattle.writing_table.proofs.steps.add_contents.Goals as goal
 
 pub returns-in_ok-add_part-in-Some-clause-adds : goal.returns-in_ok-add_part-in-Some-clause-adds
@@ -15,5 +15,7 @@ returns-in_ok-add_part-in-Some-clause-adds c =
         opened_are = refl;
         groups_are = refl;
         count_is = c.sum-table.ensures ∙ ap (λ n. told (c.args.table.now.count + n)) (sym h.2);
+        rows_are = refl;
+        members_are = refl;
       },
     )

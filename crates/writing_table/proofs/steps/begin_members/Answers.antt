@@ -1,4 +1,4 @@
-use Rattle.std.proofs.Common.{rules, ◌≡◌, refl, sym, ap, ◌∙◌}
+use Rattle.std.proofs.Common.{refl, ap, ◌∙◌}
 use Rattle.writing_table.proofs.steps.begin_members.Goals as goal
 
 pub returns : goal.returns
@@ -10,4 +10,6 @@ returns c = record {
   opened_are = refl;
   groups_are = c.in_ok-add_group.ensures;
   count_is = refl;
+  rows_are = refl;
+  members_are = refl;
 }

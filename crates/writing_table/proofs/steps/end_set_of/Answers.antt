@@ -1,4 +1,5 @@
-use Rattle.std.proofs.Common.{inr, refl}
+use Rattle.std.proofs.Common.{inr, map, refl, ap, ◌∙◌}
+use Rattle.writing_table.specs.Rows.{told, numbers_in, places_by}
 use Rattle.writing_table.proofs.steps.end_set_of.Goals as goal
 
 pub returns-in_ok-put_members-in-Some : goal.returns-in_ok-put_members-in-Some
@@ -10,4 +11,8 @@ returns-in_ok-put_members-in-Some c = inr (record {
   parts_are = c.in_ok-put_members-in-Some.ensures;
   opened_are = refl;
   count_is = refl;
+  rows_are = refl;
+  members_are = refl;
+  places_are = c.in_ok-arrangement-in-Some.ensures.places ∙ ap (λ q. map told (places_by (numbers_in q))) c.as_slice.ensures.value;
+  inverse_are = c.in_ok-arrangement-in-Some.ensures.inverse ∙ ap (λ q. map told (numbers_in q)) c.as_slice.ensures.value;
 })

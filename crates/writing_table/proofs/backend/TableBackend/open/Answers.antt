@@ -1,5 +1,4 @@
 use Rattle.std.proofs.Common.{refl}
-use Rattle.writing_table.specs.Tables.{state_of}
 use Rattle.writing_table.proofs.backend.TableBackend.open.Goals as goal
 
 pub returns : goal.returns

@@ -1,0 +1,23 @@
+# bash completion of asnc: its subcommand, its words, and the names of files. It asks nothing of the program.
+
+# _asnc: what can stand at the place of the cursor.
+_asnc() {
+  local current=${COMP_WORDS[COMP_CWORD]}
+  local before=${COMP_WORDS[COMP_CWORD - 1]}
+  COMPREPLY=()
+  if [[ $COMP_CWORD -eq 1 ]]; then
+    mapfile -t COMPREPLY < <(compgen -W 'der --help -h' -- "$current")
+    return
+  fi
+  if [[ ${COMP_WORDS[1]} != der || $before == --type || $before == --value ]]; then
+    return
+  fi
+  if [[ $current == -* ]]; then
+    mapfile -t COMPREPLY < <(compgen -W '--type --value --raw --help -h' -- "$current")
+    return
+  fi
+  compopt -o filenames 2>/dev/null
+  mapfile -t COMPREPLY < <(compgen -f -- "$current")
+}
+
+complete -F _asnc asnc

@@ -1,0 +1,99 @@
+-- Trees one after the other, with their rows.
+use Rattle.std.proofs.Common.{◌≡◌, ℕ, ◌+◌, true, List, [], ◌∷◌, ◌++◌, length, refl, sym, ap, ◌∙◌, arith, append_assoc}
+use Rattle.encodings.specs.Fewest.{shortest_header}
+use Rattle.codec_code.specs.Events.{opens, puts, closes, leaves_out, row_of_order, Tree, done, piece, lacking, within, ordered, Members, no_member, no_component, member, flat, flats, Part, StandsFor, PartsOf}
+use Rattle.octet_account.specs.Flat.{FlatRow}
+use Rattle.account_rows.specs.Lengths.{octets_in}
+use Rattle.account_rows.specs.Told.{header_numbers, header_row, left_row, rows_in, rows_among, Told, PartsTold}
+
+abbrev pub join : Tree → Tree → Tree
+join done u = u
+join (piece x t) u = piece x (join t u)
+join (lacking d t) u = lacking d (join t u)
+join (within g c k i t) u = within g c k i (join t u)
+join (ordered g o ms t) u = ordered g o ms (join t u)
+
+pub flat_join : (t u : Tree) → flat (join t u) ≡ flat t ++ flat u
+flat_join done u = refl
+flat_join (piece x t) u = ap (λ q. puts x ∷ q) (flat_join t u)
+flat_join (lacking d t) u = ap (λ q. leaves_out d ∷ q) (flat_join t u)
+flat_join (within g c k i t) u = ap (λ q. opens g c k ∷ q) (ap (λ q. flat i ++ closes ∷ q) (flat_join t u) ∙ sym (append_assoc (flat i) (closes ∷ flat t) (flat u)))
+flat_join (ordered g o ms t) u = ap (λ q. opens g true (row_of_order o) ∷ q) (ap (λ q. flats ms ++ closes ∷ q) (flat_join t u) ∙ sym (append_assoc (flats ms) (closes ∷ flat t) (flat u)))
+
+pub rows_join : (t u : Tree) → rows_in (join t u) ≡ rows_in t + rows_in u
+rows_join done u = omega arith
+rows_join (piece x t) u = rows_join t u
+rows_join (lacking d t) u = let e = rows_join t u in omega (arith, e)
+rows_join (within g c k i t) u = let e = rows_join t u in omega (arith, e)
+rows_join (ordered g o ms t) u = let e = rows_join t u in omega (arith, e)
+
+pub octets_join : (t u : Tree) → octets_in (join t u) ≡ octets_in t + octets_in u
+octets_join done u = omega arith
+octets_join (piece x t) u = let e = octets_join t u in omega (arith, e)
+octets_join (lacking d t) u = octets_join t u
+octets_join (within g c k i t) u = let e = octets_join t u in omega (arith, e)
+octets_join (ordered g o ms t) u = let e = octets_join t u in omega (arith, e)
+
+pub record Joined (t u : Tree) (o : List ℕ) (rs : List FlatRow) : Type 0 where
+  pub first : List ℕ
+  pub second : List ℕ
+  pub first_rows : List FlatRow
+  pub second_rows : List FlatRow
+  pub one : Told t first first_rows
+  pub two : Told u second second_rows
+  pub whole : o ≡ first ++ second
+  pub rows : rs ≡ first_rows ++ second_rows
+
+behind_header : (d x y z : List ℕ) → d ++ (x ++ (y ++ z)) ≡ (d ++ (x ++ y)) ++ z
+behind_header d x y z = ap (λ q. d ++ q) (sym (append_assoc x y z)) ∙ sym (append_assoc d (x ++ y) z)
+
+pub joined : (t u : Tree) (o : List ℕ) (rs : List FlatRow) → Told (join t u) o rs → Joined t u o rs
+joined done u o rs h = record { first = []; second = o; first_rows = []; second_rows = rs; one = (refl, refl); two = h; whole = refl; rows = refl }
+joined (piece x t) u o rs h =
+    let p = joined t u h.0 rs h.1 in
+    record { first = x ++ p.first; second = p.second; first_rows = p.first_rows; second_rows = p.second_rows; one = (p.first, p.one, refl); two = p.two; whole = h.2 ∙ ap (λ q. x ++ q) p.whole ∙ sym (append_assoc x p.first p.second); rows = p.rows }
+joined (lacking d t) u o rs h =
+    let p = joined t u o h.0 h.1 in
+    record { first = p.first; second = p.second; first_rows = left_row d ∷ p.first_rows; second_rows = p.second_rows; one = (p.first_rows, p.one, refl); two = p.two; whole = p.whole; rows = h.2 ∙ ap (λ q. left_row d ∷ q) p.rows }
+joined (within g c k i t) u o rs h =
+    let p = joined t u h.1 h.3 h.5 in
+    let d = shortest_header g c (length h.0) in
+    let r = header_row k (header_numbers g c (length h.0)) (rows_in i) [] [] in
+    record {
+      first = d ++ (h.0 ++ p.first);
+      second = p.second;
+      first_rows = r ∷ (h.2 ++ p.first_rows);
+      second_rows = p.second_rows;
+      one = (h.0, p.first, h.2, p.first_rows, h.4, p.one, refl, refl);
+      two = p.two;
+      whole = h.6 ∙ ap (λ q. d ++ (h.0 ++ q)) p.whole ∙ behind_header d h.0 p.first p.second;
+      rows = h.7 ∙ ap (λ q. r ∷ (h.2 ++ q)) p.rows ∙ ap (λ q. r ∷ q) (sym (append_assoc h.2 p.first_rows p.second_rows));
+    }
+joined (ordered g o' ms t) u o rs h =
+    let p = joined t u h.3 h.5 h.12 in
+    let d = shortest_header g true (length h.2) in
+    let r = header_row (row_of_order o') (header_numbers g true (length h.2)) (rows_among ms) h.6 h.7 in
+    record {
+      first = d ++ (h.2 ++ p.first);
+      second = p.second;
+      first_rows = r ∷ (h.4 ++ p.first_rows);
+      second_rows = p.second_rows;
+      one = (h.0, h.1, h.2, p.first, h.4, p.first_rows, h.6, h.7, h.8, h.9, h.10, h.11, p.one, refl, refl);
+      two = p.two;
+      whole = h.13 ∙ ap (λ q. d ++ (h.2 ++ q)) p.whole ∙ behind_header d h.2 p.first p.second;
+      rows = h.14 ∙ ap (λ q. r ∷ (h.4 ++ q)) p.rows ∙ ap (λ q. r ∷ q) (sym (append_assoc h.4 p.first_rows p.second_rows));
+    }
+
+-- octets that are told are octets that the tree stands for
+mutual
+  pub stands : (t : Tree) (o : List ℕ) (rs : List FlatRow) → Told t o rs → StandsFor t o
+  stands done o rs h = h.0
+  stands (piece x t) o rs h = (h.0, stands t h.0 rs h.1, h.2)
+  stands (lacking d t) o rs h = stands t o h.0 h.1
+  stands (within g c k i t) o rs h = (h.0, h.1, stands i h.0 h.2 h.4, stands t h.1 h.3 h.5, h.6)
+  stands (ordered g a ms t) o rs h = (h.0, h.1, h.2, h.3, parts_stand ms h.0 h.4 h.8, h.9, h.11, stands t h.3 h.5 h.12, h.13)
+
+  parts_stand : (ms : Members) (ps : List Part) (rs : List FlatRow) → PartsTold ms ps rs → PartsOf ms ps
+  parts_stand no_member ps rs h = h.0
+  parts_stand (no_component d ms) ps rs h = parts_stand ms ps h.0 h.1
+  parts_stand (member r i ms) ps rs h = (h.0, h.1, stands i h.0 h.2 h.4, parts_stand ms h.1 h.3 h.5, h.6)

@@ -1,0 +1,33 @@
+//! Laws of the rows that routines tell.
+
+ghost use Rattle.account_rows.specs.Meaning.{TellsRows};
+ghost use Rattle.account_rows.specs.Told.{Told};
+ghost use Rattle.asn_base.specs.Abstract.{AbstractValue};
+ghost use Rattle.asn_base.specs.Schemas.{IsSchema};
+ghost use Rattle.asn_base.specs.Typed.{IsValueWithoutNodes};
+ghost use Rattle.asn_base.specs.Types.{Resolved};
+ghost use Rattle.codec_code.specs.Events.{Event, StandsFor, Tree};
+ghost use Rattle.codec_code.specs.Routines.{routine_at};
+ghost use Rattle.codec_code.specs.Steps.{Steps};
+ghost use Rattle.octet_account.specs.Flat.{FlatRow};
+ghost use Rattle.std.specs.Prelude.{List, ℕ};
+
+use asn_base::law::{alike_values, sameness};
+use encodings::{header_laws, leaf_laws};
+
+/// The events that the routine of a type tells of a value of the type are those of a tree, and whatever octets and rows
+/// this stands for are those of an account of the value, each of which tells as many octets.
+pub fn told_rows()
+    ensures rows { (s : List Resolved) (t : ℕ) (v : AbstractValue) (es : List Event)
+        → IsSchema s
+        → IsValueWithoutNodes s t v
+        → Steps s t (routine_at s t) v es
+        → TellsRows s t v es }
+    // Octets that are told with rows are octets that the tree stands for.
+    ensures stand { (t : Tree) (o : List ℕ) (rs : List FlatRow) → Told t o rs → StandsFor t o }
+{
+    sameness();
+    alike_values();
+    header_laws();
+    leaf_laws();
+}

@@ -1,0 +1,9 @@
+use Rattle.codec_source.specs.Reading.{head}
+use Rattle.codec_source.proofs.Asking.{no_head}
+use Rattle.codec_source.proofs.ask.ask_head.Goals as goal
+
+pub returns-in-Ok-clause-ok : goal.returns-in-Ok-clause-ok
+returns-in-Ok-clause-ok g c = head c.in-Ok.ensures.ok
+
+pub returns-in-Err-clause-err : goal.returns-in-Err-clause-err
+returns-in-Err-clause-err g c = λ other. no_head g.S.Source.takes c.args.head c.args.rest.now c.args.source.now (c.in-Err.ensures.err other)

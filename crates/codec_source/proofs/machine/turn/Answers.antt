@@ -1,0 +1,75 @@
+use Rattle.std.proofs.Common.{arith, ◌<◌, length, sym, ap, subst}
+use Rattle.std.specs.Prelude.{Some, None}
+use Rattle.codec_code.specs.Routines.{routine_at, table_of}
+use Rattle.codec_source.specs.Events.{ends}
+use Rattle.codec_source.specs.Reading.{Asks}
+use Rattle.codec_source.specs.proving.Frames.{AsksNothing}
+use Rattle.codec_source.proofs.Asking.{shorter, no_more_room}
+use Rattle.codec_source.proofs.Running.{same_then, asked_before, goes_at, ended_before, never_ended, never_asked, less_ended, less_one, less_called, on_ok, no_memory, refused}
+use Rattle.codec_source.proofs.machine.turn.Goals as goal
+
+pub ask-requires : goal.ask-requires
+ask-requires g c = c.in-Some.ensures.cases.0
+
+pub returns-in-Err-ask-clause-err : goal.returns-in-Err-ask-clause-err
+returns-in-Err-ask-clause-err g c = λ other.
+    let some : 0 < length c.args.frame.steps.now = (let e = ap length c.in-Some.ensures.cases.0 in omega (arith, e)) in
+    never_asked (routine_at c.args.code.now) g.S.Source.takes g.met.S.Source.one_answer c.args.frame.steps.now c.args.frames.now.items c.args.source.now some
+    (subst (λ q. AsksNothing g.S.Source.takes q c.args.source.now) (sym c.in-Some.ensures.cases.0) (c.in-Err-ask.ensures.err other))
+
+pub returns-in-Ok-clause-ok : goal.returns-in-Ok-clause-ok
+returns-in-Ok-clause-ok g c = ended_before (routine_at c.args.code.now) g.S.Source.takes g.met.S.Source.one_answer c.args.frame.steps.now c.args.frames.now.items c.args.source.now c.end.new.self c.in-None.ensures.cases c.in-Ok.ensures.ok
+
+pub returns-in-Ok-clause-less : goal.returns-in-Ok-clause-less
+returns-in-Ok-clause-less g c = less_ended (length (table_of c.args.code.now)) (g.S.Source.room c.args.source.now) (g.S.Source.room c.end.new.self) c.args.frames.now.items c.args.frame (g.met.S.Source.keeps c.args.source.now c.end.new.self ends c.in-Ok.ensures.ok)
+
+pub returns-in-Err-clause-err : goal.returns-in-Err-clause-err
+returns-in-Err-clause-err g c = λ other. never_ended (routine_at c.args.code.now) g.S.Source.takes g.met.S.Source.one_answer c.args.frame.steps.now c.args.frames.now.items c.args.source.now c.in-None.ensures.cases (c.in-Err.ensures.err other)
+
+pub returns-in-None-value-clause-ok : goal.returns-in-None-value-clause-ok
+returns-in-None-value-clause-ok g c =
+    let r = routine_at c.args.code.now in
+    let b = c.in-Ok-ask.answer.behind.now in
+    let a : Asks g.S.Source.takes c.args.frame.steps.now c.args.source.now b None c.ask.new.source =
+    subst (λ t. Asks g.S.Source.takes c.args.frame.steps.now c.args.source.now b t c.ask.new.source) c.in-None-value.is
+    (subst (λ q. Asks g.S.Source.takes q c.args.source.now b c.in-Ok-ask.answer.value c.ask.new.source) (sym c.in-Some.ensures.cases.0) c.in-Ok-ask.ensures.ok) in
+    on_ok c.add.result (λ e. same_then
+    (asked_before r g.S.Source.takes g.met.S.Source.one_answer c.args.frame.steps.now b None c.args.frames.now.items c.args.source.now c.ask.new.source a)
+    (goes_at r g.S.Source.takes g.met.S.Source.one_answer c.add.new.frames.items c.args.frames.now.items _ c.ask.new.source e)) c.add.ensures.ok
+
+pub returns-in-None-value-clause-less : goal.returns-in-None-value-clause-less
+returns-in-None-value-clause-less g c =
+    let b = c.in-Ok-ask.answer.behind.now in
+    let a : Asks g.S.Source.takes c.args.frame.steps.now c.args.source.now b None c.ask.new.source =
+    subst (λ t. Asks g.S.Source.takes c.args.frame.steps.now c.args.source.now b t c.ask.new.source) c.in-None-value.is
+    (subst (λ q. Asks g.S.Source.takes q c.args.source.now b c.in-Ok-ask.answer.value c.ask.new.source) (sym c.in-Some.ensures.cases.0) c.in-Ok-ask.ensures.ok) in
+    on_ok c.add.result (λ e. less_one (length (table_of c.args.code.now)) (g.S.Source.room c.args.source.now) (g.S.Source.room c.ask.new.source) c.args.frames.now.items c.add.new.frames.items c.args.frame _
+    (no_more_room g.S.Source.takes g.S.Source.room g.met.S.Source.keeps a) e (shorter g.S.Source.takes a)) c.add.ensures.ok
+
+pub returns-in-None-value-clause-err : goal.returns-in-None-value-clause-err
+returns-in-None-value-clause-err g c = no_memory _ c.add.result c.add.ensures.err
+
+pub returns-in-Some-value-clause-ok : goal.returns-in-Some-value-clause-ok
+returns-in-Some-value-clause-ok g c =
+    let b = c.in-Ok-ask.answer.behind.now in
+    let a : Asks g.S.Source.takes c.args.frame.steps.now c.args.source.now b (Some c.in-Some-value.id) c.ask.new.source =
+    subst (λ t. Asks g.S.Source.takes c.args.frame.steps.now c.args.source.now b t c.ask.new.source) c.in-Some-value.is
+    (subst (λ q. Asks g.S.Source.takes q c.args.source.now b c.in-Ok-ask.answer.value c.ask.new.source) (sym c.in-Some.ensures.cases.0) c.in-Ok-ask.ensures.ok) in
+    on_ok c.call.result (λ s. same_then (asked_before (routine_at c.args.code.now) g.S.Source.takes g.met.S.Source.one_answer c.args.frame.steps.now b (Some c.in-Some-value.id) c.args.frames.now.items c.args.source.now c.ask.new.source a) s) c.call.ensures.ok
+
+pub returns-in-Some-value-clause-less : goal.returns-in-Some-value-clause-less
+returns-in-Some-value-clause-less g c =
+    let b = c.in-Ok-ask.answer.behind.now in
+    let a : Asks g.S.Source.takes c.args.frame.steps.now c.args.source.now b (Some c.in-Some-value.id) c.ask.new.source =
+    subst (λ t. Asks g.S.Source.takes c.args.frame.steps.now c.args.source.now b t c.ask.new.source) c.in-Some-value.is
+    (subst (λ q. Asks g.S.Source.takes q c.args.source.now b c.in-Ok-ask.answer.value c.ask.new.source) (sym c.in-Some.ensures.cases.0) c.in-Ok-ask.ensures.ok) in
+    on_ok c.call.result (λ l. less_called (length (table_of c.args.code.now)) (g.S.Source.room c.args.source.now) (g.S.Source.room c.ask.new.source) (g.S.Source.room c.call.new.source) (length b) c.args.frames.now.items c.call.new.frames.items c.args.frame l
+    (no_more_room g.S.Source.takes g.S.Source.room g.met.S.Source.keeps a) (shorter g.S.Source.takes a)) c.call.ensures.less
+
+pub returns-in-Some-value-clause-err : goal.returns-in-Some-value-clause-err
+returns-in-Some-value-clause-err g c =
+    let b = c.in-Ok-ask.answer.behind.now in
+    let a : Asks g.S.Source.takes c.args.frame.steps.now c.args.source.now b (Some c.in-Some-value.id) c.ask.new.source =
+    subst (λ t. Asks g.S.Source.takes c.args.frame.steps.now c.args.source.now b t c.ask.new.source) c.in-Some-value.is
+    (subst (λ q. Asks g.S.Source.takes q c.args.source.now b c.in-Ok-ask.answer.value c.ask.new.source) (sym c.in-Some.ensures.cases.0) c.in-Ok-ask.ensures.ok) in
+    refused c.call.result (λ n z d. n z ((asked_before (routine_at c.args.code.now) g.S.Source.takes g.met.S.Source.one_answer c.args.frame.steps.now b (Some c.in-Some-value.id) c.args.frames.now.items c.args.source.now c.ask.new.source a).to z d)) c.call.ensures.err

@@ -1,0 +1,9 @@
+//! What a machine has still to do.
+
+use codec_code::Step;
+
+/// Steps that are left of a routine, to the end of its value.
+#[derive(Drop)]
+pub struct Frame<'a> {
+    pub steps: &'a [Step],
+}

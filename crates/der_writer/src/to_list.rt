@@ -1,0 +1,79 @@
+//! The encoding of a value in a list.
+
+ghost use Rattle.asn_base.specs.Abstract.{abstract};
+ghost use Rattle.asn_base.specs.Typed.{IsValue};
+ghost use Rattle.der_writer.specs.Encoded.{IsEncoding};
+ghost use Rattle.der_writer.specs.declared.fault.WriteFault.TheVariants.{Device, NotOfType, TooLong};
+ghost use Rattle.der_parts.specs.Parts.{Spell};
+ghost use Rattle.encodings.specs.Account.{Tells};
+ghost use Rattle.encodings.specs.Encoding.{Der};
+ghost use Rattle.std.specs.Prelude.{◌≡◌, ◌<◌, ◌^◌, Err, IfErr, IfOk, List, length, ℕ};
+
+use crate::fault::WriteFault;
+use crate::law::encodings_of_values;
+use asn_base::schema::TypeId;
+use asn_base::value::Value;
+use codec_code::Code;
+use der_parts::write_parts;
+use octet_account::account::Account;
+use octet_account::law::one_account;
+use sinks::InMemory;
+use std::alloc::{AllocError, Global};
+use writing_table::{Part, measure};
+
+/// What was written of a value: the octets of its encoding, and the account of them.
+#[derive(Drop)]
+pub struct Written {
+    pub octets: Vec<u8>,
+    pub account: Account,
+}
+
+/// The octets that encode the value of the type by the distinguished rules (X.690, 10 and 11).
+///
+/// - `NotOfType`: just where it is no value of the type, or there is no such type.
+/// - `TooLong`: just where it is one, and its encoding has more than 16,777,216 octets.
+/// - `Memory`: more memory was asked for and refused.
+pub fn write_der(
+    alloc: Global,
+    code: &Code,
+    id: TypeId,
+    value: &Value,
+) -> Result<Written, WriteFault>
+    // The octets are the value's one encoding.
+    ensures encoding { IfOk result (λ w. IsEncoding code.now id.index (abstract value.now) w.octets.items) }
+    // The account is theirs.
+    ensures account { IfOk result (λ w.
+        Tells code.now id.index (abstract value.now) w.octets.items w.account) }
+    // It is refused as no value just where it is none.
+    ensures not_of_type { IfErr result (λ e. e ≡ NotOfType → IsValue code.now id.index (abstract value.now) → ⊥) }
+    ensures no_value { (IsValue code.now id.index (abstract value.now) → ⊥) → result ≡ Err NotOfType }
+    // Each encoding by the distinguished rules is then longer than 16,777,216 octets.
+    ensures longer { IfErr result (λ e. e ≡ TooLong → (o : List ℕ)
+        → Der code.now id.index (abstract value.now) 0 o
+        → 16777216 < length o) }
+    // There is no device.
+    ensures no_device { IfErr result (λ e. (n : ℕ) → e ≡ Device n → ⊥) }
+{
+    code.accepted();
+    encodings_of_values();
+    one_account();
+    match measure(alloc, code, id, value) {
+        Ok(measured) => Ok(Written {
+            octets: joined(alloc, measured.parts.as_slice(), measured.octets)?,
+            account: Account::of(measured.rows),
+        }),
+        Err(fault) => Err(WriteFault::from(fault)),
+    }
+}
+
+/// The octets that parts spell, in a list with room for so many of them from the start.
+fn joined(alloc: Global, parts: &[Part], octets: usize) -> Result<Vec<u8>, AllocError>
+    requires { (o : List ℕ) × Spell parts.now o × (length o < 2 ^ 64) }
+    ensures { (o : List ℕ) → Spell parts.now o → IfOk result (λ v. v.items ≡ o) }
+{
+    let mut sink = InMemory::of(Vec::with_capacity(alloc, octets)?);
+    match write_parts(&mut sink, parts) {
+        Ok(()) => Ok(sink.into_octets()),
+        Err(_) => Err(AllocError),
+    }
+}

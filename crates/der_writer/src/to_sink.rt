@@ -1,0 +1,78 @@
+//! The encoding of a value to a sink.
+
+ghost use Rattle.asn_base.specs.Abstract.{abstract};
+ghost use Rattle.asn_base.specs.Typed.{IsValue};
+ghost use Rattle.der_writer.specs.Encoded.{Went, WentInPart};
+ghost use Rattle.der_writer.specs.declared.fault.WriteFault.TheVariants.{Device, Memory, NotOfType, TooLong};
+ghost use Rattle.encodings.specs.Encoding.{Der};
+ghost use Rattle.sinks.specs.Sent.{state};
+ghost use Rattle.std.specs.Prelude.{◌≡◌, ◌<◌, ◌⊎◌, Err, IfErr, IfOk, List, length, ℕ};
+
+use crate::fault::WriteFault;
+use crate::law::encodings_of_values;
+use asn_base::schema::TypeId;
+use asn_base::value::Value;
+use codec_code::Code;
+use der_parts::write_parts;
+use leaf_contents::law::one_contents;
+use octet_account::account::Account;
+use octet_account::law::one_account;
+use sinks::Sink;
+use std::alloc::Global;
+use writing_table::measure;
+
+/// What went out of a value: so many octets, and the account of them.
+#[derive(Drop)]
+pub struct Sent {
+    pub octets: usize,
+    pub account: Account,
+}
+
+/// Writes the octets that encode the value of the type by the distinguished rules (X.690, 10 and 11) to the sink, one
+/// behind the other. All growths and the refusals `Memory`, `NotOfType` and `TooLong` come before the first of them. A
+/// call of the sink may take a part of what it is given; the rest follows.
+///
+/// - `NotOfType`: just where it is no value of the type, or there is no such type.
+/// - `TooLong`: just where it is one, and its encoding has more than 16,777,216 octets.
+/// - `Memory`: more memory was asked for and refused.
+/// - `Device`: one call of the sink failed, and isn't tried again; just so many octets went out before it.
+pub fn write_der_to<S: Sink>(
+    alloc: Global,
+    code: &Code,
+    id: TypeId,
+    value: &Value,
+    sink: &mut S,
+) -> Result<Sent, WriteFault>
+    requires room { S.failed sink.old < u64.MAX }
+    // The sink has taken just the value's one encoding, and no call failed; the account is that of the encoding.
+    ensures sent { IfOk result (λ n. Went code.now id.index (abstract value.now)
+        (state (S.taken sink.old) (S.failed sink.old)) (state (S.taken sink.new) (S.failed sink.new)) n.octets n.account) }
+    // It has taken just the first n octets of the encoding, fewer than there are, and one call failed.
+    ensures device { IfErr result (λ e. (n : ℕ) → e ≡ Device n → WentInPart code.now id.index (abstract value.now)
+        (state (S.taken sink.old) (S.failed sink.old)) (state (S.taken sink.new) (S.failed sink.new)) n) }
+    // Where it is refused before, nothing went out.
+    ensures refused { IfErr result (λ e. (e ≡ Memory) ⊎ ((e ≡ NotOfType) ⊎ (e ≡ TooLong)) → sink.new ≡ sink.old) }
+    // It is refused as no value just where it is none.
+    ensures not_of_type { IfErr result (λ e. e ≡ NotOfType → IsValue code.now id.index (abstract value.now) → ⊥) }
+    ensures no_value { (IsValue code.now id.index (abstract value.now) → ⊥) → result ≡ Err NotOfType }
+    // Each encoding by the distinguished rules is then longer than 16,777,216 octets.
+    ensures longer { IfErr result (λ e. e ≡ TooLong → (o : List ℕ)
+        → Der code.now id.index (abstract value.now) 0 o
+        → 16777216 < length o) }
+{
+    code.accepted();
+    encodings_of_values();
+    one_account();
+    one_contents();
+    let measured = match measure(alloc, code, id, value) {
+        Ok(measured) => measured,
+        Err(fault) => return Err(WriteFault::from(fault)),
+    };
+    match write_parts(sink, measured.parts.as_slice()) {
+        Ok(()) => Ok(Sent {
+            octets: measured.octets,
+            account: Account::of(measured.rows),
+        }),
+        Err(count) => Err(WriteFault::Device(count)),
+    }
+}

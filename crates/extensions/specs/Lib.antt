@@ -1,0 +1,6 @@
+-- What has to be believed: what extension markers ask of the members of lists and of the items of enumerations, and
+-- how one breaks it (`Additions`), and what faults say (`Faults`).
+-- What stands in `proving` only contracts inside the crate and proofs speak of.
+pub mod Additions
+pub mod Faults
+pub mod proving

@@ -1,0 +1,2 @@
+-- What only contracts inside the crate and proofs speak of: what the check of one type or one list tells.
+pub mod Checks

@@ -1,0 +1,4 @@
+pub mod Leaves
+pub mod Refused
+pub mod Arcs
+pub mod proving

@@ -1,0 +1,52 @@
+-- Which primitive contents octets are refused, and why.
+use Rattle.std.specs.Prelude.{◌≡◌, ℕ, ℤ, ◌≤◌, Bool, List, [], ◌∷◌, length, flat_map, IsTrue, IsUtf8}
+use Rattle.std.specs.List.{AllByRecursion}
+use Rattle.asn_base.specs.Schemas.{is_character}
+use Rattle.asn_base.specs.Typed.{IsWithinLimit, IsObjectIdentifier, IsRelativeOid}
+use Rattle.encodings.specs.Header.{Octets, septets}
+use Rattle.encodings.specs.Strings.{WholeBits}
+use Rattle.encodings.specs.Contents.{Number, joined}
+use Rattle.codec_code.specs.declared.step.LeafKind.{LeafKind}
+use Rattle.codec_code.specs.declared.step.LeafKind.TheVariants as kinds
+use Rattle.leaf_readings.specs.declared.fault.LeafFault.{LeafFault}
+use Rattle.leaf_readings.specs.declared.fault.LeafFault.TheVariants as faults
+
+-- octets are some numbers in septets, one behind the other (8.19.2)
+pub record AreNumbers (x : Octets) (ns : List ℕ) : Type 0 where
+  pub some : 1 ≤ length ns
+  pub whole : x ≡ flat_map septets ns
+
+-- octets have the form of contents of this kind, whatever the limits on numbers
+abbrev pub HasForm : LeafKind → Octets → Type 0
+HasForm kinds.Boolean x = (n : ℕ) × (x ≡ n ∷ [])  -- 8.2.1
+HasForm kinds.Integer x = (z : ℤ) × Number z x  -- 8.3
+HasForm kinds.Enumerated x = (z : ℤ) × Number z x  -- 8.4
+HasForm kinds.BitString x = (s : List Bool) × WholeBits s x  -- 8.6.2
+HasForm kinds.NamedBits x = (s : List Bool) × WholeBits s x
+HasForm kinds.OctetString x = Unit {0}  -- 8.7
+HasForm kinds.Null x = x ≡ []  -- 8.8
+HasForm kinds.ObjectIdentifier x = (ns : List ℕ) × AreNumbers x ns  -- 8.19
+HasForm kinds.RelativeOid x = (ns : List ℕ) × AreNumbers x ns  -- 8.20
+HasForm kinds.Utf8String x = IsUtf8 x  -- 8.23.10
+HasForm (kinds.RestrictedString k) x = AllByRecursion (λ c. IsTrue (is_character k c)) x  -- 8.23.5
+
+-- each fault stands where contents octets of the kind haven't its form, or where they have it and a limit is passed
+pub data Stands : LeafFault → LeafKind → Octets → Type 0 where
+  without_form : {k : LeafKind} {x : Octets} → (HasForm k x → ⊥) → Stands faults.BadContents k x
+  integer_past : {z : ℤ} {x : Octets}
+      → Number z x
+      → (IsWithinLimit z → ⊥)
+      → Stands faults.IntegerLimit kinds.Integer x
+  enumerated_past : {z : ℤ} {x : Octets}
+      → Number z x
+      → (IsWithinLimit z → ⊥)
+      → Stands faults.IntegerLimit kinds.Enumerated x
+  -- the first number is that of the first two
+  oid_past : {ns : List ℕ} {x : Octets}
+      → AreNumbers x ns
+      → ((ms : List ℕ) → IsObjectIdentifier ms → joined ms ≡ ns → ⊥)
+      → Stands faults.OidLimit kinds.ObjectIdentifier x
+  relative_past : {ns : List ℕ} {x : Octets}
+      → AreNumbers x ns
+      → (IsRelativeOid ns → ⊥)
+      → Stands faults.OidLimit kinds.RelativeOid x

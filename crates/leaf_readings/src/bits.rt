@@ -1,0 +1,27 @@
+//! The contents octets of a BIT STRING (X.690, 8.6.2).
+
+ghost use Rattle.encodings.specs.Strings.{WholeBits};
+ghost use Rattle.leaf_readings.specs.Leaves.{bits_but};
+ghost use Rattle.std.specs.Prelude.{Bool, IfNone, IfSome, List};
+
+use crate::number::are_octets;
+
+/// How many bits of the last octet are unused, and the octets behind the one that tells it.
+#[tactic(auto, using(crate::proofs::Lists::are_bits, crate::proofs::Lists::no_bits, crate::proofs::Lists::many_unused, crate::proofs::Lists::unused_of_none))]
+pub(crate) fn read_bits(octets: &[u8]) -> Option<(u8, &[u8])>
+    ensures some { IfSome result (λ r. WholeBits (bits_but r.0 r.1.now) octets.now) }
+    ensures none { IfNone result ((s : List Bool) → WholeBits s octets.now → ⊥) }
+{
+    let Some((unused, behind)) = octets.split_first() else {
+        return None;
+    };
+    let unused = *unused;
+    if unused > 7 {
+        return None;
+    }
+    if behind.len() == 0 && unused > 0 {
+        return None;
+    }
+    are_octets(behind);
+    Some((unused, behind))
+}

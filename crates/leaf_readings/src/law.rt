@@ -1,0 +1,18 @@
+//! Laws of what contents octets are read as.
+
+ghost use Rattle.asn_base.specs.Abstract.{AbstractValue};
+ghost use Rattle.codec_code.specs.declared.step.LeafKind.{LeafKind};
+ghost use Rattle.leaf_readings.specs.Leaves.{IsReadAs};
+ghost use Rattle.leaf_readings.specs.Refused.{Stands};
+ghost use Rattle.leaf_readings.specs.declared.fault.LeafFault.{LeafFault};
+ghost use Rattle.std.specs.Prelude.{◌≡◌, List, ℕ};
+
+/// Contents octets of a kind are those of one value at most, or else one fault stands, and never both.
+pub fn one_reading()
+    ensures value { (k : LeafKind) (v w : AbstractValue) (x : List ℕ) → IsReadAs k v x → IsReadAs k w x → v ≡ w }
+    ensures fault { (e f : LeafFault) (k : LeafKind) (x : List ℕ) → Stands e k x → Stands f k x → e ≡ f }
+    ensures either { (e : LeafFault) (k : LeafKind) (v : AbstractValue) (x : List ℕ)
+        → Stands e k x
+        → IsReadAs k v x
+        → ⊥ }
+{}

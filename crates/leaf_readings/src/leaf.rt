@@ -1,0 +1,190 @@
+//! What contents octets are read as.
+
+ghost use Rattle.codec_code.specs.declared.step.LeafKind.TheVariants.{BitString, Boolean, Enumerated, Integer, NamedBits, Null, ObjectIdentifier, OctetString, RelativeOid, RestrictedString, Utf8String};
+ghost use Rattle.asn_base.specs.Abstract.{AbstractValue};
+ghost use Rattle.leaf_readings.specs.Leaves.{IsReadAs, Reads};
+ghost use Rattle.leaf_readings.specs.Refused.{Stands};
+ghost use Rattle.leaf_readings.specs.declared.fault.LeafFault.{LeafFault as Fault'};
+ghost use Rattle.std.specs.Prelude.{◌≡◌, Err, IfErr, IfOk, IsOk};
+
+use crate::arcs::{judge_object_identifier, judge_relative_oid};
+use crate::bits::read_bits;
+use crate::fault::LeafFault;
+use crate::number::{are_octets, read_number};
+use crate::text::{read_restricted, read_utf8};
+use asn_base::strings::StringKind;
+use codec_code::LeafKind;
+
+/// A value that holds no others, as it is read: it takes no memory, and its strings are slices of what was read.
+#[derive(Clone, Copy, Debug, PartialEq, Eq)]
+pub enum Leaf<'a> {
+    Bool(bool),
+    Int(i128),
+    Enum(i128),
+    /// The bits of these octets but so many last ones: the octets behind the first contents octet.
+    Bits(u8, &'a [u8]),
+    Octets(&'a [u8]),
+    Text(&'a str),
+    Null,
+    /// The contents octets: numbers in septets, the first of which is 40 times the first number and the second one.
+    /// `read_arc` reads one.
+    Oid(&'a [u8]),
+    /// The contents octets: each number in septets.
+    RelativeOid(&'a [u8]),
+}
+
+/// Reads primitive contents octets of this kind by the basic rules (X.690, 8.2 to 8.8, 8.19, 8.20 and 8.23). It takes no
+/// memory. Constraints, and the numbers of an ENUMERATED's items, are not judged.
+///
+/// `BadContents` is told where the octets haven't the form of such contents: a number longer than its shortest form, more
+/// than seven unused bits, a text of other characters than its type's. Where they have it, `IntegerLimit` is told of a
+/// number that 16 octets don't hold, and `OidLimit` of more than 64 numbers or one that is 2^64 or greater.
+pub fn read_leaf(kind: LeafKind, contents: &[u8]) -> Result<Leaf<'_>, LeafFault>
+    ensures ok { IfOk result (λ l. Reads kind contents.now l) }
+    ensures err { IfErr result (λ e. Stands e kind contents.now) }
+    // They are read wherever they are those of a value, and each fault is told just where it stands.
+    ensures only { (v : AbstractValue) → IsReadAs kind v contents.now → IsOk result }
+    ensures just { (e : Fault') → Stands e kind contents.now → result ≡ Err e }
+{
+    read_kind(kind, contents)
+}
+
+/// The same, by the kind.
+fn read_kind(kind: LeafKind, contents: &[u8]) -> Result<Leaf<'_>, LeafFault>
+    ensures ok { IfOk result (λ l. Reads kind contents.now l) }
+    ensures err { IfErr result (λ e. Stands e kind contents.now) }
+{
+    match kind {
+        LeafKind::Boolean => as_boolean(contents),
+        LeafKind::Integer => as_integer(contents),
+        LeafKind::Enumerated => as_enumerated(contents),
+        LeafKind::BitString => as_bits(contents),
+        LeafKind::NamedBits => as_named_bits(contents),
+        LeafKind::OctetString => as_octets(contents),
+        LeafKind::Null => as_null(contents),
+        LeafKind::ObjectIdentifier => as_object_identifier(contents),
+        LeafKind::RelativeOid => as_relative_oid(contents),
+        LeafKind::Utf8String => as_utf8(contents),
+        LeafKind::RestrictedString(kind) => as_restricted(kind, contents),
+    }
+}
+
+/// No bit is set for FALSE, some are for TRUE (8.2.2).
+fn as_boolean(contents: &[u8]) -> Result<Leaf<'_>, LeafFault>
+    ensures ok { IfOk result (λ l. Reads Boolean contents.now l) }
+    ensures err { IfErr result (λ e. Stands e Boolean contents.now) }
+{
+    let Some((octet, behind)) = contents.split_first() else {
+        return Err(LeafFault::BadContents);
+    };
+    if behind.len() > 0 {
+        return Err(LeafFault::BadContents);
+    }
+    are_octets(contents);
+    if *octet == 0 {
+        Ok(Leaf::Bool(false))
+    } else {
+        Ok(Leaf::Bool(true))
+    }
+}
+
+fn as_integer(contents: &[u8]) -> Result<Leaf<'_>, LeafFault>
+    ensures ok { IfOk result (λ l. Reads Integer contents.now l) }
+    ensures err { IfErr result (λ e. Stands e Integer contents.now) }
+{
+    match read_number(contents) {
+        Ok(number) => Ok(Leaf::Int(number)),
+        Err(fault) => Err(fault),
+    }
+}
+
+fn as_enumerated(contents: &[u8]) -> Result<Leaf<'_>, LeafFault>
+    ensures ok { IfOk result (λ l. Reads Enumerated contents.now l) }
+    ensures err { IfErr result (λ e. Stands e Enumerated contents.now) }
+{
+    match read_number(contents) {
+        Ok(number) => Ok(Leaf::Enum(number)),
+        Err(fault) => Err(fault),
+    }
+}
+
+fn as_bits(contents: &[u8]) -> Result<Leaf<'_>, LeafFault>
+    ensures ok { IfOk result (λ l. Reads BitString contents.now l) }
+    ensures err { IfErr result (λ e. Stands e BitString contents.now) }
+{
+    match read_bits(contents) {
+        Some((unused, octets)) => Ok(Leaf::Bits(unused, octets)),
+        None => Err(LeafFault::BadContents),
+    }
+}
+
+fn as_named_bits(contents: &[u8]) -> Result<Leaf<'_>, LeafFault>
+    ensures ok { IfOk result (λ l. Reads NamedBits contents.now l) }
+    ensures err { IfErr result (λ e. Stands e NamedBits contents.now) }
+{
+    match read_bits(contents) {
+        Some((unused, octets)) => Ok(Leaf::Bits(unused, octets)),
+        None => Err(LeafFault::BadContents),
+    }
+}
+
+fn as_octets(contents: &[u8]) -> Result<Leaf<'_>, LeafFault>
+    ensures ok { IfOk result (λ l. Reads OctetString contents.now l) }
+    ensures err { IfErr result (λ e. Stands e OctetString contents.now) }
+{
+    are_octets(contents);
+    Ok(Leaf::Octets(contents))
+}
+
+fn as_null(contents: &[u8]) -> Result<Leaf<'_>, LeafFault>
+    ensures ok { IfOk result (λ l. Reads Null contents.now l) }
+    ensures err { IfErr result (λ e. Stands e Null contents.now) }
+{
+    if contents.len() == 0 {
+        Ok(Leaf::Null)
+    } else {
+        Err(LeafFault::BadContents)
+    }
+}
+
+fn as_object_identifier(contents: &[u8]) -> Result<Leaf<'_>, LeafFault>
+    ensures ok { IfOk result (λ l. Reads ObjectIdentifier contents.now l) }
+    ensures err { IfErr result (λ e. Stands e ObjectIdentifier contents.now) }
+{
+    match judge_object_identifier(contents) {
+        Ok(()) => Ok(Leaf::Oid(contents)),
+        Err(fault) => Err(fault),
+    }
+}
+
+fn as_relative_oid(contents: &[u8]) -> Result<Leaf<'_>, LeafFault>
+    ensures ok { IfOk result (λ l. Reads RelativeOid contents.now l) }
+    ensures err { IfErr result (λ e. Stands e RelativeOid contents.now) }
+{
+    match judge_relative_oid(contents) {
+        Ok(()) => Ok(Leaf::RelativeOid(contents)),
+        Err(fault) => Err(fault),
+    }
+}
+
+fn as_utf8(contents: &[u8]) -> Result<Leaf<'_>, LeafFault>
+    ensures ok { IfOk result (λ l. Reads Utf8String contents.now l) }
+    ensures err { IfErr result (λ e. Stands e Utf8String contents.now) }
+{
+    are_octets(contents);
+    match read_utf8(contents) {
+        Some(text) => Ok(Leaf::Text(text)),
+        None => Err(LeafFault::BadContents),
+    }
+}
+
+fn as_restricted(kind: StringKind, contents: &[u8]) -> Result<Leaf<'_>, LeafFault>
+    ensures ok { IfOk result (λ l. Reads (RestrictedString kind) contents.now l) }
+    ensures err { IfErr result (λ e. Stands e (RestrictedString kind) contents.now) }
+{
+    are_octets(contents);
+    match read_restricted(kind, contents) {
+        Some(text) => Ok(Leaf::Text(text)),
+        None => Err(LeafFault::BadContents),
+    }
+}

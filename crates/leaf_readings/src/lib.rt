@@ -1,0 +1,18 @@
+//! Primitive contents octets of kinds that hold no others, as they are read by the basic rules and judged by the
+//! distinguished ones (X.690, 8.2 to 8.8, 8.19, 8.20, 8.23, 10 and 11). Strings are slices of what is read.
+#![tactic(auto)]
+
+mod arcs;
+mod bits;
+mod der;
+mod fault;
+pub mod law;
+mod leaf;
+mod number;
+mod septets;
+mod text;
+
+pub use der::is_distinguished;
+pub use fault::LeafFault;
+pub use leaf::{Leaf, read_leaf};
+pub use septets::read_arc;

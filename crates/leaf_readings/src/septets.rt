@@ -1,0 +1,66 @@
+//! Numbers in septets (X.690, 8.19.2).
+
+ghost use Rattle.leaf_readings.specs.Arcs.{Front};
+ghost use Rattle.leaf_readings.specs.proving.Spelled.{Behind, Septets};
+ghost use Rattle.encodings.specs.Header.{septets};
+ghost use Rattle.std.specs.Prelude.{◌≡◌, ◌<◌, ◌++◌, ◌^◌, IfNone, IfSome, List, length, ℕ, None};
+
+/// From here on septets are worth more than any number of an OBJECT IDENTIFIER.
+const GREAT: u128 = 18_446_744_073_709_551_616;
+
+/// The number in septets at the front of octets, without zeros first, and what follows it. None stands for a number of
+/// 2^64 + 80 or greater.
+pub fn read_arc(octets: &[u8]) -> Option<(Option<u128>, &[u8])>
+    ensures some { IfSome result (λ r. Front r.0 r.1.now octets.now) }
+    ensures shorter { IfSome result (λ r. length r.1.now < length octets.now) }
+    ensures none { IfNone result ((n : ℕ) (rest : List ℕ) → octets.now ≡ septets n ++ rest → ⊥) }
+{
+    if octets.len() == 0 {
+        return None;
+    }
+    if octets[0] == 128 {
+        return None;
+    }
+    match read_septets(octets, 0) {
+        Some((number, rest)) => Some((number, rest)),
+        None => None,
+    }
+}
+
+/// Reads septets behind some that are worth `high`.
+#[tactic(auto, using(crate::proofs::Spelling::one_last, crate::proofs::Spelling::one_more, crate::proofs::Spelling::one_great, crate::proofs::Spelling::none_there, crate::proofs::Spelling::none_behind))]
+fn read_septets(octets: &[u8], high: u128) -> Option<(Option<u128>, &[u8])>
+    requires { high < 2 ^ 64 }
+    ensures some { IfSome result (λ r. Behind high r.0 r.1.now octets.now) }
+    ensures none { IfNone result ((n : ℕ) (rest : List ℕ) → Septets high octets.now n rest → ⊥) }
+{
+    let Some((octet, behind)) = octets.split_first() else {
+        return None;
+    };
+    let octet = *octet;
+    if octet < 128 {
+        return Some((Some(high * 128 + octet as u128), behind));
+    }
+    let worth = high * 128 + (octet - 128) as u128;
+    if worth < GREAT {
+        return read_septets(behind, worth);
+    }
+    match behind_septets(behind) {
+        Some(rest) => Some((None, rest)),
+        None => None,
+    }
+}
+
+/// What follows septets, whatever they are worth.
+#[tactic(auto, using(crate::proofs::Spelling::high_more, crate::proofs::Spelling::ends_before, crate::proofs::Spelling::none_ends))]
+fn behind_septets(octets: &[u8]) -> Option<&[u8]>
+    ensures some { IfSome result (λ r. (high : ℕ) → (n : ℕ) × Septets high octets.now n r.now) }
+    ensures none { IfNone result ((high n : ℕ) (rest : List ℕ) → Septets high octets.now n rest → ⊥) }
+{
+    for i in 0..octets.len() {
+        if octets[i] < 128 {
+            return Some(&octets[i + 1..]);
+        }
+    }
+    None
+}

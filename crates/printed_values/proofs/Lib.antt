@@ -1,0 +1,4 @@
+pub mod Leaves
+pub mod Items
+pub mod Lists
+pub mod Notations

@@ -1,0 +1,20 @@
+-- The values whose printed text is read back: a text in which a line ends is printed as its octets, which are no notation
+-- of a text (X.680, clauses 12.1.6 and 41).
+use Rattle.std.specs.Prelude.{◌≡◌, false}
+use Rattle.std.specs.List.{list_any}
+use Rattle.asn_base.specs.Abstract.{AbstractValue, text, fields, list, alternative, Row, end, absent, present}
+use Rattle.value_text.specs.Print.{is_line_end}
+
+-- in no text of the value a line ends
+abbrev mutual
+  pub HasNoLineEnd : AbstractValue → Type 0
+  HasNoLineEnd (text o) = list_any is_line_end o ≡ false
+  HasNoLineEnd (fields vs) = HaveNoLineEnd vs
+  HasNoLineEnd (list vs) = HaveNoLineEnd vs
+  HasNoLineEnd (alternative i v) = HasNoLineEnd v
+  HasNoLineEnd v = Unit {0}
+
+  pub HaveNoLineEnd : Row → Type 0
+  HaveNoLineEnd end = Unit {0}
+  HaveNoLineEnd (absent vs) = HaveNoLineEnd vs
+  HaveNoLineEnd (present v vs) = HasNoLineEnd v × HaveNoLineEnd vs

@@ -1,0 +1,11 @@
+use Rattle.std.proofs.Common.{length, sym, subst}
+use Rattle.type_table.specs.Walks.{IsWithin}
+use Rattle.range_ends.specs.proving.Steps.{listed}
+use Rattle.range_ends.proofs.References.{refers_within}
+use Rattle.range_ends.proofs.scope.Scope.of.Goals as goal
+
+pub farthest-requires : goal.farthest-requires
+farthest-requires c = record {
+  within = subst (λ os. IsWithin (listed os) (length os)) (sym c.deref.ensures.value)
+      (refers_within c.args.linked.now c.in_ok-behind.behind.items c.whole.ensures c.in_ok-behind.ensures);
+}

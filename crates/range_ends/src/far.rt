@@ -1,0 +1,59 @@
+//! Where the references of all values end, found by doubling the steps.
+
+ghost use Rattle.std.specs.Prelude.{ℕ, ◌≤◌, ◌≡◌, IfOk, length, ◌+◌};
+ghost use Rattle.type_table.specs.Walks.{IsWithin};
+ghost use Rattle.range_ends.specs.proving.Steps.{listed};
+ghost use Rattle.range_ends.specs.proving.Far.{AreFar};
+
+use std::alloc::{AllocError, Global};
+
+/// The value behind each value, or itself where it refers to none.
+fn one_step(alloc: Global, behind: &[Option<usize>]) -> Result<Vec<usize>, AllocError>
+    ensures { IfOk result (λ v. AreFar behind.now 1 v.items) }
+{
+    let mut all = Vec::new(alloc);
+    for at in 0..behind.len() {
+        let next = match behind[at] {
+            None => at,
+            Some(next) => next,
+        };
+        all.push(next)?;
+    }
+    Ok(all)
+}
+
+/// Where as many steps more lead.
+fn twice(
+    alloc: Global,
+    behind: &[Option<usize>],
+    steps: usize,
+    far: &[usize],
+) -> Result<Vec<usize>, AllocError>
+    requires within { IsWithin (listed behind.now) (length behind.now) }
+    requires far { AreFar behind.now steps far.now }
+    ensures { IfOk result (λ v. AreFar behind.now (steps + steps) v.items) }
+{
+    let mut all = Vec::new(alloc);
+    for at in 0..far.len() {
+        let middle = far[at];
+        all.push(far[middle])?;
+    }
+    Ok(all)
+}
+
+/// Where each value leads in as many steps as there are values, or where its references end.
+pub(crate) fn farthest(alloc: Global, behind: &[Option<usize>]) -> Result<Vec<usize>, AllocError>
+    requires within { IsWithin (listed behind.now) (length behind.now) }
+    ensures { IfOk result (λ v. AreFar behind.now (length behind.now) v.items) }
+{
+    let mut far = one_step(alloc, behind)?;
+    let mut steps: usize = 1;
+    for round in 0..behind.len() {
+        if behind.len() <= steps {
+            return Ok(far);
+        }
+        far = twice(alloc, behind, steps, &far)?;
+        steps = steps.saturating_add(steps);
+    }
+    Ok(far)
+}

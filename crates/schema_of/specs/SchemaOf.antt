@@ -1,0 +1,190 @@
+-- When resolved types are those of a program: type i of the schema is what the written type i is behind its references
+-- and tags, with the same names, numbers and parts (X.680, clauses 17 to 33 and 41). What constraints allow is a
+-- parameter, as in the values of types.
+use Rattle.std.specs.Prelude.{◌≡◌, ◌↔◌, ℕ, ◌<◌, ◌≤◌, ℤ, pos, Bool, true, false, List, [], ◌∷◌, length, map}
+use Rattle.std.specs.Prelude.{Option, Some, None, slice_get}
+use Rattle.asn_base.specs.declared.strings.StringKind.{StringKind}
+use Rattle.asn_base.specs.Abstract.{AbstractValue}
+use Rattle.asn_base.specs.Names.{IsMember}
+use Rattle.asn_base.specs.Types.{Constraint, NamedBit, Alternative, Component, Presence, Resolved}
+use Rattle.asn_base.specs.Types as types
+use Rattle.asn_base.specs.Typed.{IsAllowed, IsAllowedSize}
+use Rattle.trees.specs.declared.types.ListKind.TheVariants.{Sequence, Set, Choice}
+use Rattle.trees.specs.declared.types.ElementsKind.TheVariants.{SequenceOf, SetOf}
+use Rattle.trees.specs.declared.types.Standing.TheVariants.{Root, Addition}
+use Rattle.trees.specs.Values.{Name, Tree}
+use Rattle.trees.specs.Types.{a_boolean, an_integer, a_bit_string, an_octet_string, a_null, an_object_identifier}
+use Rattle.trees.specs.Types.{a_relative_oid, an_enumerated, a_utf8_string, a_restricted_string}
+use Rattle.trees.specs.Types.{mandatory, optional, default}
+use Rattle.type_table.specs.Items.{Item, additions_of}
+use Rattle.type_table.specs.Table.{Kind, simple, members, elements, Part, Type', IsCore}
+use Rattle.resolve.specs.Program.{Program, IsAssignment}
+use Rattle.value_notations.specs.Leaves.{IsItem}
+use Rattle.value_notations.specs.Notations.{Notation}
+
+-- ---- items and bits
+
+abbrev pub named_bit : Name × ℕ → NamedBit
+named_bit b = record { name = b.0; place = b.1 }
+
+abbrev pub numbered_item : Name → ℤ → types.Item
+numbered_item x z = record { name = x; number = z }
+
+-- the item stands in the root
+pub record IsRootItem (root more : List Item) (x : Name) (z : ℤ) : Type 0 where
+  pub item : IsItem root more x z
+  pub in_root : item.place < length root
+
+-- the item stands behind the marker
+pub record IsAddedItem (root more : List Item) (x : Name) (z : ℤ) : Type 0 where
+  pub item : IsItem root more x z
+  pub behind : length root ≤ item.place
+
+-- the items of an enumeration, each with its number, in any order: those of the root, and those behind the marker,
+-- which is there or not
+pub record AreItemsOf (root : List Item) (more : Option (List Item)) (in_root : List types.Item) (marker : Bool)
+    (added : List types.Item) : Type 0 where
+  pub roots : (x : Name) (z : ℤ) → (IsMember (numbered_item x z) in_root ↔ IsRootItem root (additions_of more) x z)
+  pub additions : (x : Name) (z : ℤ) → (IsMember (numbered_item x z) added ↔ IsAddedItem root (additions_of more) x z)
+  pub marked : marker ≡ false ↔ more ≡ None
+
+-- ---- components and alternatives
+
+-- whether component c of a list that is written in module M may be absent; a DEFAULT is the value that its notation
+-- stands for
+pub data IsPresenceOf (p : Program) (M : Name) (c : Part) : Presence → Type 0 where
+  is_mandatory :
+      c.standing ≡ Root →
+      c.presence ≡ mandatory →
+      IsPresenceOf p M c types.mandatory
+  is_optional :
+      c.standing ≡ Root →
+      c.presence ≡ optional →
+      IsPresenceOf p M c types.optional
+  has_default : {n : Tree} {d : AbstractValue} →
+      c.standing ≡ Root →
+      c.presence ≡ default n →
+      Notation p [] M c.ty n d →
+      IsPresenceOf p M c (types.default d)
+  is_addition : {g : Option ℕ} →
+      c.standing ≡ Addition g →
+      c.presence ≡ mandatory →
+      IsPresenceOf p M c (types.addition false g)
+  is_optional_addition : {g : Option ℕ} →
+      c.standing ≡ Addition g →
+      c.presence ≡ optional →
+      IsPresenceOf p M c (types.addition true g)
+
+pub record IsComponentOf (p : Program) (M : Name) (c : Part) (d : Component) : Type 0 where
+  pub name : d.name ≡ c.name
+  pub type : d.type ≡ c.ty
+  pub presence : IsPresenceOf p M c d.presence
+
+-- components in the order in which they are written
+pub data AreComponentsOf (p : Program) (M : Name) : List Part → List Component → Type 0 where
+  no_component : AreComponentsOf p M [] []
+  component_and : {c : Part} {cs : List Part} {d : Component} {ds : List Component} →
+      IsComponentOf p M c d →
+      AreComponentsOf p M cs ds →
+      AreComponentsOf p M (c ∷ cs) (d ∷ ds)
+
+pub record IsAlternativeOf (c : Part) (a : Alternative) : Type 0 where
+  pub name : a.name ≡ c.name
+  pub type : a.type ≡ c.ty
+
+-- alternatives in the order in which they are written: those of the root, and those behind the marker
+pub data AreAlternativesOf : List Part → (root more : List Alternative) → Type 0 where
+  no_alternative : AreAlternativesOf [] [] []
+  root_and : {c : Part} {cs : List Part} {a : Alternative} {root more : List Alternative} →
+      c.standing ≡ Root →
+      IsAlternativeOf c a →
+      AreAlternativesOf cs root more →
+      AreAlternativesOf (c ∷ cs) (a ∷ root) more
+  addition_and : {c : Part} {cs : List Part} {a : Alternative} {more : List Alternative} (g : Option ℕ) →
+      c.standing ≡ Addition g →
+      IsAlternativeOf c a →
+      AreAlternativesOf cs [] more →
+      AreAlternativesOf (c ∷ cs) [] (a ∷ more)
+
+-- the alternative that is written at this place
+pub record IsChosenPart (cs : List Part) (i : ℕ) (a : Alternative) : Type 0 where
+  pub part : Part
+  pub there : slice_get cs i ≡ Some part
+  pub alike : IsAlternativeOf part a
+
+-- ---- kinds
+
+-- the constraint allows the numbers that type i allows
+abbrev pub AllowsNumbersOf : (ℕ → ℤ → Type 0) → ℕ → Constraint → Type 0
+AllowsNumbersOf Allows i c = (z : ℤ) → (IsAllowed c z ↔ Allows i z)
+
+-- it allows the sizes that type i allows
+abbrev pub AllowsSizesOf : (ℕ → ℤ → Type 0) → ℕ → Constraint → Type 0
+AllowsSizesOf Allows i c = (n : ℕ) → (IsAllowedSize c n ↔ Allows i (pos n))
+
+-- Type i, whose core is of the first kind and is written in module M, is of the second kind in a schema. The types that
+-- stand in it have the same numbers in both.
+pub data IsKindOf (p : Program) (Allows : ℕ → ℤ → Type 0) (AllowsCode : ℕ → ℕ → Type 0) (i : ℕ) (M : Name)
+    : Kind → types.Kind → Type 0 where
+  boolean : IsKindOf p Allows AllowsCode i M (simple a_boolean) types.a_boolean
+  integer : {ns : List (Name × ℤ)} {c : Constraint} →
+      AllowsNumbersOf Allows i c →
+      IsKindOf p Allows AllowsCode i M (simple (an_integer ns)) (types.an_integer c)
+  enumerated : {root : List Item} {more : Option (List Item)} {in_root added : List types.Item} {marker : Bool} →
+      AreItemsOf root more in_root marker added →
+      IsKindOf p Allows AllowsCode i M (simple (an_enumerated root more)) (types.an_enumerated in_root marker added)
+  bits : {c : Constraint} →
+      AllowsSizesOf Allows i c →
+      IsKindOf p Allows AllowsCode i M (simple (a_bit_string [])) (types.a_bit_string c)
+  named_bits : {b : Name × ℕ} {bs : List (Name × ℕ)} {ns : List NamedBit} →
+      ns ≡ map named_bit (b ∷ bs) →
+      IsKindOf p Allows AllowsCode i M (simple (a_bit_string (b ∷ bs))) (types.a_named_bit_string ns)
+  octets : {c : Constraint} →
+      AllowsSizesOf Allows i c →
+      IsKindOf p Allows AllowsCode i M (simple an_octet_string) (types.an_octet_string c)
+  null : IsKindOf p Allows AllowsCode i M (simple a_null) types.a_null
+  object_identifier : IsKindOf p Allows AllowsCode i M (simple an_object_identifier) types.an_object_identifier
+  relative_oid : IsKindOf p Allows AllowsCode i M (simple a_relative_oid) types.a_relative_oid
+  utf8 : {c : Constraint} →
+      AllowsSizesOf Allows i c →
+      IsKindOf p Allows AllowsCode i M (simple a_utf8_string) (types.a_utf8_string c)
+  restricted : {k : StringKind} {codes : List ℕ} {c : Constraint} →
+      ((x : ℕ) → (IsMember x codes ↔ AllowsCode i x)) →
+      AllowsSizesOf Allows i c →
+      IsKindOf p Allows AllowsCode i M (simple (a_restricted_string k)) (types.a_restricted_string k codes c)
+  sequence : {marker : Bool} {cs : List Part} {ds : List Component} →
+      AreComponentsOf p M cs ds →
+      IsKindOf p Allows AllowsCode i M (members Sequence marker cs) (types.a_sequence marker ds)
+  set : {marker : Bool} {cs : List Part} {ds : List Component} →
+      AreComponentsOf p M cs ds →
+      IsKindOf p Allows AllowsCode i M (members Set marker cs) (types.a_set marker ds)
+  sequence_of : {j : ℕ} {c : Constraint} →
+      AllowsSizesOf Allows i c →
+      IsKindOf p Allows AllowsCode i M (elements SequenceOf j) (types.a_sequence_of c j)
+  set_of : {j : ℕ} {c : Constraint} →
+      AllowsSizesOf Allows i c →
+      IsKindOf p Allows AllowsCode i M (elements SetOf j) (types.a_set_of c j)
+  choice : {marker : Bool} {cs : List Part} {root more : List Alternative} →
+      AreAlternativesOf cs root more →
+      IsKindOf p Allows AllowsCode i M (members Choice marker cs) (types.a_choice root marker more)
+
+-- ---- types
+
+-- what type i is behind its references and tags is of this kind in a schema
+pub record IsTypeOf (p : Program) (Allows : ℕ → ℤ → Type 0) (AllowsCode : ℕ → ℕ → Type 0) (i : ℕ) (k : types.Kind)
+    : Type 0 where
+  pub core : ℕ
+  pub type : Type'
+  pub leads : IsCore p.types i core
+  pub there : slice_get p.types core ≡ Some type
+  pub within : Name
+  pub assigns : Name
+  pub stands : IsAssignment p type.assignment within assigns
+  pub kind : IsKindOf p Allows AllowsCode i within type.kind k
+
+-- the schema has a type for each written type, by the same number; of its tags and of what the packed encoding sees
+-- nothing is said here
+pub record IsSchemaOf (p : Program) (Allows : ℕ → ℤ → Type 0) (AllowsCode : ℕ → ℕ → Type 0) (s : List Resolved)
+    : Type 0 where
+  pub as_many : length s ≡ length p.types
+  pub each : (i : ℕ) (r : Resolved) → slice_get s i ≡ Some r → IsTypeOf p Allows AllowsCode i r.kind

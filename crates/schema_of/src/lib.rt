@@ -1,0 +1,4 @@
+//! Schemas of linked modules: definitions and laws, and no code that runs.
+#![tactic(auto)]
+
+pub mod law;

@@ -1,0 +1,605 @@
+-- What the parts of a reading answer, put together.
+use Rattle.std.proofs.Common.{◌≡◌, ℕ, zero, suc, ◌+◌, ◌<◌, Bool, List, [], ◌∷◌, ◌++◌, Option, Some, None, refl, sym, ap, ◌∙◌, length, map, arith, subst, get_or, cond, option_map, take, drop, ◌-◌}
+use native.Mathlib.Numerals.{unary_clauses}
+use Rattle.std.specs.Prelude.{slice_get, IsTrue, pos, All, true, false, bytes_eq}
+use Rattle.std.proofs.lemmas.List.{length-map}
+use Rattle.std.proofs.lemmas.Option.{same_Some}
+use Rattle.asn_base.specs.declared.tag.Tag.{Tag}
+use Rattle.trees.specs.declared.types.Keyword.{Keyword}
+use Rattle.trees.specs.declared.value.Named.{Named}
+use Rattle.trees.specs.declared.value.ValueSyntax.{ValueSyntax}
+use Rattle.names.specs.proving.Distinct.{same_bytes, equal_bytes, stands_map}
+use Rattle.type_table.specs.declared.table.Written.{Written}
+use Rattle.type_table.specs.Seen.{kind_of, part_of, type_of, types_of}
+use Rattle.values.specs.Arranged.{IsArranged, place_of}
+use Rattle.type_table.specs.declared.table.Component.{Component}
+use Rattle.typed_values.proofs.Rows.{got, got_or, got_plain, place_below, split, taken, map_end, one_more, none_yet, one_field_more, no_field_yet}
+use Rattle.asn_base.specs.declared.value.Value.{Value}
+use Rattle.asn_base.specs.Abstract.{AbstractValue, abstract, Row, row_of_list, row_of_options, fields, list, alternative}
+use Rattle.asn_base.specs.Typed.{nodes, row_nodes, members, GroupsAreWhole}
+use Rattle.trees.specs.declared.types.ListKind.{ListKind}
+use Rattle.trees.specs.declared.types.ListKind.TheVariants.{Sequence, Set, Choice}
+use Rattle.trees.specs.declared.types.ElementsKind.{ElementsKind}
+use Rattle.trees.specs.Values.{Name, Tree, chosen, name_at, member_of, tree_of}
+use Rattle.trees.specs.declared.types.Standing.{Standing}
+use Rattle.trees.specs.declared.types.Standing.TheVariants.{Root, Addition}
+use Rattle.trees.specs.declared.types.PresenceSyntax.TheVariants as syntax
+use Rattle.trees.specs.Types.{Plain, PresenceTree, presence_of, mandatory, optional, default}
+use Rattle.names.specs.Modules.{StandsIn}
+use Rattle.type_table.specs.Table.{Type', Kind, simple, reference, tagged, elements, Part, Is, IsLinked, IsCore, next, behind, behind_of}
+use Rattle.type_table.specs.Table as table
+use Rattle.resolve.specs.Program.{Program, IsHome}
+use Rattle.range_ends.specs.Ends.{IsOfKind}
+use Rattle.value_notations.specs.References.{IsLast}
+use Rattle.value_notations.specs.Leaves.{IsLeaf}
+use Rattle.value_notations.specs.Leaves as leaves
+use Rattle.value_notations.specs.Notations.{Notation, NotationOf, Fields, Elements, notation, of_choice, of_list, component_of, field_names, part_names, fields_in, values_in, may_be_absent}
+use Rattle.value_notations.specs.Notations as family
+use Rattle.value_notations.specs.Values.{ValueIn, ValueOf, value_in, IsPlainValue, MayBeAbsent}
+use Rattle.value_notations.specs.Values as values
+use Rattle.value_notations.specs.Wrong.{IsWrongHere, IsMisfit, misfit, not_of_type}
+use Rattle.value_notations.specs.Outside.{IsOutside, IsLeftOut}
+use Rattle.values.specs.Allowing.{Allows, AllowsCode}
+use Rattle.typed_values.specs.declared.fault.ValueFault.{ValueFault}
+use Rattle.typed_values.specs.declared.fault.Cause.{Cause}
+use Rattle.value_notations.specs.declared.references.FollowFault.{FollowFault}
+use Rattle.value_notations.specs.Faults.{IsFollowFault}
+use Rattle.typed_values.specs.Faults.{IsWritten, Stands, IsCause, HasNoAlternative}
+use Rattle.typed_values.specs.Faults as faults
+use Rattle.typed_values.specs.proving.Reading.{Means, MeanRow, MeanFields, StandsInOne, StandsInField, IsWrongField, IsWrongDefault, ArePlaced, IsField, option_nodes}
+use Rattle.typed_values.specs.proving.Reading as reading
+
+pub of_kind : {p : Program} {i : ℕ} {k : Kind} {N : Name} → IsWritten p i k N → IsOfKind p.types i k
+of_kind w = record { core = w.core; type = w.type; leads = w.leads; there = w.there; kind = w.kind }
+
+-- a value of what the type is
+pub shaped : {p : Program} {n i : ℕ} {k : Kind} {N : Name} {v : AbstractValue} →
+    IsWritten p i k N →
+    ValueOf p (Allows p) (AllowsCode p) n i N k v →
+    ValueIn p (Allows p) (AllowsCode p) (suc n) i v
+shaped {p} {n} {i} {k} {N} {v} w h =
+    value_in w.leads w.there w.stands
+    (subst (λ (x : Kind). ValueOf p (Allows p) (AllowsCode p) n i N x v) (sym w.kind) h)
+
+-- ---- leaves
+
+leaf_nodes : {k : Plain} {n : Tree} {v : AbstractValue} → IsLeaf k n v → nodes v ≡ 1
+leaf_nodes leaves.truth = refl
+leaf_nodes leaves.falsehood = refl
+leaf_nodes leaves.written_number = refl
+leaf_nodes (leaves.named_number e) = refl
+leaf_nodes (leaves.named_item e) = refl
+leaf_nodes (leaves.bit_digits e f) = refl
+leaf_nodes (leaves.bit_hex e f) = refl
+leaf_nodes (leaves.no_named_bit e) = refl
+leaf_nodes (leaves.named_bits e f) = refl
+leaf_nodes (leaves.octet_digits e) = refl
+leaf_nodes (leaves.octet_hex e) = refl
+leaf_nodes leaves.nothing_more = refl
+leaf_nodes (leaves.identifier e) = refl
+leaf_nodes leaves.relative = refl
+leaf_nodes leaves.relative_alone = refl
+leaf_nodes (leaves.utf8 e) = refl
+leaf_nodes (leaves.restricted e) = refl
+
+pub leaf_means : {p : Program} {n left i : ℕ} {k : Plain} {N : Name} {os ps : List ℕ} {M K : Name} {t l : Tree}
+    {v : AbstractValue} →
+    IsWritten p i (simple k) N →
+    IsLast p (simple k) os M t ps K l →
+    IsLeaf k l v →
+    IsPlainValue (Allows p) (AllowsCode p) i k v →
+    Means p (suc n) (suc left) left os M i t v
+leaf_means w e h a =
+    let c = leaf_nodes h in
+    record {
+      stands = notation (of_kind w) e (family.of_leaf h);
+      value = shaped w (values.of_leaf a);
+      counted = omega (arith, c);
+    }
+
+pub leaf_outside : {p : Program} {i : ℕ} {k : Plain} {N : Name} {os ps : List ℕ} {M K : Name} {t l : Tree}
+    {v : AbstractValue} →
+    IsWritten p i (simple k) N →
+    IsLast p (simple k) os M t ps K l →
+    IsLeaf k l v →
+    IsLeftOut (Allows p) (AllowsCode p) i (simple k) v →
+    IsOutside p (Allows p) (AllowsCode p) os M i t
+leaf_outside {k = k} {v = v} w e h o =
+    record { kind = simple k; is = of_kind w; value = v; stands = notation (of_kind w) e (family.of_leaf h); left_out = o }
+
+-- ---- lists
+
+pub list_means : {p : Program} {n before after i a : ℕ} {k : ElementsKind} {N : Name} {os ps : List ℕ} {M K : Name}
+    {t l : Tree} {ts : List Tree} {r : Row} →
+    IsWritten p i (elements k a) N →
+    IsLast p (elements k a) os M t ps K l →
+    values_in l ≡ Some ts →
+    MeanRow p n before after ps K a ts r →
+    Allows p i (pos (members r)) →
+    Means p (suc n) (suc before) after os M i t (list r)
+list_means w e f m a =
+    let c = m.counted in
+    record {
+      stands = notation (of_kind w) e (of_list f m.stand);
+      value = shaped w (values.of_list m.values a);
+      counted = omega (arith, c);
+    }
+
+pub list_outside : {p : Program} {n before after i a : ℕ} {k : ElementsKind} {N : Name} {os ps : List ℕ} {M K : Name}
+    {t l : Tree} {ts : List Tree} {r : Row} →
+    IsWritten p i (elements k a) N →
+    IsLast p (elements k a) os M t ps K l →
+    values_in l ≡ Some ts →
+    MeanRow p n before after ps K a ts r →
+    (Allows p i (pos (members r)) → ⊥) →
+    IsOutside p (Allows p) (AllowsCode p) os M i t
+list_outside {a = a} {k = k} {r = r} w e f m o =
+    record {
+      kind = elements k a;
+      is = of_kind w;
+      value = list r;
+      stands = notation (of_kind w) e (of_list f m.stand);
+      left_out = o;
+    }
+
+pub list_fault : {p : Program} {n left i a : ℕ} {k : ElementsKind} {N : Name} {os ps : List ℕ} {M K : Name} {t l : Tree}
+    {ts : List Tree} {f : ValueFault} →
+    IsWritten p i (elements k a) N →
+    IsLast p (elements k a) os M t ps K l →
+    values_in l ≡ Some ts →
+    StandsInOne p n left ps K a ts f →
+    Stands p (suc n) (suc left) os M i t f
+list_fault w e g s =
+    let c = s.counted in
+    faults.in_element s.after (of_kind w) e (g ∙ ap Some s.split) s.stand (omega (arith, c)) s.fault
+
+pub list_misfit : {p : Program} {i a : ℕ} {k : ElementsKind} {N : Name} {os ps : List ℕ} {M K : Name} {t l : Tree} →
+    IsWritten p i (elements k a) N →
+    IsLast p (elements k a) os M t ps K l →
+    values_in l ≡ None →
+    IsWrongHere p os M i t not_of_type
+list_misfit w e f = misfit (of_kind w) e f
+
+-- ---- alternatives
+
+pub choice_means : {p : Program} {n before after i a : ℕ} {e : Bool} {cs : List Part} {N : Name} {os ps : List ℕ}
+    {M K x : Name} {t l m : Tree} {v : AbstractValue} (c : Part) →
+    IsWritten p i (table.members Choice e cs) N →
+    IsLast p (table.members Choice e cs) os M t ps K l →
+    l ≡ chosen x m →
+    slice_get cs a ≡ Some c →
+    c.name ≡ x →
+    Means p n before after ps K c.ty m v →
+    Means p (suc n) (suc before) after os M i t (alternative a v)
+choice_means {p} {e = e} {cs = cs} {os = os} {ps = ps} {M = M} {K = K} {t = t} c w d q s f h =
+    let b = h.counted in
+    record {
+      stands = notation (of_kind w) (subst (λ (z : Tree). IsLast p (table.members Choice e cs) os M t ps K z) q d)
+          (of_choice s f h.stands);
+      value = shaped w (values.of_choice s h.value);
+      counted = omega (arith, b);
+    }
+
+pub choice_fault : {p : Program} {n left i : ℕ} {e : Bool} {cs : List Part} {N : Name} {os ps : List ℕ} {M K x : Name}
+    {t l m : Tree} {f : ValueFault} (c : Part) →
+    IsWritten p i (table.members Choice e cs) N →
+    IsLast p (table.members Choice e cs) os M t ps K l →
+    l ≡ chosen x m →
+    StandsIn cs c →
+    c.name ≡ x →
+    Stands p n left ps K c.ty m f →
+    Stands p (suc n) (suc left) os M i t f
+choice_fault {p} {e = e} {cs = cs} {os = os} {ps = ps} {M = M} {K = K} {t = t} c w d q s g h =
+    faults.in_alternative c (of_kind w) (subst (λ (z : Tree). IsLast p (table.members Choice e cs) os M t ps K z) q d) s g h
+
+-- ---- components
+
+pub fields_fault : {p : Program} {n left i : ℕ} {k : ListKind} {e : Bool} {cs : List Part} {N : Name} {os ps : List ℕ}
+    {M K : Name} {t l : Tree} {fs : List (Name × Tree)} {f : ValueFault} →
+    IsWritten p i (table.members k e cs) N →
+    (k ≡ Choice → ⊥) →
+    IsLast p (table.members k e cs) os M t ps K l →
+    fields_in l ≡ Some fs →
+    StandsInField p n left ps K N fs cs f →
+    Stands p (suc n) (suc left) os M i t f
+fields_fault {p} {n} {left} {i} {k} {e} {cs} {N} {os} {ps} {M} {K} {t} {l} {fs} {f} w none d g s = by s.fault
+  where
+    x : List Part
+    x = s.before ++ s.one ∷ s.after
+
+    by : IsWrongField p n s.rest ps K N fs s.one f → Stands p (suc n) (suc left) os M i t f
+    by (reading.no_memory m) = faults.no_memory m
+    by (reading.in_field h o) =
+        let c = s.counted in
+        faults.in_field s.one s.after
+        (subst (λ (z : List Part). IsOfKind p.types i (table.members k e z)) s.split (of_kind w)) none
+        (subst (λ (z : List Part). IsLast p (table.members k e z) os M t ps K l) s.split d) g s.stand h (omega (arith, c)) o
+    by (reading.in_default h o) =
+        faults.in_default s.one w none d g (there cs s.before s.split) h o.standing o.presence o.fault
+      where
+        there : (ys xs : List Part) → ys ≡ xs ++ s.one ∷ s.after → StandsIn ys s.one
+        there ys [] q = (0, ap (λ zs. slice_get zs 0) q)
+        there [] (y ∷ xs) q = absurd cc
+        there (z ∷ ys) (y ∷ xs) q = let r : ys ≡ xs ++ s.one ∷ s.after = cc in let h = there ys xs r in (suc h.0, h.1)
+
+pub fields_mean : {p : Program} {n before after i : ℕ} {k : ListKind} {e : Bool} {cs : List Part} {N : Name}
+    {os ps : List ℕ} {M K : Name} {t l : Tree} {fs : List (Name × Tree)} {r : Row} →
+    IsWritten p i (table.members k e cs) N →
+    (k ≡ Choice → ⊥) →
+    IsLast p (table.members k e cs) os M t ps K l →
+    NotationOf p ps K (table.members k e cs) l (fields r) →
+    GroupsAreWhole (map component_of cs) r →
+    MeanFields p n before after ps K N fs cs r →
+    Means p (suc n) (suc before) after os M i t (fields r)
+fields_mean w none d h g m =
+    let c = m.counted in
+    record {
+      stands = notation (of_kind w) d h;
+      value = shaped w (values.of_fields none m.values g);
+      counted = omega (arith, c);
+    }
+
+-- ---- types
+
+in_core : {p : Program} {i : ℕ} {k : Kind} {N : Name} (w : IsWritten p i k N) → Is p.types w.core k w.type.default w.type.place
+in_core {p} w =
+    subst (λ (x : Kind). Is p.types w.core x w.type.default w.type.place) w.kind
+    (record { constraints = w.type.constraints; assignment = w.type.assignment; found = w.there })
+
+one_below : (n : ℕ) (cs : List Part) (j : ℕ) (c : Part) → All (λ x. x.ty < n) cs → slice_get cs j ≡ Some c → c.ty < n
+one_below n [] j c a e = absurd cc
+one_below n (x ∷ cs) zero c a e = let s : x ≡ c = cc in subst (λ z. z.ty < n) s (a zero x (omega arith))
+one_below n (x ∷ cs) (suc j) c a e = one_below n cs j c (λ m d l. a (suc m) d (omega arith)) e
+
+pub member_there : {p : Program} {i : ℕ} {k : ListKind} {e : Bool} {cs : List Part} {N : Name} →
+    IsLinked p.types → IsWritten p i (table.members k e cs) N →
+    (j : ℕ) (c : Part) → slice_get cs j ≡ Some c → c.ty < length p.types
+member_there {p} {i} {k} {e} {cs} l w j c s =
+    one_below (length p.types) cs j c (l.parts w.core k e cs w.type.default w.type.place (in_core w)) s
+
+pub element_there : {p : Program} {i j : ℕ} {k : ElementsKind} {N : Name} →
+    IsLinked p.types → IsWritten p i (elements k j) N → j < length p.types
+element_there {p} {i} {j} {k} l w = l.inner w.core j k w.type.default w.type.place (in_core w)
+
+reference_next : (t : Kind) (j : ℕ) → t ≡ reference j → behind t ≡ None → ⊥
+reference_next t j e f = let g : behind (reference j) ≡ None = subst (λ x. behind x ≡ None) e f in absurd cc
+
+pub no_reference : {p : Program} {i j : ℕ} {N : Name} → IsWritten p i (reference j) N → ⊥
+no_reference {p} {i} {j} w =
+    reference_next w.type.kind j w.kind (sym (ap behind_of w.there) ∙ w.leads.ends)
+
+tagged_next : (t : Kind) (g : Tag) (y : Keyword) (j : ℕ) → t ≡ tagged g y j → behind t ≡ None → ⊥
+tagged_next t g y j e f = let h : behind (tagged g y j) ≡ None = subst (λ x. behind x ≡ None) e f in absurd cc
+
+pub no_tagged : {p : Program} {i j : ℕ} {g : Tag} {y : Keyword} {N : Name} → IsWritten p i (tagged g y j) N → ⊥
+no_tagged {p} {i} {j} {g} {y} w =
+    tagged_next w.type.kind g y j w.kind (sym (ap behind_of w.there) ∙ w.leads.ends)
+
+pub written_at : {p : Program} (ws : List Written) (i core : ℕ) (w : Written) (M x : Name) →
+    types_of ws ≡ p.types → core < length ws → w ≡ get_or ws core w → IsCore p.types i core → IsHome p core M x →
+    IsWritten p i (kind_of (get_or ws core w).shape) M
+written_at {p} ws i core w M x e l g c h =
+    let t : slice_get p.types core ≡ Some (type_of w) = ap (λ ts. slice_get ts core) (sym e) ∙ got type_of ws core w l g in
+    subst (λ (y : Written). IsWritten p i (kind_of y.shape) M) g
+    (record { core = core; type = type_of w; leads = c; there = t; kind = refl; assigns = x; stands = h (type_of w) t })
+
+pub written_of : {p : Program} {i : ℕ} {k j : Kind} {N : Name} → k ≡ j → IsWritten p i k N → IsWritten p i j N
+written_of {p} {i} {k} {j} {N} e w = subst (λ (x : Kind). IsWritten p i x N) e w
+
+pub last_of : {p : Program} {k j : Kind} {os ps : List ℕ} {M K : Name} {n l : Tree} → k ≡ j →
+    IsLast p k os M n ps K l → IsLast p j os M n ps K l
+last_of {p} {k} {j} {os} {ps} {M} {K} {n} {l} e h = subst (λ (x : Kind). IsLast p x os M n ps K l) e h
+
+-- ---- names
+
+named_there : (cs : List Part) (i : ℕ) (c : Part) (x : Name) → slice_get cs i ≡ Some c → slice_get (part_names cs) i ≡ Some x →
+    c.name ≡ x
+named_there cs i c x e f = same_Some c.name x (sym (stands_map (λ (c : Part). c.name) cs i c e) ∙ f)
+
+pub alternative_named : (cs : List Part) (i : ℕ) (c : Part) (x : Name) → slice_get cs i ≡ Some c →
+    slice_get (part_names cs) i ≡ Some x → c.name ≡ x
+alternative_named = named_there
+
+there_on : (x y : Name) (ys : List Name) (i : ℕ) (b : Bool) → bytes_eq x y ≡ b →
+    cond b (Some 0) (option_map suc (place_of x ys)) ≡ Some i →
+    ((j : ℕ) → place_of x ys ≡ Some j → slice_get ys j ≡ Some x) → slice_get (y ∷ ys) i ≡ Some x
+there_on x y ys i true q e go =
+    subst (λ k. slice_get (y ∷ ys) k ≡ Some x) (same_Some 0 i e) (ap Some (sym (equal_bytes x y q)))
+there_on x y ys i false q e go = by (place_of x ys) refl e
+  where
+    by : (o : Option ℕ) → place_of x ys ≡ o → option_map suc o ≡ Some i → slice_get (y ∷ ys) i ≡ Some x
+    by None r f = absurd cc
+    by (Some j) r f = subst (λ k. slice_get (y ∷ ys) k ≡ Some x) (same_Some (suc j) i f) (go j r)
+
+place_there : (x : Name) (xs : List Name) (i : ℕ) → place_of x xs ≡ Some i → slice_get xs i ≡ Some x
+place_there x [] i e = absurd cc
+place_there x (y ∷ ys) i e = there_on x y ys i (bytes_eq x y) refl e (place_there x ys)
+
+none_on : (x y : Name) (ys : List Name) (b : Bool) → bytes_eq x y ≡ b →
+    cond b (Some 0) (option_map suc (place_of x ys)) ≡ None → (place_of x ys ≡ None → StandsIn ys x → ⊥) →
+    (i : ℕ) → slice_get (y ∷ ys) i ≡ Some x → ⊥
+none_on x y ys true q e go i s = absurd cc
+none_on x y ys false q e go zero s =
+    let n : y ≡ x = same_Some y x s in
+    let t : bytes_eq x y ≡ true = ap (bytes_eq x) n ∙ same_bytes x in
+    absurd cc
+none_on x y ys false q e go (suc i) s = by (place_of x ys) refl e
+  where
+    by : (o : Option ℕ) → place_of x ys ≡ o → option_map suc o ≡ None → ⊥
+    by None r f = go r (i, s)
+    by (Some j) r f = absurd cc
+
+pub place_none : (x : Name) (xs : List Name) → place_of x xs ≡ None → StandsIn xs x → ⊥
+place_none x [] e s = absurd cc
+place_none x (y ∷ ys) e s = none_on x y ys (bytes_eq x y) refl e (place_none x ys) s.0 s.1
+
+-- a field of a name stands at the name's place
+pub field_there : (gs : List (Named ValueSyntax)) (x : Name) (j : ℕ) → place_of x (field_names (map member_of gs)) ≡ Some j →
+    j < length gs
+field_there gs x j e =
+    let l = place_below (field_names (map member_of gs)) j x (place_there x (field_names (map member_of gs)) j e) in
+    let a = length-map (map member_of gs) (λ (f : Name × Tree). f.0) in
+    let b = length-map gs member_of in
+    omega (arith, l, a, b)
+
+pub field_stands : (gs : List (Named ValueSyntax)) (x : Name) (j : ℕ) (d : Named ValueSyntax) →
+    place_of x (field_names (map member_of gs)) ≡ Some j →
+    StandsIn (map member_of gs) (x, tree_of (get_or gs j d).value)
+field_stands gs x j d e =
+    let s = place_there x (field_names (map member_of gs)) j e in
+    let h = got_or member_of gs j d (field_there gs x j e) in
+    let n = stands_map (λ (f : Name × Tree). f.0) (map member_of gs) j (member_of (get_or gs j d)) h in
+    let same = same_Some (name_at (get_or gs j d).name) x (sym n ∙ s) in
+    (j, h ∙ ap (λ (y : Name). Some (y, tree_of (get_or gs j d).value)) same)
+
+pub placed : (k : ListKind) (cs : List Part) (fs : List Name) (ps : List (Option ℕ)) → IsArranged k cs fs ps → ArePlaced cs fs ps
+placed k cs fs ps a = record { placed = a.placed; may = λ i c e f. may i c e f (may_be_absent c) refl }
+  where
+    may : (i : ℕ) (c : Part) → slice_get cs i ≡ Some c → slice_get ps i ≡ Some None → (b : Bool) → may_be_absent c ≡ b →
+        may_be_absent c ≡ true
+    may i c e f true q = q
+    may i c e f false q =
+        let names = stands_map (λ (c : Part). c.name) cs i c e in
+        let at = stands_map (λ x. place_of x fs) (part_names cs) i c.name names in
+        let none = same_Some (place_of c.name fs) None (sym at ∙ ap (λ (qs : List (Option ℕ)). slice_get qs i) (sym a.placed) ∙ f) in
+        absurd (a.complete c.name
+        (record { part = c; there = (i, e); named = refl; needed = q; none = place_none c.name fs none }))
+
+-- the place of a component's field, and that it may be absent where it has none
+pub place_at : (cs : List Part) (fs : List Name) (ps : List (Option ℕ)) (i : ℕ) (c : Part) (d : Option ℕ) → ArePlaced cs fs ps →
+    slice_get cs i ≡ Some c → i < length ps →
+    (get_or ps i d ≡ place_of c.name fs) × (get_or ps i d ≡ None → may_be_absent c ≡ true)
+place_at cs fs ps i c d a e l =
+    let names = stands_map (λ (c : Part). c.name) cs i c e in
+    let at = stands_map (λ x. place_of x fs) (part_names cs) i c.name names in
+    let here = got_plain ps i d l in
+    let same = same_Some (get_or ps i d) (place_of c.name fs) (sym here ∙ ap (λ (qs : List (Option ℕ)). slice_get qs i) a.placed ∙ at) in
+    (same, λ n. a.may i c e (here ∙ ap Some n))
+
+pub as_many : (cs : List Part) (fs : List Name) (ps : List (Option ℕ)) → ArePlaced cs fs ps → length ps ≡ length cs
+as_many cs fs ps a =
+    let q = length-map (part_names cs) (λ x. place_of x fs) in
+    let r = length-map cs (λ (c : Part). c.name) in
+    ap length a.placed ∙ q ∙ r
+
+-- a fault that is the notation's own
+pub own_fault : {p : Program} {levels left : ℕ} {os : List ℕ} {M : Name} {i : ℕ} {n : Tree} (f : ValueFault) →
+    f.at.within.now ≡ M → f.at.ty.index ≡ i → tree_of f.at.notation.now ≡ n →
+    IsCause p levels left os M i n f.cause → Stands p levels left os M i n f
+own_fault f a b c d = faults.itself a b c d
+
+pub opened_as : {p : Program} {levels left : ℕ} {os ps : List ℕ} {M : Name} {i : ℕ} {n : Tree} {f : ValueFault} → ps ≡ os →
+    Stands p levels left ps M i n f → Stands p levels left os M i n f
+opened_as {p} {levels} {left} {os} {ps} {M} {i} {n} {f} e h = subst (λ (x : List ℕ). Stands p levels left x M i n f) e h
+
+pub means_as : {p : Program} {levels before after : ℕ} {os ps : List ℕ} {M : Name} {i : ℕ} {n : Tree} {v : AbstractValue} →
+    ps ≡ os → Means p levels before after ps M i n v → Means p levels before after os M i n v
+means_as {p} {levels} {before} {after} {os} {ps} {M} {i} {n} {v} e h =
+    subst (λ (x : List ℕ). Means p levels before after x M i n v) e h
+
+pub value_as : {p : Program} {levels before after i : ℕ} {os : List ℕ} {M : Name} {n : Tree} {v w : AbstractValue} →
+    v ≡ w → Means p levels before after os M i n v → Means p levels before after os M i n w
+value_as {p} {levels} {before} {after} {i} {os} {M} {n} e h =
+    subst (λ (x : AbstractValue). Means p levels before after os M i n x) e h
+
+-- a list's elements, one behind the other
+pub row_wrong : {p : Program} {levels before between : ℕ} {os ps : List ℕ} {M : Name} {a : ℕ} {f : ValueFault}
+    (vs : List Value) (xs : List ValueSyntax) (i : ℕ) (x : ValueSyntax) →
+    i < length xs → x ≡ get_or xs i x →
+    MeanRow p levels before between os M a (map tree_of (take i xs)) (row_of_list (map abstract vs)) →
+    ps ≡ os →
+    Stands p levels between ps M a (tree_of x) f →
+    StandsInOne p levels before os M a (map tree_of xs) f
+row_wrong {between = between} vs xs i x l e r q h =
+    let c = r.counted in
+    record {
+      before = map tree_of (take i xs);
+      one = tree_of x;
+      after = map tree_of (drop (i + 1) xs);
+      split = split tree_of xs i x l e;
+      row = row_of_list (map abstract vs);
+      stand = r.stand;
+      rest = between;
+      counted = omega (arith, c);
+      fault = opened_as q h;
+    }
+
+pub row_more : {p : Program} {levels before between after : ℕ} {os ps : List ℕ} {M : Name} {a : ℕ} (vs ws : List Value)
+    (v : Value) (xs : List ValueSyntax) (i : ℕ) (x : ValueSyntax) →
+    i < length xs → x ≡ get_or xs i x →
+    ws ≡ vs ++ v ∷ [] →
+    MeanRow p levels before between os M a (map tree_of (take i xs)) (row_of_list (map abstract vs)) →
+    ps ≡ os →
+    Means p levels between after ps M a (tree_of x) (abstract v) →
+    MeanRow p levels before after os M a (map tree_of (take (i + 1) xs)) (row_of_list (map abstract ws))
+row_more {p} {levels} {before} {between} {after} {os} {ps} {M} {a} vs ws v xs i x l e w r q h =
+    let all = ap (map abstract) w ∙ map_end abstract vs v in
+    let more = one_more p levels os M a before between after (map tree_of (take i xs)) (map abstract vs) (tree_of x) (abstract v) r
+    (means_as q h) in
+    subst (λ (us : List AbstractValue). MeanRow p levels before after os M a (map tree_of (take (i + 1) xs)) (row_of_list us)) (sym all)
+    (subst (λ (ts : List Tree). MeanRow p levels before after os M a ts (row_of_list (map abstract vs ++ abstract v ∷ [])))
+    (sym (taken tree_of xs i x l e)) more)
+
+pub row_none : (p : Program) (levels left : ℕ) (os : List ℕ) (M : Name) (a : ℕ) (vs : List Value) → vs ≡ [] →
+    MeanRow p levels left left os M a [] (row_of_list (map abstract vs))
+row_none p levels left os M a vs e =
+    subst (λ (us : List Value). MeanRow p levels left left os M a [] (row_of_list (map abstract us))) (sym e)
+    (none_yet p levels os M a left)
+
+-- components, one behind the other
+wrong_as : {p : Program} {levels left : ℕ} {os ps : List ℕ} {K N : Name} {fs : List (Name × Tree)} {c : Part} {f : ValueFault} →
+    ps ≡ os → IsWrongField p levels left ps K N fs c f → IsWrongField p levels left os K N fs c f
+wrong_as {p} {levels} {left} {os} {ps} {K} {N} {fs} {c} {f} e h =
+    subst (λ (x : List ℕ). IsWrongField p levels left x K N fs c f) e h
+
+pub fields_wrong : {p : Program} {levels before between : ℕ} {os ps : List ℕ} {K N : Name} {fs : List (Name × Tree)}
+    {f : ValueFault} (vs : List (Option Value)) (xs : List Component) (i : ℕ) (x : Component) →
+    i < length xs → x ≡ get_or xs i x →
+    MeanFields p levels before between os K N fs (map part_of (take i xs)) (row_of_options (map (option_map abstract) vs)) →
+    ps ≡ os →
+    IsWrongField p levels between ps K N fs (part_of x) f →
+    StandsInField p levels before os K N fs (map part_of xs) f
+fields_wrong {between = between} vs xs i x l e r q h =
+    let c = r.counted in
+    record {
+      before = map part_of (take i xs);
+      one = part_of x;
+      after = map part_of (drop (i + 1) xs);
+      split = split part_of xs i x l e;
+      row = row_of_options (map (option_map abstract) vs);
+      stand = r.stand;
+      rest = between;
+      counted = omega (arith, c);
+      fault = wrong_as q h;
+    }
+
+field_as : (p : Program) (levels : ℕ) {os ps : List ℕ} (K N : Name) (fs : List (Name × Tree)) (c : Part) (o : Option AbstractValue) →
+    ps ≡ os → IsField p levels ps K N fs c o → IsField p levels os K N fs c o
+field_as p levels {os} {ps} K N fs c o e h = subst (λ (x : List ℕ). IsField p levels x K N fs c o) e h
+
+pub fields_more : {p : Program} {levels before between after : ℕ} {os ps : List ℕ} {K N : Name} {fs : List (Name × Tree)}
+    (vs ws : List (Option Value)) (v : Option Value) (xs : List Component) (i : ℕ) (x : Component) →
+    i < length xs → x ≡ get_or xs i x →
+    ws ≡ vs ++ v ∷ [] →
+    MeanFields p levels before between os K N fs (map part_of (take i xs)) (row_of_options (map (option_map abstract) vs)) →
+    ps ≡ os →
+    IsField p levels ps K N fs (part_of x) (option_map abstract v) →
+    between ≡ after + option_nodes (option_map abstract v) →
+    MeanFields p levels before after os K N fs (map part_of (take (i + 1) xs)) (row_of_options (map (option_map abstract) ws))
+fields_more {p} {levels} {before} {between} {after} {os} {ps} {K} {N} {fs} vs ws v xs i x l e w r q h b =
+    let all = ap (map (option_map abstract)) w ∙ map_end (option_map abstract) vs v in
+    let more = one_field_more p levels os K N fs before between after (map part_of (take i xs)) (map (option_map abstract) vs)
+    (part_of x) (option_map abstract v) r (field_as p levels K N fs (part_of x) (option_map abstract v) q h) b in
+    subst (λ (us : List (Option AbstractValue)). MeanFields p levels before after os K N fs (map part_of (take (i + 1) xs)) (row_of_options us)) (sym all)
+    (subst (λ (ts : List Part). MeanFields p levels before after os K N fs ts (row_of_options (map (option_map abstract) vs ++ option_map abstract v ∷ [])))
+    (sym (taken part_of xs i x l e)) more)
+
+pub fields_none : (p : Program) (levels left : ℕ) (os : List ℕ) (K N : Name) (fs : List (Name × Tree)) (vs : List (Option Value)) →
+    vs ≡ [] →
+    MeanFields p levels left left os K N fs [] (row_of_options (map (option_map abstract) vs))
+fields_none p levels left os K N fs vs e =
+    subst (λ (us : List (Option Value)). MeanFields p levels left left os K N fs [] (row_of_options (map (option_map abstract) us))) (sym e)
+    (no_field_yet p levels os K N fs left)
+
+-- alternatives
+pub alternative_below : (xs : List Component) (i : ℕ) (x : Name) → slice_get (part_names (map part_of xs)) i ≡ Some x → i < length xs
+alternative_below xs i x e =
+    let l = place_below (part_names (map part_of xs)) i x e in
+    let a = length-map (map part_of xs) (λ (c : Part). c.name) in
+    let b = length-map xs part_of in
+    omega (arith, l, a, b)
+
+pub alternative_at : (xs : List Component) (i : ℕ) (d : Component) (x : Name) → slice_get (part_names (map part_of xs)) i ≡ Some x →
+    slice_get (map part_of xs) i ≡ Some (part_of (get_or xs i d))
+alternative_at xs i d x e = got_or part_of xs i d (alternative_below xs i x e)
+
+pub alternative_name : (xs : List Component) (i : ℕ) (d : Component) (x : Name) → slice_get (part_names (map part_of xs)) i ≡ Some x →
+    (part_of (get_or xs i d)).name ≡ x
+alternative_name xs i d x e = named_there (map part_of xs) i (part_of (get_or xs i d)) x (alternative_at xs i d x e) e
+
+pub no_alternative : {p : Program} {i : ℕ} {e : Bool} {cs : List Part} {N : Name} {os ps : List ℕ} {M K : Name} {t l : Tree}
+    (x : Name) (m : Tree) →
+    IsWritten p i (table.members Choice e cs) N →
+    IsLast p (table.members Choice e cs) os M t ps K l →
+    l ≡ chosen x m →
+    (StandsIn (part_names cs) x → ⊥) →
+    HasNoAlternative p os M i t
+no_alternative {p} {i} {e} {cs} {N} {os} {ps} {M} {K} {t} x m w h q none =
+    record {
+      marked = e;
+      parts = cs;
+      is = of_kind w;
+      opened = ps;
+      within = K;
+      name = x;
+      inner = m;
+      last = subst (λ (z : Tree). IsLast p (table.members Choice e cs) os M t ps K z) q h;
+      none = none;
+    }
+
+-- absent components
+pub absent_addition : {p : Program} {levels : ℕ} {N : Name} (c : Component) (g : Option ℕ) → c.standing ≡ Addition g →
+    MayBeAbsent p (Allows p) (AllowsCode p) levels N (part_of c)
+absent_addition c g e = values.where_addition e
+
+pub absent_optional : {p : Program} {levels : ℕ} {N : Name} (c : Component) → c.presence ≡ syntax.Optional →
+    MayBeAbsent p (Allows p) (AllowsCode p) levels N (part_of c)
+absent_optional c e = values.where_optional (ap presence_of e)
+
+-- one that has to be there isn't absent
+pub absent_mandatory : {p : Program} {levels : ℕ} {N : Name} (c : Component) → c.standing ≡ Root → c.presence ≡ syntax.Mandatory →
+    may_be_absent (part_of c) ≡ true →
+    MayBeAbsent p (Allows p) (AllowsCode p) levels N (part_of c)
+absent_mandatory {p} {levels} {N} c e f m = absurd (by (presence_of c.presence) c.standing (ap presence_of f) e m)
+  where
+    by : (t : PresenceTree) (s : Standing) → t ≡ mandatory → s ≡ Root →
+        may_be_absent (record { name = name_at c.name; ty = c.ty; presence = t; standing = s }) ≡ true → ⊥
+    by mandatory Root q r z = absurd cc
+    by mandatory (Addition g) q r z = absurd cc
+    by optional s q r z = absurd cc
+    by (default d) s q r z = absurd cc
+
+pub names_misfit : (k : ListKind) (e : Bool) (cs : List Part) (l : Tree) → (k ≡ Choice → ⊥) → fields_in l ≡ None →
+    IsMisfit (table.members k e cs) l
+names_misfit Sequence e cs l none f = f
+names_misfit Set e cs l none f = f
+names_misfit Choice e cs l none f = absurd (none refl)
+
+pub row_count : (vs : List Value) → members (row_of_list (map abstract vs)) ≡ length vs
+row_count [] = refl
+row_count (v ∷ vs) = ap suc (row_count vs)
+
+pub unfollowed_at : {p q : Program} {i : ℕ} {N : Name} {k : Kind} (levels left : ℕ) (os : List ℕ) (M : Name) (n : Tree)
+    (f : FollowFault) (c : Cause) →
+    q ≡ p →
+    IsWritten q i k N →
+    IsFollowFault q k os M n f →
+    ((p : Program) (levels left i : ℕ) (os : List ℕ) (M : Name) (n : Tree) (k : Kind) → IsOfKind p.types i k →
+    IsFollowFault p k os M n f → IsCause p levels left os M i n c) →
+    IsCause p levels left os M i n c
+unfollowed_at {p} {q} {i} {N} {k} levels left os M n f c e w h g =
+    g p levels left i os M n k (of_kind (subst (λ (x : Program). IsWritten x i k N) e w))
+    (subst (λ (x : Program). IsFollowFault x k os M n f) e h)
+
+-- at a level and a node less
+pub read_means : {p : Program} {i after : ℕ} {os : List ℕ} {M : Name} {n : Tree} {v : AbstractValue} (levels left : ℕ) →
+    (levels ≡ 0 → ⊥) → (left ≡ 0 → ⊥) →
+    Means p (suc (levels - 1)) (suc (left - 1)) after os M i n v → Means p levels left after os M i n v
+read_means zero left a b h = absurd (a refl)
+read_means (suc levels) zero a b h = absurd (b refl)
+read_means (suc levels) (suc left) a b h = simp unary_clauses at h
+
+pub read_stands : {p : Program} {i : ℕ} {os : List ℕ} {M : Name} {n : Tree} {f : ValueFault} (levels left : ℕ) →
+    (levels ≡ 0 → ⊥) → (left ≡ 0 → ⊥) →
+    Stands p (suc (levels - 1)) (suc (left - 1)) os M i n f → Stands p levels left os M i n f
+read_stands zero left a b h = absurd (a refl)
+read_stands (suc levels) zero a b h = absurd (b refl)
+read_stands (suc levels) (suc left) a b h = simp unary_clauses at h
+
+pub last_at : {p q : Program} {k : Kind} {os ps : List ℕ} {M K : Name} {n l : Tree} → q ≡ p →
+    IsLast q k os M n ps K l → IsLast p k os M n ps K l
+last_at {p} {q} {k} {os} {ps} {M} {K} {n} {l} e h = subst (λ (x : Program). IsLast x k os M n ps K l) e h
+
+pub stands_as : {p : Program} {levels left i : ℕ} {os ps : List ℕ} {M : Name} {n : Tree} {f : ValueFault} →
+    ps ≡ os → Stands p levels left ps M i n f → Stands p levels left os M i n f
+stands_as {p} {levels} {left} {i} {os} {ps} {M} {n} {f} e h = subst (λ (x : List ℕ). Stands p levels left x M i n f) e h

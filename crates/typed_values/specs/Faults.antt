@@ -1,0 +1,158 @@
+-- What is wrong with a notation that stands for no value of a type, and where: the first thing that is, as it is read from
+-- its front (X.680, clauses 17 to 33 and 51; the limits are this project's).
+use Rattle.std.specs.Prelude.{◌≡◌, ℕ, suc, ◌+◌, Bool, List, [], ◌∷◌, ◌++◌, Some, slice_get}
+use Rattle.asn_base.specs.Abstract.{Row}
+use Rattle.asn_base.specs.Typed.{row_nodes}
+use Rattle.trees.specs.declared.types.ListKind.{ListKind}
+use Rattle.trees.specs.declared.types.ListKind.TheVariants.{Choice}
+use Rattle.trees.specs.declared.types.ElementsKind.{ElementsKind}
+use Rattle.trees.specs.declared.types.Standing.TheVariants.{Root}
+use Rattle.trees.specs.Values.{Name, Tree, tree_of, chosen}
+use Rattle.trees.specs.Types.{Plain, default}
+use Rattle.names.specs.Modules.{StandsIn}
+use Rattle.type_table.specs.Table.{Type', Kind, simple, elements, Part, IsCore}
+use Rattle.type_table.specs.Table as table
+use Rattle.resolve.specs.Program.{Program, IsAssignment}
+use Rattle.range_ends.specs.Ends.{IsOfKind}
+use Rattle.value_notations.specs.References.{IsLast}
+use Rattle.value_notations.specs.Notations.{Fields, Elements, fields_in, values_in, field_names, part_names}
+use Rattle.value_notations.specs.Wrong.{IsWrongHere, not_of_type}
+use Rattle.value_notations.specs.Outside.{IsOutside}
+use Rattle.value_notations.specs.Faults.{IsLostAt, ComesRoundAt, IsUnknownBitAt, StandsForPast}
+use Rattle.values.specs.Allowing.{Allows, AllowsCode}
+use Rattle.values.specs.Arranged.{IsWrongField, IsRepeatedField, IsMissingPart, IsBehind}
+use Rattle.typed_values.specs.declared.fault.Cause.{Cause}
+use Rattle.typed_values.specs.declared.fault.Cause.TheVariants as cause
+use Rattle.typed_values.specs.declared.fault.ValueFault.{ValueFault}
+
+-- type i is of this kind behind its references and tags, and that is written in module M
+pub record IsWritten (p : Program) (i : ℕ) (k : Kind) (M : Name) : Type 0 where
+  pub core : ℕ
+  pub type : Type'
+  pub leads : IsCore p.types i core
+  pub there : slice_get p.types core ≡ Some type
+  pub kind : type.kind ≡ k
+  pub assigns : Name
+  pub stands : IsAssignment p type.assignment M assigns
+
+-- notation n, read in module M, is referred to a type of some kind, and P holds of the kind
+pub record HasKind (p : Program) (i : ℕ) (P : Kind → Type 0) : Type 0 where
+  pub kind : Kind
+  pub is : IsOfKind p.types i kind
+  pub such : P kind
+
+-- type i holds no other types, and P holds of it and of the notation behind the references of notation n
+pub record HasLeaf (p : Program) (os : List ℕ) (M : Name) (i : ℕ) (n : Tree) (P : Plain → Tree → Type 0) : Type 0 where
+  pub plain : Plain
+  pub is : IsOfKind p.types i (simple plain)
+  pub opened : List ℕ
+  pub within : Name
+  pub notation : Tree
+  pub last : IsLast p (simple plain) os M n opened within notation
+  pub such : P plain notation
+
+-- type i is a SEQUENCE or SET, l is the notation behind the references of notation n, and P holds of the kind of list, of
+-- its components and of the names of the fields in braces
+pub record HasNames (p : Program) (os : List ℕ) (M : Name) (i : ℕ) (n l : Tree) (P : ListKind → List Part → List Name → Type 0)
+    : Type 0 where
+  pub list : ListKind
+  pub marked : Bool
+  pub parts : List Part
+  pub is : IsOfKind p.types i (table.members list marked parts)
+  pub no_choice : list ≡ Choice → ⊥
+  pub opened : List ℕ
+  pub within : Name
+  pub last : IsLast p (table.members list marked parts) os M n opened within l
+  pub fields : List (Name × Tree)
+  pub in_braces : fields_in l ≡ Some fields
+  pub such : P list parts (field_names fields)
+
+-- type i is a CHOICE that has no alternative of the name that notation n has chosen
+pub record HasNoAlternative (p : Program) (os : List ℕ) (M : Name) (i : ℕ) (n : Tree) : Type 0 where
+  pub marked : Bool
+  pub parts : List Part
+  pub is : IsOfKind p.types i (table.members Choice marked parts)
+  pub opened : List ℕ
+  pub within : Name
+  pub name : Name
+  pub inner : Tree
+  pub last : IsLast p (table.members Choice marked parts) os M n opened within (chosen name inner)
+  pub none : StandsIn (part_names parts) name → ⊥
+
+-- what is wrong with notation n itself, read in module M under type i, where so many levels and nodes are left
+abbrev pub IsCause : Program → (levels left : ℕ) → List ℕ → Name → ℕ → Tree → Cause → Type 0
+IsCause p levels left os M i n cause.Memory = Unit {0}
+IsCause p levels left os M i n cause.Depth = levels ≡ 0
+IsCause p levels left os M i n cause.Nodes = left ≡ 0
+IsCause p levels left os M i n (cause.Lost K l) = HasKind p i (λ k. IsLostAt p k os M n K.now (tree_of l.now))
+IsCause p levels left os M i n (cause.Circular j K l) =
+    HasKind p i (λ k. ComesRoundAt p k os M n j K.now (tree_of l.now))
+IsCause p levels left os M i n cause.NotOfType = IsWrongHere p os M i n not_of_type
+IsCause p levels left os M i n (cause.UnknownBit b) =
+    HasLeaf p os M i n (λ k l. IsUnknownBitAt k l (tree_of b.now))
+IsCause p levels left os M i n cause.Oid = HasLeaf p os M i n StandsForPast
+IsCause p levels left os M i n cause.UnknownAlternative = HasNoAlternative p os M i n
+IsCause p levels left os M i n (cause.UnknownField a l) =
+    HasNames p os M i n (tree_of l.now) (λ k cs fs. IsWrongField k cs fs a)
+IsCause p levels left os M i n (cause.Repeated a l) =
+    HasNames p os M i n (tree_of l.now) (λ k cs fs. IsRepeatedField k cs fs a)
+IsCause p levels left os M i n (cause.Missing a l) =
+    HasNames p os M i n (tree_of l.now) (λ k cs fs. IsMissingPart k cs fs a)
+IsCause p levels left os M i n (cause.Behind a l) =
+    HasNames p os M i n (tree_of l.now) (λ k cs fs. IsBehind k cs fs a)
+IsCause p levels left os M i n cause.Outside = IsOutside p (Allows p) (AllowsCode p) os M i n
+
+-- A fault stands in notation n, which is read in module M under type i, where at most so many levels are left, and so many
+-- nodes: something is wrong with the notation itself, or a fault stands in one that stands in it, and what stands before
+-- that one stands for values, whose nodes count. A DEFAULT of an absent component has no more levels than one that is
+-- written, and 2^24 nodes. `os` are the values whose notations are being read already.
+pub data Stands (p : Program) : (levels left : ℕ) (os : List ℕ) (M : Name) (i : ℕ) (n : Tree) → ValueFault → Type 0 where
+  no_memory : {levels left : ℕ} {os : List ℕ} {M : Name} {i : ℕ} {n : Tree} {f : ValueFault} →
+      f.cause ≡ cause.Memory →
+      Stands p levels left os M i n f
+  itself : {levels left : ℕ} {os : List ℕ} {M : Name} {i : ℕ} {n : Tree} {f : ValueFault} →
+      f.at.within.now ≡ M →
+      f.at.ty.index ≡ i →
+      tree_of f.at.notation.now ≡ n →
+      IsCause p levels left os M i n f.cause →
+      Stands p levels left os M i n f
+  in_element : {levels left rest : ℕ} {os ps : List ℕ} {M K : Name} {i a : ℕ} {n l m : Tree} {k : ElementsKind}
+      {before : List Tree} {r : Row} {f : ValueFault} (after : List Tree) →
+      IsOfKind p.types i (elements k a) →
+      IsLast p (elements k a) os M n ps K l →
+      values_in l ≡ Some (before ++ m ∷ after) →
+      Elements p ps K a before r →
+      left ≡ suc (row_nodes r + rest) →
+      Stands p levels rest ps K a m f →
+      Stands p (suc levels) left os M i n f
+  in_alternative : {levels left : ℕ} {os ps : List ℕ} {M K : Name} {i : ℕ} {n m : Tree} {e : Bool} {cs : List Part}
+      {x : Name} {f : ValueFault} (c : Part) →
+      IsOfKind p.types i (table.members Choice e cs) →
+      IsLast p (table.members Choice e cs) os M n ps K (chosen x m) →
+      StandsIn cs c →
+      c.name ≡ x →
+      Stands p levels left ps K c.ty m f →
+      Stands p (suc levels) (suc left) os M i n f
+  in_field : {levels left rest : ℕ} {os ps : List ℕ} {M K : Name} {i : ℕ} {n l m : Tree} {k : ListKind} {e : Bool}
+      {before : List Part} {fs : List (Name × Tree)} {r : Row} {f : ValueFault} (c : Part) (after : List Part) →
+      IsOfKind p.types i (table.members k e (before ++ c ∷ after)) →
+      (k ≡ Choice → ⊥) →
+      IsLast p (table.members k e (before ++ c ∷ after)) os M n ps K l →
+      fields_in l ≡ Some fs →
+      Fields p ps K fs before r →
+      StandsIn fs (c.name, m) →
+      left ≡ suc (row_nodes r + rest) →
+      Stands p levels rest ps K c.ty m f →
+      Stands p (suc levels) left os M i n f
+  in_default : {levels left : ℕ} {os ps : List ℕ} {M K N : Name} {i : ℕ} {n l d : Tree} {k : ListKind} {e : Bool}
+      {cs : List Part} {fs : List (Name × Tree)} {f : ValueFault} (c : Part) →
+      IsWritten p i (table.members k e cs) N →
+      (k ≡ Choice → ⊥) →
+      IsLast p (table.members k e cs) os M n ps K l →
+      fields_in l ≡ Some fs →
+      StandsIn cs c →
+      (StandsIn (field_names fs) c.name → ⊥) →
+      c.standing ≡ Root →
+      c.presence ≡ default d →
+      Stands p levels 16777216 [] N c.ty d f →
+      Stands p (suc levels) left os M i n f

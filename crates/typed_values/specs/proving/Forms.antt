@@ -1,0 +1,13 @@
+-- What a notation holds in braces, as the tree has it.
+use Rattle.std.specs.Prelude.{Option, Some, None}
+use Rattle.trees.specs.Values.{Tree, Trees, Members, nothing, items, fields, no_tree, no_member}
+
+abbrev pub trees_in : Tree → Option Trees
+trees_in nothing = Some no_tree
+trees_in (items ts) = Some ts
+trees_in n = None
+
+abbrev pub members_in : Tree → Option Members
+members_in nothing = Some no_member
+members_in (fields ms) = Some ms
+members_in n = None

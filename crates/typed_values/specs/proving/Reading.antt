@@ -1,0 +1,116 @@
+-- What the parts of a reading answer.
+use Rattle.std.specs.Prelude.{◌≡◌, ◌+◌, ℕ, true, List, [], ◌∷◌, ◌++◌, Option, Some, None, IsTrue, MatchResult, Result, map, slice_get}
+use Rattle.asn_base.specs.declared.value.Value.{Value}
+use Rattle.asn_base.specs.Abstract.{AbstractValue, abstract, Row}
+use Rattle.asn_base.specs.Typed.{nodes, row_nodes}
+use Rattle.trees.specs.declared.types.Standing.TheVariants.{Root}
+use Rattle.trees.specs.Values.{Name, Tree}
+use Rattle.trees.specs.Types.{default as default'}
+use Rattle.names.specs.Modules.{StandsIn}
+use Rattle.type_table.specs.Table.{Part}
+use Rattle.resolve.specs.Program.{Program}
+use Rattle.value_notations.specs.Notations.{Notation, Fields, Elements, field_names, part_names, may_be_absent}
+use Rattle.value_notations.specs.Values.{ValueIn, AreComponents, AreElements, MayBeAbsent}
+use Rattle.values.specs.Allowing.{Allows, AllowsCode}
+use Rattle.values.specs.Arranged.{place_of}
+use Rattle.typed_values.specs.declared.fault.ValueFault.{ValueFault}
+use Rattle.typed_values.specs.declared.fault.Cause.TheVariants as cause
+use Rattle.typed_values.specs.Faults.{Stands}
+
+-- the notation stands for v, a value of the type with at most so many levels, whose nodes were counted
+pub record Means (p : Program) (levels before after : ℕ) (os : List ℕ) (M : Name) (i : ℕ) (n : Tree) (v : AbstractValue)
+    : Type 0 where
+  pub stands : Notation p os M i n v
+  pub value : ValueIn p (Allows p) (AllowsCode p) levels i v
+  pub counted : before ≡ after + nodes v
+
+-- it does, or a fault stands in it
+abbrev pub Tells :
+    Program → (levels before after : ℕ) → List ℕ → Name → ℕ → Tree → Result Value ValueFault → Type 0
+Tells p levels before after os M i n result =
+    MatchResult result
+    (λ v. Means p levels before after os M i n (abstract v))
+    (Stands p levels before os M i n)
+
+-- the notations stand for the values of a row, each one of type i
+pub record MeanRow (p : Program) (levels before after : ℕ) (os : List ℕ) (M : Name) (i : ℕ) (ts : List Tree) (r : Row)
+    : Type 0 where
+  pub stand : Elements p os M i ts r
+  pub values : AreElements p (Allows p) (AllowsCode p) levels i r
+  pub counted : before ≡ after + row_nodes r
+
+-- a fault stands in one of the notations, and those before it stand for values
+pub record StandsInOne (p : Program) (levels left : ℕ) (os : List ℕ) (M : Name) (i : ℕ) (ts : List Tree) (f : ValueFault)
+    : Type 0 where
+  pub before : List Tree
+  pub one : Tree
+  pub after : List Tree
+  pub split : ts ≡ before ++ one ∷ after
+  pub row : Row
+  pub stand : Elements p os M i before row
+  pub rest : ℕ
+  pub counted : left ≡ row_nodes row + rest
+  pub fault : Stands p levels rest os M i one f
+
+-- the nodes of a component, none where it is absent
+abbrev pub option_nodes : Option AbstractValue → ℕ
+option_nodes None = 0
+option_nodes (Some v) = nodes v
+
+-- component c, of a list that is written in module N, is absent among the fields and may be, or its field stands for
+-- value v
+abbrev pub IsField :
+    Program → ℕ → List ℕ → (K N : Name) → List (Name × Tree) → Part → Option AbstractValue → Type 0
+IsField p levels ps K N fs c None =
+    (StandsIn (field_names fs) c.name → ⊥)
+    × IsTrue (may_be_absent c)
+    × MayBeAbsent p (Allows p) (AllowsCode p) levels N c
+IsField p levels ps K N fs c (Some v) =
+    (m : Tree) × StandsIn fs (c.name, m) × Notation p ps K c.ty m v × ValueIn p (Allows p) (AllowsCode p) levels c.ty v
+
+-- a fault stands in the DEFAULT of component c
+pub record IsWrongDefault (p : Program) (levels : ℕ) (N : Name) (c : Part) (f : ValueFault) : Type 0 where
+  pub default : Tree
+  pub standing : c.standing ≡ Root
+  pub presence : c.presence ≡ default' default
+  pub fault : Stands p levels 16777216 [] N c.ty default f
+
+-- a fault stands in the field of component c, or in its DEFAULT where it has none
+pub data IsWrongField (p : Program) (levels left : ℕ) (ps : List ℕ) (K N : Name) (fs : List (Name × Tree)) (c : Part)
+    (f : ValueFault) : Type 0 where
+  no_memory :
+      f.cause ≡ cause.Memory →
+      IsWrongField p levels left ps K N fs c f
+  in_field : {m : Tree} →
+      StandsIn fs (c.name, m) →
+      Stands p levels left ps K c.ty m f →
+      IsWrongField p levels left ps K N fs c f
+  in_default :
+      (StandsIn (field_names fs) c.name → ⊥) →
+      IsWrongDefault p levels N c f →
+      IsWrongField p levels left ps K N fs c f
+
+-- the places of the fields, in the order of components; what has none may be absent
+pub record ArePlaced (cs : List Part) (fs : List Name) (ps : List (Option ℕ)) : Type 0 where
+  pub placed : ps ≡ map (λ x. place_of x fs) (part_names cs)
+  pub may : (i : ℕ) (c : Part) → slice_get cs i ≡ Some c → slice_get ps i ≡ Some None → may_be_absent c ≡ true
+
+-- the fields stand for the values of a row, each one of its component
+pub record MeanFields (p : Program) (levels before after : ℕ) (ps : List ℕ) (K N : Name) (fs : List (Name × Tree))
+    (cs : List Part) (r : Row) : Type 0 where
+  pub stand : Fields p ps K fs cs r
+  pub values : AreComponents p (Allows p) (AllowsCode p) levels N cs r
+  pub counted : before ≡ after + row_nodes r
+
+-- a fault stands in a component, and the fields of those before it stand for values
+pub record StandsInField (p : Program) (levels left : ℕ) (ps : List ℕ) (K N : Name) (fs : List (Name × Tree))
+    (cs : List Part) (f : ValueFault) : Type 0 where
+  pub before : List Part
+  pub one : Part
+  pub after : List Part
+  pub split : cs ≡ before ++ one ∷ after
+  pub row : Row
+  pub stand : Fields p ps K fs before row
+  pub rest : ℕ
+  pub counted : left ≡ row_nodes row + rest
+  pub fault : IsWrongField p levels rest ps K N fs one f

@@ -1,0 +1,120 @@
+//! Why a notation stands for no value of a type, and where.
+
+ghost use Rattle.std.specs.Prelude.{◌≡◌, ℕ, Bool, List, Some};
+ghost use Rattle.trees.specs.Values.{Name, Tree, tree_of};
+ghost use Rattle.trees.specs.Types.{Plain};
+ghost use Rattle.type_table.specs.Table.{Kind, Part, members, simple};
+ghost use Rattle.trees.specs.declared.types.ListKind.{ListKind as ListKind'};
+ghost use Rattle.trees.specs.declared.types.ListKind.TheVariants.{Choice as choice};
+ghost use Rattle.range_ends.specs.Ends.{IsOfKind};
+ghost use Rattle.resolve.specs.Program.{Program};
+ghost use Rattle.value_notations.specs.Faults.{IsFollowFault, IsLeafFault};
+ghost use Rattle.value_notations.specs.Notations.{field_names, fields_in};
+ghost use Rattle.value_notations.specs.References.{IsLast};
+ghost use Rattle.values.specs.Arranged.{IsNamesFault};
+ghost use Rattle.typed_values.specs.Faults.{IsCause};
+
+use asn_base::schema::TypeId;
+use trees::ValueSyntax;
+use value_notations::leaves::LeafFault;
+use value_notations::references::FollowFault;
+use values::NamesFault;
+
+/// A notation, the module that it is read in, and the type that it is read under.
+#[derive(Clone, Copy)]
+pub struct Place<'a> {
+    pub ty: TypeId,
+    pub within: &'a str,
+    pub notation: &'a ValueSyntax,
+}
+
+/// What is wrong with a notation. Fields and components are counted from 0.
+#[derive(Clone, Copy)]
+pub enum Cause<'a> {
+    /// There was not enough memory.
+    Memory,
+    /// It stands at more than 64 levels.
+    Depth,
+    /// The values before it, and those that hold it, are 2^24 already.
+    Nodes,
+    /// It is, or leads to, this name, which is read in this module and means neither something of the type nor a value.
+    Lost(&'a str, &'a ValueSyntax),
+    /// It is, or leads to, this name, which is read in this module and means the value of this number, whose notation is
+    /// being read already.
+    Circular(usize, &'a str, &'a ValueSyntax),
+    /// It is of another form than the type's, or has a character that is none of the type's.
+    NotOfType,
+    /// This name in its braces is no bit of the type.
+    UnknownBit(&'a ValueSyntax),
+    /// It stands for an object identifier, a relative one or not, of more than 64 numbers or with one from 2^64 on.
+    Oid,
+    /// The CHOICE has no alternative of its name.
+    UnknownAlternative,
+    /// No component has the name of this field of the notation.
+    UnknownField(usize, &'a ValueSyntax),
+    /// An earlier field of the notation has the name of this one.
+    Repeated(usize, &'a ValueSyntax),
+    /// This component has no field in the notation, though it has to be there.
+    Missing(usize, &'a ValueSyntax),
+    /// This field of the notation stands behind one that it goes before.
+    Behind(usize, &'a ValueSyntax),
+    /// It stands for a number, size or character that the constraints of the type don't allow.
+    Outside,
+}
+
+/// The first notation with which something is wrong, and what.
+#[derive(Clone, Copy)]
+pub struct ValueFault<'a> {
+    pub at: Place<'a>,
+    pub cause: Cause<'a>,
+}
+
+/// What is wrong where references lead to no notation.
+pub(crate) fn unfollowed<'a>(fault: FollowFault<'a>) -> Cause<'a>
+    ensures { (p : Program) (levels left i : ℕ) (os : List ℕ) (M : Name) (n : Tree) (k : Kind)
+        → IsOfKind p.types i k
+        → IsFollowFault p k os M n fault.entry
+        → IsCause p levels left os M i n result }
+{
+    match fault {
+        FollowFault::Memory => Cause::Memory,
+        FollowFault::Lost(within, name) => Cause::Lost(within, name),
+        FollowFault::Circular(number, within, name) => Cause::Circular(number, within, name),
+    }
+}
+
+/// What is wrong where a notation gives no value of a type that holds no others.
+pub(crate) fn no_leaf<'a>(fault: LeafFault<'a>) -> Cause<'a>
+    ensures { (p : Program) (levels left i : ℕ) (os ps : List ℕ) (M K : Name) (n l : Tree) (k : Plain)
+        → IsOfKind p.types i (simple k)
+        → IsLast p (simple k) os M n ps K l
+        → IsLeafFault k l fault.entry
+        → IsCause p levels left os M i n result }
+{
+    match fault {
+        LeafFault::Memory => Cause::Memory,
+        LeafFault::NotOfType => Cause::NotOfType,
+        LeafFault::UnknownBit(bit) => Cause::UnknownBit(bit),
+        LeafFault::Oid => Cause::Oid,
+    }
+}
+
+/// What is wrong where names of fields are not arranged as those of components.
+pub(crate) fn unarranged<'a>(fault: NamesFault, notation: &'a ValueSyntax) -> Cause<'a>
+    ensures { (p : Program) (levels left i : ℕ) (os ps : List ℕ) (M K : Name) (n : Tree) (k : ListKind') (e : Bool)
+        (cs : List Part) (fs : List (Name × Tree))
+        → IsOfKind p.types i (members k e cs)
+        → (k ≡ choice → ⊥)
+        → IsLast p (members k e cs) os M n ps K (tree_of notation.now)
+        → fields_in (tree_of notation.now) ≡ Some fs
+        → IsNamesFault k cs (field_names fs) fault
+        → IsCause p levels left os M i n result }
+{
+    match fault {
+        NamesFault::Memory => Cause::Memory,
+        NamesFault::Unknown(field) => Cause::UnknownField(field, notation),
+        NamesFault::Repeated(field) => Cause::Repeated(field, notation),
+        NamesFault::Missing(component) => Cause::Missing(component, notation),
+        NamesFault::Behind(field) => Cause::Behind(field, notation),
+    }
+}

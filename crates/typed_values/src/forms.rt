@@ -1,0 +1,44 @@
+//! What a notation holds by its form.
+
+ghost use Rattle.std.specs.Prelude.{◌≡◌, MatchOption, map, option_map};
+ghost use Rattle.trees.specs.Values.{Name, Tree, chosen, member_of, members, tree_of, trees};
+ghost use Rattle.typed_values.specs.proving.Forms.{members_in, trees_in};
+
+use trees::{Named, ValueForm, ValueSyntax};
+
+/// The values in braces.
+pub(crate) fn values_in(notation: &ValueSyntax) -> Option<&[ValueSyntax]>
+    ensures { option_map (λ vs. trees (map tree_of vs.now)) result ≡ trees_in (tree_of notation.now) }
+{
+    match &notation.form {
+        ValueForm::Empty => Some(&[]),
+        ValueForm::Items(values) => Some(values.as_slice()),
+        _ => None,
+    }
+}
+
+/// The values with names in braces.
+pub(crate) fn fields_in(notation: &ValueSyntax) -> Option<&[Named<ValueSyntax>]>
+    ensures { option_map (λ fs. members (map member_of fs.now)) result ≡ members_in (tree_of notation.now) }
+{
+    match &notation.form {
+        ValueForm::Empty => Some(&[]),
+        ValueForm::Fields(fields) => Some(fields.as_slice()),
+        _ => None,
+    }
+}
+
+/// The name of an alternative, and its value.
+pub(crate) fn chosen_in(notation: &ValueSyntax) -> Option<(&str, &ValueSyntax)>
+    ensures { MatchOption result
+        ((x : Name) (m : Tree) → tree_of notation.now ≡ chosen x m → ⊥)
+        (λ c. tree_of notation.now ≡ chosen c.0.now (tree_of c.1.now)) }
+{
+    match &notation.form {
+        ValueForm::Chosen(name, value) => {
+            let value: &ValueSyntax = value;
+            Some((name.as_str(), value))
+        }
+        _ => None,
+    }
+}

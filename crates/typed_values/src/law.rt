@@ -1,0 +1,36 @@
+//! Laws of values of notations, for the crates above.
+
+ghost use Rattle.std.specs.Prelude.{◌≡◌, ◌≤◌, ℕ, List};
+ghost use Rattle.asn_base.specs.Abstract.{AbstractValue};
+ghost use Rattle.asn_base.specs.Typed.{nodes};
+ghost use Rattle.trees.specs.Values.{Name, Tree};
+ghost use Rattle.names.specs.Names.{IsApart};
+ghost use Rattle.type_table.specs.Lists.{AreSound};
+ghost use Rattle.resolve.specs.Program.{Program};
+ghost use Rattle.value_notations.specs.Notations.{Notation};
+ghost use Rattle.value_notations.specs.Values.{ValueIn};
+ghost use Rattle.values.specs.Allowing.{Allows, AllowsCode};
+ghost use Rattle.typed_values.specs.declared.fault.Cause.TheVariants.{Memory};
+ghost use Rattle.typed_values.specs.declared.fault.ValueFault.{ValueFault as ValueFault'};
+ghost use Rattle.typed_values.specs.Faults.{Stands};
+ghost use Rattle.typed_values.specs.Laws.{HaveFewNodes};
+
+use value_notations::law::{one_value, wrong_stand_for_none};
+
+/// In linked modules whose defaults have few nodes, a notation in which a fault stands, other than want of memory, stands for
+/// no value of its type that has at most so many levels and nodes.
+pub fn faults_exclude()
+    ensures { (p : Program) (levels left i : ℕ) (os : List ℕ) (M : Name) (n : Tree) (f : ValueFault') (v : AbstractValue)
+        → IsApart p.modules
+        → AreSound p.types
+        → HaveFewNodes p
+        → Stands p levels left os M i n f
+        → (f.cause ≡ Memory → ⊥)
+        → Notation p os M i n v
+        → ValueIn p (Allows p) (AllowsCode p) levels i v
+        → nodes v ≤ left
+        → ⊥ }
+{
+    one_value();
+    wrong_stand_for_none();
+}

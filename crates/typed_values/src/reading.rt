@@ -1,0 +1,538 @@
+//! The reading of a notation under a type, from its front.
+
+ghost use Rattle.std.specs.Prelude.{◌<◌, ◌≡◌, ◌+◌, ℕ, suc, Bool as 𝔹, List, [], true, false, IfErr, IfOk, OnOk, None, Some, length, map, option_map, slice_get};
+ghost use Rattle.asn_base.specs.Abstract.{abstract, row_of_list, row_of_options};
+ghost use Rattle.trees.specs.declared.types.ElementsKind.{ElementsKind as ElementsKind'};
+ghost use Rattle.trees.specs.declared.types.ListKind.TheVariants.{Choice as choice};
+ghost use Rattle.trees.specs.declared.types.Standing.TheVariants.{Root};
+ghost use Rattle.trees.specs.Types.{default as default'};
+ghost use Rattle.trees.specs.Values.{Name, member_of, tree_of};
+ghost use Rattle.type_table.specs.Lists.{AreSound};
+ghost use Rattle.type_table.specs.Seen.{kind_of, part_of};
+ghost use Rattle.type_table.specs.Table.{Part, elements, members};
+ghost use Rattle.names.specs.Modules.{AreDistinct};
+ghost use Rattle.value_notations.specs.Notations.{field_names, may_be_absent, part_names};
+ghost use Rattle.value_notations.specs.References.{IsLast};
+ghost use Rattle.value_notations.specs.Values.{IsTyped, MayBeAbsent};
+ghost use Rattle.values.specs.Allowing.{Allows, AllowsCode};
+ghost use Rattle.values.specs.Arranged.{place_of};
+ghost use Rattle.typed_values.specs.Faults.{IsWritten, Stands};
+ghost use Rattle.typed_values.specs.proving.Reading.{ArePlaced, IsField, IsWrongDefault, IsWrongField, MeanFields, MeanRow, StandsInField, StandsInOne, Tells, option_nodes};
+
+use crate::fault::{Cause, Place, ValueFault, unarranged, unfollowed};
+use crate::forms::{chosen_in, fields_in, values_in};
+use crate::simple::simple_value;
+use crate::written::written;
+use asn_base::law::abstract_values;
+use asn_base::schema::TypeId;
+use asn_base::value::Value;
+use constraints::{Bounded, allows_size};
+use std::alloc::Global;
+use trees::{ListKind, Named, PresenceSyntax, Standing, ValueSyntax};
+use type_table::{Component, Shape};
+use value_notations::opened::Opened;
+use value_notations::references::follow;
+use values::law::{groups_whole, stands_for_fields};
+use values::{alternative, arranged};
+
+/// A value has at most this many levels.
+const MOST_LEVELS: u8 = 64;
+
+/// A value has at most this many nodes, 2^24.
+const MOST_NODES: u32 = 16_777_216;
+
+/// Is it a CHOICE?
+fn is_choice(kind: ListKind) -> bool
+    ensures yes { result ≡ true → kind ≡ choice }
+    ensures no { result ≡ false → kind ≡ choice → ⊥ }
+{
+    match kind {
+        ListKind::Choice => true,
+        ListKind::Sequence => false,
+        ListKind::Set => false,
+    }
+}
+
+/// Reads a notation under a type, where so many levels and nodes are left. `opened` are the values whose notations are
+/// being read: those that a value leaves behind are taken away again.
+#[cycle(reading)]
+fn read<'a>(
+    alloc: Global,
+    bounded: &Bounded<'a>,
+    levels: u8,
+    left: &mut u32,
+    opened: &mut Opened,
+    at: Place<'a>,
+) -> Result<Value, ValueFault<'a>>
+    requires there { at.ty.index < length bounded.now.types }
+    requires sound { AreSound bounded.now.types }
+    ensures tells { Tells bounded.now levels left.old left.new opened.old at.entry.within.now at.entry.ty.index
+        (tree_of at.entry.notation.now) result }
+    ensures back { OnOk result (opened.new ≡ opened.old) }
+{
+    if levels == 0 {
+        let cause = Cause::Depth;
+        return Err(ValueFault { at, cause });
+    }
+    if *left == 0 {
+        let cause = Cause::Nodes;
+        return Err(ValueFault { at, cause });
+    }
+    *left -= 1;
+    let count = opened.count();
+    let linked = bounded.linked();
+    let (shape, home) = written(linked, at.ty);
+    match follow(linked, opened, shape, at.within, at.notation) {
+        Err(fault) => {
+            let cause = unfollowed(fault);
+            Err(ValueFault { at, cause })
+        }
+        Ok((within, last)) => {
+            match value_of(
+                alloc,
+                bounded,
+                levels - 1,
+                left,
+                opened,
+                at,
+                shape,
+                home,
+                within,
+                last,
+            ) {
+                Err(fault) => Err(fault),
+                Ok(value) => {
+                    opened.close(count);
+                    Ok(value)
+                }
+            }
+        }
+    }
+}
+
+/// Reads what stands behind the references of a notation, under what its type is behind references and tags.
+#[cycle(reading)]
+fn value_of<'a>(
+    alloc: Global,
+    bounded: &Bounded<'a>,
+    levels: u8,
+    left: &mut u32,
+    opened: &mut Opened,
+    at: Place<'a>,
+    shape: &'a Shape,
+    home: &'a str,
+    within: &'a str,
+    last: &'a ValueSyntax,
+) -> Result<Value, ValueFault<'a>>
+    requires there { at.ty.index < length bounded.now.types }
+    requires sound { AreSound bounded.now.types }
+    requires written { IsWritten bounded.now at.ty.index (kind_of shape.now) home.now }
+    ensures tells { (os : List ℕ)
+        → IsLast bounded.now (kind_of shape.now) os at.entry.within.now (tree_of at.entry.notation.now) opened.old within.now
+        (tree_of last.now)
+        → Tells bounded.now (suc levels) (suc left.old) left.new os at.entry.within.now at.entry.ty.index (tree_of at.entry.notation.now)
+        result }
+    ensures back { OnOk result (opened.new ≡ opened.old) }
+{
+    let linked = bounded.linked();
+    linked.whole();
+    match shape {
+        Shape::Simple(simple) => simple_value(alloc, bounded, at, simple, last),
+        Shape::Elements(_, element) => {
+            let element = TypeId { index: *element };
+            list(
+                alloc, bounded, levels, left, opened, at, element, within, last,
+            )
+        }
+        Shape::Members(kind, _, parts) => {
+            let members = parts.as_slice();
+            if is_choice(*kind) {
+                chosen(
+                    alloc, bounded, levels, left, opened, at, members, within, last,
+                )
+            } else {
+                fields(
+                    alloc, bounded, levels, left, opened, at, *kind, members, home, within, last,
+                )
+            }
+        }
+        Shape::Reference(_) => unreachable!(),
+        Shape::Tagged(_, _, _) => unreachable!(),
+    }
+}
+
+/// Reads the value of a SEQUENCE OF or SET OF.
+#[cycle(reading)]
+fn list<'a>(
+    alloc: Global,
+    bounded: &Bounded<'a>,
+    levels: u8,
+    left: &mut u32,
+    opened: &mut Opened,
+    at: Place<'a>,
+    element: TypeId,
+    within: &'a str,
+    last: &'a ValueSyntax,
+) -> Result<Value, ValueFault<'a>>
+    requires there { at.ty.index < length bounded.now.types }
+    requires element { element.index < length bounded.now.types }
+    requires sound { AreSound bounded.now.types }
+    ensures tells { (os : List ℕ) (k : ElementsKind') (N : Name)
+        → IsWritten bounded.now at.entry.ty.index (elements k element.index) N
+        → IsLast bounded.now (elements k element.index) os at.entry.within.now (tree_of at.entry.notation.now) opened.old within.now
+        (tree_of last.now)
+        → Tells bounded.now (suc levels) (suc left.old) left.new os at.entry.within.now at.entry.ty.index (tree_of at.entry.notation.now)
+        result }
+    ensures back { OnOk result (opened.new ≡ opened.old) }
+{
+    abstract_values();
+    let Some(notations) = values_in(last) else {
+        let cause = Cause::NotOfType;
+        return Err(ValueFault { at, cause });
+    };
+    let values = match all(
+        alloc, bounded, levels, left, opened, element, within, notations,
+    ) {
+        Ok(values) => values,
+        Err(fault) => return Err(fault),
+    };
+    if !allows_size(bounded, at.ty, values.len()) {
+        let cause = Cause::Outside;
+        return Err(ValueFault { at, cause });
+    }
+    Ok(Value::List(values))
+}
+
+/// Reads the elements of a list, one behind the other.
+#[cycle(reading)]
+fn all<'a>(
+    alloc: Global,
+    bounded: &Bounded<'a>,
+    levels: u8,
+    left: &mut u32,
+    opened: &mut Opened,
+    element: TypeId,
+    within: &'a str,
+    notations: &'a [ValueSyntax],
+) -> Result<Vec<Value>, ValueFault<'a>>
+    requires there { element.index < length bounded.now.types }
+    requires sound { AreSound bounded.now.types }
+    ensures value { IfOk result (λ vs. MeanRow bounded.now levels left.old left.new opened.old within.now element.index
+        (map tree_of notations.now) (row_of_list (map abstract vs.items))) }
+    ensures fault { IfErr result (StandsInOne bounded.now levels left.old opened.old within.now element.index
+        (map tree_of notations.now)) }
+    ensures back { OnOk result (opened.new ≡ opened.old) }
+{
+    let mut values = Vec::new(alloc);
+    for i in 0..notations.len() {
+        let at = Place {
+            ty: element,
+            within,
+            notation: &notations[i],
+        };
+        let value = match read(alloc, bounded, levels, left, opened, at) {
+            Ok(value) => value,
+            Err(fault) => return Err(fault),
+        };
+        match values.push(value) {
+            Ok(()) => {}
+            Err(_) => {
+                let cause = Cause::Memory;
+                return Err(ValueFault { at, cause });
+            }
+        }
+    }
+    Ok(values)
+}
+
+/// Reads the value of a CHOICE.
+#[cycle(reading)]
+fn chosen<'a>(
+    alloc: Global,
+    bounded: &Bounded<'a>,
+    levels: u8,
+    left: &mut u32,
+    opened: &mut Opened,
+    at: Place<'a>,
+    alternatives: &'a [Component],
+    within: &'a str,
+    last: &'a ValueSyntax,
+) -> Result<Value, ValueFault<'a>>
+    requires members { (j : ℕ) (c : Part) → slice_get (map part_of alternatives.now) j ≡ Some c
+        → c.ty < length bounded.now.types }
+    requires sound { AreSound bounded.now.types }
+    ensures tells { (os : List ℕ) (e : 𝔹) (N : Name)
+        → IsWritten bounded.now at.entry.ty.index (members choice e (map part_of alternatives.now)) N
+        → IsLast bounded.now (members choice e (map part_of alternatives.now)) os at.entry.within.now
+        (tree_of at.entry.notation.now) opened.old within.now (tree_of last.now)
+        → Tells bounded.now (suc levels) (suc left.old) left.new os at.entry.within.now at.entry.ty.index (tree_of at.entry.notation.now)
+        result }
+    ensures back { OnOk result (opened.new ≡ opened.old) }
+{
+    abstract_values();
+    let Some((name, notation)) = chosen_in(last) else {
+        let cause = Cause::NotOfType;
+        return Err(ValueFault { at, cause });
+    };
+    let Some(number) = alternative(alternatives, name) else {
+        let cause = Cause::UnknownAlternative;
+        return Err(ValueFault { at, cause });
+    };
+    let ty = TypeId {
+        index: alternatives[number].ty,
+    };
+    let inner = Place {
+        ty,
+        within,
+        notation,
+    };
+    let value = match read(alloc, bounded, levels, left, opened, inner) {
+        Ok(value) => value,
+        Err(fault) => return Err(fault),
+    };
+    match Box::new(alloc, value) {
+        Ok(held) => Ok(Value::Alt(number, held)),
+        Err(_) => {
+            let cause = Cause::Memory;
+            Err(ValueFault { at, cause })
+        }
+    }
+}
+
+/// Reads the value of a SEQUENCE or SET.
+#[cycle(reading)]
+fn fields<'a>(
+    alloc: Global,
+    bounded: &Bounded<'a>,
+    levels: u8,
+    left: &mut u32,
+    opened: &mut Opened,
+    at: Place<'a>,
+    kind: ListKind,
+    components: &'a [Component],
+    home: &'a str,
+    within: &'a str,
+    last: &'a ValueSyntax,
+) -> Result<Value, ValueFault<'a>>
+    requires list { kind ≡ choice → ⊥ }
+    requires distinct { AreDistinct (part_names (map part_of components.now)) }
+    requires members { (j : ℕ) (c : Part) → slice_get (map part_of components.now) j ≡ Some c
+        → c.ty < length bounded.now.types }
+    requires sound { AreSound bounded.now.types }
+    ensures tells { (os : List ℕ) (e : 𝔹)
+        → IsWritten bounded.now at.entry.ty.index (members kind e (map part_of components.now)) home.now
+        → IsLast bounded.now (members kind e (map part_of components.now)) os at.entry.within.now (tree_of at.entry.notation.now)
+        opened.old within.now (tree_of last.now)
+        → Tells bounded.now (suc levels) (suc left.old) left.new os at.entry.within.now at.entry.ty.index (tree_of at.entry.notation.now)
+        result }
+    ensures back { OnOk result (opened.new ≡ opened.old) }
+{
+    abstract_values();
+    stands_for_fields();
+    groups_whole();
+    let Some(given) = fields_in(last) else {
+        let cause = Cause::NotOfType;
+        return Err(ValueFault { at, cause });
+    };
+    let places = match arranged(alloc, kind, components, given) {
+        Ok(places) => places,
+        Err(fault) => {
+            let cause = unarranged(fault, last);
+            return Err(ValueFault { at, cause });
+        }
+    };
+    match all_fields(
+        alloc,
+        bounded,
+        levels,
+        left,
+        opened,
+        at,
+        components,
+        home,
+        within,
+        given,
+        places.as_slice(),
+    ) {
+        Ok(values) => Ok(Value::Fields(values)),
+        Err(fault) => Err(fault),
+    }
+}
+
+/// Reads the components of a SEQUENCE or SET in the order of definition.
+#[cycle(reading)]
+fn all_fields<'a>(
+    alloc: Global,
+    bounded: &Bounded<'a>,
+    levels: u8,
+    left: &mut u32,
+    opened: &mut Opened,
+    at: Place<'a>,
+    components: &'a [Component],
+    home: &'a str,
+    within: &'a str,
+    given: &'a [Named<ValueSyntax>],
+    places: &[Option<usize>],
+) -> Result<Vec<Option<Value>>, ValueFault<'a>>
+    requires arranged { ArePlaced (map part_of components.now) (field_names (map member_of given.now)) places.now }
+    requires members { (j : ℕ) (c : Part) → slice_get (map part_of components.now) j ≡ Some c
+        → c.ty < length bounded.now.types }
+    requires sound { AreSound bounded.now.types }
+    ensures value { IfOk result (λ vs. MeanFields bounded.now levels left.old left.new opened.old within.now home.now
+        (map member_of given.now) (map part_of components.now) (row_of_options (map (option_map abstract) vs.items))) }
+    ensures fault { IfErr result (StandsInField bounded.now levels left.old opened.old within.now home.now
+        (map member_of given.now) (map part_of components.now)) }
+    ensures back { OnOk result (opened.new ≡ opened.old) }
+{
+    let mut values = Vec::new(alloc);
+    for i in 0..components.len() {
+        let component = &components[i];
+        let value = match field(
+            alloc, bounded, levels, left, opened, component, home, within, given, places[i],
+        ) {
+            Ok(value) => value,
+            Err(fault) => return Err(fault),
+        };
+        match values.push(value) {
+            Ok(()) => {}
+            Err(_) => {
+                let cause = Cause::Memory;
+                return Err(ValueFault { at, cause });
+            }
+        }
+    }
+    Ok(values)
+}
+
+/// Reads a component: its field, or none where it may be absent.
+#[cycle(reading)]
+fn field<'a>(
+    alloc: Global,
+    bounded: &Bounded<'a>,
+    levels: u8,
+    left: &mut u32,
+    opened: &mut Opened,
+    component: &'a Component,
+    home: &'a str,
+    within: &'a str,
+    given: &'a [Named<ValueSyntax>],
+    place: Option<usize>,
+) -> Result<Option<Value>, ValueFault<'a>>
+    requires there { component.now.ty < length bounded.now.types }
+    requires placed { place ≡ place_of (part_of component.now).name (field_names (map member_of given.now)) }
+    requires may { place ≡ None → may_be_absent (part_of component.now) ≡ true }
+    requires sound { AreSound bounded.now.types }
+    ensures value { IfOk result (λ o. IsField bounded.now levels opened.old within.now home.now (map member_of given.now)
+        (part_of component.now) (option_map abstract o)) }
+    ensures counted { IfOk result (λ o. left.old ≡ left.new + option_nodes (option_map abstract o)) }
+    ensures fault { IfErr result (IsWrongField bounded.now levels left.old opened.old within.now home.now
+        (map member_of given.now) (part_of component.now)) }
+    ensures back { OnOk result (opened.new ≡ opened.old) }
+{
+    let ty = TypeId {
+        index: component.ty,
+    };
+    match place {
+        Some(place) => {
+            let notation = &given[place].value;
+            let at = Place {
+                ty,
+                within,
+                notation,
+            };
+            match read(alloc, bounded, levels, left, opened, at) {
+                Ok(value) => Ok(Some(value)),
+                Err(fault) => Err(fault),
+            }
+        }
+        None => match default(alloc, bounded, levels, component, home) {
+            Ok(()) => Ok(None),
+            Err(fault) => Err(fault),
+        },
+    }
+}
+
+/// Reads the DEFAULT of an absent component, if it has one.
+#[cycle(reading)]
+fn default<'a>(
+    alloc: Global,
+    bounded: &Bounded<'a>,
+    levels: u8,
+    component: &'a Component,
+    home: &'a str,
+) -> Result<(), ValueFault<'a>>
+    requires there { component.now.ty < length bounded.now.types }
+    requires may { may_be_absent (part_of component.now) ≡ true }
+    requires sound { AreSound bounded.now.types }
+    ensures may { OnOk result (MayBeAbsent bounded.now (Allows bounded.now) (AllowsCode bounded.now) levels home.now
+        (part_of component.now)) }
+    ensures fault { IfErr result (IsWrongDefault bounded.now levels home.now (part_of component.now)) }
+{
+    match component.standing {
+        Standing::Addition(_) => Ok(()),
+        Standing::Root => match &component.presence {
+            PresenceSyntax::Mandatory => Ok(()),
+            PresenceSyntax::Optional => Ok(()),
+            PresenceSyntax::Default(notation) => whole_default(
+                alloc, bounded, levels, component, home, notation,
+            ),
+        },
+    }
+}
+
+/// Reads a DEFAULT in the module where it is written, with 2^24 nodes.
+#[cycle(reading)]
+fn whole_default<'a>(
+    alloc: Global,
+    bounded: &Bounded<'a>,
+    levels: u8,
+    component: &'a Component,
+    home: &'a str,
+    notation: &'a ValueSyntax,
+) -> Result<(), ValueFault<'a>>
+    requires there { component.now.ty < length bounded.now.types }
+    requires root { (part_of component.now).standing ≡ Root }
+    requires presence { (part_of component.now).presence ≡ default' (tree_of notation.now) }
+    requires sound { AreSound bounded.now.types }
+    ensures may { OnOk result (MayBeAbsent bounded.now (Allows bounded.now) (AllowsCode bounded.now) levels home.now
+        (part_of component.now)) }
+    ensures fault { IfErr result (IsWrongDefault bounded.now levels home.now (part_of component.now)) }
+{
+    let at = Place {
+        ty: TypeId {
+            index: component.ty,
+        },
+        within: home,
+        notation,
+    };
+    let mut left = MOST_NODES;
+    let mut opened = Opened::new(alloc);
+    match read(alloc, bounded, levels, &mut left, &mut opened, at) {
+        Ok(_) => Ok(()),
+        Err(fault) => Err(fault),
+    }
+}
+
+/// The value that a notation stands for under a type.
+pub fn typed<'a>(
+    alloc: Global,
+    bounded: &Bounded<'a>,
+    ty: TypeId,
+    within: &'a str,
+    notation: &'a ValueSyntax,
+) -> Result<Value, ValueFault<'a>>
+    requires there { ty.index < length bounded.now.types }
+    requires sound { AreSound bounded.now.types }
+    ensures value { IfOk result (λ v. IsTyped bounded.now (Allows bounded.now) (AllowsCode bounded.now) within.now ty.index
+        (tree_of notation.now) (abstract v)) }
+    ensures fault { IfErr result (Stands bounded.now 64 16777216 [] within.now ty.index (tree_of notation.now)) }
+{
+    let at = Place {
+        ty,
+        within,
+        notation,
+    };
+    let mut left = MOST_NODES;
+    let mut opened = Opened::new(alloc);
+    read(alloc, bounded, MOST_LEVELS, &mut left, &mut opened, at)
+}

@@ -1,0 +1,51 @@
+//! Values of types that hold no other types.
+
+ghost use Rattle.std.specs.Prelude.{◌<◌, ◌≡◌, ℕ, suc, List, length};
+ghost use Rattle.trees.specs.Types.{plain_of};
+ghost use Rattle.trees.specs.Values.{Name, tree_of};
+ghost use Rattle.type_table.specs.Lists.{IsSoundPlain};
+ghost use Rattle.type_table.specs.Table.{simple as simple'};
+ghost use Rattle.range_ends.specs.Ends.{IsOfKind};
+ghost use Rattle.value_notations.specs.References.{IsLast};
+ghost use Rattle.typed_values.specs.Faults.{IsWritten};
+ghost use Rattle.typed_values.specs.proving.Reading.{Tells};
+
+use crate::fault::{Cause, Place, ValueFault, no_leaf};
+use asn_base::value::Value;
+use constraints::Bounded;
+use std::alloc::Global;
+use trees::{Simple, ValueSyntax};
+use value_notations::leaves::leaf;
+use values::is_allowed;
+
+/// The value of a notation under a type that holds no other types.
+pub(crate) fn simple_value<'a>(
+    alloc: Global,
+    bounded: &Bounded<'a>,
+    at: Place<'a>,
+    simple: &Simple,
+    last: &'a ValueSyntax,
+) -> Result<Value, ValueFault<'a>>
+    requires there { at.ty.index < length bounded.now.types }
+    requires sound { IsSoundPlain (plain_of simple.now) }
+    requires is { IsOfKind bounded.now.types at.ty.index (simple' (plain_of simple.now)) }
+    ensures { (levels left : ℕ) (os ps : List ℕ) (K N : Name)
+        → IsWritten bounded.now at.entry.ty.index (simple' (plain_of simple.now)) N
+        → IsLast bounded.now (simple' (plain_of simple.now)) os at.entry.within.now (tree_of at.entry.notation.now) ps K
+        (tree_of last.now)
+        → Tells bounded.now (suc levels) (suc left) left os at.entry.within.now at.entry.ty.index (tree_of at.entry.notation.now) result }
+{
+    let value = match leaf(alloc, simple, last) {
+        Ok(value) => value,
+        Err(fault) => {
+            let cause = no_leaf(fault);
+            return Err(ValueFault { at, cause });
+        }
+    };
+    if is_allowed(bounded, at.ty, simple, &value) {
+        Ok(value)
+    } else {
+        let cause = Cause::Outside;
+        Err(ValueFault { at, cause })
+    }
+}

@@ -1,0 +1,19 @@
+//! What a type is behind its references and tags.
+
+ghost use Rattle.std.specs.Prelude.{◌<◌, ◌≡◌, length};
+ghost use Rattle.type_table.specs.Seen.{kind_of};
+ghost use Rattle.typed_values.specs.Faults.{IsWritten};
+
+use asn_base::schema::TypeId;
+use resolve::Linked;
+use type_table::Shape;
+
+/// What a type is behind its references and tags, and the module where that is written.
+pub(crate) fn written(linked: &Linked, ty: TypeId) -> (&Shape, &str)
+    requires { ty.index < length linked.now.types }
+    ensures { IsWritten linked.now ty.index (kind_of result.0.now) result.1.now }
+{
+    let core = linked.core(ty);
+    let home = linked.home(core);
+    (&linked.types()[core.index].shape, home.module)
+}

@@ -1,0 +1,5 @@
+pub mod Lists
+pub mod Steps
+pub mod Fronts
+pub mod Filled
+pub mod Borrowed

@@ -1,0 +1,10 @@
+use Rattle.std.proofs.Common.{ap, sym}
+use Rattle.std.specs.Prelude.{◌∷◌, []}
+use Rattle.std.proofs.lemmas.Int.{to_z-of_z}
+use mir.Syntax.{w128}
+use Rattle.views.specs.Tree.{leaf, enumerated}
+use Rattle.views.specs.Nodes.{a_leaf, node}
+use Rattle.views.proofs.builder.Builder.push_enum.Goals as goal
+
+pub returns : goal.returns
+returns c b h = c.in_ok-add.ensures b (leaf (enumerated c.args.item)) h (ap (λ z. node c.args.number (a_leaf (enumerated z)) ∷ []) (sym (to_z-of_z w128 c.args.item c.ranges.item)))

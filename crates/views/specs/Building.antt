@@ -1,0 +1,77 @@
+-- A tree while it is built, from the front.
+use Rattle.std.specs.Prelude.{◌≡◌, ℕ, List, [], ◌∷◌, ◌++◌, length}
+use Rattle.views.specs.Tree.{AreBorrowed, Leaf, Tree, leaf, fields, list, alternative, Members, no_member, member, joined}
+use Rattle.views.specs.Nodes.{Told, some_fields, some_elements, an_alternative, Node, node, member_nodes}
+
+-- what is open
+pub data Header : Type 0 where
+  open_fields : (size : ℕ) → Header
+  open_list : Header
+  open_alternative : (index : ℕ) → Header
+
+-- a node that is open: the component that it is, and the members that stand before it
+pub record Waiting : Type 0 where
+  pub number : ℕ
+  pub header : Header
+  pub before : Members
+
+-- the members so far of the innermost open node, or of the whole where none is open; and the open nodes, the innermost
+-- first
+pub record Building : Type 0 where
+  pub here : Members
+  pub waits : List Waiting
+
+-- nothing yet
+abbrev pub begun : Building
+begun = record { here = no_member; waits = [] }
+
+-- one more member
+abbrev pub with_tree : ℕ → Tree → Building → Building
+with_tree k t b = record { here = joined b.here (member k t no_member); waits = b.waits }
+
+abbrev pub with_leaf : ℕ → Leaf → Building → Building
+with_leaf k l b = with_tree k (leaf l) b
+
+-- one more node is open
+abbrev pub opened : ℕ → Header → Building → Building
+opened k h b = record { here = no_member; waits = record { number = k; header = h; before = b.here } ∷ b.waits }
+
+-- the tree of these members
+pub data Closes : Header → Members → Tree → Type 0 where
+  closes_fields : {n : ℕ} {ms : Members} → Closes (open_fields n) ms (fields n ms)
+  closes_list : {ms : Members} → Closes open_list ms (list ms)
+  closes_alternative : {i : ℕ} {t : Tree} → Closes (open_alternative i) (member 0 t no_member) (alternative i t)
+
+-- the innermost open node closes with this tree
+pub record IsClosed (a : Building) (w : Waiting) (ws : List Waiting) (t : Tree) (b : Building) : Type 0 where
+  pub is_open : a.waits ≡ w ∷ ws
+  pub tree : Closes w.header a.here t
+  pub closed : b ≡ record { here = joined w.before (member w.number t no_member); waits = ws }
+
+-- a node that is open tells no extent yet
+abbrev pub told_open : Header → Told
+told_open (open_fields n) = some_fields n 0
+told_open open_list = some_elements 0
+told_open (open_alternative i) = an_alternative i 0
+
+-- the nodes so far
+abbrev pub waiting_nodes : List Waiting → List Node
+waiting_nodes [] = []
+waiting_nodes (w ∷ ws) = (waiting_nodes ws ++ member_nodes w.before) ++ node w.number (told_open w.header) ∷ []
+
+abbrev pub built_nodes : Building → List Node
+built_nodes b = waiting_nodes b.waits ++ member_nodes b.here
+
+-- where the open nodes stand, the outermost first
+abbrev pub places : List Waiting → List ℕ
+places [] = []
+places (w ∷ ws) = places ws ++ length (waiting_nodes ws ++ member_nodes w.before) ∷ []
+
+-- each string that is told with a place so far stands there in the message
+abbrev pub AreWaitingBorrowed : List ℕ → List Waiting → Type 0
+AreWaitingBorrowed message [] = Unit {0}
+AreWaitingBorrowed message (w ∷ ws) = AreBorrowed message w.before × AreWaitingBorrowed message ws
+
+pub record IsBorrowedSoFar (message : List ℕ) (b : Building) : Type 0 where
+  pub here : AreBorrowed message b.here
+  pub waits : AreWaitingBorrowed message b.waits

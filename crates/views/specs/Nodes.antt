@@ -1,0 +1,44 @@
+-- The list of nodes that spells a tree: each node stands before those below it, and tells how many it is with them.
+use Rattle.std.specs.Prelude.{ℕ, ◌+◌, List, [], ◌∷◌, ◌++◌, length}
+use Rattle.views.specs.Tree.{Leaf, Tree, leaf, fields, list, alternative, Members, no_member, member}
+
+-- what a node tells; one that holds others, also how many nodes it is with all below it
+pub data Told : Type 0 where
+  a_leaf : Leaf → Told
+  some_fields : (size extent : ℕ) → Told
+  some_elements : (extent : ℕ) → Told
+  an_alternative : (index extent : ℕ) → Told
+
+-- a node, with the number of the component that it is
+pub record Node : Type 0 where
+  pub number : ℕ
+  pub told : Told
+
+abbrev pub node : ℕ → Told → Node
+node k w = record { number = k; told = w }
+
+abbrev mutual
+  -- the nodes of a tree that is the component with this number
+  pub nodes : ℕ → Tree → List Node
+  nodes k (leaf l) = node k (a_leaf l) ∷ []
+  nodes k (fields n ms) = node k (some_fields n (length (member_nodes ms) + 1)) ∷ member_nodes ms
+  nodes k (list ms) = node k (some_elements (length (member_nodes ms) + 1)) ∷ member_nodes ms
+  nodes k (alternative i t) = node k (an_alternative i (length (nodes 0 t) + 1)) ∷ nodes 0 t
+
+  pub member_nodes : Members → List Node
+  member_nodes no_member = []
+  member_nodes (member k t ms) = nodes k t ++ member_nodes ms
+
+-- how many nodes it is with those below it
+abbrev pub extent : Told → ℕ
+extent (a_leaf l) = 1
+extent (some_fields size e) = e
+extent (some_elements e) = e
+extent (an_alternative index e) = e
+
+-- the same with so many nodes
+abbrev pub with_extent : Told → ℕ → Told
+with_extent (a_leaf l) e = a_leaf l
+with_extent (some_fields size d) e = some_fields size e
+with_extent (some_elements d) e = some_elements e
+with_extent (an_alternative index d) e = an_alternative index e

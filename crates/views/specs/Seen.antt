@@ -1,0 +1,136 @@
+-- Nodes in memory, as the nodes that they are; a builder and a view, as the trees that they hold.
+use Rattle.std.specs.Prelude.{◌≡◌, ℕ, ◌<◌, ◌≤◌, List, length, map, drop, get_or, string_bytes, Some, None}
+use Rattle.std.specs.List.{slice_range, AllByRecursion}
+use Rattle.std.specs.Prelude.{[]}
+use Rattle.views.specs.declared.node.Told.{Told as Told'}
+use Rattle.views.specs.declared.node.Told.TheVariants as told
+use Rattle.views.specs.declared.node.Node.{Node as Node'}
+use Rattle.views.specs.declared.node.Lists.{Lists}
+use Rattle.views.specs.declared.builder.Builder.{Builder}
+use Rattle.views.specs.declared.view.View.{View}
+use Rattle.views.specs.declared.part.Part.{Part}
+use Rattle.views.specs.declared.part.Parts.{Parts}
+use Rattle.views.specs.Tree.{boolean, integer, enumerated, bits, octets, text, null, oid, relative_oid, Leaf, Tree, leaf, fields, list, alternative}
+use Rattle.views.specs.Tree.{Members, member}
+use Rattle.views.specs.Nodes.{Told, a_leaf, some_fields, some_elements, an_alternative, Node, node, nodes, member_nodes}
+use Rattle.views.specs.Building.{Building, built_nodes, places}
+
+-- what stands beside the nodes
+pub record Beside : Type 0 where
+  pub octets : List ℕ
+  pub texts : List (List ℕ)
+  pub arcs : List ℕ
+
+abbrev pub beside_of : Lists → Beside
+beside_of l = record { octets = l.octets.items; texts = map string_bytes l.texts.items; arcs = l.arcs.items }
+
+-- what a node tells, with its string or numbers
+abbrev pub told_of : Beside → Told' → Told
+told_of b (told.Bool t) = a_leaf (boolean t)
+told_of b (told.Int z) = a_leaf (integer z)
+told_of b (told.Enum z) = a_leaf (enumerated z)
+told_of b (told.Bits unused at os) = a_leaf (bits unused os.now (Some at))
+told_of b (told.JoinedBits unused from to) = a_leaf (bits unused (slice_range b.octets from to) None)
+told_of b (told.Octets at os) = a_leaf (octets os.now (Some at))
+told_of b (told.JoinedOctets from to) = a_leaf (octets (slice_range b.octets from to) None)
+told_of b (told.Text at s) = a_leaf (text s.now (Some at))
+told_of b (told.JoinedText i) = a_leaf (text (get_or b.texts i []) None)
+told_of b told.Null = a_leaf null
+told_of b (told.Oid from to) = a_leaf (oid (slice_range b.arcs from to))
+told_of b (told.RelativeOid from to) = a_leaf (relative_oid (slice_range b.arcs from to))
+told_of b (told.Fields size extent) = some_fields size extent
+told_of b (told.List extent) = some_elements extent
+told_of b (told.Alternative index extent) = an_alternative index extent
+
+abbrev pub node_of : Beside → Node' → Node
+node_of b n = node n.number (told_of b n.told)
+
+abbrev pub nodes_of : Beside → List Node' → List Node
+nodes_of b ns = map (node_of b) ns
+
+-- a range within so many
+pub record IsWithin (from to many : ℕ) : Type 0 where
+  pub ordered : from ≤ to
+  pub within : to ≤ many
+
+-- what a node names stands beside the nodes, and an octet has eight bits
+abbrev pub IsToldWithin : Beside → Told' → Type 0
+IsToldWithin b (told.Bool t) = Unit {0}
+IsToldWithin b (told.Int z) = Unit {0}
+IsToldWithin b (told.Enum z) = Unit {0}
+IsToldWithin b (told.Bits unused at os) = (unused < 8) × (length os.now ≡ 0 → unused ≡ 0)
+IsToldWithin b (told.JoinedBits unused from to) =
+    IsWithin from to (length b.octets) × (unused < 8) × (from ≡ to → unused ≡ 0)
+IsToldWithin b (told.Octets at os) = Unit {0}
+IsToldWithin b (told.JoinedOctets from to) = IsWithin from to (length b.octets)
+IsToldWithin b (told.Text at s) = Unit {0}
+IsToldWithin b (told.JoinedText i) = i < length b.texts
+IsToldWithin b told.Null = Unit {0}
+IsToldWithin b (told.Oid from to) = IsWithin from to (length b.arcs)
+IsToldWithin b (told.RelativeOid from to) = IsWithin from to (length b.arcs)
+IsToldWithin b (told.Fields size extent) = Unit {0}
+IsToldWithin b (told.List extent) = Unit {0}
+IsToldWithin b (told.Alternative index extent) = Unit {0}
+
+abbrev pub AreWithin : Beside → List Node' → Type 0
+AreWithin b ns = AllByRecursion (λ n. IsToldWithin b n.told) ns
+
+-- these nodes, and the places of the open ones, are those of what is built so far
+pub record AreBuilt (s : Beside) (ns : List Node') (hs : List ℕ) (b : Building) : Type 0 where
+  pub nodes : nodes_of s ns ≡ built_nodes b
+  pub within : AreWithin s ns
+  pub places : hs ≡ places b.waits
+
+-- a builder holds what is built so far
+abbrev pub Holds : Builder → Building → Type 0
+Holds a b = AreBuilt (beside_of a.lists) a.nodes.items a.headers.items b
+
+-- nodes with what stands beside them spell a tree, which is the component with this number
+pub record Spell (s : Beside) (ns : List Node') (k : ℕ) (t : Tree) : Type 0 where
+  pub nodes : nodes_of s ns ≡ nodes k t
+  pub within : AreWithin s ns
+
+-- the same of members
+pub record SpellMembers (s : Beside) (ns : List Node') (ms : Members) : Type 0 where
+  pub nodes : nodes_of s ns ≡ member_nodes ms
+  pub within : AreWithin s ns
+
+-- the members of the nodes from a place on
+pub record Left (s : Beside) (ns : List Node') (at : ℕ) (left : Members) : Type 0 where
+  pub nodes : nodes_of s (drop at ns) ≡ member_nodes left
+  pub within : AreWithin s ns
+
+-- the first of them, whose nodes end before another place, with its number
+pub record IsNext (s : Beside) (ns : List Node') (at number end : ℕ) (left : Members) : Type 0 where
+  pub tree : Tree
+  pub rest : Members
+  pub is : left ≡ member number tree rest
+  pub first : Spell s (slice_range ns at end) number tree
+  pub behind : Left s ns end rest
+
+-- what the first node tells of a tree, with the nodes below it
+pub data TellsOf (s : Beside) (below : List Node') : Told → Tree → Type 0 where
+  tells_leaf : {l : Leaf} → TellsOf s below (a_leaf l) (leaf l)
+  tells_fields : {size e : ℕ} {ms : Members} → SpellMembers s below ms → TellsOf s below (some_fields size e) (fields size ms)
+  tells_list : {e : ℕ} {ms : Members} → SpellMembers s below ms → TellsOf s below (some_elements e) (list ms)
+  tells_alternative : {i e : ℕ} {t : Tree} → Spell s below 0 t → TellsOf s below (an_alternative i e) (alternative i t)
+
+-- a view of a tree
+abbrev pub IsView : View → Tree → Type 0
+IsView v t = Spell (beside_of v.lists) v.nodes.items 0 t
+
+-- a part of a view, which is a tree; and parts, which are members
+pub record IsPart (p : Part) (t : Tree) : Type 0 where
+  pub number : ℕ
+  pub spell : Spell (beside_of p.lists.now) p.nodes.now number t
+
+abbrev pub AreParts : Parts → Members → Type 0
+AreParts p ms = Left (beside_of p.lists.now) p.nodes.now p.at ms
+
+-- the first of some members, and those behind it
+pub record IsMember (ms : Members) (number : ℕ) (p : Part) (behind : Parts) : Type 0 where
+  pub tree : Tree
+  pub rest : Members
+  pub is : ms ≡ member number tree rest
+  pub part : IsPart p tree
+  pub parts : AreParts behind rest

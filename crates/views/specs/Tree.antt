@@ -1,0 +1,163 @@
+-- Values that are read from a message, as trees, without where they lie in memory.
+use Rattle.std.specs.Prelude.{◌≡◌, ℕ, zero, suc, ◌+◌, ◌*◌, ◌-◌, ◌==◌, ℤ, Bool, List, [], ◌∷◌, length, take, flat_map}
+use Rattle.std.specs.Prelude.{cond, Option, Some, None, true, false}
+use Rattle.std.specs.List.{slice_range}
+use Rattle.asn_base.specs.Abstract as value
+use Rattle.asn_base.specs.Abstract.{AbstractValue, Row, bits_of_octet, row_of_options}
+
+-- a value that holds no others. A string is told with the place in the message of its first octet, counted from 0, or
+-- None where it was joined from segments
+pub data Leaf : Type 0 where
+  boolean : Bool → Leaf
+  integer : ℤ → Leaf
+  enumerated : ℤ → Leaf
+  bits : (unused : ℕ) → List ℕ → (at : Option ℕ) → Leaf
+  octets : List ℕ → (at : Option ℕ) → Leaf
+  text : List ℕ → (at : Option ℕ) → Leaf
+  null : Leaf
+  oid : List ℕ → Leaf
+  relative_oid : List ℕ → Leaf
+
+mutual
+  -- a value: a row of so many components, of which some are there; elements; or the alternative with a number
+  pub data Tree : Type 0 where
+    leaf : Leaf → Tree
+    fields : (size : ℕ) → Members → Tree
+    list : Members → Tree
+    alternative : (index : ℕ) → Tree → Tree
+
+  -- the members that are there, in the order of the message, each with the number of its component
+  pub data Members : Type 0 where
+    no_member : Members
+    member : (number : ℕ) → Tree → Members → Members
+
+-- the bits of these octets but the last unused ones
+abbrev pub bits_in : ℕ → List ℕ → List Bool
+bits_in unused os = take (8 * length os - unused) (flat_map bits_of_octet os)
+
+abbrev pub leaf_value : Leaf → AbstractValue
+leaf_value (boolean b) = value.boolean b
+leaf_value (integer z) = value.integer z
+leaf_value (enumerated z) = value.enumerated z
+leaf_value (bits unused os at) = value.bits (bits_in unused os)
+leaf_value (octets os at) = value.octets os
+leaf_value (text os at) = value.text os
+leaf_value null = value.null
+leaf_value (oid ns) = value.oid ns
+leaf_value (relative_oid ns) = value.relative_oid ns
+
+-- a row of so many places: what stands at each
+abbrev pub placed : {A : Type 0} → ℕ → (ℕ → Option A) → List (Option A)
+placed zero f = []
+placed (suc n) f = f 0 ∷ placed n (λ i. f (i + 1))
+
+abbrev mutual
+  -- the value that a tree shows
+  pub value_of : Tree → AbstractValue
+  value_of (leaf l) = leaf_value l
+  value_of (fields n ms) = value.fields (row_of_options (placed n (λ i. component_value ms i)))
+  value_of (list ms) = value.list (element_values ms)
+  value_of (alternative i t) = value.alternative i (value_of t)
+
+  -- the value of the component with the number, the first one if there are more
+  pub component_value : Members → ℕ → Option AbstractValue
+  component_value no_member i = None
+  component_value (member k t ms) i = cond (k == i) (Some (value_of t)) (component_value ms i)
+
+  pub element_values : Members → Row
+  element_values no_member = value.end
+  element_values (member k t ms) = value.present (value_of t) (element_values ms)
+
+-- the member with the number, the first one if there are more
+abbrev pub component : Members → ℕ → Option Tree
+component no_member i = None
+component (member k t ms) i = cond (k == i) (Some t) (component ms i)
+
+-- how many members there are
+abbrev pub count : Members → ℕ
+count no_member = 0
+count (member k t ms) = count ms + 1
+
+-- members, and then some more
+abbrev pub joined : Members → Members → Members
+joined no_member ns = ns
+joined (member k t ms) ns = member k t (joined ms ns)
+
+-- octets that are told with a place stand there in the message
+abbrev pub StandsAt : List ℕ → List ℕ → Option ℕ → Type 0
+StandsAt message os None = Unit {0}
+StandsAt message os (Some p) = slice_range message p (p + length os) ≡ os
+
+abbrev pub IsBorrowedLeaf : List ℕ → Leaf → Type 0
+IsBorrowedLeaf message (boolean b) = Unit {0}
+IsBorrowedLeaf message (integer z) = Unit {0}
+IsBorrowedLeaf message (enumerated z) = Unit {0}
+IsBorrowedLeaf message (bits unused os at) = StandsAt message os at
+IsBorrowedLeaf message (octets os at) = StandsAt message os at
+IsBorrowedLeaf message (text os at) = StandsAt message os at
+IsBorrowedLeaf message null = Unit {0}
+IsBorrowedLeaf message (oid ns) = Unit {0}
+IsBorrowedLeaf message (relative_oid ns) = Unit {0}
+
+abbrev mutual
+  -- each string that is told with a place stands there in the message
+  pub IsBorrowed : List ℕ → Tree → Type 0
+  IsBorrowed message (leaf l) = IsBorrowedLeaf message l
+  IsBorrowed message (fields n ms) = AreBorrowed message ms
+  IsBorrowed message (list ms) = AreBorrowed message ms
+  IsBorrowed message (alternative i t) = IsBorrowed message t
+
+  pub AreBorrowed : List ℕ → Members → Type 0
+  AreBorrowed message no_member = Unit {0}
+  AreBorrowed message (member k t ms) = IsBorrowed message t × AreBorrowed message ms
+
+-- what a tree tells where it is of the kind, and None where it isn't
+abbrev pub boolean_in : Tree → Option Bool
+boolean_in (leaf (boolean b)) = Some b
+boolean_in _ = None
+
+abbrev pub integer_in : Tree → Option ℤ
+integer_in (leaf (integer z)) = Some z
+integer_in _ = None
+
+-- the members that are there
+abbrev pub members_in : Tree → Members
+members_in (fields n ms) = ms
+members_in (list ms) = ms
+members_in _ = no_member
+
+-- the number of the alternative and its value
+abbrev pub alternative_in : Tree → Option (ℕ × Tree)
+alternative_in (alternative i t) = Some (i, t)
+alternative_in _ = None
+
+abbrev pub enumerated_in : Tree → Option ℤ
+enumerated_in (leaf (enumerated z)) = Some z
+enumerated_in _ = None
+
+abbrev pub null_in : Tree → Bool
+null_in (leaf null) = true
+null_in _ = false
+
+-- the octets of an OCTET STRING, and where the first one stands in the message, None of a joined one
+abbrev pub octets_in : Tree → Option (List ℕ × Option ℕ)
+octets_in (leaf (octets os at)) = Some (os, at)
+octets_in _ = None
+
+-- the unused bits of a BIT STRING, its octets, and where the first one stands
+abbrev pub bit_string_in : Tree → Option (ℕ × List ℕ × Option ℕ)
+bit_string_in (leaf (bits unused os at)) = Some (unused, os, at)
+bit_string_in _ = None
+
+-- the UTF-8 octets of a character string, and where the first one stands
+abbrev pub text_in : Tree → Option (List ℕ × Option ℕ)
+text_in (leaf (text os at)) = Some (os, at)
+text_in _ = None
+
+abbrev pub oid_in : Tree → Option (List ℕ)
+oid_in (leaf (oid ns)) = Some ns
+oid_in _ = None
+
+abbrev pub relative_oid_in : Tree → Option (List ℕ)
+relative_oid_in (leaf (relative_oid ns)) = Some ns
+relative_oid_in _ = None

@@ -1,0 +1,281 @@
+//! Views are built from the front.
+
+ghost use Rattle.std.specs.Prelude.{◌≡◌, ◌<◌, ◌^◌, ◌∷◌, [], List, None, OnOk, Some, length, ℕ, string_bytes};
+ghost use Rattle.views.specs.Building.{Building, Header, IsClosed, Waiting, begun, opened, open_alternative, open_fields, open_list, told_open, with_leaf, with_tree};
+ghost use Rattle.views.specs.Nodes.{node, nodes};
+ghost use Rattle.views.specs.Seen.{Holds, IsToldWithin, IsView, beside_of, told_of};
+ghost use Rattle.views.specs.Tree.{Tree, bits, boolean, enumerated, integer, member, no_member, null, octets, oid, relative_oid, text};
+
+use crate::node::{Lists, Node, Told};
+use crate::view::View;
+use std::alloc::{AllocError, Global};
+
+/// A view while its message is read, from the front. Each call that adds something may be refused for want of memory
+/// alone; then the builder is of no more use. Members are numbered: a component by its place in order of definition, in
+/// whatever order components arrive; an element, the value of a CHOICE and the whole by 0. What is absent is left out.
+#[derive(Drop)]
+pub struct Builder<'a> {
+    pub(crate) nodes: Vec<Node<'a>>,
+    pub(crate) lists: Lists,
+    pub(crate) headers: Vec<usize>,
+}
+
+impl<'a> Builder<'a> {
+    /// Nothing yet.
+    pub fn new(alloc: Global) -> Self
+        ensures { Holds result begun }
+    {
+        Builder {
+            nodes: Vec::new(alloc),
+            lists: Lists {
+                octets: Vec::new(alloc),
+                texts: Vec::new(alloc),
+                arcs: Vec::new(alloc),
+            },
+            headers: Vec::new(alloc),
+        }
+    }
+
+    /// Adds a value of one node.
+    fn add(&mut self, number: u32, told: Told<'a>) -> Result<(), AllocError>
+        requires { IsToldWithin (beside_of self.old.lists) told }
+        ensures { (b : Building) (t : Tree)
+            → Holds self.old b
+            → nodes number t ≡ node number (told_of (beside_of self.old.lists) told.entry) ∷ []
+            → OnOk result (Holds self.new (with_tree number t b)) }
+    {
+        self.nodes.push(Node { number, told })?;
+        Ok(())
+    }
+
+    /// A BOOLEAN.
+    pub fn push_bool(&mut self, number: u32, truth: bool) -> Result<(), AllocError>
+        ensures { (b : Building)
+            → Holds self.old b
+            → OnOk result (Holds self.new (with_leaf number (boolean truth) b)) }
+    {
+        self.add(number, Told::Bool(truth))?;
+        Ok(())
+    }
+
+    /// An INTEGER.
+    pub fn push_int(&mut self, number: u32, value: i128) -> Result<(), AllocError>
+        ensures { (b : Building)
+            → Holds self.old b
+            → OnOk result (Holds self.new (with_leaf number (integer value) b)) }
+    {
+        self.add(number, Told::Int(value))?;
+        Ok(())
+    }
+
+    /// An ENUMERATED, by the number of its item.
+    pub fn push_enum(&mut self, number: u32, item: i128) -> Result<(), AllocError>
+        ensures { (b : Building)
+            → Holds self.old b
+            → OnOk result (Holds self.new (with_leaf number (enumerated item) b)) }
+    {
+        self.add(number, Told::Enum(item))?;
+        Ok(())
+    }
+
+    /// A NULL.
+    pub fn push_null(&mut self, number: u32) -> Result<(), AllocError>
+        ensures { (b : Building)
+            → Holds self.old b
+            → OnOk result (Holds self.new (with_leaf number null b)) }
+    {
+        self.add(number, Told::Null)?;
+        Ok(())
+    }
+
+    /// An OCTET STRING that is borrowed: its octets, and the place of the first one in the message, from 0.
+    pub fn push_octets(&mut self, number: u32, value: &'a [u8], at: usize) -> Result<(), AllocError>
+        requires { at < 2 ^ 32 }
+        ensures { (b : Building)
+            → Holds self.old b
+            → OnOk result (Holds self.new (with_leaf number (octets value.now (Some at)) b)) }
+    {
+        let at = at as u32;
+        self.add(number, Told::Octets { at, octets: value })?;
+        Ok(())
+    }
+
+    /// A BIT STRING that is borrowed: how many bits of its last octet are unused, the octets behind the one that tells so,
+    /// and the place of the first of them in the message, from 0.
+    pub fn push_bits(
+        &mut self,
+        number: u32,
+        unused: u8,
+        value: &'a [u8],
+        at: usize,
+    ) -> Result<(), AllocError>
+        requires small { at < 2 ^ 32 }
+        requires few_unused { unused < 8 }
+        requires unused_in_octets { length value.now ≡ 0 → unused ≡ 0 }
+        ensures { (b : Building)
+            → Holds self.old b
+            → OnOk result (Holds self.new (with_leaf number (bits unused value.now (Some at)) b)) }
+    {
+        let at = at as u32;
+        self.add(
+            number,
+            Told::Bits {
+                unused,
+                at,
+                octets: value,
+            },
+        )?;
+        Ok(())
+    }
+
+    /// A character string that is borrowed, and the place of its first octet in the message, from 0.
+    pub fn push_text(&mut self, number: u32, value: &'a str, at: usize) -> Result<(), AllocError>
+        requires { at < 2 ^ 32 }
+        ensures { (b : Building)
+            → Holds self.old b
+            → OnOk result (Holds self.new (with_leaf number (text value.now (Some at)) b)) }
+    {
+        let at = at as u32;
+        self.add(number, Told::Text { at, text: value })?;
+        Ok(())
+    }
+
+    /// An OCTET STRING whose octets were joined from segments: they are copied.
+    pub fn push_joined_octets(&mut self, number: u32, value: &[u8]) -> Result<(), AllocError>
+        ensures { (b : Building)
+            → Holds self.old b
+            → OnOk result (Holds self.new (with_leaf number (octets value.now None) b)) }
+    {
+        let from = self.lists.add_octets(value)?;
+        let to = self.lists.octets.len();
+        self.add(number, Told::JoinedOctets { from, to })?;
+        Ok(())
+    }
+
+    /// A BIT STRING whose octets were joined from segments: they are copied.
+    pub fn push_joined_bits(
+        &mut self,
+        number: u32,
+        unused: u8,
+        value: &[u8],
+    ) -> Result<(), AllocError>
+        requires few_unused { unused < 8 }
+        requires unused_in_octets { length value.now ≡ 0 → unused ≡ 0 }
+        ensures { (b : Building)
+            → Holds self.old b
+            → OnOk result (Holds self.new (with_leaf number (bits unused value.now None) b)) }
+    {
+        let from = self.lists.add_octets(value)?;
+        let to = self.lists.octets.len();
+        self.add(number, Told::JoinedBits { unused, from, to })?;
+        Ok(())
+    }
+
+    /// A character string that was joined from segments.
+    pub fn push_joined_text(&mut self, number: u32, value: String) -> Result<(), AllocError>
+        ensures { (b : Building)
+            → Holds self.old b
+            → OnOk result (Holds self.new (with_leaf number (text (string_bytes value) None) b)) }
+    {
+        let place = self.lists.add_text(value)?;
+        self.add(number, Told::JoinedText(place))?;
+        Ok(())
+    }
+
+    /// An OBJECT IDENTIFIER by its numbers, which are copied.
+    pub fn push_oid(&mut self, number: u32, arcs: &[u64]) -> Result<(), AllocError>
+        ensures { (b : Building)
+            → Holds self.old b
+            → OnOk result (Holds self.new (with_leaf number (oid arcs.now) b)) }
+    {
+        let from = self.lists.add_arcs(arcs)?;
+        let to = self.lists.arcs.len();
+        self.add(number, Told::Oid { from, to })?;
+        Ok(())
+    }
+
+    /// A RELATIVE-OID by its numbers, which are copied.
+    pub fn push_relative_oid(&mut self, number: u32, arcs: &[u64]) -> Result<(), AllocError>
+        ensures { (b : Building)
+            → Holds self.old b
+            → OnOk result (Holds self.new (with_leaf number (relative_oid arcs.now) b)) }
+    {
+        let from = self.lists.add_arcs(arcs)?;
+        let to = self.lists.arcs.len();
+        self.add(number, Told::RelativeOid { from, to })?;
+        Ok(())
+    }
+
+    /// Opens a node.
+    fn open(&mut self, number: u32, told: Told<'a>) -> Result<(), AllocError>
+        requires { IsToldWithin (beside_of self.old.lists) told }
+        ensures { (b : Building) (h : Header)
+            → Holds self.old b
+            → told_of (beside_of self.old.lists) told.entry ≡ told_open h
+            → OnOk result (Holds self.new (opened number h b)) }
+    {
+        let place = self.nodes.len();
+        self.headers.push(place)?;
+        self.nodes.push(Node { number, told })?;
+        Ok(())
+    }
+
+    /// Opens a SEQUENCE or SET of so many components: those that are there follow, then `close`.
+    pub fn open_fields(&mut self, number: u32, size: usize) -> Result<(), AllocError>
+        ensures { (b : Building) → Holds self.old b → OnOk result (Holds self.new (opened number (open_fields size) b)) }
+    {
+        self.open(number, Told::Fields { size, extent: 0 })?;
+        Ok(())
+    }
+
+    /// Opens a SEQUENCE OF or SET OF: the elements follow, then `close`.
+    pub fn open_list(&mut self, number: u32) -> Result<(), AllocError>
+        ensures { (b : Building) → Holds self.old b → OnOk result (Holds self.new (opened number open_list b)) }
+    {
+        self.open(number, Told::List { extent: 0 })?;
+        Ok(())
+    }
+
+    /// Opens a CHOICE by the number of the alternative: its value follows, then `close`.
+    pub fn open_alternative(&mut self, number: u32, index: usize) -> Result<(), AllocError>
+        ensures { (b : Building)
+            → Holds self.old b
+            → OnOk result (Holds self.new (opened number (open_alternative index) b)) }
+    {
+        self.open(number, Told::Alternative { index, extent: 0 })?;
+        Ok(())
+    }
+
+    /// Closes the innermost node that is open, with the members that were added since: a CHOICE has just one. It takes no
+    /// memory. Where nothing is open, nothing is done.
+    pub fn close(&mut self)
+        requires { (b : Building) × Holds self.old b }
+        ensures { (b c : Building) (w : Waiting) (ws : List Waiting) (t : Tree)
+            → Holds self.old b
+            → IsClosed b w ws t c
+            → Holds self.new c }
+    {
+        match self.headers.pop() {
+            Some(place) => {
+                let extent = self.nodes.len() - place;
+                let node = self.nodes[place];
+                let told = node.told.with_extent(extent);
+                self.nodes[place] = Node {
+                    number: node.number,
+                    told,
+                };
+            }
+            None => {}
+        }
+    }
+
+    /// The view of the one value that was added, as number 0, where nothing is open.
+    pub fn finish(self) -> View<'a>
+        ensures { (t : Tree) → Holds self.entry (record { here = member 0 t no_member; waits = [] }) → IsView result t }
+    {
+        View {
+            nodes: self.nodes,
+            lists: self.lists,
+        }
+    }
+}

@@ -1,0 +1,52 @@
+//! Laws of views, for the crates above.
+
+ghost use Rattle.std.specs.List.{slice_range};
+ghost use Rattle.std.specs.Prelude.{◌≡◌, ◌+◌, ℕ, List, [], Option, Some, length};
+ghost use Rattle.views.specs.Building.{Building, Header, IsBorrowedSoFar, IsClosed, Waiting, begun, opened, with_leaf};
+ghost use Rattle.views.specs.Tree.{AreBorrowed, IsBorrowed, IsBorrowedLeaf, Leaf, Members, Tree, alternative_in, bit_string_in, component, member, members_in, no_member, octets_in, text_in};
+
+/// A view borrows the message, where each string that was added with a place stands there in it: nothing is borrowed at
+/// the beginning, each call of a builder keeps it, and so it is of the tree that is finished.
+pub fn borrowed_while_built()
+    ensures begun { (message : List ℕ) → IsBorrowedSoFar message begun }
+    ensures with_leaf { (message : List ℕ) (number : ℕ) (l : Leaf) (b : Building)
+        → IsBorrowedSoFar message b
+        → IsBorrowedLeaf message l
+        → IsBorrowedSoFar message (with_leaf number l b) }
+    ensures opened { (message : List ℕ) (number : ℕ) (h : Header) (b : Building)
+        → IsBorrowedSoFar message b
+        → IsBorrowedSoFar message (opened number h b) }
+    ensures closed { (message : List ℕ) (b c : Building) (w : Waiting) (ws : List Waiting) (t : Tree)
+        → IsBorrowedSoFar message b
+        → IsClosed b w ws t c
+        → IsBorrowedSoFar message c }
+    ensures finished { (message : List ℕ) (t : Tree)
+        → IsBorrowedSoFar message (record { here = member 0 t no_member; waits = [] })
+        → IsBorrowed message t }
+{}
+
+/// What a view that borrows the message shows with a place is the message's octets from that place on; and so is what
+/// its parts show.
+pub fn borrowed_parts()
+    ensures octets { (message os : List ℕ) (at : ℕ) (t : Tree)
+        → IsBorrowed message t
+        → octets_in t ≡ Some (os, Some at)
+        → slice_range message at (at + length os) ≡ os }
+    ensures bits { (message os : List ℕ) (unused at : ℕ) (t : Tree)
+        → IsBorrowed message t
+        → bit_string_in t ≡ Some (unused, os, Some at)
+        → slice_range message at (at + length os) ≡ os }
+    ensures text { (message os : List ℕ) (at : ℕ) (t : Tree)
+        → IsBorrowed message t
+        → text_in t ≡ Some (os, Some at)
+        → slice_range message at (at + length os) ≡ os }
+    ensures members { (message : List ℕ) (t : Tree) → IsBorrowed message t → AreBorrowed message (members_in t) }
+    ensures component { (message : List ℕ) (number : ℕ) (ms : Members) (t : Tree)
+        → AreBorrowed message ms
+        → component ms number ≡ Some t
+        → IsBorrowed message t }
+    ensures alternative { (message : List ℕ) (number : ℕ) (t u : Tree)
+        → IsBorrowed message t
+        → alternative_in t ≡ Some (number, u)
+        → IsBorrowed message u }
+{}

@@ -1,0 +1,14 @@
+//! Values read from a message, whose strings are slices of the message: one list of nodes, each before those below it.
+#![tactic(auto)]
+
+mod builder;
+mod front;
+pub mod law;
+mod leaf;
+mod node;
+mod part;
+mod view;
+
+pub use builder::Builder;
+pub use part::{Part, Parts};
+pub use view::View;

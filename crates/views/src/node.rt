@@ -1,0 +1,165 @@
+//! Nodes of a view, and the lists beside them.
+
+ghost use Rattle.std.specs.Prelude.{◌≡◌, ◌<◌, ◌++◌, ◌∷◌, [], length, get_or, map, IfOk, string_bytes};
+ghost use Rattle.views.specs.Nodes.{extent as extent', with_extent};
+ghost use Rattle.views.specs.Seen.{Beside, IsToldWithin, IsWithin, told_of};
+ghost use Rattle.std.specs.List.{slice_range};
+
+use std::alloc::AllocError;
+
+/// What a node tells. Strings are slices of the message with their place in it, or stand in the lists beside the nodes,
+/// where they were joined from segments. `extent` is how many nodes it is
+/// with all below it, which stand right behind it.
+#[derive(Clone, Copy)]
+pub(crate) enum Told<'a> {
+    Bool(bool),
+    Int(i128),
+    Enum(i128),
+    Bits {
+        unused: u8,
+        at: u32,
+        octets: &'a [u8],
+    },
+    JoinedBits {
+        unused: u8,
+        from: usize,
+        to: usize,
+    },
+    Octets {
+        at: u32,
+        octets: &'a [u8],
+    },
+    JoinedOctets {
+        from: usize,
+        to: usize,
+    },
+    Text {
+        at: u32,
+        text: &'a str,
+    },
+    JoinedText(usize),
+    Null,
+    Oid {
+        from: usize,
+        to: usize,
+    },
+    RelativeOid {
+        from: usize,
+        to: usize,
+    },
+    Fields {
+        size: usize,
+        extent: usize,
+    },
+    List {
+        extent: usize,
+    },
+    Alternative {
+        index: usize,
+        extent: usize,
+    },
+}
+
+/// A node, with the number of the component that it is: 0 where it is no component.
+#[derive(Clone, Copy)]
+pub(crate) struct Node<'a> {
+    pub number: u32,
+    pub told: Told<'a>,
+}
+
+/// What stands beside the nodes: octets and texts joined from segments, and the numbers of object identifiers.
+#[derive(Drop)]
+pub(crate) struct Lists {
+    pub octets: Vec<u8>,
+    pub texts: Vec<String>,
+    pub arcs: Vec<u64>,
+}
+
+impl<'a> Told<'a> {
+    /// How many nodes it is with all below it.
+    pub(crate) fn extent(self) -> usize
+        ensures { (b : Beside) → result ≡ extent' (told_of b self.entry) }
+    {
+        match self {
+            Told::Fields { size: _, extent } => extent,
+            Told::List { extent } => extent,
+            Told::Alternative { index: _, extent } => extent,
+            _ => 1,
+        }
+    }
+
+    /// The same with so many nodes.
+    pub(crate) fn with_extent(self, extent: usize) -> Told<'a>
+        ensures told { (b : Beside) → told_of b result ≡ with_extent (told_of b self.entry) extent }
+        ensures within { (b : Beside) → IsToldWithin b self.entry → IsToldWithin b result }
+    {
+        match self {
+            Told::Fields { size, extent: _ } => Told::Fields { size, extent },
+            Told::List { extent: _ } => Told::List { extent },
+            Told::Alternative { index, extent: _ } => Told::Alternative { index, extent },
+            other => other,
+        }
+    }
+}
+
+impl Lists {
+    /// Adds octets, and tells where they begin.
+    pub(crate) fn add_octets(&mut self, octets: &[u8]) -> Result<usize, AllocError>
+        ensures from { IfOk result (λ n. n ≡ length self.old.octets.items) }
+        ensures added { IfOk result (λ _. self.new.octets.items ≡ self.old.octets.items ++ octets.now) }
+        ensures texts { self.new.texts.items ≡ self.old.texts.items }
+        ensures arcs { self.new.arcs.items ≡ self.old.arcs.items }
+    {
+        let from = self.octets.len();
+        self.octets.extend_from_slice(octets)?;
+        Ok(from)
+    }
+
+    /// Adds a text, and tells its place.
+    pub(crate) fn add_text(&mut self, text: String) -> Result<usize, AllocError>
+        ensures from { IfOk result (λ n. n ≡ length self.old.texts.items) }
+        ensures added { IfOk result (λ _. self.new.texts.items ≡ self.old.texts.items ++ text ∷ []) }
+        ensures octets { self.new.octets.items ≡ self.old.octets.items }
+        ensures arcs { self.new.arcs.items ≡ self.old.arcs.items }
+    {
+        let from = self.texts.len();
+        self.texts.push(text)?;
+        Ok(from)
+    }
+
+    /// Adds numbers, and tells where they begin.
+    pub(crate) fn add_arcs(&mut self, arcs: &[u64]) -> Result<usize, AllocError>
+        ensures from { IfOk result (λ n. n ≡ length self.old.arcs.items) }
+        ensures added { IfOk result (λ _. self.new.arcs.items ≡ self.old.arcs.items ++ arcs.now) }
+        ensures octets { self.new.octets.items ≡ self.old.octets.items }
+        ensures texts { self.new.texts.items ≡ self.old.texts.items }
+    {
+        let from = self.arcs.len();
+        self.arcs.extend_from_slice(arcs)?;
+        Ok(from)
+    }
+
+    /// The octets from a place up to another one.
+    pub(crate) fn octets_in(&self, from: usize, to: usize) -> &[u8]
+        requires { IsWithin from to (length self.now.octets.items) }
+        ensures { result.now ≡ slice_range self.now.octets.items from to }
+    {
+        &self.octets[from..to]
+    }
+
+    /// The numbers from a place up to another one.
+    pub(crate) fn arcs_in(&self, from: usize, to: usize) -> &[u64]
+        requires { IsWithin from to (length self.now.arcs.items) }
+        ensures { result.now ≡ slice_range self.now.arcs.items from to }
+    {
+        &self.arcs[from..to]
+    }
+
+    /// The text at a place.
+    pub(crate) fn text_at(&self, place: usize) -> &str
+        requires { place < length (map string_bytes self.now.texts.items) }
+        ensures { result.now ≡ get_or (map string_bytes self.now.texts.items) place [] }
+    {
+        self.texts[place].as_str()
+    }
+}

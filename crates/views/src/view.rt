@@ -1,0 +1,139 @@
+//! Views, and the values that they show.
+
+ghost use Rattle.asn_base.specs.Abstract.{abstract, row_of_list, row_of_options};
+ghost use Rattle.std.specs.Prelude.{◌≡◌, ◌++◌, ◌∷◌, [], ℕ, IfOk, OnOk, map, option_map};
+ghost use Rattle.views.specs.Seen.{IsPart, IsView, Spell, SpellMembers, beside_of};
+ghost use Rattle.views.specs.Rows.{AreAbsent, IsPut};
+ghost use Rattle.views.specs.Tree.{Members, Tree, component_value, element_values, placed, value_of};
+
+use crate::front::{below, between, first_of, next_of};
+use crate::leaf::leaf_value;
+use crate::node::{Lists, Node, Told};
+use crate::part::Part;
+use asn_base::law::abstract_values;
+use asn_base::value::Value;
+use std::alloc::{AllocError, Global};
+
+/// A value that was read from a message. It borrows the message where its strings are slices of it.
+#[derive(Drop)]
+pub struct View<'a> {
+    pub(crate) nodes: Vec<Node<'a>>,
+    pub(crate) lists: Lists,
+}
+
+impl<'a> View<'a> {
+    /// The whole.
+    pub fn top(&self) -> Part<'_, 'a>
+        ensures { (t : Tree) → IsView self.now t → IsPart result t }
+    {
+        Part {
+            nodes: self.nodes.as_slice(),
+            lists: &self.lists,
+        }
+    }
+
+    /// The value that it shows, in memory of its own, or `AllocError` for want of memory alone. It calls itself once for
+    /// each level of the value, as letting a value go does: a value of a schema has at most 64 levels.
+    pub fn to_value(&self, alloc: Global) -> Result<Value, AllocError>
+        requires { (t : Tree) × IsView self.now t }
+        ensures { (t : Tree) → IsView self.now t → IfOk result (λ v. abstract v ≡ value_of t) }
+    {
+        Ok(value(alloc, &self.lists, self.nodes.as_slice())?)
+    }
+}
+
+/// The value of these nodes.
+#[cycle(values)]
+pub(crate) fn value(alloc: Global, lists: &Lists, nodes: &[Node<'_>]) -> Result<Value, AllocError>
+    requires { (k : ℕ) × (t : Tree) × Spell (beside_of lists.now) nodes.now k t }
+    ensures { (k : ℕ) (t : Tree)
+        → Spell (beside_of lists.now) nodes.now k t
+        → IfOk result (λ v. abstract v ≡ value_of t) }
+{
+    abstract_values();
+    let told = first_of(lists, nodes);
+    let rest = below(nodes);
+    match told {
+        Told::Fields { size, extent: _ } => Ok(Value::Fields(fields(alloc, lists, size, rest)?)),
+        Told::List { extent: _ } => Ok(Value::List(elements(alloc, lists, rest)?)),
+        Told::Alternative { index, extent: _ } => {
+            let inner = value(alloc, lists, rest)?;
+            Ok(Value::Alt(index, Box::new(alloc, inner)?))
+        }
+        other => Ok(leaf_value(alloc, lists, other)?),
+    }
+}
+
+/// The components of these nodes, in order of definition.
+#[cycle(values)]
+fn fields(
+    alloc: Global,
+    lists: &Lists,
+    size: usize,
+    nodes: &[Node<'_>],
+) -> Result<Vec<Option<Value>>, AllocError>
+    requires { (ms : Members) × SpellMembers (beside_of lists.now) nodes.now ms }
+    ensures { (ms : Members)
+        → SpellMembers (beside_of lists.now) nodes.now ms
+        → IfOk result (λ vs. map (option_map abstract) vs.items ≡ placed size (λ i. component_value ms i)) }
+{
+    let mut values = absent(alloc, size)?;
+    let mut at = 0;
+    while at < nodes.len() {
+        let (number, end) = next_of(lists, nodes, at);
+        let one = value(alloc, lists, between(nodes, at, end))?;
+        put(&mut values, number as usize, one);
+        at = end;
+    }
+    Ok(values)
+}
+
+/// The elements of these nodes.
+#[cycle(values)]
+fn elements(alloc: Global, lists: &Lists, nodes: &[Node<'_>]) -> Result<Vec<Value>, AllocError>
+    requires { (ms : Members) × SpellMembers (beside_of lists.now) nodes.now ms }
+    ensures { (ms : Members)
+        → SpellMembers (beside_of lists.now) nodes.now ms
+        → IfOk result (λ vs. row_of_list (map abstract vs.items) ≡ element_values ms) }
+{
+    let mut values = Vec::new(alloc);
+    let mut at = 0;
+    while at < nodes.len() {
+        let (_, end) = next_of(lists, nodes, at);
+        let one = value(alloc, lists, between(nodes, at, end))?;
+        add(&mut values, one)?;
+        at = end;
+    }
+    Ok(values)
+}
+
+/// Adds one more.
+fn add<T: Drop>(list: &mut Vec<T>, one: T) -> Result<(), AllocError>
+    ensures { OnOk result (list.new.items ≡ list.old.items ++ one ∷ []) }
+{
+    list.push(one)?;
+    Ok(())
+}
+
+/// A row of so many absent components.
+fn absent(alloc: Global, size: usize) -> Result<Vec<Option<Value>>, AllocError>
+    ensures { IfOk result (λ vs. AreAbsent size vs.items) }
+{
+    let mut values = Vec::new(alloc);
+    for i in 0..size {
+        add(&mut values, None)?;
+    }
+    Ok(values)
+}
+
+/// The component with the number, where there is such a place and nothing stands there.
+fn put(values: &mut Vec<Option<Value>>, number: usize, one: Value)
+    ensures { IsPut (map (option_map abstract) values.old.items)
+        number
+        (abstract one)
+        (map (option_map abstract) values.new.items) }
+{
+    if number < values.len() && values[number].is_none() {
+        values[number] = Some(one);
+    }
+}

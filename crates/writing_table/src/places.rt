@@ -1,0 +1,73 @@
+//! The places of the members of a SET or SET OF.
+
+ghost use Rattle.std.specs.Prelude.{◌≡◌, [], IfOk, map, set};
+ghost use Rattle.writing_table.specs.Rows.{numbers_in, places_by, told};
+
+use crate::rows::small;
+use crate::table::Member;
+use std::alloc::{AllocError, Global};
+
+/// Where members stand: the place of each, in order of definition or of the value, and for each place the number of
+/// the member that stands there. Numbers past 16,777,217 are told as that.
+#[derive(Drop)]
+pub(crate) struct Arrangement {
+    pub places: Vec<u32>,
+    pub inverse: Vec<u32>,
+}
+
+impl Arrangement {
+    /// That of no members.
+    pub(crate) fn none(alloc: Global) -> Self
+        ensures places { result.places.items ≡ [] }
+        ensures inverse { result.inverse.items ≡ [] }
+    {
+        Arrangement {
+            places: Vec::new(alloc),
+            inverse: Vec::new(alloc),
+        }
+    }
+}
+
+/// The numbers of members, in their order.
+fn inverse_of<'a>(alloc: Global, members: &[Member<'a>]) -> Result<Vec<u32>, AllocError>
+    ensures { IfOk result (λ q. q.items ≡ map told (numbers_in members.now)) }
+{
+    let mut inverse = Vec::new(alloc);
+    for place in 0..members.len() {
+        inverse.push(small(members[place].number))?;
+    }
+    Ok(inverse)
+}
+
+/// Puts a place where one stands.
+fn put_place(places: &mut Vec<u32>, number: usize, place: u32)
+    ensures { places.new.items ≡ set places.old.items number place }
+{
+    if number < places.len() {
+        places[number] = place;
+    }
+}
+
+/// The place of each member, by its number.
+fn places_of<'a>(alloc: Global, members: &[Member<'a>]) -> Result<Vec<u32>, AllocError>
+    ensures { IfOk result (λ p. p.items ≡ map told (places_by (numbers_in members.now))) }
+{
+    let mut places = Vec::from_elem(alloc, 0, members.len())?;
+    for place in 0..members.len() {
+        put_place(&mut places, members[place].number, small(place));
+    }
+    Ok(places)
+}
+
+/// Where members that stand in their order do so.
+pub(crate) fn arrangement_of<'a>(
+    alloc: Global,
+    members: &[Member<'a>],
+) -> Result<Arrangement, AllocError>
+    ensures places { IfOk result (λ r. r.places.items ≡ map told (places_by (numbers_in members.now))) }
+    ensures inverse { IfOk result (λ r. r.inverse.items ≡ map told (numbers_in members.now)) }
+{
+    let places = places_of(alloc, members)?;
+    let inverse = inverse_of(alloc, members)?;
+    Ok(Arrangement { places, inverse })
+}

@@ -1,0 +1,88 @@
+//! The rows of headers.
+
+ghost use Rattle.std.specs.Prelude.{◌≡◌, ◌+◌, IfOk, List, Bool};
+ghost use Rattle.account_rows.specs.Told.{header_row as row_of};
+ghost use Rattle.octet_account.specs.Seen.{numbers_of, told_of};
+ghost use Rattle.writing_table.specs.Rows.{told, told_numbers};
+
+use crate::places::Arrangement;
+use asn_base::tag::Tag;
+use codec_code::{Head, RowKind};
+use octet_account::row::{Numbers, Places, Told};
+use octets::header_len;
+use std::alloc::{AllocError, Global};
+
+/// More octets than an encoding has.
+const TOO_MANY: usize = 16_777_217;
+
+/// The sum of two numbers of octets or of members, or 16,777,217 where it is greater.
+pub(crate) fn sum(a: usize, b: usize) -> usize
+    ensures { result ≡ told (a + b) }
+{
+    match a.checked_add(b) {
+        Some(n) => if n < TOO_MANY { n } else { TOO_MANY },
+        None => TOO_MANY,
+    }
+}
+
+/// The number, or 16,777,217 where it is greater.
+pub(crate) fn small(n: usize) -> u32
+    ensures { result ≡ told n }
+{
+    if n < TOO_MANY {
+        n as u32
+    } else {
+        TOO_MANY as u32
+    }
+}
+
+/// The numbers of a header with the fewest octets (X.690, 8.1.2, 8.1.3 and 10.1).
+fn numbers(tag: Tag, contents: usize) -> Numbers
+    ensures { (c : Bool) → numbers_of result ≡ told_numbers tag c contents }
+{
+    let identifier = header_len(tag, 0) - 1;
+    let size = header_len(tag, contents as u64) - identifier;
+    Numbers {
+        identifier: small(identifier),
+        size: small(size),
+        contents: small(contents),
+    }
+}
+
+/// The members of a SET or SET OF at their places.
+fn boxed(alloc: Global, members: u32, arrangement: Arrangement) -> Result<Box<Places>, AllocError>
+    ensures members { IfOk result (λ b. b.value.members ≡ members) }
+    ensures places { IfOk result (λ b. b.value.places.items ≡ arrangement.places.items) }
+    ensures inverse { IfOk result (λ b. b.value.inverse.items ≡ arrangement.inverse.items) }
+{
+    let places = Places {
+        members,
+        places: arrangement.places,
+        inverse: arrangement.inverse,
+    };
+    Ok(Box::new(alloc, places)?)
+}
+
+/// What the row of a header tells, of so many octets and members within it.
+pub(crate) fn header_row(
+    alloc: Global,
+    head: Head,
+    contents: usize,
+    members: usize,
+    arrangement: Arrangement,
+) -> Result<Told, AllocError>
+    ensures { IfOk result (λ r. told_of r
+        ≡ row_of head.row (told_numbers head.tag head.constructed contents) (told members)
+        arrangement.places.items arrangement.inverse.items) }
+{
+    let numbers = numbers(head.tag, contents);
+    let members = small(members);
+    match head.row {
+        RowKind::Leaf => Ok(Told::Leaf(numbers)),
+        RowKind::Wrap => Ok(Told::Wrap(numbers)),
+        RowKind::Sequence => Ok(Told::Seq(numbers, members)),
+        RowKind::SequenceOf => Ok(Told::SeqOf(numbers, members)),
+        RowKind::Set => Ok(Told::Set(numbers, boxed(alloc, members, arrangement)?)),
+        RowKind::SetOf => Ok(Told::SetOf(numbers, boxed(alloc, members, arrangement)?)),
+    }
+}
