@@ -16,7 +16,7 @@ use std::process::ExitCode;
 use std::time::{Duration, Instant};
 
 /// How often a value is written; the least time counts.
-const RUNS: usize = 5;
+const RUNS: usize = 1;
 
 /// A sink that keeps nothing.
 #[derive(Drop)]
