@@ -1,0 +1,17 @@
+use Rattle.std.proofs.Common.{arith, ap, length, ℕ}
+use Rattle.additions.specs.Additions.{KeepsAt}
+use Rattle.additions.specs.proving.Checks.{BreaksFirst, IsNamedAt}
+use Rattle.std.proofs.lemmas.List.{length-map}
+use Rattle.type_table.specs.Seen.{type_of}
+use Rattle.additions.proofs.Placing.{none_of}
+use Rattle.additions.proofs.Breaking.{keep_types, all_keep}
+use Rattle.additions.proofs.check.check_all.Goals as goal
+
+pub loop-ty-preserved : goal.loop-ty-preserved
+loop-ty-preserved c = keep_types c.args.tagged.now.types c.loop-ty.ty c.loop-ty.invariant (none_of ((n : ℕ) → KeepsAt c.args.tagged.now.types c.loop-ty.ty n) (λ b. BreaksFirst c.args.tagged.now.types c.loop-ty.ty b.0 × IsNamedAt c.index-types-ty.result.shape b.0.place b.1) c.in-Ok-None.field-0 c.in-Ok-None.field-0-is c.in-Ok-None.ensures)
+
+pub returns : goal.returns
+returns c =
+    let e = ap length c.requires.types in
+    let f = length-map c.args.types.now type_of in
+    all_keep c.args.tagged.now.types (λ i n l. c.loop-ty.invariant i n (omega (arith, l, e, f, c.loop-ty-test.false)))

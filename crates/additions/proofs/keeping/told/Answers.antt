@@ -1,0 +1,14 @@
+use Rattle.std.proofs.Common.{sym, subst}
+use Rattle.type_table.specs.Seen.{type_of}
+use Rattle.names.specs.Faults.{module_told}
+use Rattle.resolve.specs.Program.{IsAssignment}
+use Rattle.additions.proofs.keeping.told.Goals as goal
+
+pub returns-in-Ok : goal.returns-in-Ok
+returns-in-Ok c =
+    let p = c.args.linked.now in
+    let t = type_of c.written_at-written.result.now in
+    let a = c.home-home.ensures t c.written_at-written.ensures in
+    let b = subst (λ M. IsAssignment p t.assignment M c.home-home.result.name.now) (sym c.in-Ok.ensures.within) a in
+    let d = subst (IsAssignment p t.assignment (module_told c.in-Ok.spot)) (sym c.in-Ok.ensures.name) b in
+    c.fault_of.ensures p c.args.ty c.requires.breaks (record { type = t; found = c.written_at-written.ensures; assigned = d })

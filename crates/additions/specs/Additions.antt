@@ -1,0 +1,183 @@
+-- What extension markers ask of the members of a list and of the items of an enumeration (X.680, clauses 20, 25, 27 and
+-- 29), each by its place; and how a member or an item breaks that.
+use Rattle.std.specs.Prelude.{◌≡◌, ◌⊎◌, ℕ, ◌<◌, ◌≤ℤ◌, ◌<ℤ◌, ℤ, Bool, true, false, List, Option, Some, slice_get}
+use Rattle.asn_base.specs.Tags.{class_rank}
+use Rattle.trees.specs.declared.module.TagDefault.{TagDefault}
+use Rattle.trees.specs.declared.types.ListKind.{ListKind}
+use Rattle.trees.specs.declared.types.ListKind.TheVariants.{Choice}
+use Rattle.trees.specs.declared.types.Standing.{Standing}
+use Rattle.trees.specs.declared.types.Standing.TheVariants.{Addition}
+use Rattle.trees.specs.Types.{PresenceTree, mandatory, optional, default, an_enumerated}
+use Rattle.type_table.specs.Items.{Item, additions_of, addition_numbers}
+use Rattle.type_table.specs.Table.{Part, Type', simple, members, Is}
+use Rattle.tagging.specs.Tags.{Label}
+use Rattle.tagging.specs.First.{First, is_addition}
+use Rattle.additions.specs.declared.check.Rule.{Rule}
+use Rattle.additions.specs.declared.check.Rule.TheVariants.{MarkerPlace, AdditionOrder, DefaultAddition}
+
+-- the member stands behind the marker
+abbrev pub IsAdded : Part → Type 0
+IsAdded c = is_addition c.standing ≡ true
+
+-- it stands in version brackets number g of its list
+abbrev pub IsOfGroup : ℕ → Part → Type 0
+IsOfGroup g c = c.standing ≡ Addition (Some g)
+
+abbrev pub has_default : PresenceTree → Bool
+has_default mandatory = false
+has_default optional = false
+has_default (default v) = true
+
+-- the canonical order of tags: by class, and within a class by number (X.680, clause 8.6)
+abbrev pub LabelBefore : Label → Label → Type 0
+LabelBefore g f = (class_rank g.0 < class_rank f.0) ⊎ ((class_rank g.0 ≡ class_rank f.0) × (g.1 < f.1))
+
+-- ---- what is asked
+
+-- what stands between two members of the same version brackets stands in them too: so with member n, c, and an earlier
+-- one
+abbrev pub IsTogether : List Part → ℕ → Part → Type 0
+IsTogether cs n c = (l m g : ℕ) (d e : Part) →
+    l < m →
+    m < n →
+    slice_get cs l ≡ Some d →
+    slice_get cs m ≡ Some e →
+    IsOfGroup g d →
+    IsOfGroup g c →
+    IsOfGroup g e
+
+-- member n of the list, c, stands where it may
+pub record IsPlaced (marker : Bool) (cs : List Part) (n : ℕ) (c : Part) : Type 0 where
+  -- an addition stands in a list with an extension marker
+  pub marked : IsAdded c → marker ≡ true
+  -- behind an addition stand additions alone: they end the list
+  pub behind : (m : ℕ) (d : Part) → m < n → slice_get cs m ≡ Some d → IsAdded d → IsAdded c
+  -- the members of version brackets stand together
+  pub together : IsTogether cs n c
+
+-- the tags of an addition to a CHOICE, which is alternative n, stand behind those of each earlier addition
+abbrev pub IsInOrder : List Type' → List Part → ℕ → Part → Type 0
+IsInOrder ts cs n c = (m : ℕ) (d : Part) (g f : Label) →
+    m < n →
+    slice_get cs m ≡ Some d →
+    IsAdded d →
+    IsAdded c →
+    First ts d.ty g →
+    First ts c.ty f →
+    LabelBefore g f
+
+-- what is asked of member n of a list, c
+pub record Keeps (ts : List Type') (k : ListKind) (marker : Bool) (cs : List Part) (n : ℕ) (c : Part) : Type 0 where
+  pub placed : IsPlaced marker cs n c
+  -- an addition, also one in version brackets, has no DEFAULT (narrower than X.680)
+  pub no_default : IsAdded c → has_default c.presence ≡ false
+  pub ordered : k ≡ Choice → IsInOrder ts cs n c
+
+-- the number at place n is above each earlier one
+abbrev pub IsAboveEarlier : List ℤ → ℕ → Type 0
+IsAboveEarlier zs n = (m : ℕ) (y z : ℤ) → m < n → slice_get zs m ≡ Some y → slice_get zs n ≡ Some z → y <ℤ z
+
+-- Place n of type i keeps what is asked: where the type is a list, its member n does, and where it is an enumeration, the
+-- number of item n behind the marker.
+pub record KeepsAt (ts : List Type') (i n : ℕ) : Type 0 where
+  pub member : (k : ListKind) (marker : Bool) (cs : List Part) (d : TagDefault) (p : Option (ℕ × ℕ)) (c : Part) →
+      Is ts i (members k marker cs) d p →
+      slice_get cs n ≡ Some c →
+      Keeps ts k marker cs n c
+  pub item : (root : List Item) (more : Option (List Item)) (d : TagDefault) (p : Option (ℕ × ℕ)) →
+      Is ts i (simple (an_enumerated root more)) d p →
+      IsAboveEarlier (addition_numbers root (additions_of more)) n
+
+-- all lists and enumerations do
+abbrev pub KeepAdditions : List Type' → Type 0
+KeepAdditions ts = (i n : ℕ) → KeepsAt ts i n
+
+-- ---- how it is broken
+
+-- member n is of version brackets that were left before it
+pub record IsParted (cs : List Part) (n : ℕ) : Type 0 where
+  pub group : ℕ
+  pub member : Part
+  pub there : slice_get cs n ≡ Some member
+  pub of_group : IsOfGroup group member
+  pub one : ℕ
+  pub other : ℕ
+  pub in_turn : one < other
+  pub before : other < n
+  pub within : Part
+  pub at_one : slice_get cs one ≡ Some within
+  pub within_group : IsOfGroup group within
+  pub outside : Part
+  pub at_other : slice_get cs other ≡ Some outside
+  pub left : IsOfGroup group outside → ⊥
+
+-- member n of the list stands where it may not
+pub data IsMisplaced (marker : Bool) (cs : List Part) (n : ℕ) : Type 0 where
+  -- it is an addition, and the list has no marker
+  unmarked : (c : Part) → slice_get cs n ≡ Some c → IsAdded c → marker ≡ false → IsMisplaced marker cs n
+  -- it is of the root, and stands behind an addition
+  behind_addition : (m : ℕ) (c d : Part) →
+      slice_get cs n ≡ Some c →
+      m < n →
+      slice_get cs m ≡ Some d →
+      IsAdded d →
+      (IsAdded c → ⊥) →
+      IsMisplaced marker cs n
+  out_of_brackets : IsParted cs n → IsMisplaced marker cs n
+
+-- it is an addition with a DEFAULT
+pub record IsDefaultAddition (cs : List Part) (n : ℕ) : Type 0 where
+  pub member : Part
+  pub there : slice_get cs n ≡ Some member
+  pub added : IsAdded member
+  pub has_value : has_default member.presence ≡ true
+
+-- it is an addition, and a tag that can stand first in it isn't behind one that can stand first in an earlier addition
+pub record IsOutOfOrder (ts : List Type') (cs : List Part) (n : ℕ) : Type 0 where
+  pub member : Part
+  pub there : slice_get cs n ≡ Some member
+  pub added : IsAdded member
+  pub place : ℕ
+  pub before : place < n
+  pub earlier : Part
+  pub stands : slice_get cs place ≡ Some earlier
+  pub earlier_added : IsAdded earlier
+  pub first : Label
+  pub of_earlier : First ts earlier.ty first
+  pub second : Label
+  pub of_member : First ts member.ty second
+  pub not_before : LabelBefore first second → ⊥
+
+-- member n of a list breaks the rule
+abbrev pub BreaksIn : List Type' → Rule → ListKind → Bool → List Part → ℕ → Type 0
+BreaksIn ts MarkerPlace k marker cs n = IsMisplaced marker cs n
+BreaksIn ts DefaultAddition k marker cs n = IsDefaultAddition cs n
+BreaksIn ts AdditionOrder k marker cs n = (k ≡ Choice) × IsOutOfOrder ts cs n
+
+-- the number at place n is not above an earlier one
+pub record IsNotAbove (zs : List ℤ) (n : ℕ) : Type 0 where
+  pub place : ℕ
+  pub before : place < n
+  pub earlier : ℤ
+  pub number : ℤ
+  pub stands : slice_get zs place ≡ Some earlier
+  pub there : slice_get zs n ≡ Some number
+  pub falls : number ≤ℤ earlier
+
+-- place n of type i breaks the rule: its member n does, or the number of item n behind the marker doesn't ascend
+pub data Breaks (ts : List Type') : Rule → ℕ → ℕ → Type 0 where
+  in_list : {r : Rule} {i n : ℕ} (k : ListKind) (marker : Bool) (cs : List Part) (d : TagDefault) (p : Option (ℕ × ℕ)) →
+      Is ts i (members k marker cs) d p →
+      BreaksIn ts r k marker cs n →
+      Breaks ts r i n
+  in_items : {i n : ℕ} (root : List Item) (more : Option (List Item)) (d : TagDefault) (p : Option (ℕ × ℕ)) →
+      Is ts i (simple (an_enumerated root more)) d p →
+      IsNotAbove (addition_numbers root (additions_of more)) n →
+      Breaks ts AdditionOrder i n
+
+-- type i breaks the rule at a place, and no earlier place of it, and no type before it, breaks any
+pub record IsFirstBreak (ts : List Type') (r : Rule) (i : ℕ) : Type 0 where
+  pub number : ℕ
+  pub breaks : Breaks ts r i number
+  pub places_before : (n : ℕ) → n < number → KeepsAt ts i n
+  pub types_before : (j n : ℕ) → j < i → KeepsAt ts j n

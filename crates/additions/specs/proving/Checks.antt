@@ -1,0 +1,93 @@
+-- What the check of one list, of one type and of all types tells.
+use Rattle.std.specs.Prelude.{◌≡◌, ◌<◌, ◌-◌, ℕ, Bool, ℤ, List, Option, Some, None, option_map, slice_get}
+use Rattle.trees.specs.declared.module.TagDefault.{TagDefault}
+use Rattle.trees.specs.declared.types.ListKind.{ListKind}
+use Rattle.type_table.specs.declared.table.Component.{Component}
+use Rattle.type_table.specs.declared.table.Shape.{Shape}
+use Rattle.type_table.specs.declared.table.Shape.TheVariants as shapes
+use Rattle.trees.specs.declared.types.Simple.TheVariants as simples
+use Rattle.trees.specs.declared.types.EnumeratedItem.{EnumeratedItem}
+use Rattle.type_table.specs.Table.{Part, Type', members, Is}
+use Rattle.additions.specs.declared.check.Broken.{Broken}
+use Rattle.additions.specs.declared.check.Fault.{Fault}
+use Rattle.additions.specs.declared.check.Fault.TheVariants.{Memory, At}
+use Rattle.additions.specs.Additions.{IsAdded, IsTogether, IsPlaced, IsOfGroup, Keeps, KeepsAt, BreaksIn, Breaks, IsFirstBreak, IsAboveEarlier, IsNotAbove}
+
+-- type i is a list of this kind
+pub record IsListAt (ts : List Type') (i : ℕ) (k : ListKind) (marker : Bool) (cs : List Part) : Type 0 where
+  pub default : TagDefault
+  pub place : Option (ℕ × ℕ)
+  pub is : Is ts i (members k marker cs) default place
+
+-- the members before place n stand where they may
+abbrev pub ArePlacedBefore : Bool → List Part → ℕ → Type 0
+ArePlacedBefore marker cs n = (m : ℕ) (d : Part) → m < n → slice_get cs m ≡ Some d → IsPlaced marker cs m d
+
+-- those of version brackets before place n stand together
+abbrev pub AreTogetherBefore : List Part → ℕ → Type 0
+AreTogetherBefore cs n = (m : ℕ) (d : Part) → m < n → slice_get cs m ≡ Some d → IsTogether cs m d
+
+-- the members before place n keep what is asked
+abbrev pub KeepBefore : List Type' → ListKind → Bool → List Part → ℕ → Type 0
+KeepBefore ts k marker cs n = (m : ℕ) (d : Part) → m < n → slice_get cs m ≡ Some d → Keeps ts k marker cs m d
+
+-- an addition stands directly before place n
+pub record FollowsAddition (cs : List Part) (n : ℕ) : Type 0 where
+  pub positive : 0 < n
+  pub member : Part
+  pub there : slice_get cs (n - 1) ≡ Some member
+  pub added : IsAdded member
+
+-- a member before place n is of version brackets g
+pub record IsSeenBefore (cs : List Part) (n g : ℕ) : Type 0 where
+  pub place : ℕ
+  pub before : place < n
+  pub member : Part
+  pub there : slice_get cs place ≡ Some member
+  pub of_group : IsOfGroup g member
+
+-- these are the members of a list of this kind, of which those before place n keep what is asked
+pub record IsChecked (ts : List Type') (k : ListKind) (cs : List Part) (n : ℕ) : Type 0 where
+  pub list : ℕ
+  pub marker : Bool
+  pub is : IsListAt ts list k marker cs
+  pub keep : KeepBefore ts k marker cs n
+
+-- the numbers before place n ascend
+abbrev pub AscendBefore : List ℤ → ℕ → Type 0
+AscendBefore zs n = (m : ℕ) → m < n → IsAboveEarlier zs m
+
+-- the first place at which the numbers don't ascend
+pub record FallsFirst (zs : List ℤ) (n : ℕ) : Type 0 where
+  pub falls : IsNotAbove zs n
+  pub before : AscendBefore zs n
+
+-- type i breaks a rule at a place first
+pub record BreaksFirst (ts : List Type') (i : ℕ) (b : Broken) : Type 0 where
+  pub breaks : Breaks ts b.rule i b.place
+  pub before : (n : ℕ) → n < b.place → KeepsAt ts i n
+
+-- so does a list by itself
+pub record BreaksListFirst (ts : List Type') (k : ListKind) (marker : Bool) (cs : List Part) (b : Broken) : Type 0 where
+  pub breaks : BreaksIn ts b.rule k marker cs b.place
+  pub before : KeepBefore ts k marker cs b.place
+
+-- the fault is the first of this table
+abbrev pub StandsAt : List Type' → Fault → Type 0
+StandsAt ts Memory = Unit {0}
+StandsAt ts (At r i at) = IsFirstBreak ts r i
+
+-- the name of item n behind the marker is written at this place
+abbrev pub IsItemAt : Option (List EnumeratedItem) → ℕ → ℕ → Type 0
+IsItemAt None n at = ⊥
+IsItemAt (Some is) n at = (i : EnumeratedItem) × (slice_get is n ≡ Some i) × (i.name.at ≡ at)
+
+-- the name of member n is written at this place
+abbrev pub IsMemberAt : List Component → ℕ → ℕ → Type 0
+IsMemberAt cs n at = (c : Component) × (slice_get cs n ≡ Some c) × (c.name.at ≡ at)
+
+-- the name of member n, or of item n behind the marker, is written at this place of the text
+abbrev pub IsNamedAt : Shape → ℕ → ℕ → Type 0
+IsNamedAt (shapes.Members k m cs) n at = IsMemberAt cs.items n at
+IsNamedAt (shapes.Simple (simples.Enumerated e)) n at = IsItemAt (option_map (λ is. is.items) e.additions) n at
+IsNamedAt s n at = ⊥

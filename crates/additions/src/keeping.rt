@@ -1,0 +1,53 @@
+//! What extension markers ask of bounded modules.
+
+ghost use Rattle.std.specs.Prelude.{◌≡◌, ◌<◌, Some, length, slice_get, MatchResult};
+ghost use Rattle.type_table.specs.Seen.{type_of};
+ghost use Rattle.type_table.specs.Lists.{AreSound};
+ghost use Rattle.additions.specs.Additions.{IsFirstBreak, KeepAdditions};
+ghost use Rattle.additions.specs.Faults.{Stands};
+
+use crate::check::{Fault, Rule, check};
+use crate::fault::{ExtFault, fault_of};
+use asn_base::schema::TypeId;
+use constraints::Bounded;
+use names::fault::spot;
+use resolve::Linked;
+use std::alloc::Global;
+use type_table::Written;
+
+/// A type as it is written.
+fn written_at(linked: &Linked, ty: usize) -> &Written
+    requires { ty < length linked.now.types }
+    ensures { slice_get linked.now.types ty ≡ Some (type_of result.now) }
+{
+    &linked.types()[ty]
+}
+
+/// The fault that a type breaks a rule, with the names of its module and of the assignment where it is written.
+fn told(alloc: Global, linked: &Linked, rule: Rule, ty: usize, at: usize) -> ExtFault
+    requires there { ty < length linked.now.types }
+    requires breaks { IsFirstBreak linked.now.types rule ty }
+    ensures { Stands linked.now result }
+{
+    let home = linked.home(TypeId { index: ty });
+    let _written = written_at(linked, ty);
+    match spot(alloc, home.module, home.name, at) {
+        Ok(spot) => fault_of(rule, spot),
+        Err(_) => ExtFault::Memory,
+    }
+}
+
+/// Whether bounded modules keep what extension markers ask (X.680, clauses 20, 25, 27 and 29), or the first fault that stands in
+/// them, by the numbers of types and in each from the front, with its module, the name of the assignment and the place:
+/// `MarkerPlace`, `AdditionOrder` or `DefaultAddition`, or `Memory`. The modules' lists are sound, as linking leaves them.
+pub fn additions(alloc: Global, bounded: &Bounded<'_>) -> Result<(), ExtFault>
+    requires sound { AreSound bounded.now.types }
+    ensures { MatchResult result (λ _. KeepAdditions bounded.now.types) (Stands bounded.now) }
+{
+    let tagged = bounded.tagged();
+    match check(alloc, tagged) {
+        Ok(()) => Ok(()),
+        Err(Fault::Memory) => Err(ExtFault::Memory),
+        Err(Fault::At(rule, ty, at)) => Err(told(alloc, tagged.linked(), rule, ty, at)),
+    }
+}

@@ -1,0 +1,70 @@
+//! The canonical order of tags (X.680, clause 8.6).
+
+ghost use Rattle.std.specs.Prelude.{◌≡◌, ◌↔◌, ◌<◌, [], ◌∷◌, IfOk, IsTrue, MatchOption, length};
+ghost use Rattle.asn_base.specs.Tags.{class_rank};
+ghost use Rattle.tagging.specs.First.{First};
+ghost use Rattle.tagging.specs.Tags.{Path, Tags, label, path_of};
+ghost use Rattle.tagging.specs.Tagged.{IsTagged, HaveOneFirst};
+ghost use Rattle.tagging.specs.declared.path.Form.{Form as Form'};
+ghost use Rattle.type_table.specs.Table.{IsLinked};
+ghost use Rattle.additions.specs.Additions.{LabelBefore};
+
+use asn_base::schema::TypeId;
+use asn_base::tag::{Class, Tag};
+use std::alloc::{AllocError, Global};
+use tagging::{FormedTag, Tagged, tags_of};
+
+/// The place of a class among classes: universal, application, context, private.
+fn rank(class: Class) -> u8
+    ensures { result ≡ class_rank class }
+{
+    match class {
+        Class::Universal => 0,
+        Class::Application => 1,
+        Class::Context => 2,
+        Class::Private => 3,
+    }
+}
+
+/// Whether a tag stands before another one in canonical order.
+pub(crate) fn comes_before(earlier: Tag, later: Tag) -> bool
+    ensures { IsTrue result ↔ LabelBefore (label earlier) (label later) }
+{
+    rank(earlier.class) < rank(later.class)
+        || (rank(earlier.class) == rank(later.class) && earlier.number < later.number)
+}
+
+/// What linked modules with their tags keep.
+pub(crate) fn facts(tagged: &Tagged<'_>)
+    ensures linked { IsLinked tagged.now.types }
+    ensures tagged { IsTagged tagged.now.types }
+    ensures one_first { HaveOneFirst tagged.now.types }
+{
+    let linked = tagged.linked();
+    let _types = linked.types();
+}
+
+/// The outermost of some tags.
+fn outermost(path: &[FormedTag]) -> Option<Tag>
+    ensures { MatchOption result
+        (path_of path.now ≡ [])
+        (λ t. (f : Form') × (p : Path) × (path_of path.now ≡ (label t, f) ∷ p)) }
+{
+    match path.first() {
+        Some(formed) => Some(formed.tag),
+        None => None,
+    }
+}
+
+/// The tag that stands first in a type which is no untagged CHOICE.
+pub(crate) fn first_tag(alloc: Global, tagged: &Tagged<'_>, ty: usize) -> Result<Tag, AllocError>
+    requires there { ty < length tagged.now.types }
+    requires bears { Tags tagged.now.types ty [] → ⊥ }
+    ensures { IfOk result (λ t. First tagged.now.types ty (label t)) }
+{
+    let path = tags_of(alloc, tagged, TypeId { index: ty })?;
+    match outermost(&path) {
+        Some(tag) => Ok(tag),
+        None => unreachable!(),
+    }
+}

@@ -1,6 +1,0 @@
-use Rattle.std.proofs.Common.{ℕ, ◌<◌}
-use Rattle.extensions.specs.Additions.{KeepsAt}
-use Rattle.extensions.proofs.check.check_all.Given as goal
-
-abbrev pub invariant-loop-ty : goal.invariant-loop-ty
-invariant-loop-ty l = (i n : ℕ) → i < l.ty → KeepsAt l.tagged.types i n

@@ -1,7 +1,0 @@
-use Rattle.std.proofs.Common.{map}
-use Rattle.type_table.specs.Seen.{part_of}
-use Rattle.extensions.specs.proving.Checks.{IsSeenBefore}
-use Rattle.extensions.proofs.members.is_seen.Given as goal
-
-abbrev pub invariant-loop-place : goal.invariant-loop-place
-invariant-loop-place l = IsSeenBefore (map part_of l.components) l.place l.group → ⊥

@@ -1,7 +1,0 @@
-use Rattle.std.proofs.Common.{map}
-use Rattle.type_table.specs.Seen.{part_of}
-use Rattle.extensions.specs.proving.Checks.{KeepBefore}
-use Rattle.extensions.proofs.members.list_breaks.Given as goal
-
-abbrev pub invariant-loop-place : goal.invariant-loop-place
-invariant-loop-place l = KeepBefore l.tagged.types l.kind l.marker (map part_of l.components) l.place

@@ -1,0 +1,90 @@
+-- When a schema is the one that a program's modules stand for: its types are the written ones by the same numbers, each
+-- with the tags that stand before its contents, with what its constraints leave, and with its items in order.
+use Rattle.std.specs.Prelude.{◌≡◌, ℕ, Bool, List, [], ◌∷◌, Some, map, slice_get}
+use Rattle.asn_base.specs.Schemas.{NumbersAscend}
+use Rattle.asn_base.specs.Types.{Resolved}
+use Rattle.asn_base.specs.Types as types
+use Rattle.trees.specs.Values.{Name, Tree}
+use Rattle.trees.specs.Types.{default}
+use Rattle.type_table.specs.Table.{Kind, Part, members}
+use Rattle.asn_base.specs.Abstract.{AbstractValue}
+use Rattle.trees.specs.declared.types.ListKind.{ListKind}
+use Rattle.names.specs.Modules.{StandsIn}
+use Rattle.resolve.specs.Program.{Program, IsAssignment}
+use Rattle.type_table.specs.Table.{Type'}
+use Rattle.range_ends.specs.Ends.{IsOfKind}
+use Rattle.tagging.specs.declared.path.Form.TheVariants.{Implicit, Explicit}
+use Rattle.tagging.specs.Tags.{Label, Path, Tags, label}
+use Rattle.constraints.specs.Allowed.{IsConstraintOf, AreCodesOf}
+use Rattle.value_notations.specs.Values.{IsTyped}
+use Rattle.values.specs.Allowing.{Allows, AllowsCode}
+use Rattle.schema_of.specs.SchemaOf.{IsSchemaOf}
+
+-- ---- tags
+
+abbrev pub without_first : List Label → List Label
+without_first [] = []
+without_first (l ∷ ls) = ls
+
+-- the tags that stand before the contents of a type with these tags, the outermost first: an implicit one stands in the
+-- place of the one behind it (X.680, clause 31.2.7; X.690, clause 8.14)
+abbrev pub standing : Path → List Label
+standing [] = []
+standing ((l, Implicit) ∷ p) = l ∷ without_first (standing p)
+standing ((l, Explicit) ∷ p) = l ∷ standing p
+
+-- resolved type r has the tags of type i
+pub record HasTags (p : Program) (i : ℕ) (r : Resolved) : Type 0 where
+  pub path : Path
+  pub tags : Tags p.types i path
+  pub same : map label r.tags ≡ standing path
+
+-- ---- constraints and items
+
+-- what a resolved type of this kind keeps of the constraints of type i, which is of kind k
+abbrev pub IsConstrained : Program → Kind → ℕ → types.Kind → Type 0
+IsConstrained p k i (types.an_integer c) = IsConstraintOf p k i c
+IsConstrained p k i (types.a_bit_string c) = IsConstraintOf p k i c
+IsConstrained p k i (types.an_octet_string c) = IsConstraintOf p k i c
+IsConstrained p k i (types.a_utf8_string c) = IsConstraintOf p k i c
+IsConstrained p k i (types.a_restricted_string s codes c) = AreCodesOf p s i codes × IsConstraintOf p k i c
+IsConstrained p k i (types.a_sequence_of c j) = IsConstraintOf p k i c
+IsConstrained p k i (types.a_set_of c j) = IsConstraintOf p k i c
+IsConstrained p k i r = Unit {0}
+
+-- the items of an enumeration ascend by number, those of the root and those behind the marker
+abbrev pub ItemsAscend : types.Kind → Type 0
+ItemsAscend (types.an_enumerated root e more) = NumbersAscend root × NumbersAscend more
+ItemsAscend k = Unit {0}
+
+-- ---- schemas
+
+-- resolved type r has the tags of type i, what its constraints leave, and its items in order
+pub record IsSettledType (p : Program) (i : ℕ) (r : Resolved) : Type 0 where
+  pub tags : HasTags p i r
+  pub kind : Kind
+  pub is : IsOfKind p.types i kind
+  pub constrained : IsConstrained p kind i r.kind
+  pub items : ItemsAscend r.kind
+
+-- the schema is that of the program
+pub record IsSettled (p : Program) (s : List Resolved) : Type 0 where
+  pub types : IsSchemaOf p (Allows p) (AllowsCode p) s
+  pub each : (i : ℕ) (r : Resolved) → slice_get s i ≡ Some r → IsSettledType p i r
+
+-- ---- values that are written
+
+-- component c of a list that is written in module M has no DEFAULT, or one whose notation stands for a value of its type
+abbrev pub IsTypedDefault : Program → Name → Part → Type 0
+IsTypedDefault p M c = (n : Tree) →
+    c.presence ≡ default n →
+    (v : AbstractValue) × IsTyped p (Allows p) (AllowsCode p) M c.ty n v
+
+-- so is each DEFAULT of a SEQUENCE or SET
+abbrev pub AreTypedDefaults : Program → Type 0
+AreTypedDefaults p = (i : ℕ) (t : Type') (M x : Name) (l : ListKind) (m : Bool) (cs : List Part) (c : Part) →
+    slice_get p.types i ≡ Some t →
+    IsAssignment p t.assignment M x →
+    t.kind ≡ members l m cs →
+    StandsIn cs c →
+    IsTypedDefault p M c
