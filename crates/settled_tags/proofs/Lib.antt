@@ -1,0 +1,4 @@
+pub mod Paths
+pub mod Lists
+pub mod Firsts
+pub mod Kept
