@@ -67,7 +67,7 @@ pub fn tags_are_kept()
 }
 
 /// Behind the marker of a CHOICE the first tags of a settled schema ascend, where the program keeps what extension markers
-/// ask (X.680, clause 29.6).
+/// ask (X.680, clause 29).
 pub fn additions_ascend()
     ensures { (p : Program) (s : List types.Resolved) (i : ℕ) (tags : List Tag) (marker : Bool)
         (root more : List types.Alternative)
