@@ -20,7 +20,7 @@ use Rattle.tagging.specs.Tags.{Label, Path, Tags, label, own, Written, core, beh
 use Rattle.tagging.specs.First.{First, outermost, alternative}
 use Rattle.schema_of.specs.SchemaOf.{IsSchemaOf, IsKindOf, IsChosenPart, AreAlternativesOf}
 use Rattle.settled.specs.Settled.{HasTags, standing}
-use Rattle.settled_tags.proofs.Paths.{At, at, none_stands, starts, same_tag}
+use Rattle.settled_tags.proofs.Paths.{At, at, none_stands, starts, same_tag, same_tags}
 use Rattle.settled_tags.proofs.Lists.{alternatives_of, choice_of, is_choice, Chosen, chosen_of}
 
 -- ---- tables
@@ -122,7 +122,6 @@ record IsUntaggedChoice (s : List Resolved) (t : ℕ) (cs : List Part) : Type 0 
 
 module _ (p : Program) (A : ℕ → ℤ → Type 0) (C : ℕ → ℕ → Type 0) (s : List Resolved)
     (of : IsSchemaOf p A C s) (has : (i : ℕ) (r : Resolved) → slice_get s i ≡ Some r → HasTags p i r) where
-
   -- ---- types without tags
 
   untagged : (t : ℕ) (k : types.Kind) → slice_get s t ≡ Some (record { tags = []; kind = k }) → Tags p.types t []
@@ -141,7 +140,6 @@ module _ (p : Program) (A : ℕ → ℤ → Type 0) (C : ℕ → ℕ → Type 0)
 
   module _ (chosen : (cs : List Part) (root more : List Alternative) (i : ℕ) (a : Alternative) →
       AreAlternativesOf cs root more → slice_get (root ++ more) i ≡ Some a → IsChosenPart cs i a) where
-
     pub first_written : {t : ℕ} {g : Tag} → firsts.First s t g → First p.types t (label g)
     first_written {t} {g} (firsts.first_tag {ts} {k} is) =
         let h = has t (record { tags = g ∷ ts; kind = k }) is.found in
@@ -152,9 +150,8 @@ module _ (p : Program) (A : ℕ → ℤ → Type 0) (C : ℕ → ℕ → Type 0)
         let l = alternatives_of o.kind in
         let c = chosen l.0 root more i a l.2 there in
         alternative o.core e l.0 i c.part (untagged t (types.a_choice root e more) is.found) o.leads
-          (is_at p.types o.core o.type (members Choice e l.0) o.there l.1) c.there
-          (subst (λ u. First p.types u (label g)) c.alike.type (first_written f))
-
+        (is_at p.types o.core o.type (members Choice e l.0) o.there l.1) c.there
+        (subst (λ u. First p.types u (label g)) c.alike.type (first_written f))
 
   -- ---- and the other way
 
@@ -186,3 +183,7 @@ module _ (p : Program) (A : ℕ → ℤ → Type 0) (C : ℕ → ℕ → Type 0)
         let u = untagged_choice t c marker cs d place h.element h.there (has t h.element h.there) w leads is in
         let x = chosen_of n a u.alternatives there in
         firsts.first_of_choice n u.is x.there (subst (λ t. firsts.First s t g) (sym x.type) (first_resolved g f e))
+
+-- the tags of a program's type in two schemas
+pub one_each : (p : Program) (i : ℕ) (r q : Resolved) → ((i : ℕ) (x y : Path) → Tags p.types i x → Tags p.types i y → x ≡ y) → HasTags p i r → HasTags p i q → r.tags ≡ q.tags
+one_each p i r q unique h k = same_tags r.tags q.tags (h.same ∙ ap standing (unique i h.path k.path h.tags k.tags) ∙ sym k.same)

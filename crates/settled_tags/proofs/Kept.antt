@@ -27,7 +27,7 @@ use Rattle.settled_tags.proofs.Firsts.{is_at, first_written}
 module _ (p : Program) (A : ℕ → ℤ → Type 0) (C : ℕ → ℕ → Type 0) (s : List Resolved)
     (of : IsSchemaOf p A C s) (has : (i : ℕ) (r : Resolved) → slice_get s i ≡ Some r → HasTags p i r)
     (chosen : (cs : List Part) (root more : List Alternative) (i : ℕ) (a : Alternative) →
-      AreAlternativesOf cs root more → slice_get (root ++ more) i ≡ Some a → IsChosenPart cs i a) where
+    AreAlternativesOf cs root more → slice_get (root ++ more) i ≡ Some a → IsChosenPart cs i a) where
   apart : (i j : ℕ) → Apart p.types i j → AreApart s i j
   apart i j a g f h = a (label g) (first_written p A C s of has chosen f) (first_written p A C s of has chosen h)
 
@@ -37,7 +37,7 @@ module _ (p : Program) (A : ℕ → ℤ → Type 0) (C : ℕ → ℕ → Type 0)
   runs M schema_of.no_component d = tt
   runs M (schema_of.component_and {c} {cs} {d = b} {ds} a as') d = (
     λ e. run_of p M (λ u. AreApart s b.type u) as' (λ q x h m. subst (λ u. AreApart s u x.ty) (sym a.type)
-      (apart c.ty x.ty (d zero (suc q) c x (omega arith) refl h (one_before c cs q (may_be b.name b.type c a.presence e) m)))),
+        (apart c.ty x.ty (d zero (suc q) c x (omega arith) refl h (one_before c cs q (may_be b.name b.type c a.presence e) m)))),
     runs M as' (λ q r x y l g h t. d (suc q) (suc r) x y (omega arith) g h (all_shifted c cs q r t)),
   )
 
@@ -119,7 +119,7 @@ module _ (p : Program) (A : ℕ → ℤ → Type 0) (C : ℕ → ℕ → Type 0)
   ascend (schema_of.root_and e a as') f = ascend as' (λ n c h m d g u l. f (suc n) c h (suc m) d g u (omega arith))
   ascend (schema_of.addition_and {c} {a = b} g e a as') f = (
     later (λ u. (x y : Tag) → firsts.First s b.type x → firsts.First s u y → TagBefore x y) as' (λ n d h w x y v z.
-      f (suc n) d h zero c (label x) (label y) (omega arith) refl (rw e refl) w (subst (λ u. First p.types u (label x)) a.type (first_written p A C s of has chosen v)) (first_written p A C s of has chosen z)),
+        f (suc n) d h zero c (label x) (label y) (omega arith) refl (rw e refl) w (subst (λ u. First p.types u (label x)) a.type (first_written p A C s of has chosen v)) (first_written p A C s of has chosen z)),
     ascend as' (λ n c h m d g u l. f (suc n) c h (suc m) d g u (omega arith)),
   )
 

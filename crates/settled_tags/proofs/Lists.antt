@@ -84,6 +84,7 @@ run_of p M Q (schema_of.component_and {c} {cs} {d} {ds} a as') f =
   where
     this : Q d.type
     this = subst Q (sym a.type) (f zero c refl (λ r b l m e. absurd (omega (arith, l, m))))
+
     go : (m : Bool) → is_mandatory d ≡ m → (is_mandatory d ≡ false → AllByRecursion (λ d. Q d.type) (first_run ds)) →
         AllByRecursion (λ d. Q d.type) (if m then d ∷ [] else d ∷ first_run ds)
     go true e r = (this, tt)

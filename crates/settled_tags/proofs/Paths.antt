@@ -47,6 +47,7 @@ same_tag g h e = subst IsTag e begun h.in_range h.not_reserved
   where
     IsTag : Label → Type 0
     IsTag l = (q : l.1 < 2147483648) (t : l.0 ≡ Universal → 0 < l.1) → ◌≡◌ {A = Tag} g (record { class = l.0; number = l.1; in_range = q; not_reserved = t })
+
     begun : IsTag (label g)
     begun q t = ap (λ z. record { class = g.class; number = g.number; in_range = z; not_reserved = g.not_reserved }) (below_prop g.number g.in_range q)
         ∙ ap (λ z. record { class = g.class; number = g.number; in_range = q; not_reserved = z }) (reserved_prop (label g) g.not_reserved t)

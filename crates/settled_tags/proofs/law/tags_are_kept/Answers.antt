@@ -1,0 +1,17 @@
+use Rattle.values.specs.Allowing.{Allows, AllowsCode}
+use Rattle.settled_tags.proofs.Firsts.{all_tagged}
+use Rattle.settled_tags.proofs.Kept.{all_tellable, has_few, components_tagged, alternatives_tagged}
+use Rattle.settled_tags.proofs.law.tags_are_kept.Goals as goal
+
+pub returns : goal.returns
+returns c =
+    let chosen = c.parts_are_written.ensures.alternatives in
+    record {
+      tagged = λ p s of. all_tagged p (Allows p) (AllowsCode p) s of.types (λ i r e. (of.each i r e).tags);
+      tellable = λ p s tagged of. all_tellable p (Allows p) (AllowsCode p) s of.types (λ i r e. (of.each i r e).tags) chosen tagged;
+      few = λ p s tagged of. has_few p (Allows p) (AllowsCode p) s of.types (λ i r e. (of.each i r e).tags) chosen tagged;
+      components = λ p s i tags marker cs linked tagged of is.
+          components_tagged p (Allows p) (AllowsCode p) s of.types (λ i r e. (of.each i r e).tags) chosen tagged linked i tags marker cs is;
+      alternatives = λ p s i tags marker root more linked tagged of is.
+          alternatives_tagged p (Allows p) (AllowsCode p) s of.types (λ i r e. (of.each i r e).tags) chosen tagged linked i tags marker root more is;
+    }
