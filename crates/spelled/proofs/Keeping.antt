@@ -1,12 +1,12 @@
 -- What trees keep that a grammar makes of lexemes whose identifiers are identifiers: a production at a time.
-use Rattle.std.proofs.Common.{◌≡◌, ◌⊎◌, ◌≤◌, arith, ℕ, zero, suc, Bool, List, [], ◌∷◌, ◌++◌, length, map, Option, Some, None, inl, inr, refl, sym, subst, ap}
+use Rattle.std.proofs.Common.{◌⊎◌, ◌≤◌, arith, ℕ, zero, suc, Bool, List, [], ◌∷◌, ◌++◌, length, map, Option, Some, None, inl, inr, sym, subst}
 use Rattle.std.specs.List.{AllByRecursion}
 use Rattle.text.specs.declared.token.Mark.{Mark as Mark'}
 use Rattle.text.specs.declared.token.Mark.TheVariants.{Comma, Ellipsis, OpenVersion}
 use Rattle.asn_base.specs.Names.{IsIdentifier}
 use Rattle.grammar.specs.Lexeme.{Lexeme, TypeRef, Ident, Number, BString, HString, CString, Word, Mark}
-use Rattle.text.specs.declared.token.Mark.TheVariants.{Colon, OpenBrace, CloseBrace, OpenParenthesis, CloseParenthesis, CloseVersion}
-use Rattle.grammar.specs.Grammar.{mark, number_of, Grammar, token, only, ◌∙◌, ◌∣◌, ◌⇒◌, IsMany, many, behind, listed, braces, parens, cut_off, IsOptional, optional, opens, marked, extensible, rootless, version, addition}
+use Rattle.text.specs.declared.token.Mark.TheVariants.{OpenBrace, CloseBrace, CloseVersion}
+use Rattle.grammar.specs.Grammar.{mark, Grammar, token, only, ◌∙◌, ◌∣◌, ◌⇒◌, many, behind, listed, braces, cut_off, optional, opens, marked, extensible, rootless, version, addition}
 
 -- the name of an identifier lexeme is one
 abbrev pub IsGood : Lexeme → Type 0

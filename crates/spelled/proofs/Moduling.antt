@@ -1,8 +1,7 @@
 -- What is read as a module is spelled as the notation asks.
-use Rattle.std.proofs.Common.{◌≡◌, ◌≤◌, arith, ℕ, zero, suc, Bool, List, [], ◌∷◌, length, map, refl, sym, subst}
+use Rattle.std.proofs.Common.{◌≤◌, ℕ, Bool, List, [], ◌∷◌, length}
 use Rattle.std.specs.List.{All, AllByRecursion}
 use Rattle.std.proofs.lemmas.List.Elements.{All-head, All-tail}
-use Rattle.asn_base.specs.Names.{IsIdentifier}
 use Rattle.text.specs.declared.token.Token.{Token}
 use Rattle.text.specs.declared.token.TokenKind.{TokenKind}
 use Rattle.text.specs.declared.token.TokenKind.TheVariants as kinds
@@ -10,10 +9,9 @@ use Rattle.text.specs.declared.token.Mark.TheVariants.{Assign}
 use Rattle.text.specs.declared.reserved.Word.TheVariants.{End}
 use Rattle.text.specs.Items.{IsOfKind}
 use Rattle.text.specs.Text.{IsTokenOf}
-use Rattle.grammar.specs.Lexeme.{Lexeme, lexeme_at, lexeme_of, lexemes, TypeRef, Ident, Mark}
-use Rattle.grammar.specs.Grammar.{Grammar, token, word, ◌∙◌, ◌∣◌, ◌⇒◌, many, behind}
+use Rattle.grammar.specs.Lexeme.{lexeme_at, lexemes, TypeRef, Ident, Mark}
+use Rattle.grammar.specs.Grammar.{Grammar, token, word, ◌∙◌, ◌⇒◌, many, behind}
 use Rattle.grammar.specs.Places.{Limits}
-use Rattle.trees.specs.Values.{Name, Tree}
 use Rattle.trees.specs.Types.{TypeTree}
 use Rattle.trees.specs.Modules.{AssignmentTree, assigns_type, assigns_value, ModuleTree}
 use Rattle.notation.specs.Value.{value}

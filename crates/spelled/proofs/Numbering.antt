@@ -1,13 +1,11 @@
 -- The types of linked modules are spelled as those that are written.
-use Rattle.std.proofs.Common.{◌≡◌, ◌≤◌, ◌<◌, ◌+◌, arith, ℕ, zero, suc, List, [], ◌∷◌, ◌++◌, length, map, Option, Some, None, inl, inr, refl, sym, subst, ap}
-use Rattle.std.specs.Prelude.{slice_get}
+use Rattle.std.proofs.Common.{◌≡◌, ◌≤◌, ◌+◌, arith, ℕ, zero, suc, List, [], ◌∷◌, ◌++◌, length, map, refl, sym, subst, ap}
 use Rattle.std.specs.List.{All, AllByRecursion}
 use Rattle.std.proofs.lemmas.List.Elements.{All-head, All-tail}
 use Rattle.std.proofs.lemmas.Option.{same_Some}
 use Rattle.asn_base.specs.Names.{IsIdentifier}
 use Rattle.trees.specs.Values.{Name}
 use Rattle.trees.specs.declared.module.TagDefault.{TagDefault}
-use Rattle.trees.specs.declared.types.ListKind.{ListKind}
 use Rattle.trees.specs.Types.{TypeTree, a_type, FormTree, a_simple, a_reference, a_list, an_elements, a_tagged, TypeMembers, no_member, member_and}
 use Rattle.trees.specs.Modules.{AssignmentTree, assigns_type, assigns_value, ModuleTree}
 use Rattle.names.specs.ByNumber.{root_of, roots_from, roots_of}
@@ -15,8 +13,8 @@ use Rattle.names.specs.Modules.{all_assignments}
 use Rattle.names.specs.Names.{Module}
 use Rattle.names.specs.Sources.{Source}
 use Rattle.type_table.specs.Lists.{root_count, in_root}
-use Rattle.type_table.specs.Numbering.{form_of, form_parts, member_sources, parts_of, all_parts, numbered, IsKind, IsTop, AreTops, AreNumbered}
-use Rattle.type_table.specs.Table.{Part, Kind, simple, members, Type'}
+use Rattle.type_table.specs.Numbering.{form_of, member_sources, parts_of, all_parts, numbered, IsKind, AreTops, AreNumbered}
+use Rattle.type_table.specs.Table.{Part, Kind, Type'}
 use Rattle.spelled.specs.Written.{roots_in, HasRoot, IsSpelledTree, IsSpelledForm, AreSpelledMembers, IsSpelledAssignment, IsSpelledModule}
 use Rattle.spelled.specs.Spelled.{IsSpelledKind, AreSpelled}
 use Rattle.spelled.proofs.Keeping.{all_joined}

@@ -1,5 +1,5 @@
 -- Worked rows: types that are spelled as the notation asks, and for each clause one that isn't.
-use Rattle.std.proofs.Common.{arith, ◌≡◌, ◌≤◌, ℕ, ◌<◌, true, false, List, [], ◌∷◌, Some, None, refl}
+use Rattle.std.proofs.Common.{arith, true, false, [], ◌∷◌, Some, None, refl}
 use Rattle.std.specs.Prelude.{pos}
 use Rattle.trees.specs.declared.module.TagDefault.TheVariants.{Automatic}
 use Rattle.trees.specs.declared.types.ElementsKind.TheVariants.{SequenceOf}

@@ -1,28 +1,23 @@
 -- What is read as a type is spelled as the notation asks.
-use Rattle.std.proofs.Common.{◌≡◌, ◌⊎◌, ◌≤◌, ◌+◌, arith, ℕ, zero, suc, ℤ, Bool, true, false, List, [], ◌∷◌, ◌++◌, length, map, Option, Some, None, inl, inr, refl, sym, subst, ap}
-use Rattle.std.proofs.lemmas.List.{length-map}
-use Rattle.std.specs.Prelude.{is_some}
+use Rattle.std.proofs.Common.{◌⊎◌, ◌≤◌, arith, ℕ, zero, suc, ℤ, Bool, true, false, List, [], ◌∷◌, ◌++◌, length, map, Option, Some, None, inl, inr, subst}
 use Rattle.std.specs.List.{AllByRecursion}
 use Rattle.asn_base.specs.Names.{IsIdentifier}
 use Rattle.text.specs.declared.token.Mark.TheVariants.{OpenBracket, Dot}
 use Rattle.text.specs.declared.reserved.Word.{Word as Word'}
 use Rattle.text.specs.declared.reserved.Word.TheVariants as words
-use Rattle.grammar.specs.Lexeme.{Lexeme, TypeRef, Ident, Word, Mark}
+use Rattle.grammar.specs.Lexeme.{TypeRef, Ident, Word, Mark}
 use Rattle.grammar.specs.Grammar.{Grammar, token, word, number_of, ◌∙◌, ◌∣◌, ◌⇒◌, many, optional, behind, listed, braces, parens, cut_off, opens, extensible, rootless, addition}
 use Rattle.trees.specs.Values.{Name, Tree}
-use Rattle.trees.specs.Constraints.{ConstraintTree}
-use Rattle.trees.specs.declared.types.ListKind.{ListKind}
 use Rattle.trees.specs.declared.types.ListKind.TheVariants as lists
-use Rattle.trees.specs.declared.types.Standing.{Standing}
 use Rattle.trees.specs.declared.types.Standing.TheVariants as standings
-use Rattle.trees.specs.Types.{PresenceTree, mandatory, MemberTree, TypeTree, a_type, FormTree, a_simple, a_reference, a_list, an_elements, a_tagged, TypeMembers, type_members, Plain, an_object_identifier, an_octet_string}
+use Rattle.trees.specs.Types.{mandatory, MemberTree, TypeTree, a_type, a_simple, a_tagged, type_members, Plain, an_object_identifier, an_octet_string}
 use Rattle.notation.specs.ConstraintGrammar.{constraint}
 use Rattle.notation.specs.Value.{value}
 use Rattle.type_parts.specs.PlainGrammar.{type_of_word, one_word, signed, named_number, named_bit, item, integer, bit_string, enumerated, simple, integer_with, bits_with, enumerated_of, ref, referred, keyword, presence, tag, list_size}
-use Rattle.type_syntax.specs.TypeGrammar.{Component, Listing, a_member, additions_from, behind_marker, all_members, of_listing, list_kind, elements_kind, listing_of, list_of, constrained, sequence_or_set, member, alternative, tagged, members, choice, one_type, plain, list, type_with, type}
+use Rattle.type_syntax.specs.TypeGrammar.{Component, Listing, a_member, additions_from, behind_marker, all_members, of_listing, list_kind, listing_of, list_of, constrained, sequence_or_set, member, alternative, tagged, members, choice, one_type, plain, list, type_with, type}
 use Rattle.type_table.specs.Items.{additions_of}
-use Rattle.spelled.specs.Written.{IsSpelledPlain, roots_in, HasRoot, IsSpelledTree, IsSpelledForm, AreSpelledMembers}
-use Rattle.spelled.proofs.Keeping.{Keeps, Nothing, AreGood, keeps_nothing, keeps_name, keeps_pair, keeps_either, keeps_made, keeps_many, keeps_behind, keeps_listed, keeps_braces, keeps_cut_off, keeps_opens, OfOption, keeps_optional, OfListing, keeps_extensible, keeps_rootless, OfAddition, keeps_addition, all_joined, all_mapped}
+use Rattle.spelled.specs.Written.{IsSpelledPlain, roots_in, IsSpelledTree, IsSpelledForm, AreSpelledMembers}
+use Rattle.spelled.proofs.Keeping.{Keeps, Nothing, keeps_nothing, keeps_name, keeps_pair, keeps_either, keeps_made, keeps_behind, keeps_listed, keeps_braces, keeps_cut_off, keeps_opens, OfOption, keeps_optional, OfListing, keeps_extensible, keeps_rootless, OfAddition, keeps_addition, all_joined, all_mapped}
 
 -- ---- types that hold no type
 

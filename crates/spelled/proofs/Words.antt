@@ -1,16 +1,13 @@
 -- The octets of an identifier token are an identifier.
-use Rattle.std.proofs.Common.{◌≡◌, ℕ, zero, suc, ◌+◌, ◌-◌, ◌≤◌, ◌<◌, Bool, true, false, not, ◌||◌, ◌&&◌, ◌==◌, if◌then◌else◌, inl, inr, List, [], ◌∷◌, length, take, drop, get_or, map, refl, sym, subst, ap, arith, ◌∙◌ as ◌⋆◌}
-use Rattle.std.specs.Prelude.{slice_index, slice_range, IsTrue, IsFalse, ⊤}
+use Rattle.std.proofs.Common.{◌≡◌, ℕ, zero, suc, ◌+◌, ◌-◌, ◌≤◌, ◌<◌, Bool, true, false, not, ◌||◌, ◌&&◌, ◌==◌, if◌then◌else◌, List, [], ◌∷◌, length, take, drop, refl, sym, subst, ap, arith, ◌∙◌ as ◌⋆◌}
+use Rattle.std.specs.Prelude.{slice_range}
 use Rattle.std.specs.Char.{is_ascii_lowercase, is_ascii_uppercase, is_ascii_alphabetic, is_ascii_alphanumeric}
-use Rattle.std.specs.List.{AllByRecursion}
 use Rattle.std.proofs.lemmas.List.{drop_more}
 use Rattle.std.proofs.lemmas.Bool.Decides.{nat_tests}
 use Rattle.asn_base.specs.Names.{goes_on, is_identifier, IsIdentifier}
-use Rattle.text.specs.declared.token.Token.{Token}
-use Rattle.text.specs.declared.token.TokenKind.{TokenKind}
 use Rattle.text.specs.declared.token.TokenKind.TheVariants as kinds
 use Rattle.text.specs.Octets.{octet_at, stops_name, IsFirst}
-use Rattle.text.specs.Items.{IsName, IsOfKind, IsToken}
+use Rattle.text.specs.Items.{IsName, IsOfKind}
 
 -- the n octets from i on
 abbrev from : List ℕ → ℕ → ℕ → List ℕ
