@@ -241,7 +241,7 @@ fields_mean w none d h g m =
 
 -- ---- types
 
-in_core : {p : Program} {i : ℕ} {k : Kind} {N : Name} (w : IsWritten p i k N) → Is p.types w.core k w.type.default w.type.place
+pub in_core : {p : Program} {i : ℕ} {k : Kind} {N : Name} (w : IsWritten p i k N) → Is p.types w.core k w.type.default w.type.place
 in_core {p} w =
     subst (λ (x : Kind). Is p.types w.core x w.type.default w.type.place) w.kind
     (record { constraints = w.type.constraints; assignment = w.type.assignment; found = w.there })

@@ -100,8 +100,8 @@ one_component {p} {M} {N} {b} {c} k l m e =
 pub got_unread : (n t l : ℕ) → slice_get (replicate n 255) t ≡ Some l → l ≡ 255
 got_unread n t l e =
     let there = slice_get_within (replicate n 255) t l e in
-    let long = length-replicate n 255 in
-    sym (get_or_from_slice_get (replicate n 255) t l 0 e) ∙ get_or-replicate n t 255 0 (omega (arith, there, long))
+    let long = length-replicate {A = ℕ} n 255 in
+    sym (get_or_from_slice_get {X = ℕ} (replicate n 255) t l 0 e) ∙ get_or-replicate {A = ℕ} n t 255 0 (omega (arith, there, long))
 
 put_at : (ls : List ℕ) (k t x l : ℕ) → slice_get (slice_set ls k x) t ≡ Some l →
     ((t ≡ k) × (l ≡ x)) ⊎ (slice_get ls t ≡ Some l)
@@ -124,9 +124,9 @@ absent_as {p} {m} {n} {M} {N} {b} {c} e f g a =
 pub none_known : (p : Program) (n : ℕ) → AreKnown p (replicate n 255)
 none_known p n = λ N c l h e f. let q = got_unread n c.ty l e in absurd (omega (arith, q, f))
 
-pub noted : {p : Program} {N : Name} {ls : List ℕ} (c : Part) (n : ℕ) → IsLinked p.types → AreKnown p ls → IsListed p N c →
+pub noted : {p : Program} {N : Name} (ls : List ℕ) (c : Part) (n : ℕ) → IsLinked p.types → AreKnown p ls → IsListed p N c →
     MayBeAbsent p (Allows p) (AllowsCode p) n N c → AreKnown p (slice_set ls c.ty n)
-noted {p} {N} {ls} c n k a h m = λ M d l g e f. elim (put_at ls c.ty d.ty n l e) [
+noted {p} {N} ls c n k a h m = λ M d l g e f. elim (put_at ls c.ty d.ty n l e) [
   | inl q ↦ let same = one_component k g h q.0 in absent_as q.1 same.0 same.1 m
   | inr q ↦ a M d l g q f
 ]
