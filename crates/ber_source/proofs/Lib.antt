@@ -1,0 +1,5 @@
+pub mod OneAnswer
+pub mod Units
+pub mod Tags
+pub mod Firsts
+pub mod Finding

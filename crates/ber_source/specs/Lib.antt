@@ -1,0 +1,7 @@
+pub mod Units
+pub mod States
+pub mod Found
+pub mod Answers
+pub mod Firsts
+pub mod Seen
+pub mod Faults
