@@ -1,16 +1,16 @@
 -- A type's routine begins with the first tags of the type.
-use Rattle.std.proofs.Common.{arith, ◌≡◌, ℕ, zero, suc, ◌<◌, Bool, true, false, List, [], ◌∷◌, ◌++◌, length, refl, sym, ap, subst, ◌∙◌}
+use Rattle.std.proofs.Common.{arith, ◌≡◌, ℕ, zero, suc, ◌<◌, true, false, List, [], ◌∷◌, ◌++◌, length, refl, sym, ap, subst, ◌∙◌}
 use Rattle.std.specs.Prelude.{Option, Some, None, slice_get, IsSomeAnd}
 use Rattle.std.specs.List.{AllByRecursion}
 use Rattle.asn_base.specs.declared.tag.Tag.{Tag}
 use Rattle.asn_base.specs.Schemas.{IsSchema, HasTag}
 use Rattle.asn_base.specs.Tags.{First, first_tag, first_of_choice}
-use Rattle.asn_base.specs.Types.{Alternative, Component, Kind, a_boolean, an_integer, an_enumerated, a_bit_string, a_named_bit_string, an_octet_string, a_null, an_object_identifier, a_relative_oid, a_utf8_string, a_restricted_string, a_sequence, a_set, a_sequence_of, a_set_of, a_choice, Resolved, Is}
+use Rattle.asn_base.specs.Types.{Alternative, Kind, a_boolean, an_integer, an_enumerated, a_bit_string, a_named_bit_string, an_octet_string, a_null, an_object_identifier, a_relative_oid, a_utf8_string, a_restricted_string, a_sequence, a_set, a_sequence_of, a_set_of, a_choice, Resolved, Is}
 use Rattle.asn_base.specs.declared.schema.TypeId.{TypeId}
 use Rattle.codec_code.specs.declared.step.Step.{Step}
 use Rattle.codec_code.specs.declared.step.Step.TheVariants.{Call}
 use Rattle.codec_code.specs.Routines.{row_of, heads, ends, outermost, tags_at, calls, body, routine_of, routine_at}
-use Rattle.ber_source.specs.Firsts.{head_tag, Begins, begins, AnyBegins, this_begins, later_begins, BeginsBy, BeginsWith}
+use Rattle.ber_source.specs.Firsts.{head_tag, Begins, begins, AnyBegins, this_begins, later_begins, BeginsWith}
 
 none_some : {A : Type 0} {x : A} → None ≡ Some x → ⊥
 none_some e = cc
@@ -59,10 +59,10 @@ routine_found s t gs k i = ap (λ q. elim q [ None ↦ [] | Some r ↦ routine_o
 tags_found : (s : List Resolved) (t : ℕ) (gs : List Tag) (k : Kind) → Is s t gs k → tags_at s t ≡ outermost gs
 tags_found s t gs k i = ap (λ q. elim q [ None ↦ None | Some r ↦ outermost r.tags ]) i.found
 
-all_get : {P : Alternative → Type 0} (as' : List Alternative) (i : ℕ) (a : Alternative) → AllByRecursion P as' → slice_get as' i ≡ Some a → P a
-all_get [] i a all e = absurd (none_some e)
-all_get {P} (b ∷ as') zero a all e = subst P (ap (λ q. elim q [ None ↦ b | Some z ↦ z ]) e) all.0
-all_get (b ∷ as') (suc i) a all e = all_get as' i a all.1 e
+all_get : (P : Alternative → Type 0) (as' : List Alternative) (i : ℕ) (a : Alternative) → AllByRecursion P as' → slice_get as' i ≡ Some a → P a
+all_get P [] i a all e = absurd (none_some e)
+all_get P (b ∷ as') zero a all e = subst P (ap (λ q. elim q [ None ↦ b | Some z ↦ z ]) e) all.0
+all_get P (b ∷ as') (suc i) a all e = all_get P as' i a all.1 e
 
 first_tagged : (s : List Resolved) (t : ℕ) (g : Tag) → HasTag s t → First s t g → tags_at s t ≡ Some g
 first_tagged s t g h (first_tag {ts = ts} {k = k} i) = tags_found s t (g ∷ ts) k i
@@ -148,5 +148,5 @@ tagged_steps s g (f ∷ gs) k = refl
 pub first_begun : (s : List Resolved) (t : ℕ) (g : Tag) → IsSchema s → First s t g → BeginsWith s g (routine_at s t)
 first_begun s t g sc (first_tag {ts = ts} {k = k} i) = subst (BeginsWith s g) (sym (routine_found s t (g ∷ ts) k i)) (tagged_steps s g ts k)
 first_begun s t g sc (first_of_choice {e = e} {root = root} {more = more} {a = a} n i get f) =
-    let has : HasTag s a.type = all_get (root ++ more) n a (sc.sound t [] (a_choice root e more) i).types get in
+    let has : HasTag s a.type = all_get (λ a. HasTag s a.type) (root ++ more) n a (sc.sound t [] (a_choice root e more) i).types get in
     subst (BeginsWith s g) (sym (routine_found s t [] (a_choice root e more) i)) (any_of s g (root ++ more) [] n a get (first_tagged s a.type g has f))

@@ -3,3 +3,4 @@ pub mod Units
 pub mod Tags
 pub mod Firsts
 pub mod Finding
+pub mod Tests

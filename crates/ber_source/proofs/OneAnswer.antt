@@ -1,22 +1,21 @@
 -- A question has one answer.
-use Rattle.std.proofs.Common.{arith, ◌≡◌, ⊎_elim, ℕ, suc, ◌+◌, ◌<◌, ◌≤◌, Bool, true, false, List, [], ◌∷◌, ◌++◌, length, take, drop, refl, sym, ap, subst, ◌∙◌, length-append}
+use Rattle.std.proofs.Common.{arith, ◌≡◌, ⊎_elim, ℕ, suc, ◌≤◌, Bool, true, false, List, [], ◌∷◌, ◌++◌, length, refl, sym, ap, subst, ◌∙◌, length-append}
 use Rattle.std.specs.Prelude.{Option, Some, None}
 use Rattle.asn_base.specs.declared.tag.Tag.{Tag}
 use Rattle.asn_base.specs.declared.schema.TypeId.{TypeId}
 use Rattle.asn_base.specs.Types.{Resolved}
 use Rattle.asn_base.specs.Tags.{First}
-use Rattle.encodings.specs.Header.{Octets, Header, LengthOf, short, long, identifier}
+use Rattle.encodings.specs.Header.{Header, LengthOf, short, long, identifier}
 use Rattle.codec_code.specs.declared.step.Head.{Head}
-use Rattle.codec_code.specs.declared.step.LeafKind.{LeafKind}
 use Rattle.codec_code.specs.declared.step.Field.{Field as Field'}
 use Rattle.codec_code.specs.declared.step.Step.{Step}
-use Rattle.codec_source.specs.Events.{Event, Alike, begins, ends, opens, closes, holds, skips, stands, more, among, picks}
+use Rattle.codec_source.specs.Events.{Event, Alike, stands, more, among, picks}
 use Rattle.codec_source.specs.Events.{both_begin, both_end, both_open, both_close, both_hold, both_skip, both_stand, both_more, both_among, both_pick}
 use Rattle.codec_code.specs.Routines.{routine_at}
 use Rattle.ber_source.specs.Units.{UnitAt}
-use Rattle.ber_source.specs.States.{Window, State, Token, component, chosen, telling, begun_at, ended_at, opened_at, closed_at, held_at, marked, passing}
-use Rattle.ber_source.specs.Found.{field_in, CanBegin, IsFound, found, not_yet, IsChosen, chosen as chosen', later, is_extensible, last_steps, Passes, at_end_of_contents, at_component, passes}
-use Rattle.ber_source.specs.Answers.{Begins, Ends, Opens, Closes, Holds, Skips, IsNext, IsOther, IsAbsent, HasMore, HasNoMore, HasComponent, HasNoComponent, Chooses, StandsNext, MoreNext, AmongNext, Answers, Takes}
+use Rattle.ber_source.specs.States.{State, chosen, telling, begun_at, ended_at, opened_at, closed_at, marked, passing}
+use Rattle.ber_source.specs.Found.{IsFound, found, not_yet, IsChosen, chosen as chosen', later, last_steps, Passes, at_end_of_contents, at_component, passes}
+use Rattle.ber_source.specs.Answers.{Begins, Ends, Opens, Closes, Skips, IsNext, IsAbsent, Chooses, StandsNext, MoreNext, AmongNext, Answers, Takes}
 
 abbrev head_or_0 : List ℕ → ℕ
 head_or_0 [] = 0

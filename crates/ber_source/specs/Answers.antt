@@ -1,5 +1,5 @@
 -- What a reader of octets answers to a question, and where it stands behind the answer (X.690, 8.1 to 8.14).
-use Rattle.std.specs.Prelude.{◌≡◌, ◌⊎◌, ℕ, suc, ◌+◌, ◌<◌, ◌≤◌, Bool, true, false, List, [], ◌∷◌, ◌++◌, length, drop}
+use Rattle.std.specs.Prelude.{◌≡◌, ◌⊎◌, ℕ, suc, ◌<◌, Bool, true, false, List, [], ◌∷◌, ◌++◌, length, drop}
 use Rattle.std.specs.Prelude.{Option, Some, None}
 use Rattle.asn_base.specs.declared.tag.Tag.{Tag}
 use Rattle.asn_base.specs.declared.schema.TypeId.{TypeId}
@@ -18,7 +18,7 @@ use Rattle.codec_source.specs.Events.{Event, Alike, begins, ends, opens, closes,
 use Rattle.ber_source.specs.Units.{UnitAt}
 use Rattle.ber_source.specs.States.{Window, State, component, chosen, telling, begun_at, ended_at, opened_at, closed_at}
 use Rattle.ber_source.specs.States.{held_at, marked}
-use Rattle.ber_source.specs.Found.{IsFound, IsChosen, is_extensible, last_steps, AreRead, Passes}
+use Rattle.ber_source.specs.Found.{IsChosen, is_extensible, last_steps, AreRead, Passes}
 
 -- a value begins, of at most 64 levels
 pub record Begins (a : State) (t : TypeId) (b : State) : Type 0 where

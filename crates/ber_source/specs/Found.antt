@@ -1,5 +1,5 @@
 -- Components and alternatives that are told by the next tag (X.680, 25.6.1, 27.3 and 29.3).
-use Rattle.std.specs.Prelude.{◌≡◌, ℕ, suc, ◌<◌, Bool, true, false, not, ◌||◌, if◌then◌else◌, List, [], ◌∷◌, ◌++◌, length}
+use Rattle.std.specs.Prelude.{◌≡◌, ℕ, suc, ◌<◌, Bool, true, false, not, ◌||◌, if◌then◌else◌, List, [], ◌∷◌, length}
 use Rattle.std.specs.Prelude.{Option, Some, None}
 use Rattle.asn_base.specs.declared.tag.Tag.{Tag}
 use Rattle.asn_base.specs.declared.schema.TypeId.{TypeId}
@@ -9,8 +9,8 @@ use Rattle.asn_base.specs.Names.{IsMember}
 use Rattle.encodings.specs.Header.{Octets}
 use Rattle.codec_code.specs.declared.step.Field.{Field as Field'}
 use Rattle.codec_code.specs.declared.step.Step.{Step}
-use Rattle.codec_code.specs.declared.step.Step.TheVariants.{Head, Leaf, Field, Ranked, Each, EachSorted, Pick}
-use Rattle.codec_code.specs.declared.step.Step.TheVariants.{Call, Rest, End}
+use Rattle.codec_code.specs.declared.step.Step.TheVariants.{Field, Ranked}
+use Rattle.codec_code.specs.declared.step.Step.TheVariants.{Call, Rest}
 use Rattle.codec_code.specs.Steps.{may_be_absent}
 use Rattle.ber_source.specs.Units.{UnitAt}
 use Rattle.ber_source.specs.States.{State, passing}

@@ -3,6 +3,7 @@
 
 mod find;
 mod first;
+pub mod law;
 mod place;
 mod token;
 mod unit;

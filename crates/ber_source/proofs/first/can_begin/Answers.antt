@@ -1,0 +1,11 @@
+use Rattle.std.proofs.Common.{sym, subst}
+use Rattle.ber_source.specs.Firsts.{BeginsWith}
+use Rattle.ber_source.proofs.Firsts.{begun_first, first_begun}
+use Rattle.ber_source.proofs.first.can_begin.Goals as goal
+
+pub returns : goal.returns
+returns c =
+    let s = c.args.code.now in
+    let g = c.args.tag in
+    (λ t. begun_first s c.args.id.index g (subst (BeginsWith s g) c.steps.ensures (c.begins_with.ensures.0 t)),
+     λ f. c.begins_with.ensures.1 (subst (BeginsWith s g) (sym c.steps.ensures) (first_begun s c.args.id.index g c.accepted.ensures f)))
