@@ -1,0 +1,4 @@
+pub mod Units
+pub mod OctetSteps
+pub mod BitSteps
+pub mod Tags
