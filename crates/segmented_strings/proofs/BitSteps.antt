@@ -238,3 +238,6 @@ pub unused_of_none : (n : ℕ) (os o : List ℕ) → o ≡ n ∷ os → length o
 unused_of_none n os o e z l s w =
     let c = (counted n s os (subst (WholeBits s) e w)).0 in
     omega arith
+
+pub front_bits : (g : Tag) (room : ℕ) (w : Why) (o : List ℕ) → NoSegment g room o w → g ≡ bit_string_tag → IsRefused (BitsFail room) (At 0 w) o
+front_bits g room w o n e = at_place (no_bits (subst (λ q. NoSegment q room o w) e n)) (omega arith)

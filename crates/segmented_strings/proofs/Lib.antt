@@ -2,3 +2,4 @@ pub mod Units
 pub mod OctetSteps
 pub mod BitSteps
 pub mod Tags
+pub mod OneFault

@@ -98,3 +98,9 @@ refused_in_octets room r n x behind octets (At i w) u e l (at_place f b) =
     let a = unit_length u in
     let k : n + i ≡ length u.header + i = omega arith in
     at_place (subst (λ q. OctetsFail q w (n + i) octets) (sym e) (in_octets u f k)) (omega arith)
+
+pub for_want : {Fail : Why → ℕ → List ℕ → Type 0} {o : List ℕ} (f : SegmentsFault) → f ≡ Memory → IsRefused Fail f o
+for_want {Fail} {o} f e = subst (λ q. IsRefused Fail q o) (sym e) for_memory
+
+pub front_octets : (g : Tag) (room : ℕ) (w : Why) (o : List ℕ) → NoSegment g room o w → g ≡ octet_string_tag → IsRefused (OctetsFail room) (At 0 w) o
+front_octets g room w o n e = at_place (no_octets (subst (λ q. NoSegment q room o w) e n)) (omega arith)

@@ -40,3 +40,11 @@ unit_of g t c n k o a b x y h same cut la behind lx =
 
 pub unit_length : {g : Tag} {c : Bool} {x rest o : List ℕ} (u : UnitAt g c x rest o) → length o ≡ length u.header + (length x + length rest)
 unit_length {x = x} {rest = rest} u = ap length u.whole ∙ length-append u.header (x ++ rest) ∙ ap (λ q. length u.header + q) (length-append x rest)
+
+-- the same unit by another name of its tag and form
+pub unit_as : (g t : Tag) (c d : Bool) {x rest o : List ℕ} → UnitAt g c x rest o → g ≡ t → c ≡ d → UnitAt t d x rest o
+unit_as g t c d {x = x} {rest = r} {o = o} u e f = subst (λ q. UnitAt q d x r o) e (subst (λ q. UnitAt g q x r o) f u)
+
+-- the same unit at the front of octets that are the same
+abbrev pub at_octets : {g : Tag} {c : Bool} {x r o q : List ℕ} → o ≡ q → UnitAt g c x r o → UnitAt g c x r q
+at_octets e u = record { header = u.header; is_header = u.is_header; whole = sym e ∙ u.whole }

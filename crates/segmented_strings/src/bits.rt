@@ -7,7 +7,7 @@ ghost use Rattle.std.specs.Prelude.{◌≡◌, ◌≤◌, Bool, IfErr, IfNone, I
 
 use crate::fault::{SegmentsFault, Why};
 use crate::joined::moved;
-use crate::segment::{are_octets, next_segment};
+use crate::segment::{are_octets, extend, next_segment};
 use asn_base::tag::{Class, Tag};
 use octets::Form;
 
@@ -90,10 +90,10 @@ fn add_bit_segment<'a>(
     };
     match segment.form {
         Form::Primitive => match whole_bits(segment.contents) {
-            Some((unused, bits)) => {
-                out.extend_from_slice(bits)?;
-                Ok((unused, segment.behind))
-            }
+            Some((unused, bits)) => match extend(out, bits) {
+                Ok(()) => Ok((unused, segment.behind)),
+                Err(fault) => Err(fault),
+            },
             None => Err(SegmentsFault::At(0, Why::BadContents)),
         },
         Form::Constructed => {

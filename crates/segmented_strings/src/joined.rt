@@ -8,7 +8,7 @@ ghost use Rattle.segmented_strings.specs.Refusing.{IsRefused, Joins, JoinsOne, p
 ghost use Rattle.std.specs.Prelude.{◌≡◌, ◌+◌, ◌<◌, ◌≤◌, ◌^◌, ◌++◌, IfErr, IfOk, OnOk, length};
 
 use crate::fault::SegmentsFault;
-use crate::segment::{are_octets, next_segment};
+use crate::segment::{are_octets, extend, next_segment};
 use asn_base::tag::{Class, Tag};
 use octets::Form;
 
@@ -72,8 +72,10 @@ fn add_segment<'a>(
     match segment.form {
         Form::Primitive => {
             are_octets(segment.contents);
-            out.extend_from_slice(segment.contents)?;
-            Ok(segment.behind)
+            match extend(out, segment.contents) {
+                Ok(()) => Ok(segment.behind),
+                Err(fault) => Err(fault),
+            }
         }
         Form::Constructed => {
             let before = octets.len() - segment.behind.len() - segment.contents.len();

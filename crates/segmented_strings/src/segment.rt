@@ -3,10 +3,11 @@
 ghost use Rattle.octets.specs.Forms.{is_constructed};
 ghost use Rattle.segmented_strings.specs.Failing.{NoSegment};
 ghost use Rattle.segmented_strings.specs.Within.{UnitAt};
+ghost use Rattle.segmented_strings.specs.declared.fault.SegmentsFault.TheVariants.{Memory};
 ghost use Rattle.std.specs.Int.Digits.{AllBelowBase};
-ghost use Rattle.std.specs.Prelude.{◌≡◌, ◌≤◌, ◌↔◌, IfErr, IfOk, IsTrue, length};
+ghost use Rattle.std.specs.Prelude.{◌≡◌, ◌≤◌, ◌↔◌, ◌++◌, IfErr, IfOk, IsTrue, OnOk, length};
 
-use crate::fault::Why;
+use crate::fault::{SegmentsFault, Why};
 use asn_base::tag::Tag;
 use octets::{Form, read_header};
 
@@ -42,6 +43,15 @@ pub(crate) fn next_segment(tag: Tag, room: usize, octets: &[u8]) -> Result<Segme
         contents,
         behind,
     })
+}
+
+/// Adds octets.
+pub(crate) fn extend(out: &mut Vec<u8>, octets: &[u8]) -> Result<(), SegmentsFault>
+    ensures ok { OnOk result (out.new.items ≡ out.old.items ++ octets.now) }
+    ensures err { IfErr result (λ e. e ≡ Memory) }
+{
+    out.extend_from_slice(octets)?;
+    Ok(())
 }
 
 /// Whether two tags are the same.
