@@ -23,10 +23,10 @@ ghost use Rattle.asnc.specs.Writing.{IsEncoded, IsNotEncoded};
 use crate::opening::modules_of;
 use asn_base::law::accepted_are_schemas;
 use asn_base::schema::{Schema, TypeId};
-use first_writer::{WriteFault, write_der};
 use first_path::{
     FirstSchema, ProgramFault, Scope, ValueFault, check_program, notation_at, table_types, typed,
 };
+use first_writer::{WriteFault, write_der};
 use messages::Fault;
 use names::Assigned;
 use names::fault::spot;

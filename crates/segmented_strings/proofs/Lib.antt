@@ -3,3 +3,4 @@ pub mod OctetSteps
 pub mod BitSteps
 pub mod Tags
 pub mod OneFault
+pub mod ByKind

@@ -102,7 +102,7 @@ module _ (headers : (t u : Tag) (b c : Bool) (n m : ℕ) (h g x y : List ℕ) �
   first_unit tag c h p o hd = record { header = h; is_header = hd; whole = append_assoc h p o }
 
   mutual
-    one_octets : {s t o : List ℕ} → Segments s o → (p : List ℕ) → o ≡ p → Segments t p → s ≡ t
+    pub one_octets : {s t o : List ℕ} → Segments s o → (p : List ℕ) → o ≡ p → Segments t p → s ≡ t
     one_octets no_segment p e no_segment = refl
     one_octets no_segment q e (segment {c = c} {h = h} {x = x} {p = p} {s = s} {o = o} hd pc g) = absurd (unit_empty (first_unit octet_string_tag c h p o hd) (ap length (sym e)))
     one_octets (segment {c = c} {h = h} {x = x} {p = p} {s = s} {o = o} hd pc g) q e no_segment = absurd (unit_empty (first_unit octet_string_tag c h p o hd) (ap length e))
@@ -177,7 +177,7 @@ module _ (headers : (t u : Tag) (b c : Bool) (n m : ℕ) (h g x y : List ℕ) �
   bits_empty (bit_segment {c = c} {h = h} {p = p} {o = o} hd pc m g) e = unit_empty (first_unit bit_string_tag c h p o hd) (ap length e)
 
   mutual
-    one_bits : {s t : List Bool} {x : List ℕ} → BitSegments s x → (y : List ℕ) → x ≡ y → BitSegments t y → s ≡ t
+    pub one_bits : {s t : List Bool} {x : List ℕ} → BitSegments s x → (y : List ℕ) → x ≡ y → BitSegments t y → s ≡ t
     one_bits (last_segment {c = c} {h = h} {p = p} hd pc) y e (last_segment {c = c'} {h = h'} {p = p'} hd' pc') =
         let u = one_unit (at_octets e (last_unit c h p hd)) (last_unit c' h' p' hd') in
         one_bit_piece pc c' p' u.forms u.contents pc'
@@ -203,7 +203,7 @@ module _ (headers : (t u : Tag) (b c : Bool) (n m : ℕ) (h g x y : List ℕ) �
   one_length {c = c} {x = x} w p f e = let h = ap length (one_bit_piece p c x f e w.pieces) in ap (λ q. q % 8) (sym h)
 
   mutual
-    bits_either : {room i : ℕ} {e : Why} {s : List Bool} {o : List ℕ} (g : BitSegments s o) → bit_segment_levels g ≤ room → (q : List ℕ) → o ≡ q → length q ≤ 16777216 → BitsFail room e i q → ⊥
+    pub bits_either : {room i : ℕ} {e : Why} {s : List Bool} {o : List ℕ} (g : BitSegments s o) → bit_segment_levels g ≤ room → (q : List ℕ) → o ≡ q → length q ≤ 16777216 → BitsFail room e i q → ⊥
     bits_either (last_segment {c = c} {h = h} {p = p} hd pc) l q d few (no_bits n) = no_segment_unit n (at_octets d (last_unit c h p hd)) few (omega arith)
     bits_either (last_segment {c = c} {h = h} {p = p} hd pc) l q d few (without_segments z) = unit_empty (at_octets d (last_unit c h p hd)) (ap length z)
     bits_either (last_segment {c = c} {h = h} {p = p} hd pc) l q d few (bad_bits u n) =

@@ -5,6 +5,10 @@
 mod bits;
 mod fault;
 mod joined;
+pub mod law;
+mod read;
 mod segment;
+mod text;
 
 pub use fault::{SegmentsFault, Why};
+pub use read::{Joined, read_segments};

@@ -13,8 +13,8 @@ use asn_base::law::{accepted_are_schemas, schemas_grow};
 use asn_base::schema::{Component, Core, Presence, Resolved, Schema, TypeId};
 use asn_base::tag::{Class, Tag};
 use asn_base::value::Value;
-use first_writer::{WriteFault, write_der};
 use first_path::FirstSchema;
+use first_writer::{WriteFault, write_der};
 use std::alloc::{AllocError, Global};
 use std::test::Fail;
 
