@@ -3,7 +3,7 @@
 #![tactic(auto)]
 
 mod hog;
-mod sweep;
+mod turns;
 
 pub use hog::Hog;
-pub use sweep::{Starved, Swept, Turn, sweep};
+pub use turns::{Starved, Swept, Turn, sweep};
