@@ -1,2 +1,3 @@
 pub mod First
+mod RowsOfAnswers
 pub mod Spellings
