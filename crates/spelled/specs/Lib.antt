@@ -1,2 +1,3 @@
--- What has to be believed: how the names in written types are spelled (`Spelled`).
+-- What has to be believed: how types are spelled as they are written (`Written`), and in a table (`Spelled`).
+pub mod Written
 pub mod Spelled

@@ -1,0 +1,6 @@
+mod Words
+mod Keeping
+mod Typing
+mod Moduling
+mod Numbering
+mod Rows

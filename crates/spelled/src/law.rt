@@ -1,0 +1,52 @@
+//! Laws on how what is read is spelled. A caller calls a law to know it; it takes no memory and no time.
+
+ghost use Rattle.std.specs.Prelude.{ℕ, List, map};
+ghost use Rattle.std.specs.List.{All};
+ghost use Rattle.grammar.specs.Lexeme.{lexemes};
+ghost use Rattle.grammar.specs.Places.{Limits};
+ghost use Rattle.kernel.specs.Given.{IsLexed};
+ghost use Rattle.names.specs.Names.{IsApart};
+ghost use Rattle.resolve.specs.Links.{Links};
+ghost use Rattle.resolve.specs.Program.{Program};
+ghost use Rattle.spelled.specs.Spelled.{AreSpelled};
+ghost use Rattle.spelled.specs.Written.{IsSpelledModule};
+ghost use Rattle.syntax.specs.Syntax.{module_text};
+ghost use Rattle.text.specs.declared.token.Token.{Token};
+ghost use Rattle.trees.specs.Modules.{ModuleTree, module_tree_of};
+ghost use Rattle.trees.specs.declared.module.Module.{Module as Module'};
+ghost use Rattle.type_table.specs.Lists.{AreSound};
+
+use names::law::apart;
+use text::law::tokens_known;
+
+/// The module that a text's tokens are is spelled as the notation asks, whatever the limits: [`syntax::parse`] answers
+/// such modules alone.
+pub fn modules_are_spelled()
+    ensures { (text : List ℕ) (tokens : List Token) (limits : Limits) (m : ModuleTree) →
+        IsLexed text tokens →
+        (module_text limits).Is m (lexemes text tokens) →
+        IsSpelledModule m }
+{
+    tokens_known();
+}
+
+/// The types of linked modules are spelled so where the modules are: of trees, and of modules in memory.
+pub fn types_are_spelled()
+    ensures trees { (ms : List ModuleTree) (p : Program) →
+        Links ms p →
+        All IsSpelledModule ms →
+        AreSpelled p.types }
+    ensures modules { (modules : List Module') (p : Program) →
+        Links (map module_tree_of modules) p →
+        All (λ m. IsSpelledModule (module_tree_of m)) modules →
+        AreSpelled p.types }
+{}
+
+/// What laws on linked modules ask besides: no module imports a name that it assigns, and the names and numbers of each
+/// list are distinct.
+pub fn linked_are_sound()
+    ensures apart { (ms : List ModuleTree) (p : Program) → Links ms p → IsApart p.modules }
+    ensures sound { (ms : List ModuleTree) (p : Program) → Links ms p → AreSound p.types }
+{
+    apart();
+}
