@@ -10,7 +10,8 @@ use Rattle.account_rows.specs.Told.{Told}
 use Rattle.account_rows.specs.Lengths.{octets_in}
 
 -- these octets of the value have an account with these rows
-pub record HasRows (s : List Resolved) (t : TypeNumber) (v : AbstractValue) (o : Octets) (rs : List FlatRow) : Type 0 where
+pub record HasRows (s : List Resolved) (t : TypeNumber) (v : AbstractValue) (o : Octets) (rs : List FlatRow)
+    : Type 0 where
   pub account : Account
   pub tells : Tells s t v o account
   pub rows : rs ≡ rows_of account

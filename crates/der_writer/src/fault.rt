@@ -1,16 +1,15 @@
 //! Why a value was not written.
 
-ghost use Rattle.der_writer.specs.declared.fault.WriteFault.TheVariants.{Memory, NotOfType, TooLong};
+ghost use Rattle.der_writer.specs.declared.fault.WriteFault.TheVariants.{Memory};
 ghost use Rattle.std.specs.Prelude.{◌≡◌};
-ghost use Rattle.writing_table.specs.declared.fault.MeasureFault.TheVariants as measured;
 
 use std::alloc::AllocError;
 use thiserror::Error;
 use writing_table::MeasureFault;
 
-/// Why a value was not written: `Memory`, where more memory was asked for and refused; `NotOfType`, where it is no value
-/// of the type; `TooLong`, where its encoding has more than 16,777,216 octets; `Device`, where the sink failed, and just
-/// so many octets of the encoding went out.
+/// Why a value was not written: `Memory`, where more memory was asked for and refused; `NotOfType`, where it is no
+/// value of the type; `TooLong`, where its encoding has more than 16,777,216 octets; `Device`, where the sink failed,
+/// and just so many octets of the encoding went out.
 #[derive(Clone, Copy, Debug, PartialEq, Eq, Error)]
 pub enum WriteFault {
     #[error("1 Memory")]
@@ -24,7 +23,9 @@ pub enum WriteFault {
 }
 
 impl From<MeasureFault> for WriteFault {
-    ghost from_gives = { λ f e. e ≡ elim f [ measured.Memory ↦ Memory | measured.NotOfType ↦ NotOfType | measured.TooLong ↦ TooLong ] };
+    ghost use Rattle.der_writer.specs.Faults.{fault_of};
+
+    ghost from_gives = { λ f e. e ≡ fault_of f };
 
     fn from(fault: MeasureFault) -> WriteFault {
         match fault {

@@ -35,8 +35,8 @@ pub fn one_value()
     schema_laws();
 }
 
-/// Octets within the limit that encode a value of a type by the distinguished rules are its one encoding, and none by the
-/// basic rules is shorter.
+/// Octets within the limit that encode a value of a type by the distinguished rules are its one encoding, and none by
+/// the basic rules is shorter.
 pub fn encodings_of_values()
     ensures { (s : List Resolved) (t : ℕ) (v : AbstractValue) (o : List ℕ)
         → IsSchema s

@@ -1,5 +1,5 @@
-//! The encoding of a value by the distinguished rules (X.690, 8, 10 and 11), in one forward pass: into a list, or to any
-//! sink. All lengths are known, and all memory is there, before the first octet goes out.
+//! The encoding of a value by the distinguished rules (X.690, 8, 10 and 11), in one forward pass: into a list, or to
+//! any sink. All lengths are known, and all memory is there, before the first octet goes out.
 #![tactic(auto)]
 
 mod fault;
@@ -9,5 +9,5 @@ mod to_sink;
 
 pub use fault::WriteFault;
 pub use sinks::{Counted, InMemory, Sink, Stops};
-pub use to_list::{Written, write_der};
-pub use to_sink::{Sent, write_der_to};
+pub use to_list::write_der;
+pub use to_sink::write_der_to;

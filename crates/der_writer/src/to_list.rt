@@ -21,14 +21,8 @@ use sinks::InMemory;
 use std::alloc::{AllocError, Global};
 use writing_table::{Part, measure};
 
-/// What was written of a value: the octets of its encoding, and the account of them.
-#[derive(Drop)]
-pub struct Written {
-    pub octets: Vec<u8>,
-    pub account: Account,
-}
-
-/// The octets that encode the value of the type by the distinguished rules (X.690, 10 and 11).
+/// The octets that encode the value of the type by the distinguished rules (X.690, 8, 10 and 11), and the account of
+/// them.
 ///
 /// - `NotOfType`: just where it is no value of the type, or there is no such type.
 /// - `TooLong`: just where it is one, and its encoding has more than 16,777,216 octets.
@@ -38,12 +32,11 @@ pub fn write_der(
     code: &Code,
     id: TypeId,
     value: &Value,
-) -> Result<Written, WriteFault>
+) -> Result<(Vec<u8>, Account), WriteFault>
     // The octets are the value's one encoding.
-    ensures encoding { IfOk result (λ w. IsEncoding code.now id.index (abstract value.now) w.octets.items) }
+    ensures encoding { IfOk result (λ w. IsEncoding code.now id.index (abstract value.now) w.0.items) }
     // The account is theirs.
-    ensures account { IfOk result (λ w.
-        Tells code.now id.index (abstract value.now) w.octets.items w.account) }
+    ensures account { IfOk result (λ w. Tells code.now id.index (abstract value.now) w.0.items w.1) }
     // It is refused as no value just where it is none.
     ensures not_of_type { IfErr result (λ e. e ≡ NotOfType → IsValue code.now id.index (abstract value.now) → ⊥) }
     ensures no_value { (IsValue code.now id.index (abstract value.now) → ⊥) → result ≡ Err NotOfType }
@@ -58,10 +51,10 @@ pub fn write_der(
     encodings_of_values();
     one_account();
     match measure(alloc, code, id, value) {
-        Ok(measured) => Ok(Written {
-            octets: joined(alloc, measured.parts.as_slice(), measured.octets)?,
-            account: Account::of(measured.rows),
-        }),
+        Ok(measured) => {
+            let octets = joined(alloc, measured.parts.as_slice(), measured.octets)?;
+            Ok((octets, Account::of(measured.rows)))
+        }
         Err(fault) => Err(WriteFault::from(fault)),
     }
 }

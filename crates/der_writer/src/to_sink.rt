@@ -21,16 +21,10 @@ use sinks::Sink;
 use std::alloc::Global;
 use writing_table::measure;
 
-/// What went out of a value: so many octets, and the account of them.
-#[derive(Drop)]
-pub struct Sent {
-    pub octets: usize,
-    pub account: Account,
-}
-
-/// Writes the octets that encode the value of the type by the distinguished rules (X.690, 10 and 11) to the sink, one
-/// behind the other. All growths and the refusals `Memory`, `NotOfType` and `TooLong` come before the first of them. A
-/// call of the sink may take a part of what it is given; the rest follows.
+/// Writes the octets that encode the value of the type by the distinguished rules (X.690, 8, 10 and 11) to the sink,
+/// one behind the other, and answers the account of them: its first row tells how many went out. All growths and the
+/// refusals `Memory`, `NotOfType` and `TooLong` come before the first octet. A call of the sink may take a part of what
+/// it is given; the rest follows.
 ///
 /// - `NotOfType`: just where it is no value of the type, or there is no such type.
 /// - `TooLong`: just where it is one, and its encoding has more than 16,777,216 octets.
@@ -42,14 +36,18 @@ pub fn write_der_to<S: Sink>(
     id: TypeId,
     value: &Value,
     sink: &mut S,
-) -> Result<Sent, WriteFault>
+) -> Result<Account, WriteFault>
     requires room { S.failed sink.old < u64.MAX }
     // The sink has taken just the value's one encoding, and no call failed; the account is that of the encoding.
-    ensures sent { IfOk result (λ n. Went code.now id.index (abstract value.now)
-        (state (S.taken sink.old) (S.failed sink.old)) (state (S.taken sink.new) (S.failed sink.new)) n.octets n.account) }
+    ensures sent { IfOk result (λ account. Went code.now id.index (abstract value.now)
+        (state (S.taken sink.old) (S.failed sink.old))
+        (state (S.taken sink.new) (S.failed sink.new))
+        account) }
     // It has taken just the first n octets of the encoding, fewer than there are, and one call failed.
     ensures device { IfErr result (λ e. (n : ℕ) → e ≡ Device n → WentInPart code.now id.index (abstract value.now)
-        (state (S.taken sink.old) (S.failed sink.old)) (state (S.taken sink.new) (S.failed sink.new)) n) }
+        (state (S.taken sink.old) (S.failed sink.old))
+        (state (S.taken sink.new) (S.failed sink.new))
+        n) }
     // Where it is refused before, nothing went out.
     ensures refused { IfErr result (λ e. (e ≡ Memory) ⊎ ((e ≡ NotOfType) ⊎ (e ≡ TooLong)) → sink.new ≡ sink.old) }
     // It is refused as no value just where it is none.
@@ -69,10 +67,7 @@ pub fn write_der_to<S: Sink>(
         Err(fault) => return Err(WriteFault::from(fault)),
     };
     match write_parts(sink, measured.parts.as_slice()) {
-        Ok(()) => Ok(Sent {
-            octets: measured.octets,
-            account: Account::of(measured.rows),
-        }),
+        Ok(()) => Ok(Account::of(measured.rows)),
         Err(count) => Err(WriteFault::Device(count)),
     }
 }

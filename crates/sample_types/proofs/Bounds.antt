@@ -7,7 +7,7 @@ use Rattle.asn_base.specs.declared.strings.StringKind.TheVariants.{Numeric}
 use Rattle.asn_base.specs.Names.{IsMember, is_first, is_later, AreNames}
 use Rattle.asn_base.specs.Types.{any_number, any_size}
 use Rattle.asn_base.specs.Schemas.{AreBounds, IsNumber, IsSize, IsAlphabet, AreItems, AreNamedBits, IsSound}
-use Rattle.sample_types.specs.Kinds.{one_to_three_or_eight, one_or_two, the_items}
+use Rattle.sample_types.specs.Kinds.{one_to_three_or_eight, one_or_two, zero_to_seven, just_three, one_or_more, numeric_codes, the_items, numbered_items}
 
 below : (z : ℤ) → (y : ℤ) × (z ≤ℤ y → ⊥)
 below (pos n) = (negsuc 0, λ h. omega (arith, ints))
@@ -67,6 +67,62 @@ short_sizes = record {
   extensible = λ e. absurd (cc);
 }
 
+pub small_numbers : AreBounds IsNumber zero_to_seven
+small_numbers = record {
+  root = zero_to_seven.allowed;
+  least = ((tt, inl (omega (arith, ints), omega (arith, ints))), λ z h. ⊎_elim (λ a. a.0) (λ b. absurd b) h.1);
+  greatest = ((tt, inl (omega (arith, ints), omega (arith, ints))), λ z h. ⊎_elim (λ a. a.1) (λ b. absurd b) h.1);
+  not_extensible = λ e. refl;
+  extensible = λ e. absurd (cc);
+}
+
+pub three_only : AreBounds IsSize just_three
+three_only = record {
+  root = just_three.allowed;
+  least = ((tt, inl (omega (arith, ints), omega (arith, ints))), λ z h. ⊎_elim (λ a. a.0) (λ b. absurd b) h.1);
+  greatest = ((tt, inl (omega (arith, ints), omega (arith, ints))), λ z h. ⊎_elim (λ a. a.1) (λ b. absurd b) h.1);
+  not_extensible = λ e. refl;
+  extensible = λ e. absurd (cc);
+}
+
+pub more_sizes : AreBounds IsSize one_or_more
+more_sizes = record {
+  root = one_or_two.allowed;
+  least = ((tt, inl (omega (arith, ints), omega (arith, ints))), λ z h. ⊎_elim (λ a. a.0) (λ b. absurd b) h.1);
+  greatest = ((tt, inl (omega (arith, ints), omega (arith, ints))), λ z h. ⊎_elim (λ a. a.1) (λ b. absurd b) h.1);
+  not_extensible = λ e. absurd (cc);
+  extensible = λ e. refl;
+}
+
+pub numeric : IsAlphabet Numeric numeric_codes
+numeric = record {
+  some = omega arith;
+  ascend = (
+    (omega arith, (omega arith, (omega arith, (omega arith, (omega arith, (omega arith, (omega arith, (omega arith, (omega arith, (omega arith, tt)))))))))),
+    (
+      (omega arith, (omega arith, (omega arith, (omega arith, (omega arith, (omega arith, (omega arith, (omega arith, (omega arith, tt))))))))),
+      (
+        (omega arith, (omega arith, (omega arith, (omega arith, (omega arith, (omega arith, (omega arith, (omega arith, tt)))))))),
+        (
+          (omega arith, (omega arith, (omega arith, (omega arith, (omega arith, (omega arith, (omega arith, tt))))))),
+          (
+            (omega arith, (omega arith, (omega arith, (omega arith, (omega arith, (omega arith, tt)))))),
+            (
+              (omega arith, (omega arith, (omega arith, (omega arith, (omega arith, tt))))),
+              (
+                (omega arith, (omega arith, (omega arith, (omega arith, tt)))),
+                ((omega arith, (omega arith, (omega arith, tt))), ((omega arith, (omega arith, tt)), ((omega arith, tt), (tt, tt)))),
+              ),
+            ),
+          ),
+        ),
+      ),
+    ),
+  );
+  below_128 = (omega arith, (omega arith, (omega arith, (omega arith, (omega arith, (omega arith, (omega arith, (omega arith, (omega arith, (omega arith, (omega arith, tt)))))))))));
+  are_characters = (refl, (refl, (refl, (refl, (refl, (refl, (refl, (refl, (refl, (refl, (refl, tt)))))))))));
+}
+
 pub three_digits : IsAlphabet Numeric (48 ∷ 49 ∷ 50 ∷ [])
 three_digits = record {
   some = omega arith;
@@ -95,6 +151,52 @@ names_abc = record {
     not_in (97 ∷ []) _ ((λ e. let h : 97 ≡ 98 = e in omega arith), ((λ e. let h : 97 ≡ 99 = e in omega arith), tt)),
     (not_in (98 ∷ []) _ ((λ e. let h : 98 ≡ 99 = e in omega arith), tt), ((λ m. not_in _ [] tt m), tt)),
   );
+}
+
+pub names_s : AreNames ((115 ∷ []) ∷ [])
+names_s = record { identifiers = (refl, tt); distinct = ((λ m. not_in _ [] tt m), tt) }
+
+pub names_ab : AreNames ((97 ∷ []) ∷ (98 ∷ []) ∷ [])
+names_ab = record {
+  identifiers = (refl, (refl, tt));
+  distinct = (not_in (97 ∷ []) _ ((λ e. let h : 97 ≡ 98 = e in omega arith), tt), ((λ m. not_in _ [] tt m), tt));
+}
+
+pub names_abcd : AreNames ((97 ∷ []) ∷ (98 ∷ []) ∷ (99 ∷ []) ∷ (100 ∷ []) ∷ [])
+names_abcd = record {
+  identifiers = (refl, (refl, (refl, (refl, tt))));
+  distinct = (
+    not_in (97 ∷ []) _ ((λ e. let h : 97 ≡ 98 = e in omega arith), ((λ e. let h : 97 ≡ 99 = e in omega arith), ((λ e. let h : 97 ≡ 100 = e in omega arith), tt))),
+    (
+      not_in (98 ∷ []) _ ((λ e. let h : 98 ≡ 99 = e in omega arith), ((λ e. let h : 98 ≡ 100 = e in omega arith), tt)),
+      (not_in (99 ∷ []) _ ((λ e. let h : 99 ≡ 100 = e in omega arith), tt), ((λ m. not_in _ [] tt m), tt)),
+    ),
+  );
+}
+
+names_acbd : AreNames ((97 ∷ []) ∷ (99 ∷ []) ∷ (98 ∷ []) ∷ (100 ∷ []) ∷ [])
+names_acbd = record {
+  identifiers = (refl, (refl, (refl, (refl, tt))));
+  distinct = (
+    not_in (97 ∷ []) _ ((λ e. let h : 97 ≡ 99 = e in omega arith), ((λ e. let h : 97 ≡ 98 = e in omega arith), ((λ e. let h : 97 ≡ 100 = e in omega arith), tt))),
+    (
+      not_in (99 ∷ []) _ ((λ e. let h : 99 ≡ 98 = e in omega arith), ((λ e. let h : 99 ≡ 100 = e in omega arith), tt)),
+      (not_in (98 ∷ []) _ ((λ e. let h : 98 ≡ 100 = e in omega arith), tt), ((λ m. not_in _ [] tt m), tt)),
+    ),
+  );
+}
+
+pub sound_numbers : IsSound [] numbered_items
+sound_numbers = record {
+  some = omega arith;
+  names = names_acbd;
+  limits = (lit< tt, (lit< tt, (lit< tt, (lit< tt, tt))));
+  root_ascends = ((omega (arith, ints), (omega (arith, ints), tt)), ((omega (arith, ints), tt), (tt, tt)));
+  more_ascend = (tt, tt);
+  apart = ((λ h. ⊎_elim (λ e. omega (arith, ints)) (λ b. ⊎_elim (λ e. omega (arith, ints)) (λ c. ⊎_elim (λ e. omega (arith, ints)) (λ d. d) c) b) h), tt);
+  marked = λ e. absurd (cc);
+  few_root = omega arith;
+  few_more = omega arith;
 }
 
 pub names_an : AreNames ((97 ∷ []) ∷ (110 ∷ []) ∷ [])

@@ -1,17 +1,17 @@
 -- The types are those of a schema.
-use Rattle.std.proofs.Common.{arith, lit<, ◌≡◌, ℕ, zero, suc, ◌<◌, ◌≤◌, inl, inr, Bool, true, false, List, [], ◌∷◌, ◌++◌, ◌^◌, take, drop, length, refl, sym, ap, subst, ◌∙◌, Option, Some, None}
+use Rattle.std.proofs.Common.{arith, lit<, ◌≡◌, ℕ, zero, suc, ◌<◌, ◌≤◌, ⊎_elim, inl, inr, Bool, true, false, List, [], ◌∷◌, ◌++◌, ◌^◌, take, drop, length, refl, sym, ap, subst, ◌∙◌, Option, Some, None}
 use Rattle.std.proofs.lemmas.Int.{ints}
 use Rattle.std.specs.Prelude.{◌⊎◌, pos, slice_get, IsSomeAnd}
 use Rattle.std.specs.List.{AllByRecursion}
 use Rattle.asn_base.specs.declared.tag.Tag.{Tag}
-use Rattle.asn_base.specs.Abstract.{AbstractValue, integer, list, null, present, end}
+use Rattle.asn_base.specs.Abstract.{AbstractValue, integer, fields, list, null, absent, present, end}
 use Rattle.asn_base.specs.Names.{IsMember, is_first, is_later}
 use Rattle.asn_base.specs.Types.{any_number, any_size, Kind, a_null, an_integer, a_sequence_of, a_set_of, Alternative, Presence, mandatory, optional, default, addition, Component, Resolved, Is}
 use Rattle.asn_base.specs.Tags.{First, first_tag, first_of_choice, AreApart, IsChoice, IsTellable}
-use Rattle.asn_base.specs.Typed.{fits_integer, ValueIn, value_in, of_leaf, of_set_of, no_element, one_element, IsValue}
+use Rattle.asn_base.specs.Typed.{fits_integer, IsOfGroup, HasOfGroup, LacksOfGroup, ValueIn, value_in, of_leaf, of_sequence, of_set_of, where_addition, no_component, component_absent, component_present, no_element, one_element, IsValue}
 use Rattle.asn_base.specs.Schemas.{HasTag, HasValue, AreListed, AreAlternatives, IsSound, components, types_in, LeadsTo, leads_itself, leads_onward, IsSchema}
-use Rattle.sample_types.specs.Kinds.{Told, AreTold, all_told, told, grouped, inner, numbers_of, outer, outer_more, three, with_a_set}
-use Rattle.sample_types.proofs.Bounds.{all_numbers, all_sizes, names_abc, names_an, names_bd, one_bit, one_name, ranged_bounds, short_sizes, sound_items, three_digits}
+use Rattle.sample_types.specs.Kinds.{Told, AreTold, all_told, told, grouped, inner, mixed, newer, not_in_order, numbers_of, one_group, optional_first, outer, outer_more, three, turned, two_additions, with_a_set, with_newer}
+use Rattle.sample_types.proofs.Bounds.{all_numbers, all_sizes, more_sizes, names_ab, names_abc, names_abcd, names_an, names_bd, names_s, numeric, one_bit, one_name, ranged_bounds, short_sizes, small_numbers, sound_items, sound_numbers, three_digits, three_only}
 use Rattle.sample_types.proofs.Told.{IsTold, there, told_there, as_many}
 
 at_place : {A : Type 0} (P : A → Type 0) (xs : List A) (i : ℕ) (x : A) → slice_get xs i ≡ Some x → AllByRecursion P xs → P x
@@ -65,15 +65,38 @@ abbrev tags_in : Option Resolved → List Tag
 tags_in None = []
 tags_in (Some r) = r.tags
 
--- a default stands before an INTEGER or a SET OF such numbers alone
+member_of_two : {A : Type 0} {x y z : A} {xs : List A} → IsMember x xs → xs ≡ y ∷ z ∷ [] → (x ≡ y) ⊎ (x ≡ z)
+member_of_two is_first e = inl (cc)
+member_of_two (is_later m) e = inr (member_of_one m (tails e))
+
+-- a default stands before an INTEGER, a SET OF such numbers, or a list without defaults alone
+data IsPlain (t : ℕ) : Type 0 where
+  a_number : t ≡ 1 → IsPlain t
+  a_set_of_numbers : t ≡ 16 → IsPlain t
+  a_list : t ≡ 42 → IsPlain t
+  a_tagged_number : t ≡ 37 → IsPlain t
+  a_tagged_truth : t ≡ 28 → IsPlain t
+
 abbrev IsPlainDefault : Component → Type 0
-IsPlainDefault c = (d : AbstractValue) → c.presence ≡ default d → (c.type ≡ 1) ⊎ (c.type ≡ 16)
+IsPlainDefault c = (d : AbstractValue) → c.presence ≡ default d → IsPlain c.type
+
+-- components without a default
+abbrev HasNoDefault : Component → Type 0
+HasNoDefault c = (d : AbstractValue) → c.presence ≡ default d → ⊥
+
+abbrev HasNoDefaults : Kind → Type 0
+HasNoDefaults k = AllByRecursion HasNoDefault (components k)
+
+no_default_among : (cs : List Component) {c : Component} → AllByRecursion HasNoDefault cs → IsMember c cs → HasNoDefault c
+no_default_among [] a m = elim m [ ]
+no_default_among (b ∷ bs) a is_first = a.0
+no_default_among (b ∷ bs) a (is_later m) = no_default_among bs a.1 m
 
 abbrev Defaults : Kind → Type 0
 Defaults k = AllByRecursion IsPlainDefault (components k)
 
 default_before : (cs : List Component) {c : Component} (d : AbstractValue) → AllByRecursion IsPlainDefault cs → IsMember c cs → c.presence ≡ default d
-    → (c.type ≡ 1) ⊎ (c.type ≡ 16)
+    → IsPlain c.type
 default_before [] d a m e = elim m [ ]
 default_before (b ∷ bs) d a is_first e = a.0 d e
 default_before (b ∷ bs) d a (is_later m) e = default_before bs d a.1 m e
@@ -93,8 +116,8 @@ module _ (s : List Resolved) (are : AreTold all_told s) where
   count : length all_told ≡ length s
   count = as_many all_told s are
 
-  below : (t : ℕ) → t < 24 → t < length s
-  below t l = let c : 24 ≡ length s = count in omega (arith, c, l)
+  below : (t : ℕ) → t < 50 → t < length s
+  below t l = let c : 50 ≡ length s = count in omega (arith, c, l)
 
   -- ---- first tags
 
@@ -126,19 +149,35 @@ module _ (s : List Resolved) (are : AreTold all_told s) where
   found : (t : ℕ) (p : Told) (e : slice_get all_told t ≡ Some p) → Is s t (is t p e).0.tags p.kind
   found t p e = let r = is t p e in record { found = r.1 ∙ ap (λ k. Some (record { tags = r.0.tags; kind = k })) r.2.kind }
 
-  a_number : (n z : ℕ) → z < 2 ^ 127 → ValueIn s (suc n) 1 (integer (pos z))
-  a_number n z l = value_in (found 1 _ refl) (of_leaf (fits_integer l tt))
+  number_value : (n z : ℕ) → z < 2 ^ 127 → ValueIn s (suc n) 1 (integer (pos z))
+  number_value n z l = value_in (found 1 _ refl) (of_leaf (fits_integer l tt))
+
+  tagged_value : (n z : ℕ) → z < 2 ^ 127 → ValueIn s (suc n) 37 (integer (pos z))
+  tagged_value n z l = value_in (found 37 _ refl) (of_leaf (fits_integer l tt))
 
   five_is_value : (c : Component) → c.type ≡ 1 → c.presence ≡ default (integer (pos 5)) → HasValue s c
   five_is_value c t e d f =
       subst (λ u. IsValue s u d) (sym t)
-      (subst (IsValue s 1) (ap default_in (sym e ∙ f)) (record { shaped = a_number 63 5 (lit< tt); few_nodes = omega arith }))
+      (subst (IsValue s 1) (ap default_in (sym e ∙ f)) (record { shaped = number_value 63 5 (lit< tt); few_nodes = omega arith }))
+
+  tagged_five_is_value : (c : Component) → c.type ≡ 37 → c.presence ≡ default (integer (pos 5)) → HasValue s c
+  tagged_five_is_value c t e d f =
+      subst (λ u. IsValue s u d) (sym t)
+      (subst (IsValue s 37) (ap default_in (sym e ∙ f)) (record { shaped = tagged_value 63 5 (lit< tt); few_nodes = omega arith }))
+
+  newer_is_value : (c : Component) → c.type ≡ 42 → c.presence ≡ default (fields (present (integer (pos 1)) (absent end))) → HasValue s c
+  newer_is_value c t e d f =
+      subst (λ u. IsValue s u d) (sym t)
+      (subst (IsValue s 42) (ap default_in (sym e ∙ f)) (record {
+        shaped = value_in (found 42 _ refl) (of_sequence (component_present (tagged_value 62 1 (lit< tt)) (component_absent where_addition no_component)) (λ g h. ⊎_elim (λ x. absurd (cc)) (λ x. absurd x) h));
+        few_nodes = omega arith;
+      }))
 
   set_is_value : (c : Component) → c.type ≡ 16 → c.presence ≡ default (list (present (integer (pos 1)) (present (integer (pos 2)) end))) → HasValue s c
   set_is_value c t e d f =
       subst (λ u. IsValue s u d) (sym t)
       (subst (IsValue s 16) (ap default_in (sym e ∙ f)) (record {
-        shaped = value_in (found 16 _ refl) (of_set_of (one_element (a_number 62 1 (lit< tt)) (one_element (a_number 62 2 (lit< tt)) no_element)) tt);
+        shaped = value_in (found 16 _ refl) (of_set_of (one_element (number_value 62 1 (lit< tt)) (one_element (number_value 62 2 (lit< tt)) no_element)) tt);
         few_nodes = omega arith;
       }))
 
@@ -206,6 +245,136 @@ module _ (s : List Resolved) (are : AreTold all_told s) where
     defaults = ((λ d e. absurd (cc)), ((λ d e. absurd (cc)), ((λ d e. absurd (cc)), tt)));
   }
 
+  turned_listed : AreListed s false turned
+  turned_listed = record {
+    root = turned;
+    more = [];
+    parts = refl;
+    in_root = (refl, (refl, tt));
+    behind = tt;
+    groups = tt;
+    marked = λ e. refl;
+    few_root = omega arith;
+    few_more = omega arith;
+    names = names_ab;
+    types = (below 28 (omega arith), (below 27 (omega arith), tt));
+    defaults = ((λ d e. absurd (cc)), ((λ d e. absurd (cc)), tt));
+  }
+
+  added_listed : AreListed s true two_additions
+  added_listed = record {
+    root = record { name = 97 ∷ []; type = 27; presence = mandatory } ∷ [];
+    more = record { name = 98 ∷ []; type = 33; presence = addition false None } ∷ record { name = 99 ∷ []; type = 34; presence = addition false None } ∷ [];
+    parts = refl;
+    in_root = (refl, tt);
+    behind = (refl, (refl, tt));
+    groups = ((λ g e. absurd (cc)), tt);
+    marked = λ e. absurd (cc);
+    few_root = omega arith;
+    few_more = omega arith;
+    names = names_abc;
+    types = (below 27 (omega arith), (below 33 (omega arith), (below 34 (omega arith), tt)));
+    defaults = ((λ d e. absurd (cc)), ((λ d e. absurd (cc)), ((λ d e. absurd (cc)), tt)));
+  }
+
+  bracketed_listed : AreListed s true one_group
+  bracketed_listed = record {
+    root = record { name = 97 ∷ []; type = 27; presence = mandatory } ∷ [];
+    more = record { name = 98 ∷ []; type = 33; presence = addition false (Some 0) } ∷ record { name = 99 ∷ []; type = 34; presence = addition true (Some 0) } ∷ [];
+    parts = refl;
+    in_root = (refl, tt);
+    behind = (refl, (refl, tt));
+    groups = ((λ g e. inl e), tt);
+    marked = λ e. absurd (cc);
+    few_root = omega arith;
+    few_more = omega arith;
+    names = names_abc;
+    types = (below 27 (omega arith), (below 33 (omega arith), (below 34 (omega arith), tt)));
+    defaults = ((λ d e. absurd (cc)), ((λ d e. absurd (cc)), ((λ d e. absurd (cc)), tt)));
+  }
+
+  optional_listed : AreListed s false optional_first
+  optional_listed = record {
+    root = optional_first;
+    more = [];
+    parts = refl;
+    in_root = (refl, (refl, tt));
+    behind = tt;
+    groups = tt;
+    marked = λ e. refl;
+    few_root = omega arith;
+    few_more = omega arith;
+    names = names_ab;
+    types = (below 37 (omega arith), (below 33 (omega arith), tt));
+    defaults = ((λ d e. absurd (cc)), ((λ d e. absurd (cc)), tt));
+  }
+
+  newer_listed : AreListed s true newer
+  newer_listed = record {
+    root = record { name = 97 ∷ []; type = 37; presence = mandatory } ∷ [];
+    more = record { name = 98 ∷ []; type = 28; presence = addition false None } ∷ [];
+    parts = refl;
+    in_root = (refl, tt);
+    behind = (refl, tt);
+    groups = tt;
+    marked = λ e. absurd (cc);
+    few_root = omega arith;
+    few_more = omega arith;
+    names = names_ab;
+    types = (below 37 (omega arith), (below 28 (omega arith), tt));
+    defaults = ((λ d e. absurd (cc)), ((λ d e. absurd (cc)), tt));
+  }
+
+  with_newer_listed : AreListed s false with_newer
+  with_newer_listed = record {
+    root = with_newer;
+    more = [];
+    parts = refl;
+    in_root = (refl, tt);
+    behind = tt;
+    groups = tt;
+    marked = λ e. refl;
+    few_root = omega arith;
+    few_more = omega arith;
+    names = names_s;
+    types = (below 42 (omega arith), tt);
+    defaults = (newer_is_value (record { name = 115 ∷ []; type = 42; presence = default (fields (present (integer (pos 1)) (absent end))) }) refl refl, tt);
+  }
+
+  mixed_listed : AreListed s true mixed
+  mixed_listed = record {
+    root =
+        record { name = 97 ∷ []; type = 34; presence = optional }
+        ∷ record { name = 98 ∷ []; type = 48; presence = mandatory }
+        ∷ record { name = 99 ∷ []; type = 37; presence = default (integer (pos 5)) }
+        ∷ [];
+    more = record { name = 100 ∷ []; type = 28; presence = addition false None } ∷ [];
+    parts = refl;
+    in_root = (refl, (refl, (refl, tt)));
+    behind = (refl, tt);
+    groups = tt;
+    marked = λ e. absurd (cc);
+    few_root = omega arith;
+    few_more = omega arith;
+    names = names_abcd;
+    types = (below 34 (omega arith), (below 48 (omega arith), (below 37 (omega arith), (below 28 (omega arith), tt))));
+    defaults = (
+      (λ d e. absurd (cc)),
+      ((λ d e. absurd (cc)), (tagged_five_is_value (record { name = 99 ∷ []; type = 37; presence = default (integer (pos 5)) }) refl refl, ((λ d e. absurd (cc)), tt))),
+    );
+  }
+
+  unordered_is : AreAlternatives s true not_in_order []
+  unordered_is = record {
+    some = omega arith;
+    names = names_ab;
+    types = (has_tag 39 1 [] _ refl refl, (has_tag 27 0 [] _ refl refl, tt));
+    more_ascend = tt;
+    marked = λ e. refl;
+    few_root = omega arith;
+    few_more = omega arith;
+  }
+
   inner_is : AreAlternatives s false inner []
   inner_is = record {
     some = omega arith;
@@ -241,6 +410,41 @@ module _ (s : List Resolved) (are : AreTold all_told s) where
 
   tagged_apart : AreApart s 18 0
   tagged_apart = apart 18 0 0 1 [] [] _ _ refl refl refl refl (λ e. let h : 0 ≡ 1 = e in omega (arith, h))
+
+  by_number : (t u n m : ℕ) (p q : Told) → slice_get all_told t ≡ Some p → slice_get all_told u ≡ Some q → p.numbers ≡ n ∷ [] → q.numbers ≡ m ∷ []
+      → (n ≡ m → ⊥)
+      → AreApart s t u
+  by_number t u n m p q = apart t u n m [] [] p q
+
+  set_apart : AreApart s 28 27
+  set_apart = by_number 28 27 1 0 _ _ refl refl refl refl (λ e. let h : 1 ≡ 0 = e in omega (arith, h))
+
+  additions_apart : AreApart s 33 34
+  additions_apart = by_number 33 34 1 2 _ _ refl refl refl refl (λ e. let h : 1 ≡ 2 = e in omega (arith, h))
+
+  optional_apart : AreApart s 37 33
+  optional_apart = by_number 37 33 0 1 _ _ refl refl refl refl (λ e. let h : 0 ≡ 1 = e in omega (arith, h))
+
+  unordered_apart : AreApart s 39 27
+  unordered_apart = by_number 39 27 1 0 _ _ refl refl refl refl (λ e. let h : 1 ≡ 0 = e in omega (arith, h))
+
+  apart_34_48 : AreApart s 34 48
+  apart_34_48 = by_number 34 48 2 17 _ _ refl refl refl refl (λ e. let h : 2 ≡ 17 = e in omega (arith, h))
+
+  apart_34_37 : AreApart s 34 37
+  apart_34_37 = by_number 34 37 2 0 _ _ refl refl refl refl (λ e. let h : 2 ≡ 0 = e in omega (arith, h))
+
+  apart_34_28 : AreApart s 34 28
+  apart_34_28 = by_number 34 28 2 1 _ _ refl refl refl refl (λ e. let h : 2 ≡ 1 = e in omega (arith, h))
+
+  apart_48_37 : AreApart s 48 37
+  apart_48_37 = by_number 48 37 17 0 _ _ refl refl refl refl (λ e. let h : 17 ≡ 0 = e in omega (arith, h))
+
+  apart_48_28 : AreApart s 48 28
+  apart_48_28 = by_number 48 28 17 1 _ _ refl refl refl refl (λ e. let h : 17 ≡ 1 = e in omega (arith, h))
+
+  apart_37_28 : AreApart s 37 28
+  apart_37_28 = by_number 37 28 0 1 _ _ refl refl refl refl (λ e. let h : 0 ≡ 1 = e in omega (arith, h))
 
   first_fine : AllByRecursion (Fine s) (take 13 all_told)
   first_fine = (
@@ -281,11 +485,95 @@ module _ (s : List Resolved) (are : AreTold all_told s) where
     ),
   )
 
-  last_fine : AllByRecursion (Fine s) (drop 13 all_told)
-  last_fine = (
+  tagged_fine : AllByRecursion (Fine s) (take 7 (drop 24 all_told))
+  tagged_fine = (
+    plain 30 _ tt tt tt,
+    (
+      plain 31 _ tt tt tt,
+      (
+        plain 128 _ tt tt tt,
+        (
+          plain 0 _ tt tt tt,
+          (
+            plain 1 _ tt tt tt,
+            (
+              plain 17 _ ((set_apart, tt), (tt, tt)) (turned_listed, (has_tag 28 1 [] _ refl refl, (has_tag 27 0 [] _ refl refl, tt))) ((λ d e. absurd (cc)), ((λ d e. absurd (cc)), tt)),
+              (plain 16 _ tt (record { bounds = all_sizes; type = below 0 (omega arith) }) tt, tt),
+            ),
+          ),
+        ),
+      ),
+    ),
+  )
+
+  added_fine : AllByRecursion (Fine s) (take 6 (drop 31 all_told))
+  added_fine = (
+    plain 17 _ tt (record { bounds = all_sizes; type = below 0 (omega arith) }) tt,
+    (
+      plain 17 _ tt (record { bounds = all_sizes; type = below 6 (omega arith) }) tt,
+      (
+        plain 1 _ tt small_numbers tt,
+        (
+          plain 2 _ tt tt tt,
+          (
+            plain 16 _ ((λ e. absurd (cc)), ((λ e. (additions_apart, tt)), ((λ e. tt), tt))) added_listed ((λ d e. absurd (cc)), ((λ d e. absurd (cc)), ((λ d e. absurd (cc)), tt))),
+            (plain 16 _ ((λ e. absurd (cc)), ((λ e. (additions_apart, tt)), ((λ e. tt), tt))) bracketed_listed ((λ d e. absurd (cc)), ((λ d e. absurd (cc)), ((λ d e. absurd (cc)), tt))), tt),
+          ),
+        ),
+      ),
+    ),
+  )
+
+  newer_fine : AllByRecursion (Fine s) (take 7 (drop 37 all_told))
+  newer_fine = (
+    plain 0 _ tt all_numbers tt,
+    (
+      plain 16 _ ((λ e. (optional_apart, tt)), ((λ e. absurd (cc)), tt)) optional_listed ((λ d e. absurd (cc)), ((λ d e. absurd (cc)), tt)),
+      (
+        plain 1 _ tt tt tt,
+        (
+          record { tagged = λ e. tt; few = omega arith; tellable = ((unordered_apart, tt), (tt, tt)); sound = unordered_is; defaults = tt },
+          (
+            plain 10 _ tt sound_numbers tt,
+            (
+              plain 0 _ ((λ e. absurd (cc)), ((λ e. tt), tt)) newer_listed ((λ d e. absurd (cc)), ((λ d e. absurd (cc)), tt)),
+              (plain 16 _ ((λ e. tt), tt) with_newer_listed ((λ d e. a_list refl), tt), tt),
+            ),
+          ),
+        ),
+      ),
+    ),
+  )
+
+  mixed_fine : AllByRecursion (Fine s) (drop 44 all_told)
+  mixed_fine = (
+    record { tagged = λ e. absurd (let m = ap length e in omega (arith, m)); few = omega arith; tellable = tt; sound = tt; defaults = tt },
+    (
+      plain 18 _ tt (numeric, three_only) tt,
+      (
+        plain 4 _ tt more_sizes tt,
+        (
+          plain 16 _ tt (record { bounds = all_sizes; type = below 14 (omega arith) }) tt,
+          (
+            plain 17 _ tt (record { bounds = all_sizes; type = below 16 (omega arith) }) tt,
+            (
+              plain 17 _
+              ((apart_34_48, (apart_34_37, (apart_34_28, tt))), ((apart_48_37, (apart_48_28, tt)), ((apart_37_28, tt), (tt, tt))))
+              (mixed_listed, (has_tag 34 2 [] _ refl refl, (has_tag 48 17 [] _ refl refl, (has_tag 37 0 [] _ refl refl, (has_tag 28 1 [] _ refl refl, tt)))))
+              ((λ d e. absurd (cc)), ((λ d e. absurd (cc)), ((λ d e. a_tagged_number refl), ((λ d e. absurd (cc)), tt)))),
+              tt,
+            ),
+          ),
+        ),
+      ),
+    ),
+  )
+
+  list_fine : AllByRecursion (Fine s) (take 11 (drop 13 all_told))
+  list_fine = (
     plain 16 _ tt none_listed tt,
     (
-      plain 16 _ ((λ e. absurd (cc)), ((λ e. (truth_apart, tt)), ((λ e. tt), tt))) three_listed ((λ d e. absurd (cc)), ((λ d e. absurd (cc)), ((λ d e. inl refl), tt))),
+      plain 16 _ ((λ e. absurd (cc)), ((λ e. (truth_apart, tt)), ((λ e. tt), tt))) three_listed ((λ d e. absurd (cc)), ((λ d e. absurd (cc)), ((λ d e. a_number refl), tt))),
       (
         plain 16 _ tt (record { bounds = all_sizes; type = below 1 (omega arith) }) tt,
         (
@@ -302,7 +590,7 @@ module _ (s : List Resolved) (are : AreTold all_told s) where
                     plain 16 _ tt (record { bounds = all_sizes; type = below 21 (omega arith) }) tt,
                     (
                       record { tagged = λ e. absurd (let m = ap length e in omega (arith, m)); few = omega arith; tellable = tt; sound = tt; defaults = tt },
-                      (plain 16 _ ((λ e. tt), tt) set_listed ((λ d e. inr refl), tt), tt),
+                      (plain 16 _ ((λ e. tt), tt) set_listed ((λ d e. a_set_of_numbers refl), tt), tt),
                     ),
                   ),
                 ),
@@ -315,7 +603,12 @@ module _ (s : List Resolved) (are : AreTold all_told s) where
   )
 
   all_fine : AllByRecursion (Fine s) all_told
-  all_fine = joined (Fine s) (take 13 all_told) (drop 13 all_told) first_fine last_fine
+  all_fine =
+      joined (Fine s) (take 13 all_told) (drop 13 all_told) first_fine
+      (joined (Fine s) (take 11 (drop 13 all_told)) (drop 24 all_told) list_fine
+      (joined (Fine s) (take 7 (drop 24 all_told)) (drop 31 all_told) tagged_fine
+      (joined (Fine s) (take 6 (drop 31 all_told)) (drop 37 all_told) added_fine
+      (joined (Fine s) (take 7 (drop 37 all_told)) (drop 44 all_told) newer_fine mixed_fine))))
 
   fine_at : (t : ℕ) (r : Resolved) → slice_get s t ≡ Some r → (p : Told) × IsTold r p × Fine s p
   fine_at t r e = let p = told_there all_told s t r are e in (p.0, p.2, at_place (Fine s) all_told t p.0 p.1 all_fine)
@@ -327,11 +620,23 @@ module _ (s : List Resolved) (are : AreTold all_told s) where
       let p = told_there all_told s t _ are i.found in
       p.2.kind ∙ ap kind_at (sym p.1) ∙ ap (λ q. kind_at (slice_get all_told q)) e
 
-  leads_flat : {k : Kind} {t : ℕ} → (t ≡ 1) ⊎ (t ≡ 16) → LeadsTo s k t → components k ≡ []
-  leads_flat (inl e) (leads_itself i) = ap components (kind_is 1 e i)
-  leads_flat (inr e) (leads_itself i) = ap components (kind_is 16 e i)
-  leads_flat (inl e) (leads_onward i m l) = absurd (member_of_none (ap types_in (kind_is 1 e i)) m)
-  leads_flat (inr e) (leads_onward i m l) = leads_flat (inl (member_of_one m (ap types_in (kind_is 16 e i)))) l
+  no_defaults : {t : ℕ} {tags : List Tag} {k : Kind} → IsPlain t → Is s t tags k → HasNoDefaults k
+  no_defaults (a_number e) i = subst HasNoDefaults (sym (kind_is 1 e i)) tt
+  no_defaults (a_set_of_numbers e) i = subst HasNoDefaults (sym (kind_is 16 e i)) tt
+  no_defaults (a_list e) i = subst HasNoDefaults (sym (kind_is 42 e i)) ((λ d q. absurd (cc)), ((λ d q. absurd (cc)), tt))
+  no_defaults (a_tagged_number e) i = subst HasNoDefaults (sym (kind_is 37 e i)) tt
+  no_defaults (a_tagged_truth e) i = subst HasNoDefaults (sym (kind_is 28 e i)) tt
+
+  plain_within : {t u : ℕ} {tags : List Tag} {k : Kind} → IsPlain t → Is s t tags k → IsMember u (types_in k) → IsPlain u
+  plain_within (a_number e) i m = absurd (member_of_none (ap types_in (kind_is 1 e i)) m)
+  plain_within (a_set_of_numbers e) i m = a_number (member_of_one m (ap types_in (kind_is 16 e i)))
+  plain_within (a_list e) i m = ⊎_elim (λ q. a_tagged_number q) (λ q. a_tagged_truth q) (member_of_two m (ap types_in (kind_is 42 e i)))
+  plain_within (a_tagged_number e) i m = absurd (member_of_none (ap types_in (kind_is 37 e i)) m)
+  plain_within (a_tagged_truth e) i m = absurd (member_of_none (ap types_in (kind_is 28 e i)) m)
+
+  leads_flat : {k : Kind} {t : ℕ} → IsPlain t → LeadsTo s k t → HasNoDefaults k
+  leads_flat p (leads_itself i) = no_defaults p i
+  leads_flat p (leads_onward i m l) = leads_flat (plain_within p i m) l
 
   pub lawful : IsSchema s
   lawful = record {
@@ -344,5 +649,5 @@ module _ (s : List Resolved) (are : AreTold all_told s) where
     sound = λ t tags k i. let f = fine_at t _ i.found in subst (IsSound s) (sym f.1.kind) f.2.sound;
     no_circle = λ t q. let f = fine_at t _ q.is.found in
         let d = default_before (components q.kind) q.value (subst Defaults (sym f.1.kind) f.2.defaults) q.stands q.has_default in
-        member_of_none (leads_flat d q.back) q.stands;
+        no_default_among (components q.kind) (leads_flat d q.back) q.stands q.value q.has_default;
   }

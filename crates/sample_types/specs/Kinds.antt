@@ -1,11 +1,11 @@
 -- The types of the schema: the numbers of their tags, and what they hold.
-use Rattle.std.specs.Prelude.{◌≡◌, ℕ, pos, negsuc, true, false, List, [], ◌∷◌, Some}
+use Rattle.std.specs.Prelude.{◌≡◌, ℕ, pos, negsuc, true, false, List, [], ◌∷◌, Some, None}
 use Rattle.asn_base.specs.declared.tag.Tag.{Tag}
 use Rattle.asn_base.specs.declared.strings.StringKind.TheVariants.{Numeric}
-use Rattle.asn_base.specs.Abstract.{integer, list, present, end}
+use Rattle.asn_base.specs.Abstract.{integer, list, fields, present, absent, end}
 use Rattle.asn_base.specs.Types.{Constraint, any_number, any_size, Kind, a_boolean, an_integer, an_enumerated, a_bit_string}
 use Rattle.asn_base.specs.Types.{a_named_bit_string, an_octet_string, a_null, an_object_identifier, a_relative_oid}
-use Rattle.asn_base.specs.Types.{a_utf8_string, a_restricted_string, a_sequence, a_sequence_of, a_set_of, a_choice}
+use Rattle.asn_base.specs.Types.{a_utf8_string, a_restricted_string, a_sequence, a_set, a_sequence_of, a_set_of, a_choice}
 use Rattle.asn_base.specs.Types.{Alternative, Component, mandatory, optional, default, addition, Resolved}
 
 -- the numbers of a type's tags, and what it holds
@@ -79,6 +79,93 @@ outer = record { name = 98 ∷ 45 ∷ 99 ∷ []; type = 18 } ∷ []
 abbrev pub outer_more : List Alternative
 outer_more = record { name = 100 ∷ []; type = 0 } ∷ []
 
+-- 0 to 7
+abbrev pub zero_to_seven : Constraint
+zero_to_seven = record {
+  allowed = Some (record { least = Some (pos 0); greatest = Some (pos 7) } ∷ []);
+  visible = record { least = Some (pos 0); greatest = Some (pos 7); extensible = false };
+}
+
+-- 3 alone
+abbrev pub just_three : Constraint
+just_three = record {
+  allowed = Some (record { least = Some (pos 3); greatest = Some (pos 3) } ∷ []);
+  visible = record { least = Some (pos 3); greatest = Some (pos 3); extensible = false };
+}
+
+-- 1 to 2, and a marker: so any
+abbrev pub one_or_more : Constraint
+one_or_more = record { allowed = None; visible = record { least = Some (pos 1); greatest = Some (pos 2); extensible = true } }
+
+-- space and the digits
+abbrev pub numeric_codes : List ℕ
+numeric_codes = 32 ∷ 48 ∷ 49 ∷ 50 ∷ 51 ∷ 52 ∷ 53 ∷ 54 ∷ 55 ∷ 56 ∷ 57 ∷ []
+
+-- ENUMERATED {a, b(3), c, ..., d}: a is 0, c is 1, d is 2
+abbrev pub numbered_items : Kind
+numbered_items =
+    an_enumerated
+    (record { name = 97 ∷ []; number = pos 0 }
+    ∷ record { name = 99 ∷ []; number = pos 1 }
+    ∷ record { name = 98 ∷ []; number = pos 3 }
+    ∷ [])
+    true
+    (record { name = 100 ∷ []; number = pos 2 } ∷ [])
+
+-- {a [1] BOOLEAN, b [0] BOOLEAN}
+abbrev pub turned : List Component
+turned =
+    record { name = 97 ∷ []; type = 28; presence = mandatory }
+    ∷ record { name = 98 ∷ []; type = 27; presence = mandatory }
+    ∷ []
+
+-- {a [0] BOOLEAN, ..., b [1] INTEGER (0..7), c [2] NULL}
+abbrev pub two_additions : List Component
+two_additions =
+    record { name = 97 ∷ []; type = 27; presence = mandatory }
+    ∷ record { name = 98 ∷ []; type = 33; presence = addition false None }
+    ∷ record { name = 99 ∷ []; type = 34; presence = addition false None }
+    ∷ []
+
+-- {a [0] BOOLEAN, ..., [[b [1] INTEGER (0..7), c [2] NULL OPTIONAL]]}
+abbrev pub one_group : List Component
+one_group =
+    record { name = 97 ∷ []; type = 27; presence = mandatory }
+    ∷ record { name = 98 ∷ []; type = 33; presence = addition false (Some 0) }
+    ∷ record { name = 99 ∷ []; type = 34; presence = addition true (Some 0) }
+    ∷ []
+
+-- {a [0] INTEGER OPTIONAL, b [1] INTEGER (0..7)}
+abbrev pub optional_first : List Component
+optional_first =
+    record { name = 97 ∷ []; type = 37; presence = optional }
+    ∷ record { name = 98 ∷ []; type = 33; presence = mandatory }
+    ∷ []
+
+-- {a [0] INTEGER, ..., b [1] BOOLEAN}, and {s .. DEFAULT {a 1}} of it
+abbrev pub newer : List Component
+newer =
+    record { name = 97 ∷ []; type = 37; presence = mandatory }
+    ∷ record { name = 98 ∷ []; type = 28; presence = addition false None }
+    ∷ []
+
+abbrev pub with_newer : List Component
+with_newer =
+    record { name = 115 ∷ []; type = 42; presence = default (fields (present (integer (pos 1)) (absent end))) } ∷ []
+
+-- {a [1] NULL, b [0] BOOLEAN}
+abbrev pub not_in_order : List Alternative
+not_in_order = record { name = 97 ∷ []; type = 39 } ∷ record { name = 98 ∷ []; type = 27 } ∷ []
+
+-- {a [2] NULL OPTIONAL, b SET OF SET OF INTEGER, c [0] INTEGER DEFAULT 5, ..., d [1] BOOLEAN}
+abbrev pub mixed : List Component
+mixed =
+    record { name = 97 ∷ []; type = 34; presence = optional }
+    ∷ record { name = 98 ∷ []; type = 48; presence = mandatory }
+    ∷ record { name = 99 ∷ []; type = 37; presence = default (integer (pos 5)) }
+    ∷ record { name = 100 ∷ []; type = 28; presence = addition false None }
+    ∷ []
+
 -- all of them by their number
 abbrev pub all_told : List Told
 all_told =
@@ -106,6 +193,32 @@ all_told =
     ∷ told 16 (a_sequence_of any_size 21)  -- 21
     ∷ record { numbers = 0 ∷ 1 ∷ []; kind = a_boolean }  -- 22
     ∷ told 16 (a_sequence false with_a_set)  -- 23
+    ∷ told 30 a_null  -- 24
+    ∷ told 31 a_null  -- 25
+    ∷ told 128 a_null  -- 26
+    ∷ told 0 a_boolean  -- 27
+    ∷ told 1 a_boolean  -- 28
+    ∷ told 17 (a_set false turned)  -- 29
+    ∷ told 16 (a_sequence_of any_size 0)  -- 30
+    ∷ told 17 (a_set_of any_size 0)  -- 31
+    ∷ told 17 (a_set_of any_size 6)  -- 32
+    ∷ told 1 (an_integer zero_to_seven)  -- 33
+    ∷ told 2 a_null  -- 34
+    ∷ told 16 (a_sequence true two_additions)  -- 35
+    ∷ told 16 (a_sequence true one_group)  -- 36
+    ∷ told 0 (an_integer any_number)  -- 37
+    ∷ told 16 (a_sequence false optional_first)  -- 38
+    ∷ told 1 a_null  -- 39
+    ∷ record { numbers = []; kind = a_choice not_in_order true [] }  -- 40
+    ∷ told 10 numbered_items  -- 41
+    ∷ told 0 (a_sequence true newer)  -- 42
+    ∷ told 16 (a_sequence false with_newer)  -- 43
+    ∷ record { numbers = 1 ∷ 2 ∷ []; kind = a_boolean }  -- 44
+    ∷ told 18 (a_restricted_string Numeric numeric_codes just_three)  -- 45
+    ∷ told 4 (an_octet_string one_or_more)  -- 46
+    ∷ told 16 (a_sequence_of any_size 14)  -- 47
+    ∷ told 17 (a_set_of any_size 16)  -- 48
+    ∷ told 17 (a_set true mixed)  -- 49
     ∷ []
 
 abbrev pub numbers_of : List Tag → List ℕ

@@ -1,9 +1,13 @@
 //! The types of the schema.
 
 ghost use Rattle.asn_base.specs.Seen.{alternative_of, component_of, item_of, kind_of, presence_of, types_of};
-ghost use Rattle.asn_base.specs.Types.{a_named_bit_string, a_restricted_string, an_integer, any_size, a_utf8_string};
-ghost use Rattle.sample_types.specs.Kinds.{AreTold, all_told, grouped, inner, numbers_of, one_or_two, one_to_three_or_eight, outer, outer_more, the_items, three, with_a_set};
-ghost use Rattle.std.specs.Prelude.{◌≡◌, ◌∷◌, ◌+◌, ◌<◌, [], IfOk, OnOk, Some, map, slice_get, take};
+ghost use Rattle.asn_base.specs.Types.{a_named_bit_string, a_restricted_string, an_integer, an_octet_string};
+ghost use Rattle.asn_base.specs.Types.{any_size, a_utf8_string};
+ghost use Rattle.sample_types.specs.Kinds.{AreTold, all_told, grouped, inner, just_three, mixed, newer, not_in_order};
+ghost use Rattle.sample_types.specs.Kinds.{numbered_items, numbers_of, numeric_codes, one_group, one_or_more, one_or_two};
+ghost use Rattle.sample_types.specs.Kinds.{one_to_three_or_eight, optional_first, outer, outer_more, the_items, three};
+ghost use Rattle.sample_types.specs.Kinds.{turned, two_additions, with_a_set, with_newer, zero_to_seven};
+ghost use Rattle.std.specs.Prelude.{◌≡◌, ◌∷◌, ◌+◌, ◌<◌, [], IfOk, None, OnOk, Some, false, map, slice_get, take};
 ghost use Rattle.asn_base.specs.declared.strings.StringKind.TheVariants.{Numeric};
 
 use asn_base::constraint::{Bounds, Constraint, Range};
@@ -23,6 +27,20 @@ fn universal(alloc: Global, number: u32) -> Result<Vec<Tag>, AllocError>
     ensures { IfOk result (λ v. numbers_of v.items ≡ number ∷ []) }
 {
     Ok(vec![in alloc; Tag::of(Class::Universal, number)]?)
+}
+
+fn context(alloc: Global, number: u32) -> Result<Vec<Tag>, AllocError>
+    requires few { number < 2147483648 }
+    ensures { IfOk result (λ v. numbers_of v.items ≡ number ∷ []) }
+{
+    Ok(vec![in alloc; Tag::of(Class::Context, number)]?)
+}
+
+fn application(alloc: Global, number: u32) -> Result<Vec<Tag>, AllocError>
+    requires few { number < 2147483648 }
+    ensures { IfOk result (λ v. numbers_of v.items ≡ number ∷ []) }
+{
+    Ok(vec![in alloc; Tag::of(Class::Application, number)]?)
 }
 
 /// Adds a type behind those that are there, at its number.
@@ -123,6 +141,85 @@ fn digits(alloc: Global) -> Result<Core, AllocError>
     Ok(Core::RestrictedString(StringKind::Numeric, codes, Constraint::any_size()))
 }
 
+/// INTEGER (0..7).
+fn small_number(alloc: Global) -> Result<Core, AllocError>
+    ensures { IfOk result (λ k. kind_of k ≡ an_integer zero_to_seven) }
+{
+    let range = Range {
+        least: Some(0),
+        greatest: Some(7),
+    };
+    Ok(Core::Integer(Constraint {
+        allowed: Some(vec![in alloc; range]?),
+        visible: Bounds {
+            least: Some(0),
+            greatest: Some(7),
+            extensible: false,
+        },
+    }))
+}
+
+/// ENUMERATED {a, b(3), c, ..., d}: a is 0, c is 1, d is 2.
+fn numbered(alloc: Global) -> Result<Core, AllocError>
+    ensures { IfOk result (λ k. kind_of k ≡ numbered_items) }
+{
+    let a = Item {
+        name: String::from_str(alloc, "a")?,
+        number: 0,
+    };
+    let c = Item {
+        name: String::from_str(alloc, "c")?,
+        number: 1,
+    };
+    let b = Item {
+        name: String::from_str(alloc, "b")?,
+        number: 3,
+    };
+    let d = Item {
+        name: String::from_str(alloc, "d")?,
+        number: 2,
+    };
+    Ok(Core::Enumerated(Items {
+        root: vec![in alloc; a, c, b]?,
+        extensible: true,
+        additions: vec![in alloc; d]?,
+    }))
+}
+
+/// NumericString (SIZE (3)).
+fn three_digits(alloc: Global) -> Result<Core, AllocError>
+    ensures { IfOk result (λ k. kind_of k ≡ a_restricted_string Numeric numeric_codes just_three) }
+{
+    let range = Range {
+        least: Some(3),
+        greatest: Some(3),
+    };
+    let size = Constraint {
+        allowed: Some(vec![in alloc; range]?),
+        visible: Bounds {
+            least: Some(3),
+            greatest: Some(3),
+            extensible: false,
+        },
+    };
+    let codes = vec![in alloc; 32, 48, 49, 50, 51, 52, 53, 54, 55, 56, 57]?;
+    Ok(Core::RestrictedString(StringKind::Numeric, codes, size))
+}
+
+/// OCTET STRING (SIZE (1..2, ...)).
+fn extensible_size() -> Core
+    ensures { kind_of result ≡ an_octet_string one_or_more }
+{
+    Core::OctetString(Constraint {
+        allowed: None,
+        visible: Bounds {
+            least: Some(1),
+            greatest: Some(2),
+            extensible: true,
+        },
+    })
+}
+
 fn member(
     alloc: Global,
     name: &str,
@@ -178,6 +275,93 @@ fn set_member(alloc: Global) -> Result<Vec<Component>, AllocError>
     Ok(vec![in alloc; a]?)
 }
 
+/// a [1] BOOLEAN, b [0] BOOLEAN.
+fn turned_members(alloc: Global) -> Result<Vec<Component>, AllocError>
+    ensures { IfOk result (λ cs. map component_of cs.items ≡ turned) }
+{
+    let a = member(alloc, "a", 28, Presence::Mandatory)?;
+    let b = member(alloc, "b", 27, Presence::Mandatory)?;
+    Ok(vec![in alloc; a, b]?)
+}
+
+/// An addition outside version brackets.
+fn due() -> Addition
+    ensures { (result.optional ≡ false) × (result.group ≡ None) }
+{
+    Addition {
+        optional: false,
+        group: None,
+    }
+}
+
+/// a [0] BOOLEAN, and behind the marker b [1] INTEGER (0..7), c [2] NULL.
+fn added_members(alloc: Global) -> Result<Vec<Component>, AllocError>
+    ensures { IfOk result (λ cs. map component_of cs.items ≡ two_additions) }
+{
+    let a = member(alloc, "a", 27, Presence::Mandatory)?;
+    let b = member(alloc, "b", 33, Presence::Addition(due()))?;
+    let c = member(alloc, "c", 34, Presence::Addition(due()))?;
+    Ok(vec![in alloc; a, b, c]?)
+}
+
+/// a [0] BOOLEAN, and in version brackets b [1] INTEGER (0..7), c [2] NULL OPTIONAL.
+fn bracketed_members(alloc: Global) -> Result<Vec<Component>, AllocError>
+    ensures { IfOk result (λ cs. map component_of cs.items ≡ one_group) }
+{
+    let needed = Addition {
+        optional: false,
+        group: Some(0),
+    };
+    let free = Addition {
+        optional: true,
+        group: Some(0),
+    };
+    let a = member(alloc, "a", 27, Presence::Mandatory)?;
+    let b = member(alloc, "b", 33, Presence::Addition(needed))?;
+    let c = member(alloc, "c", 34, Presence::Addition(free))?;
+    Ok(vec![in alloc; a, b, c]?)
+}
+
+/// a [0] INTEGER OPTIONAL, b [1] INTEGER (0..7).
+fn optional_members(alloc: Global) -> Result<Vec<Component>, AllocError>
+    ensures { IfOk result (λ cs. map component_of cs.items ≡ optional_first) }
+{
+    let a = member(alloc, "a", 37, Presence::Optional)?;
+    let b = member(alloc, "b", 33, Presence::Mandatory)?;
+    Ok(vec![in alloc; a, b]?)
+}
+
+/// a [0] INTEGER, and behind the marker b [1] BOOLEAN.
+fn newer_members(alloc: Global) -> Result<Vec<Component>, AllocError>
+    ensures { IfOk result (λ cs. map component_of cs.items ≡ newer) }
+{
+    let a = member(alloc, "a", 37, Presence::Mandatory)?;
+    let b = member(alloc, "b", 28, Presence::Addition(due()))?;
+    Ok(vec![in alloc; a, b]?)
+}
+
+/// s of these members DEFAULT {a 1}.
+fn newer_member(alloc: Global) -> Result<Vec<Component>, AllocError>
+    ensures { IfOk result (λ cs. map component_of cs.items ≡ with_newer) }
+{
+    abstract_values();
+    let fields = vec![in alloc; Some(Value::Int(1)), None]?;
+    let s = member(alloc, "s", 42, Presence::Default(Value::Fields(fields)))?;
+    Ok(vec![in alloc; s]?)
+}
+
+/// a [2] NULL OPTIONAL, b SET OF SET OF INTEGER, c [0] INTEGER DEFAULT 5, and behind the marker d [1] BOOLEAN.
+fn mixed_members(alloc: Global) -> Result<Vec<Component>, AllocError>
+    ensures { IfOk result (λ cs. map component_of cs.items ≡ mixed) }
+{
+    abstract_values();
+    let a = member(alloc, "a", 34, Presence::Optional)?;
+    let b = member(alloc, "b", 48, Presence::Mandatory)?;
+    let c = member(alloc, "c", 37, Presence::Default(Value::Int(5)))?;
+    let d = member(alloc, "d", 28, Presence::Addition(due()))?;
+    Ok(vec![in alloc; a, b, c, d]?)
+}
+
 fn alternative(alloc: Global, name: &str, index: usize) -> Result<Alternative, AllocError>
     ensures { IfOk result (λ a. alternative_of a ≡ record { name = name.now; type = index }) }
 {
@@ -210,6 +394,15 @@ fn new_alternatives(alloc: Global) -> Result<Vec<Alternative>, AllocError>
 {
     let one = alternative(alloc, "d", 0)?;
     Ok(vec![in alloc; one]?)
+}
+
+/// a [1] NULL, b [0] BOOLEAN.
+fn unordered_alternatives(alloc: Global) -> Result<Vec<Alternative>, AllocError>
+    ensures { IfOk result (λ v. map alternative_of v.items ≡ not_in_order) }
+{
+    let a = alternative(alloc, "a", 39)?;
+    let b = alternative(alloc, "b", 27)?;
+    Ok(vec![in alloc; a, b]?)
 }
 
 /// Types 0 to 5.
@@ -283,9 +476,9 @@ fn choices(alloc: Global, types: &mut Vec<Resolved>) -> Result<(), AllocError>
 }
 
 /// Types 21 to 23.
-fn last_types(alloc: Global, types: &mut Vec<Resolved>) -> Result<(), AllocError>
+fn more_types(alloc: Global, types: &mut Vec<Resolved>) -> Result<(), AllocError>
     requires { AreTold (take 21 all_told) (types_of types.old.items) }
-    ensures { OnOk result (AreTold all_told (types_of types.new.items)) }
+    ensures { OnOk result (AreTold (take 24 all_told) (types_of types.new.items)) }
 {
     let levels = Core::SequenceOf(Constraint::any_size(), TypeId { index: 21 });
     add(types, 21, universal(alloc, 16)?, levels)?;
@@ -293,6 +486,79 @@ fn last_types(alloc: Global, types: &mut Vec<Resolved>) -> Result<(), AllocError
     add(types, 22, tags, Core::Boolean)?;
     let set = Core::Sequence(false, set_member(alloc)?);
     add(types, 23, universal(alloc, 16)?, set)
+}
+
+/// Types 24 to 30.
+fn tagged_types(alloc: Global, types: &mut Vec<Resolved>) -> Result<(), AllocError>
+    requires { AreTold (take 24 all_told) (types_of types.old.items) }
+    ensures { OnOk result (AreTold (take 31 all_told) (types_of types.new.items)) }
+{
+    add(types, 24, application(alloc, 30)?, Core::Null)?;
+    add(types, 25, application(alloc, 31)?, Core::Null)?;
+    add(types, 26, context(alloc, 128)?, Core::Null)?;
+    add(types, 27, context(alloc, 0)?, Core::Boolean)?;
+    add(types, 28, context(alloc, 1)?, Core::Boolean)?;
+    let set = Core::Set(false, turned_members(alloc)?);
+    add(types, 29, universal(alloc, 17)?, set)?;
+    let truths = Core::SequenceOf(Constraint::any_size(), TypeId { index: 0 });
+    add(types, 30, universal(alloc, 16)?, truths)
+}
+
+/// Types 31 to 36.
+fn added_types(alloc: Global, types: &mut Vec<Resolved>) -> Result<(), AllocError>
+    requires { AreTold (take 31 all_told) (types_of types.old.items) }
+    ensures { OnOk result (AreTold (take 37 all_told) (types_of types.new.items)) }
+{
+    let truths = Core::SetOf(Constraint::any_size(), TypeId { index: 0 });
+    add(types, 31, universal(alloc, 17)?, truths)?;
+    let strings = Core::SetOf(Constraint::any_size(), TypeId { index: 6 });
+    add(types, 32, universal(alloc, 17)?, strings)?;
+    add(types, 33, context(alloc, 1)?, small_number(alloc)?)?;
+    add(types, 34, context(alloc, 2)?, Core::Null)?;
+    let added = Core::Sequence(true, added_members(alloc)?);
+    add(types, 35, universal(alloc, 16)?, added)?;
+    let bracketed = Core::Sequence(true, bracketed_members(alloc)?);
+    add(types, 36, universal(alloc, 16)?, bracketed)
+}
+
+/// Types 37 to 43.
+fn newer_types(alloc: Global, types: &mut Vec<Resolved>) -> Result<(), AllocError>
+    requires { AreTold (take 37 all_told) (types_of types.old.items) }
+    ensures { OnOk result (AreTold (take 44 all_told) (types_of types.new.items)) }
+{
+    let number = Core::Integer(Constraint::any_number());
+    add(types, 37, context(alloc, 0)?, number)?;
+    let optional = Core::Sequence(false, optional_members(alloc)?);
+    add(types, 38, universal(alloc, 16)?, optional)?;
+    add(types, 39, context(alloc, 1)?, Core::Null)?;
+    let choice = Core::Choice(Alternatives {
+        root: unordered_alternatives(alloc)?,
+        extensible: true,
+        additions: Vec::new(alloc),
+    });
+    add(types, 40, Vec::new(alloc), choice)?;
+    add(types, 41, universal(alloc, 10)?, numbered(alloc)?)?;
+    let newer = Core::Sequence(true, newer_members(alloc)?);
+    add(types, 42, context(alloc, 0)?, newer)?;
+    let with_newer = Core::Sequence(false, newer_member(alloc)?);
+    add(types, 43, universal(alloc, 16)?, with_newer)
+}
+
+/// Types 44 to 49.
+fn last_types(alloc: Global, types: &mut Vec<Resolved>) -> Result<(), AllocError>
+    requires { AreTold (take 44 all_told) (types_of types.old.items) }
+    ensures { OnOk result (AreTold all_told (types_of types.new.items)) }
+{
+    let tags = vec![in alloc; Tag::of(Class::Context, 1), Tag::of(Class::Context, 2)]?;
+    add(types, 44, tags, Core::Boolean)?;
+    add(types, 45, universal(alloc, 18)?, three_digits(alloc)?)?;
+    add(types, 46, universal(alloc, 4)?, extensible_size())?;
+    let rows = Core::SequenceOf(Constraint::any_size(), TypeId { index: 14 });
+    add(types, 47, universal(alloc, 16)?, rows)?;
+    let sets = Core::SetOf(Constraint::any_size(), TypeId { index: 16 });
+    add(types, 48, universal(alloc, 17)?, sets)?;
+    let mixed = Core::Set(true, mixed_members(alloc)?);
+    add(types, 49, universal(alloc, 17)?, mixed)
 }
 
 /// The schema of all these types, or `AllocError` for want of memory alone.
@@ -305,6 +571,10 @@ pub fn schema(alloc: Global) -> Result<Schema, AllocError>
     more_leaves(alloc, &mut types)?;
     lists(alloc, &mut types)?;
     choices(alloc, &mut types)?;
+    more_types(alloc, &mut types)?;
+    tagged_types(alloc, &mut types)?;
+    added_types(alloc, &mut types)?;
+    newer_types(alloc, &mut types)?;
     last_types(alloc, &mut types)?;
     Ok(Schema::of(types))
 }
@@ -336,7 +606,33 @@ pub fn type_named(name: &str) -> Option<TypeId> {
         "levels" => 21,
         "tagged" => 22,
         "set-by-default" => 23,
-        "none-such" => 24,
+        "application-30" => 24,
+        "application-31" => 25,
+        "context-128" => 26,
+        "context-0-boolean" => 27,
+        "context-1-boolean" => 28,
+        "set" => 29,
+        "truths" => 30,
+        "set-of-truths" => 31,
+        "set-of-strings" => 32,
+        "zero-to-seven" => 33,
+        "context-2-null" => 34,
+        "two-additions" => 35,
+        "one-group" => 36,
+        "context-0-integer" => 37,
+        "optional-first" => 38,
+        "context-1-null" => 39,
+        "not-in-order" => 40,
+        "numbered-items" => 41,
+        "newer" => 42,
+        "with-newer" => 43,
+        "twice-implicit" => 44,
+        "three-digits" => 45,
+        "extensible-size" => 46,
+        "rows" => 47,
+        "set-of-sets" => 48,
+        "mixed" => 49,
+        "none-such" => 50,
         _ => return None,
     };
     Some(TypeId { index })

@@ -5,6 +5,7 @@
 //! taken from this program.
 #![tactic(auto)]
 
+mod account;
 mod refusal;
 mod value;
 mod written;

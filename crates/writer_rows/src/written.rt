@@ -1,5 +1,6 @@
 //! What is written of values.
 
+use crate::account::{octets_of, text_of};
 use crate::refusal::{Refusal, told};
 use crate::value::value_of;
 use asn_base::schema::TypeId;
@@ -53,18 +54,24 @@ fn shown(alloc: Global, octets: &[u8]) -> Result<String, AllocError> {
     Ok(text)
 }
 
-/// `der NAME TYPE`: the octets that are written of the value, or the fault.
+/// `der NAME TYPE`: the octets that are written of the value and below them their account, or the fault.
 pub fn in_memory(alloc: Global, code: &Code, row: &Row) -> Result<String, Refusal> {
     let id = type_of(alloc, row)?;
     let value = value_in(alloc, row)?;
     match write_der(alloc, code, id, &value) {
-        Ok(written) => Ok(shown(alloc, written.octets.as_slice())?),
+        Ok((octets, account)) => {
+            let mut text = shown(alloc, octets.as_slice())?;
+            let rows = text_of(alloc, &account)?;
+            write!(text, "\n{rows}")?;
+            Ok(text)
+        }
         Err(fault) => Err(told(alloc, &fault)),
     }
 }
 
-/// `sink NAME TYPE LIMIT MOST [silent]`: the value goes to a sink that takes so many octets, at most so many a call, and
-/// then fails, by an error or silently. Told are the answer, what the sink holds, and how many of its calls failed.
+/// `sink NAME TYPE LIMIT MOST [silent]`: the value goes to a sink that takes so many octets, at most so many a call,
+/// and then fails, by an error or silently. Told are the answer (how many octets the account tells, and its rows), what
+/// the sink holds, and how many of its calls failed.
 pub fn to_sink(alloc: Global, code: &Code, row: &Row) -> Result<String, Refusal> {
     let id = type_of(alloc, row)?;
     let value = value_in(alloc, row)?;
@@ -73,7 +80,11 @@ pub fn to_sink(alloc: Global, code: &Code, row: &Row) -> Result<String, Refusal>
     let mut sink = Stops::at(Vec::new(alloc), limit, most, word(row, 5) == "silent");
     let mut text = String::new(alloc);
     match write_der_to(alloc, code, id, &value, &mut sink) {
-        Ok(sent) => write!(text, "{} octets", sent.octets)?,
+        Ok(account) => {
+            let count = octets_of(&account);
+            let rows = text_of(alloc, &account)?;
+            write!(text, "{count} octets {rows}")?;
+        }
         Err(fault) => write!(text, "{fault}")?,
     }
     let held = shown(alloc, sink.octets())?;

@@ -9,7 +9,6 @@ use Rattle.codec_code.specs.Events.{Event, Tree, flat, StandsFor}
 use Rattle.codec_code.specs.Meaning.{Tells}
 use Rattle.codec_code.specs.Steps.{Steps}
 use Rattle.der_parts.specs.Parts.{Spell}
-use Rattle.writing_table.specs.Lengths.{IsTooLong}
 use Rattle.octet_account.specs.Flat.{FlatRow, IsWithin, AreRows}
 use Rattle.account_rows.specs.Told.{Told}
 use Rattle.account_rows.specs.Meaning.{TellsRows}
@@ -81,14 +80,6 @@ whole_rows s t v es a c bounds tells runs none few =
       tells = h.tells;
       are = record { within = w; are = rs ∙ f.rows ∙ ap (map told_row) h.rows ∙ small_rows 400 h.account w };
     }
-
-pub too_long : (s : List Resolved) (t : ℕ) (v : AbstractValue) (es : List Event) (a c : State) → Steps s t (routine_at s t) v es → Tells s t v es → Runs es a c → Empty a → 16777216 < c.count → IsTooLong s t v
-too_long s t v es a c steps tells runs none many =
-    let p = ran tells.tree es a c tells.told none runs in
-    let m : c.count ≡ told (0 + length p.octets) = sym (ap (λ q. q.count) p.more) ∙ ap (λ q. told (q + length p.octets)) none.count in
-    let n = told_more (length p.octets) c.count m many in
-    let k = p.as_many in
-    record { events = es; steps = steps; tree = tells.tree; told = tells.told; long = omega (arith, n, k) }
 
 -- each account of the value tells as many octets as the table counted
 pub longer : (s : List Resolved) (t : ℕ) (v : AbstractValue) (es : List Event) (a c : State)

@@ -7,7 +7,6 @@ ghost use Rattle.encodings.specs.Encoding.{Der};
 ghost use Rattle.octet_account.specs.Flat.{AreRows};
 ghost use Rattle.octet_account.specs.Seen.{flat};
 ghost use Rattle.std.specs.Prelude.{◌≡◌, ◌<◌, ◌≤◌, Err, IfErr, IfOk, List, length, ℕ};
-ghost use Rattle.writing_table.specs.Lengths.{IsTooLong};
 ghost use Rattle.der_parts.specs.Parts.{Spell};
 ghost use Rattle.writing_table.specs.declared.fault.MeasureFault.TheVariants.{NotOfType, TooLong};
 
@@ -63,10 +62,9 @@ pub fn measure<'a>(
         × Tells code.now id.index (abstract value.now) o a
         × AreRows a (flat m.rows.items)) }
     ensures not_too_long { IfOk result (λ m. m.octets ≤ 16777216) }
-    // It is refused as no value, or as too long, only where it is.
+    // It is refused as no value just where it is none.
     ensures not_of_type { IfErr result (λ e. e ≡ NotOfType → IsValue code.now id.index (abstract value.now) → ⊥) }
     ensures no_value { (IsValue code.now id.index (abstract value.now) → ⊥) → result ≡ Err NotOfType }
-    ensures too_long { IfErr result (λ e. e ≡ TooLong → IsTooLong code.now id.index (abstract value.now)) }
     // Each encoding by the distinguished rules is then longer than 16,777,216 octets.
     ensures longer { IfErr result (λ e. e ≡ TooLong → (o : List ℕ)
         → Der code.now id.index (abstract value.now) 0 o
@@ -99,7 +97,6 @@ fn table_of<'a>(
         × AreRows a (flat m.rows.items)) }
     ensures not_too_long { IfOk result (λ m. m.octets ≤ 16777216) }
     ensures not_of_type { IfErr result (λ e. e ≡ NotOfType → ⊥) }
-    ensures too_long { IfErr result (λ e. e ≡ TooLong → IsTooLong code.now id.index (abstract value.now)) }
     ensures longer { IfErr result (λ e. e ≡ TooLong → (o : List ℕ)
         → Der code.now id.index (abstract value.now) 0 o
         → 16777216 < length o) }

@@ -14,7 +14,9 @@ use std::alloc::{AllocError, Global};
 
 /// Adds the contents octets of a value, where it has any of this kind.
 fn push_contents(kind: LeafKind, value: &Value, out: &mut Vec<u8>) -> Result<(), AllocError>
-    ensures { (x : List ℕ) → HasContents kind (abstract value.now) x → OnOk result (out.new.items ≡ out.old.items ++ x) }
+    ensures { (x : List ℕ)
+        → HasContents kind (abstract value.now) x
+        → OnOk result (out.new.items ≡ out.old.items ++ x) }
 {
     match leaf_len(kind, value) {
         Some(_) => push_leaf(kind, value, out),

@@ -7,7 +7,8 @@ ghost use Rattle.codec_code.specs.Events.{by_octets, by_rank};
 ghost use Rattle.codec_machine.specs.Frames.{HasNoContents};
 ghost use Rattle.codec_machine.specs.declared.fault.RunFault.TheVariants.{NotOfType};
 ghost use Rattle.octet_account.specs.Seen.{flat, told_of};
-ghost use Rattle.writing_table.specs.Tables.{GroupBegins, GroupEnds, HeaderCloses, HeaderOpens, LeftOut, MemberEnds, MembersBegin, MembersEndIfAny, ContentsAdded, parts_of, state_of};
+ghost use Rattle.writing_table.specs.Tables.{ContentsAdded, GroupBegins, GroupEnds, HeaderCloses, HeaderOpens};
+ghost use Rattle.writing_table.specs.Tables.{LeftOut, MemberEnds, MembersBegin, MembersEndIfAny, parts_of, state_of};
 ghost use Rattle.writing_table.specs.Rows.{told};
 
 use crate::places::{Arrangement, arrangement_of};
@@ -195,7 +196,8 @@ fn append_members<'a>(parts: &mut Vec<Part<'a>>, members: Vec<Member<'a>>) -> Re
 
 /// The members of a SET or SET OF stand in their order behind what was set aside.
 pub(crate) fn end_group<'a>(table: &mut Table<'a>, row: RowKind) -> Result<Arrangement, AllocError>
-    ensures { IfOk result (λ r. GroupEnds row r.places.items r.inverse.items (state_of table.old) (state_of table.new)) }
+    ensures { IfOk result (λ r.
+        GroupEnds row r.places.items r.inverse.items (state_of table.old) (state_of table.new)) }
 {
     match row {
         RowKind::Set => end_set(table),
@@ -208,7 +210,8 @@ pub(crate) fn end_group<'a>(table: &mut Table<'a>, row: RowKind) -> Result<Arran
 }
 
 fn end_set<'a>(table: &mut Table<'a>) -> Result<Arrangement, AllocError>
-    ensures { IfOk result (λ r. MembersEndIfAny by_rank r.places.items r.inverse.items (state_of table.old) (state_of table.new)) }
+    ensures { IfOk result (λ r.
+        MembersEndIfAny by_rank r.places.items r.inverse.items (state_of table.old) (state_of table.new)) }
 {
     match table.groups.pop() {
         Some(group) => {
@@ -223,7 +226,8 @@ fn end_set<'a>(table: &mut Table<'a>) -> Result<Arrangement, AllocError>
 }
 
 fn end_set_of<'a>(table: &mut Table<'a>) -> Result<Arrangement, AllocError>
-    ensures { IfOk result (λ r. MembersEndIfAny by_octets r.places.items r.inverse.items (state_of table.old) (state_of table.new)) }
+    ensures { IfOk result (λ r.
+        MembersEndIfAny by_octets r.places.items r.inverse.items (state_of table.old) (state_of table.new)) }
 {
     match table.groups.pop() {
         Some(group) => {
@@ -275,7 +279,8 @@ pub(crate) fn close_header<'a>(
     one: Open,
     arrangement: Arrangement,
 ) -> Result<(), AllocError>
-    ensures { OnOk result (HeaderCloses one arrangement.places.items arrangement.inverse.items (state_of table.old) (state_of table.new)) }
+    ensures { OnOk result (HeaderCloses one arrangement.places.items arrangement.inverse.items
+        (state_of table.old) (state_of table.new)) }
 {
     let contents = table.count;
     let row = header_row(table.alloc, one.head, contents, table.members, arrangement)?;

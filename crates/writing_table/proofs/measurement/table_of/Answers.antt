@@ -2,21 +2,8 @@ use Rattle.std.proofs.Common.{ap}
 use Rattle.asn_base.specs.Abstract.{abstract}
 use Rattle.octet_account.specs.Seen.{flat}
 use Rattle.writing_table.specs.Tables.{state_of}
-use Rattle.writing_table.proofs.Whole.{Empty, whole, whole_rows, too_long, longer}
+use Rattle.writing_table.proofs.Whole.{Empty, whole, whole_rows, longer}
 use Rattle.writing_table.proofs.measurement.table_of.Goals as goal
-
-pub returns-then-table-gt-MOST_OCTETS-clause-too_long : goal.returns-then-table-gt-MOST_OCTETS-clause-too_long
-returns-then-table-gt-MOST_OCTETS-clause-too_long c = λ e.
-    let s = c.args.code.now in
-    let t = c.args.id.index in
-    let v = abstract c.args.value.now in
-    let ran = c.in-Ok.ensures.ok in
-    let n = c.new-table.ensures in
-    let a = state_of c.new-table.result in
-    let empty : Empty a = record { parts = n.parts; count = n.count; rows = ap flat n.rows; members = n.members } in
-    too_long s t v ran.events a (state_of c.run.new.backend) ran.steps
-    (c.routine_laws.ensures.tells s t v ran.events c.accepted.ensures c.requires.shaped ran.steps)
-    ran.added empty c.if-table-gt-MOST_OCTETS.true
 
 pub returns-in-Ok-clause-der : goal.returns-in-Ok-clause-der
 returns-in-Ok-clause-der c =

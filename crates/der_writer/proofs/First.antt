@@ -1,0 +1,54 @@
+-- The first row of an account tells how many octets the encoding has.
+use Rattle.std.proofs.Common.{arith, ◌≡◌, ℕ, ◌+◌, List, [], ◌∷◌, ◌++◌, Bool, length, refl, sym, ap, subst, ◌∙◌, length-append}
+use Rattle.asn_base.specs.declared.tag.Tag.{Tag}
+use Rattle.asn_base.specs.Abstract.{AbstractValue}
+use Rattle.asn_base.specs.Types.{Kind, Resolved}
+use Rattle.encodings.specs.Header.{Octets}
+use Rattle.encodings.specs.Account.{Numbers, Account, header, Inside, leaf_row, wrap_row, seq_row, seqof_row, set_row, setof_row, HeaderTold, Headed, headed_bare, headed_innermost, headed_outer, Tells, tells, TellsInside, leaf_told, sequence_told, set_told, sequence_of_told, set_of_told, choice_told}
+use Rattle.der_writer.specs.Encoded.{octets_told}
+
+header_and_contents : {g : Tag} {c : Bool} {z : Numbers} (h x : Octets) → HeaderTold g c (length x) h z
+    → z.identifier + z.size + z.contents ≡ length (h ++ x)
+header_and_contents h x w =
+    let e = w.size_told in
+    let f = w.contents_told in
+    let l = length-append h x in
+    omega (arith, e, f, l)
+
+headed : {ts : List Tag} {c : Bool} {x o : Octets} {i : Inside} {a : Account} → Headed ts c x i o a
+    → ((b : Account) → i ≡ wrap_row b → octets_told b ≡ length x)
+    → octets_told a ≡ length o
+headed headed_bare f = f _ refl
+headed (headed_innermost {h = h} {x = x} w) f = header_and_contents h x w
+headed (headed_outer {h = h} {y = y} d w) f = header_and_contents h y w
+
+abbrev wrapped : Account → Inside → Account
+wrapped a (wrap_row b) = b
+wrapped a leaf_row = a
+wrapped a (seq_row rs) = a
+wrapped a (seqof_row rs) = a
+wrapped a (set_row rs p q) = a
+wrapped a (setof_row rs p q) = a
+
+abbrev IsWrap : Inside → Type 0
+IsWrap (wrap_row b) = Unit {0}
+IsWrap leaf_row = ⊥
+IsWrap (seq_row rs) = ⊥
+IsWrap (seqof_row rs) = ⊥
+IsWrap (set_row rs p q) = ⊥
+IsWrap (setof_row rs p q) = ⊥
+
+mutual
+  pub first_row : {s : List Resolved} {t : ℕ} {v : AbstractValue} {o : Octets} {a : Account} → Tells s t v o a → octets_told a ≡ length o
+  first_row (tells i d h) = headed h (λ b e. within d b e)
+
+  within : {s : List Resolved} {k : Kind} {v : AbstractValue} {c : Bool} {x : Octets} {i : Inside} → TellsInside s k v c x i
+      → (b : Account)
+      → i ≡ wrap_row b
+      → octets_told b ≡ length x
+  within (choice_told {x = x} {a = a} f d) b e = subst (λ z. octets_told z ≡ length x) (ap (wrapped a) e) (first_row d)
+  within (leaf_told k w d) b e = absurd (subst IsWrap (sym e) tt)
+  within (sequence_told d) b e = absurd (subst IsWrap (sym e) tt)
+  within (set_told d p) b e = absurd (subst IsWrap (sym e) tt)
+  within (sequence_of_told d) b e = absurd (subst IsWrap (sym e) tt)
+  within (set_of_told d p) b e = absurd (subst IsWrap (sym e) tt)
