@@ -61,7 +61,10 @@ fn to_list(
         }
         least = least.min(start.elapsed(rt)?);
     }
-    println!(rt; "{} of {}: {octets} octets, {rows} rows", shape.name, shape.size)?;
+    println!(rt;
+        "{} of {}: {octets} octets, {rows} rows",
+        shape.name, shape.size
+    )?;
     told(rt, "list", shape, octets, least)?;
     Ok(octets)
 }
@@ -124,12 +127,28 @@ fn measure(rt: &HostRuntime, code: &Code, shape: Shape<'_>) -> io::Result<()> {
 /// All shapes.
 fn measure_all(rt: &HostRuntime, code: &Code) -> io::Result<()> {
     for size in [50_000, 100_000] {
-        measure(rt, code, Shape::of("small SEQUENCEs", "rows", Made::Rows, size))?;
-        measure(rt, code, Shape::of("SEQUENCE OF INTEGER", "numbers", Made::Numbers, size))?;
-        measure(rt, code, Shape::of("SET OF INTEGER", "set-of-numbers", Made::Numbers, size))?;
+        measure(
+            rt,
+            code,
+            Shape::of("small SEQUENCEs", "rows", Made::Rows, size),
+        )?;
+        measure(
+            rt,
+            code,
+            Shape::of("SEQUENCE OF INTEGER", "numbers", Made::Numbers, size),
+        )?;
+        measure(
+            rt,
+            code,
+            Shape::of("SET OF INTEGER", "set-of-numbers", Made::Numbers, size),
+        )?;
     }
     for size in [8_000_000, 16_000_000] {
-        measure(rt, code, Shape::of("OCTET STRING", "octets", Made::String, size))?;
+        measure(
+            rt,
+            code,
+            Shape::of("OCTET STRING", "octets", Made::String, size),
+        )?;
     }
     let mut levels = Shape::of("levels", "levels", Made::Levels, 64);
     levels.times = 1000;

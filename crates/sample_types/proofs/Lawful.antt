@@ -558,9 +558,9 @@ module _ (s : List Resolved) (are : AreTold all_told s) where
             plain 17 _ tt (record { bounds = all_sizes; type = below 16 (omega arith) }) tt,
             (
               plain 17 _
-              ((apart_34_48, (apart_34_37, (apart_34_28, tt))), ((apart_48_37, (apart_48_28, tt)), ((apart_37_28, tt), (tt, tt))))
-              (mixed_listed, (has_tag 34 2 [] _ refl refl, (has_tag 48 17 [] _ refl refl, (has_tag 37 0 [] _ refl refl, (has_tag 28 1 [] _ refl refl, tt)))))
-              ((λ d e. absurd (cc)), ((λ d e. absurd (cc)), ((λ d e. a_tagged_number refl), ((λ d e. absurd (cc)), tt)))),
+                  ((apart_34_48, (apart_34_37, (apart_34_28, tt))), ((apart_48_37, (apart_48_28, tt)), ((apart_37_28, tt), (tt, tt))))
+                  (mixed_listed, (has_tag 34 2 [] _ refl refl, (has_tag 48 17 [] _ refl refl, (has_tag 37 0 [] _ refl refl, (has_tag 28 1 [] _ refl refl, tt)))))
+                  ((λ d e. absurd (cc)), ((λ d e. absurd (cc)), ((λ d e. a_tagged_number refl), ((λ d e. absurd (cc)), tt)))),
               tt,
             ),
           ),

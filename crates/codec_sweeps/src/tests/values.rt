@@ -12,7 +12,7 @@ pub fn mixed_value(alloc: Global) -> Result<Value, AllocError> {
         Some(Value::Null),
         Some(Value::List(sets)),
         Some(Value::Int(6)),
-        Some(Value::Bool(true))
+        Some(Value::Bool(true)),
     ]?;
     Ok(Value::Fields(fields))
 }
