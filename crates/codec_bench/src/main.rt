@@ -19,6 +19,7 @@ use std::time::{Duration, Instant};
 const RUNS: usize = 5;
 
 /// A sink that keeps nothing.
+#[derive(Drop)]
 struct Nowhere {
     failures: u64,
 }
