@@ -73,8 +73,10 @@ struct Writing {
 impl Starved for Writing {
     fn call(&mut self, alloc: Global) -> Turn {
         match write_der(alloc, &self.code, self.id, &self.value) {
-            Ok((octets, _)) if octets.as_slice() == self.octets.as_slice() => Turn::Right,
-            Ok(_) => Turn::Wrong,
+            Ok((octets, _account)) => {
+                let right = octets.as_slice() == self.octets.as_slice();
+                if right { Turn::Right } else { Turn::Wrong }
+            }
             Err(WriteFault::Memory) => Turn::Refused,
             Err(_) => Turn::Wrong,
         }
