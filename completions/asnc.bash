@@ -6,14 +6,14 @@ _asnc() {
   local before=${COMP_WORDS[COMP_CWORD - 1]}
   COMPREPLY=()
   if [[ $COMP_CWORD -eq 1 ]]; then
-    mapfile -t COMPREPLY < <(compgen -W 'der --help -h' -- "$current")
+    mapfile -t COMPREPLY < <(compgen -W 'der --help -h --version -V' -- "$current")
     return
   fi
   if [[ ${COMP_WORDS[1]} != der || $before == --type || $before == --value ]]; then
     return
   fi
   if [[ $current == -* ]]; then
-    mapfile -t COMPREPLY < <(compgen -W '--type --value --raw --help -h' -- "$current")
+    mapfile -t COMPREPLY < <(compgen -W '--type --value --raw --context --help -h' -- "$current")
     return
   fi
   compopt -o filenames 2>/dev/null

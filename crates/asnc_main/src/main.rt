@@ -2,7 +2,7 @@
 #![tactic(auto)]
 
 use asnc::{Fault, Job, Kit, job, report, status};
-use std::io::Write;
+use std::io::{Read, Write};
 use std::process::ExitCode;
 use std::{env, fs, io};
 
@@ -78,11 +78,38 @@ fn file_fault(name: String, error: io::Error) -> Fault {
     }
 }
 
+/// What standard input holds.
+fn input(rt: &HostRuntime) -> io::Result<Vec<u8>> {
+    let mut text = Vec::new(rt.alloc());
+    let mut stdin = rt.stdin();
+    stdin.read_to_end(&mut text)?;
+    Ok(text)
+}
+
+/// The text of a file; `-` is standard input.
+fn text_of(rt: &HostRuntime, file: &str) -> io::Result<Vec<u8>> {
+    if file == "-" {
+        input(rt)
+    } else {
+        fs::read(rt, file)
+    }
+}
+
+/// Refuses that standard input is to be read twice.
+fn check_input(rt: &HostRuntime, files: &[String]) -> Result<(), Fault> {
+    if files.iter().filter(|file| file.as_str() == "-").count() > 1 {
+        let words = String::from_str(rt.alloc(), "standard input, -, can be one FILE alone")?;
+        return Err(Fault::BadWords(words));
+    }
+    Ok(())
+}
+
 /// The texts of files, in order.
 fn texts_of(rt: &HostRuntime, files: &[String]) -> Result<Vec<Vec<u8>>, Fault> {
+    check_input(rt, files)?;
     let mut texts = Vec::new(rt.alloc());
     for file in files {
-        match fs::read(rt, file.as_str()) {
+        match text_of(rt, file.as_str()) {
             Ok(text) => texts.push(text)?,
             Err(error) => return Err(file_fault(file.clone()?, error)),
         }

@@ -18,9 +18,9 @@ x: the file can not be read
 x
 72 3 error 72 Device: the output could not be written | error 72 Device: the output could not be written
 71 1 error 71 TooLong: the encoding has more than 16777216 octets | error 71 TooLong: the encoding has more than 16777216 octets
-31 1 error 31 UnknownName: the module has no type w x | error 31 UnknownName: w
+31 1 error 31 UnknownName: w x names no module: a type is named as MODULE, a dot, and its name | error 31 UnknownName: w
 x
-31 1 error 31 UnknownName: the module has no value w x | error 31 UnknownName: w
+31 1 error 31 UnknownName: w x names no module: a value is named as MODULE, a dot, and its name | error 31 UnknownName: w
 x
 21 1 error 21 OutOfProfile a tag: this compiler leaves out a tag | error 21 OutOfProfile: M.w
 x
@@ -29,7 +29,7 @@ x
 1 3 error 1 Memory: m.asn: out of memory | error 1 Memory
 2 1 error 2 Limit(Text): m.asn:1:1: the text has more than 16777216 octets | error 2 Limit(Text) at 16777216
 1 3 error 1 Memory: m.asn: out of memory | error 1 Memory
-20 1 error 20 Unexpected: m.asn:1:1: found the end of the text | error 20 Unexpected at token 7
+20 1 error 20 Unexpected: m.asn:1:1: found the end of the text, expected a type reference | error 20 Unexpected at token 7
 1 3 error 1 Memory: out of memory | error 1 Memory
 2 1 error 2 Limit(Types): more than 4096 types are assigned, or more than 65536 are written | error 2 Limit(Types): M.w
 2 1 error 2 Limit(Values): more than 65536 values are assigned | error 2 Limit(Values): M.w
@@ -111,6 +111,7 @@ fn job(alloc: Global) -> Result<Job, AllocError> {
         octets: Given::Nothing,
         raw: false,
         strict: false,
+        context: false,
         files: vec![in alloc; String::from_str(alloc, "m.asn")?]?,
     })
 }

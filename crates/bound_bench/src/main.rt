@@ -1,6 +1,9 @@
-//! Finds what the constraints of modules leave, each at two sizes, and writes how many types each module has.
-//! How long `bound` took, the least of five runs, in microseconds, is written on standard error.
+//! Finds what the constraints of modules leave, each at two sizes, and writes how many types each module has; then reads,
+//! types and prints long values, and writes how long their texts are. How long `bound`, `value_at`, `typed` and `print` took,
+//! the least of five runs, in microseconds, is written on standard error.
 #![tactic(auto)]
+
+mod notations;
 
 use constraints::bound;
 use resolve::{Linked, link};
@@ -265,5 +268,6 @@ fn main(rt: HostRuntime) -> io::Result<ExitCode> {
             whole.as_micros()
         )?;
     }
+    notations::measure_all(&rt)?;
     Ok(ExitCode::SUCCESS)
 }

@@ -16,7 +16,7 @@ use std::process::ExitCode;
 use std::time::{Duration, Instant};
 
 /// How often a value is written; the least time counts.
-const RUNS: usize = 1;
+const RUNS: usize = 10;
 
 /// A sink that keeps nothing.
 #[derive(Drop)]
@@ -151,6 +151,17 @@ fn measure_all(rt: &HostRuntime, code: &Code) -> io::Result<()> {
             Shape::of("OCTET STRING", "octets", Made::String, size),
         )?;
     }
+    measure_messages(rt, code)
+}
+
+/// Small values, each written a thousand times: one of about 600 octets and one of about 900, and 64 levels.
+fn measure_messages(rt: &HostRuntime, code: &Code) -> io::Result<()> {
+    let mut message = Shape::of("message of SEQUENCEs", "rows", Made::Rows, 45);
+    message.times = 1000;
+    measure(rt, code, message)?;
+    let mut names = Shape::of("message of SET OFs", "set-of-sets", Made::Sets, 53);
+    names.times = 1000;
+    measure(rt, code, names)?;
     let mut levels = Shape::of("levels", "levels", Made::Levels, 64);
     levels.times = 1000;
     measure(rt, code, levels)

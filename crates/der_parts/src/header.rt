@@ -3,11 +3,47 @@
 ghost use Rattle.encodings.specs.Fewest.{shortest_header, shortest_size};
 ghost use Rattle.encodings.specs.Header.{class_bits, form_bit, identifier};
 ghost use Rattle.std.specs.Int.Digits.{digits_of};
-ghost use Rattle.std.specs.Prelude.{◌≡◌, ◌+◌, ◌<◌, ◌≤◌, ◌++◌, length};
+ghost use Rattle.std.specs.Prelude.{◌≡◌, ◌+◌, ◌<◌, ◌≤◌, ◌++◌, ◌∷◌, [], IfSome, OnErr, OnOk, length};
 
 use arrayvec::ArrayVec;
 use asn_base::tag::{Class, Tag};
 use leaf_contents::{push_digits, push_septets};
+use std::alloc::AllocError;
+
+/// Adds the header with the fewest octets that tells the tag, the form and so many octets of contents (X.690, 8.1.2, 8.1.3
+/// and 10.1). An `Err` is want of memory, and adds nothing.
+pub fn push_header(
+    out: &mut Vec<u8>,
+    tag: Tag,
+    constructed: bool,
+    contents: u64,
+) -> Result<(), AllocError>
+    ensures ok { OnOk result (out.new.items ≡ out.old.items ++ shortest_header tag constructed contents) }
+    ensures err { OnErr result (out.new.items ≡ out.old.items) }
+{
+    match short_header(tag, constructed, contents) {
+        Some((first, size)) => out.extend_from_slice(&[first, size]),
+        None => {
+            let few = header_octets(tag, constructed, contents);
+            out.extend_from_slice(few.as_slice())
+        }
+    }
+}
+
+/// The two octets of a header whose identifier and length have one octet each, and None for all others.
+#[tactic(auto, unfolding(encodings::specs::Fewest::shortest_header, encodings::specs::Header::identifier))]
+pub(crate) fn short_header(tag: Tag, constructed: bool, contents: u64) -> Option<(u8, u8)>
+    ensures { IfSome result (λ h. shortest_header tag constructed contents ≡ h.0 ∷ h.1 ∷ []) }
+{
+    if tag.number < 31 && contents < 128 {
+        Some((
+            first_octet(tag.class, constructed, tag.number as u8),
+            contents as u8,
+        ))
+    } else {
+        None
+    }
+}
 
 /// The header with the fewest octets that tells the tag, the form and so many octets of contents.
 #[tactic(auto, unfolding(encodings::specs::Fewest::shortest_header))]

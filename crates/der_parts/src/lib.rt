@@ -7,5 +7,6 @@ mod part;
 mod send;
 mod write;
 
+pub use header::push_header;
 pub use part::Part;
 pub use write::write_parts;

@@ -1,12 +1,15 @@
 //! Octets sent behind those that have gone out.
 
 ghost use Rattle.der_parts.specs.Sends.{Sends};
+ghost use Rattle.encodings.specs.Fewest.{shortest_header};
 ghost use Rattle.encodings.specs.Header.{septets};
 ghost use Rattle.leaf_contents.specs.Pieces.{joined_pieces, last_of};
 ghost use Rattle.sinks.specs.Sent.{state};
 ghost use Rattle.std.specs.Prelude.{◌≡◌, ◌+◌, ◌++◌, ◌<◌, ◌^◌, ◌∷◌, flat_map, length};
 
+use crate::header::{header_octets, short_header};
 use arrayvec::ArrayVec;
+use asn_base::tag::Tag;
 use leaf_contents::{LeafOctets, push_septets};
 use sinks::{Sink, send_all};
 
@@ -25,6 +28,30 @@ pub(crate) fn send_more<S: Sink>(sink: &mut S, done: u64, octets: &[u8]) -> Resu
     }
 }
 
+/// Sends the header with the fewest octets that tells the tag, the form and so many octets of contents.
+pub(crate) fn send_header<S: Sink>(
+    sink: &mut S,
+    done: u64,
+    tag: Tag,
+    constructed: bool,
+    contents: u64,
+) -> Result<u64, u64>
+    requires room { S.failed sink.old < u64.MAX }
+    requires few { done + length (shortest_header tag constructed contents) < 2 ^ 64 }
+    ensures { Sends
+        (state (S.taken sink.old) (S.failed sink.old))
+        (state (S.taken sink.new) (S.failed sink.new))
+        (shortest_header tag constructed contents) done result }
+{
+    match short_header(tag, constructed, contents) {
+        Some((first, size)) => send_more(sink, done, &[first, size]),
+        None => {
+            let few = header_octets(tag, constructed, contents);
+            send_more(sink, done, few.as_slice())
+        }
+    }
+}
+
 /// Sends contents octets.
 pub(crate) fn send_pieces<S: Sink>(sink: &mut S, done: u64, octets: &LeafOctets) -> Result<u64, u64>
     requires room { S.failed sink.old < u64.MAX }
@@ -35,6 +62,7 @@ pub(crate) fn send_pieces<S: Sink>(sink: &mut S, done: u64, octets: &LeafOctets)
         (joined_pieces octets.now) done result }
 {
     match octets {
+        LeafOctets::One(octet) => send_more(sink, done, &[*octet]),
         LeafOctets::Few(few) => send_more(sink, done, few.as_slice()),
         LeafOctets::Whole(whole) => send_more(sink, done, whole),
         LeafOctets::Bits(unused, whole, last) => send_bits(sink, done, *unused, whole, *last),

@@ -5,9 +5,8 @@ ghost use Rattle.der_parts.specs.Sends.{Sends};
 ghost use Rattle.sinks.specs.Sent.{SentAll, SentFront, state};
 ghost use Rattle.std.specs.Prelude.{◌+◌, ◌<◌, ◌^◌, IfErr, List, OnOk, length, ℕ};
 
-use crate::header::header_octets;
 use crate::part::Part;
-use crate::send::{send_more, send_pieces};
+use crate::send::{send_header, send_pieces};
 use leaf_contents::law::one_contents;
 use leaf_contents::leaf_octets;
 use sinks::Sink;
@@ -70,10 +69,13 @@ fn write_part<S: Sink>(sink: &mut S, done: u64, part: Part) -> Result<u64, u64>
         x done result }
 {
     match part {
-        Part::Header(tag, constructed, contents) => {
-            let few = header_octets(tag, constructed, contents as u64);
-            send_more(sink, done, few.as_slice())
-        }
+        Part::Header(tag, constructed, contents) => send_header(
+            sink,
+            done,
+            tag,
+            constructed,
+            contents as u64,
+        ),
         Part::Contents(kind, value, _) => {
             one_contents();
             match leaf_octets(kind, value) {

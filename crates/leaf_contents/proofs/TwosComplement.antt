@@ -98,3 +98,10 @@ low_number n d is = low_from n d is (subst (λ q. AllBelowBase 256 q) (sym is) (
 
 pub high_number : (n : ℕ) (d : List ℕ) → d ≡ digits_of 256 n → (0 < length d → 128 ≤ get_or d 0 0) → Number (pos n) (0 ∷ d)
 high_number n d is = high_from n d is (subst (λ q. AllBelowBase 256 q) (sym is) (all_below_base_digits_of 256 n (omega arith))) (ap (number_from_digits 256) is ∙ number_digits_of 256 n (omega arith))
+
+-- a number below 128 is its one octet
+pub one_number : (n : ℕ) → n < 128 → Number (pos n) (n ∷ [])
+one_number n low = record {
+  is = not_negative (omega arith) (omega arith, tt) (omega arith) (omega arith);
+  shortest = λ p h. some_octets n p h;
+}

@@ -4,7 +4,7 @@ ghost use Rattle.asn_base.specs.Abstract.{abstract, boolean};
 ghost use Rattle.asn_base.specs.Types.{a_boolean};
 ghost use Rattle.codec_code.specs.Steps.{HasContents};
 ghost use Rattle.codec_code.specs.declared.step.LeafKind.TheVariants.{BitString, Boolean, Enumerated, Integer, NamedBits, Null, ObjectIdentifier, OctetString, RelativeOid, RestrictedString, Utf8String};
-ghost use Rattle.encodings.specs.Contents.{Contents};
+ghost use Rattle.encodings.specs.Contents.{Contents, Number};
 ghost use Rattle.encodings.specs.Rules.{Distinguished};
 ghost use Rattle.leaf_contents.specs.Held.{HasNone};
 ghost use Rattle.leaf_contents.specs.Pieces.{joined_pieces};
@@ -12,7 +12,7 @@ ghost use Rattle.std.specs.Prelude.{MatchOption, [], ◌∷◌, false};
 
 use crate::arcs::{is_object_identifier, is_relative_oid, object_identifier, relative_oid};
 use crate::bits::{are_octets, filled, trimmed};
-use crate::number::number_octets;
+use crate::number::{number_octets, one_octet};
 use arrayvec::ArrayVec;
 use asn_base::law::abstract_values;
 use asn_base::strings::StringKind;
@@ -22,7 +22,9 @@ use codec_code::LeafKind;
 /// The contents octets of a value, in pieces that take no memory.
 #[derive(Drop)]
 pub enum LeafOctets<'a> {
-    /// A few octets: those of a BOOLEAN or a number.
+    /// One octet: that of a BOOLEAN or a small number.
+    One(u8),
+    /// A few octets: those of a number.
     Few(ArrayVec<u8, 24>),
     /// The value's own octets.
     Whole(&'a [u8]),
@@ -68,12 +70,18 @@ fn of_boolean(value: &Value) -> Option<LeafOctets<'_>>
 {
     abstract_values();
     match value {
-        Value::Bool(truth) => {
-            let mut out = ArrayVec::new();
-            out.push(truth_octet(*truth));
-            Some(LeafOctets::Few(out))
-        }
+        Value::Bool(truth) => Some(LeafOctets::One(truth_octet(*truth))),
         _ => None,
+    }
+}
+
+/// The octets of a number in two's complement.
+fn number_pieces<'a>(number: i128) -> LeafOctets<'a>
+    ensures { Number number (joined_pieces result) }
+{
+    match one_octet(number) {
+        Some(octet) => LeafOctets::One(octet),
+        None => LeafOctets::Few(number_octets(number)),
     }
 }
 
@@ -84,7 +92,7 @@ fn of_integer(value: &Value) -> Option<LeafOctets<'_>>
 {
     abstract_values();
     match value {
-        Value::Int(number) => Some(LeafOctets::Few(number_octets(*number))),
+        Value::Int(number) => Some(number_pieces(*number)),
         _ => None,
     }
 }
@@ -96,7 +104,7 @@ fn of_enumerated(value: &Value) -> Option<LeafOctets<'_>>
 {
     abstract_values();
     match value {
-        Value::Enum(number) => Some(LeafOctets::Few(number_octets(*number))),
+        Value::Enum(number) => Some(number_pieces(*number)),
         _ => None,
     }
 }

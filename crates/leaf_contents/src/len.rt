@@ -29,6 +29,7 @@ fn octet_count(octets: &LeafOctets) -> u64
     ensures { length (joined_pieces octets.now) ≡ result }
 {
     match octets {
+        LeafOctets::One(_) => 1,
         LeafOctets::Few(few) => few.len() as u64,
         LeafOctets::Whole(whole) => whole.len() as u64,
         LeafOctets::Bits(_, whole, Some(_)) => whole.len() as u64 + 2,

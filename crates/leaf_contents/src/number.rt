@@ -1,7 +1,7 @@
 //! The octets of INTEGER and ENUMERATED (X.690, 8.3 and 8.4).
 
 ghost use Rattle.encodings.specs.Contents.{Number};
-ghost use Rattle.std.specs.Prelude.{◌≡◌, ◌<◌, ◌≤◌, ◌^◌, ◌↔◌, IsTrue, length, pos, slice_index};
+ghost use Rattle.std.specs.Prelude.{◌≡◌, ◌<◌, ◌≤◌, ◌^◌, ◌∷◌, ◌↔◌, [], IfSome, IsTrue, length, pos, slice_index};
 
 use crate::buffer::{push_digits, turned};
 use arrayvec::ArrayVec;
@@ -18,7 +18,33 @@ pub(crate) fn number_octets(number: i128) -> ArrayVec<u8, 24>
     }
 }
 
-/// The same for a number that is not negative: its digits, behind a 0 where they would stand for a negative number.
+/// The octet that is the number in two's complement, where one octet is.
+pub(crate) fn one_octet(number: i128) -> Option<u8>
+    ensures { IfSome result (λ o. Number number (o ∷ [])) }
+{
+    if number < 0 {
+        match low_octet((-1 - number) as u128) {
+            Some(octet) => Some(255 - octet),
+            None => None,
+        }
+    } else {
+        low_octet(number as u128)
+    }
+}
+
+/// The same for a number that is not negative.
+#[tactic(auto, using(crate::proofs::TwosComplement::one_number))]
+fn low_octet(number: u128) -> Option<u8>
+    ensures { IfSome result (λ o. Number (pos number) (o ∷ [])) }
+{
+    if number < 128 {
+        Some(number as u8)
+    } else {
+        None
+    }
+}
+
+/// The fewest octets of a number that is not negative: its digits, behind a 0 where they would stand for a negative number.
 fn unsigned_octets(number: u128) -> ArrayVec<u8, 24>
     ensures number { Number (pos number) result.items }
     ensures few { length result.items ≤ 17 }

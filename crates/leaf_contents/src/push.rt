@@ -52,6 +52,7 @@ fn push_all_pieces(octets: &LeafOctets, out: &mut Vec<u8>) -> Result<(), AllocEr
     ensures behind { StartsWith out.new.items out.old.items }
 {
     match octets {
+        LeafOctets::One(octet) => out.extend_from_slice(&[*octet]),
         LeafOctets::Few(few) => out.extend_from_slice(few.as_slice()),
         LeafOctets::Whole(whole) => out.extend_from_slice(whole),
         LeafOctets::Bits(unused, whole, last) => push_bits(*unused, whole, *last, out),

@@ -10,10 +10,12 @@ use Rattle.messages.specs.CommandLine.{asnc_app, IsFaultOf, IsRefused}
 pub refused_by : (words : List Text) (k : ErrorKind) (fault : Fault) → (k ≡ kinds.OutOfMemory) ⊎ IsAmong k (fault_of asnc_app words)
     → IsFaultOf k fault → IsRefused words fault
 refused_by words k faults.Memory h f = tt
-refused_by words k (faults.Help t) (inl m) f = let e : kinds.OutOfMemory ≡ kinds.DisplayHelp = sym m ∙ f in cc
-refused_by words k (faults.Help t) (inr a) f = rw (sym f) a
+refused_by words k (faults.Help t) (inl m) (inl f) = let e : kinds.OutOfMemory ≡ kinds.DisplayHelp = sym m ∙ f in cc
+refused_by words k (faults.Help t) (inl m) (inr f) = let e : kinds.OutOfMemory ≡ kinds.DisplayVersion = sym m ∙ f in cc
+refused_by words k (faults.Help t) (inr a) (inl f) = inl (subst (λ (x : ErrorKind). IsAmong x (fault_of asnc_app words)) f a)
+refused_by words k (faults.Help t) (inr a) (inr f) = inr (subst (λ (x : ErrorKind). IsAmong x (fault_of asnc_app words)) f a)
 refused_by words k (faults.BadWords t) (inl m) f = absurd (f.0 m)
-refused_by words k (faults.BadWords t) (inr a) f = (k, a, f.1)
+refused_by words k (faults.BadWords t) (inr a) f = (k, a, f.1, f.2)
 refused_by words k (faults.File n) h f = absurd f
 refused_by words k (faults.NoFile n) h f = absurd f
 refused_by words k (faults.Folder n) h f = absurd f

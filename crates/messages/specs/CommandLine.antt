@@ -1,5 +1,5 @@
 -- The command lines that the program takes, and what a job holds of one.
-use Rattle.std.specs.Prelude.{◌≡◌, ⊤, List, [], true, false, Some, codes, map, option_map, string_bytes, unwrap_or}
+use Rattle.std.specs.Prelude.{◌≡◌, ◌⊎◌, ⊤, List, [], true, false, Some, codes, map, option_map, string_bytes, unwrap_or}
 use Rattle.clap.specs.Words.{App, Rule, Row, Text, IsAmong, all_of, fault_of, first_of, one_of, new_app, new_rule, subcommand_of, with_rule, with_subcommand}
 use Rattle.clap.specs.declared.builder.ArgAction.TheVariants.{Append, Set, SetTrue}
 use Rattle.clap.specs.declared.error.kind.ErrorKind.{ErrorKind}
@@ -19,23 +19,34 @@ text_rule id = record (new_rule id) {
   action = Some Set;
 }
 
--- `--raw`
-abbrev pub raw_rule : Rule
-raw_rule = record (new_rule (codes "raw")) { long = Some (codes "raw"); action = Some SetTrue }
+-- `--ID`, which may be there
+abbrev pub flag_rule : Text → Rule
+flag_rule id = record (new_rule id) { long = Some id; action = Some SetTrue }
 
 -- the words at the end, one at least
 abbrev pub files_rule : Rule
 files_rule = record (new_rule (codes "FILE")) { required = true; action = Some Append }
 
--- `der --type TEXT --value TEXT [--raw] FILE..`
-abbrev pub der_app : App
-der_app = with_rule (with_rule (with_rule (with_rule (new_app (codes "der"))
-    (text_rule (codes "type"))) (text_rule (codes "value"))) raw_rule) files_rule
+-- `der --type TEXT --value TEXT`
+abbrev pub der_names_app : App
+der_names_app = with_rule (with_rule (new_app (codes "der")) (text_rule (codes "type"))) (text_rule (codes "value"))
 
--- a command is wanted, and `help` is none
+-- `der --type TEXT --value TEXT [--raw] [--context]`
+abbrev pub der_flags_app : App
+der_flags_app = with_rule (with_rule der_names_app (flag_rule (codes "raw"))) (flag_rule (codes "context"))
+
+-- `der --type TEXT --value TEXT [--raw] [--context] FILE..`
+abbrev pub der_app : App
+der_app = with_rule der_flags_app files_rule
+
+-- a command is wanted, and `help` is none; it has a version
 abbrev pub asnc_app : App
 asnc_app = with_subcommand (record (new_app (codes "asnc")) {
-  top = record (new_app (codes "asnc")).top { subcommand_required = true; disable_help_subcommand = true };
+  top = record (new_app (codes "asnc")).top {
+    subcommand_required = true;
+    disable_help_subcommand = true;
+    has_version = true;
+  };
 }) der_app.top
 
 -- the text that was given for an argument, empty where there is none
@@ -53,6 +64,8 @@ pub record IsDerOf (rows : List Row) (job : Job) : Type 0 where
   pub value : string_bytes job.value ≡ text_in rows (codes "value")
   pub raw : (one_of (codes "raw") rows ≡ Some (codes "true")) → job.raw ≡ true
   pub not_raw : (one_of (codes "raw") rows ≡ Some (codes "false")) → job.raw ≡ false
+  pub context : (one_of (codes "context") rows ≡ Some (codes "true")) → job.context ≡ true
+  pub no_context : (one_of (codes "context") rows ≡ Some (codes "false")) → job.context ≡ false
   pub files : map string_bytes job.files.items ≡ texts_in rows (codes "FILE")
   pub no_account : string_bytes job.account ≡ []
   pub no_octets : job.octets ≡ given.Nothing
@@ -68,13 +81,20 @@ pub record IsAsked (words : List Text) (job : Job) : Type 0 where
 -- the fault that tells of a failure of this kind to read the words
 abbrev pub IsFaultOf : ErrorKind → Fault → Type 0
 IsFaultOf k faults.Memory = k ≡ kinds.OutOfMemory
-IsFaultOf k (faults.Help t) = k ≡ kinds.DisplayHelp
-IsFaultOf k (faults.BadWords t) = (k ≡ kinds.OutOfMemory → ⊥) × (k ≡ kinds.DisplayHelp → ⊥)
+IsFaultOf k (faults.Help t) = (k ≡ kinds.DisplayHelp) ⊎ (k ≡ kinds.DisplayVersion)
+IsFaultOf k (faults.BadWords t) =
+    (k ≡ kinds.OutOfMemory → ⊥) × (k ≡ kinds.DisplayHelp → ⊥) × (k ≡ kinds.DisplayVersion → ⊥)
 IsFaultOf k fault = ⊥
 
--- The words are refused: they ask for help, or something else is wrong with them. Memory speaks of no words.
+-- The words are refused: they ask for help or for the version, or something else is wrong with them. Memory speaks of no
+-- words.
 abbrev pub IsRefused : List Text → Fault → Type 0
 IsRefused words faults.Memory = ⊤
-IsRefused words (faults.Help t) = IsAmong kinds.DisplayHelp (fault_of asnc_app words)
-IsRefused words (faults.BadWords t) = (k : ErrorKind) × IsAmong k (fault_of asnc_app words) × (k ≡ kinds.DisplayHelp → ⊥)
+IsRefused words (faults.Help t) =
+    IsAmong kinds.DisplayHelp (fault_of asnc_app words) ⊎ IsAmong kinds.DisplayVersion (fault_of asnc_app words)
+IsRefused words (faults.BadWords t) =
+    (k : ErrorKind)
+    × IsAmong k (fault_of asnc_app words)
+    × (k ≡ kinds.DisplayHelp → ⊥)
+    × (k ≡ kinds.DisplayVersion → ⊥)
 IsRefused words fault = ⊥

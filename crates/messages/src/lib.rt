@@ -2,12 +2,15 @@
 #![tactic(auto)]
 
 mod characters;
+mod context;
 mod fault;
-mod front;
+mod hint;
 mod line;
+mod near;
 mod place;
 mod request;
 mod telling;
+mod wanted;
 mod words;
 
 pub use fault::{Fault, number, status};

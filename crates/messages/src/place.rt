@@ -48,7 +48,7 @@ fn is_module(alloc: Global, text: &[u8], name: &str) -> Result<bool, AllocError>
 }
 
 /// The number of the text, from a number on, that is the module with this name.
-fn module_text(
+pub fn module_text(
     alloc: Global,
     texts: &[Vec<u8>],
     from: usize,

@@ -33,6 +33,8 @@ pub struct Job {
     pub raw: bool,
     /// Whether only distinguished encodings are read.
     pub strict: bool,
+    /// Whether the line of a text in which a fault stands is shown.
+    pub context: bool,
     /// The names of the files that hold the modules' texts, in order.
     pub files: Vec<String>,
 }

@@ -1,13 +1,16 @@
 //! What a user is told of a fault, on one line.
 
 use crate::characters::{character, open_string};
+use crate::context::context;
 use crate::fault::Fault;
-use crate::front::expected;
+use crate::hint::{did_you_mean, is_small};
 use crate::line::{escaped, on_one_line, shown};
 use crate::place::{
-    line_and_column, octet_of, spelling, spot_of_names, spot_of_value, text_number, tokens_in,
+    line_and_column, module_text, octet_of, parts, spelling, spot_of_names, spot_of_value,
+    text_number, tokens_in,
 };
 use crate::request::Job;
+use crate::wanted::wanted;
 use first_path::{Construct, ValueFault};
 use names::{Limit, NameFault};
 use notation::SyntaxFault;
@@ -44,8 +47,12 @@ fn of_text(alloc: Global, text: &[u8], fault: &LexFault) -> Result<(String, Stri
         LexFault::BadCharacter(place) => {
             let name = String::from_str(alloc, "11 BadCharacter")?;
             let character = character(alloc, text, *place)?;
+            let hint = match text.get(*place) {
+                Some(b'=') => "; did you mean ::=?",
+                _ => "",
+            };
             let words = format!(in alloc;
-                "found {character}, which stands in comments and quotes alone"
+                "found {character}, which stands in comments and quotes alone{hint}"
             )?;
             return Ok((name, words));
         }
@@ -98,7 +105,11 @@ fn of_tree(
         }
         SyntaxFault::Unexpected(place) => {
             let mut words = found(alloc, text, tokens.as_slice(), *place)?;
-            let wanted = expected(alloc, text, tokens.as_slice(), *place)?;
+            let told = match tokens.get(*place) {
+                Some(token) => spelled_at(text, *token),
+                None => "",
+            };
+            let wanted = wanted(alloc, tokens.as_slice(), *place, told)?;
             words.push_str(wanted.as_str())?;
             Ok((String::from_str(alloc, "20 Unexpected")?, words))
         }
@@ -138,7 +149,39 @@ fn names_in(spot: Option<&Spot>) -> (&str, &str) {
     }
 }
 
-fn of_names(alloc: Global, fault: &NameFault) -> Result<(String, String), AllocError> {
+/// The name or the word that begins at an octet.
+fn word_at(text: &[u8], octet: usize) -> &str {
+    let rest = text.get(octet..).unwrap_or(&[]);
+    let end = rest
+        .iter()
+        .position(|c| !c.is_ascii_alphanumeric() && *c != b'-')
+        .unwrap_or(rest.len());
+    std::str::from_utf8(rest.get(..end).unwrap_or(rest)).unwrap_or("")
+}
+
+/// What comes back where: a list through a DEFAULT in it, or a reference.
+fn of_circle(alloc: Global, text: &[u8], spot: &Spot) -> Result<String, AllocError> {
+    let name = shown(alloc, spot.name.as_str())?;
+    match word_at(text, spot.at) {
+        "SEQUENCE" | "SET" => format!(in alloc;
+            "a DEFAULT of a component of this list, in the type {name}, leads back to the list"
+        ),
+        "" => format!(in alloc; "the type {name} leads back to itself"),
+        told => {
+            let reference = shown(alloc, told)?;
+            format!(in alloc;
+                "the reference to {reference} in the type {name} leads round in a circle"
+            )
+        }
+    }
+}
+
+fn of_names(
+    alloc: Global,
+    texts: &[Vec<u8>],
+    text: &[u8],
+    fault: &NameFault,
+) -> Result<(String, String), AllocError> {
     let (within, told) = names_in(spot_of_names(fault));
     let module = shown(alloc, within)?;
     let name = shown(alloc, told)?;
@@ -152,18 +195,20 @@ fn of_names(alloc: Global, fault: &NameFault) -> Result<(String, String), AllocE
             "30 Twice",
             format!(in alloc; "the name {name}, or its number, is given a second time here")?,
         ),
-        NameFault::UnknownName(_) => (
-            "31 UnknownName",
-            format!(in alloc; "{name} has no meaning in the module {module} that it needs here")?,
-        ),
+        NameFault::UnknownName(_) => {
+            let hint = did_you_mean(alloc, texts, told)?;
+            (
+                "31 UnknownName",
+                format!(in alloc;
+                    "{name} has no meaning in the module {module} that it needs here{hint}"
+                )?,
+            )
+        }
         NameFault::NotExported(_) => (
             "32 NotExported",
             format!(in alloc; "{name} is not exported by the module that it is imported from")?,
         ),
-        NameFault::Circular(_) => (
-            "33 Circular",
-            format!(in alloc; "the type {name} comes back to itself")?,
-        ),
+        NameFault::Circular(spot) => ("33 Circular", of_circle(alloc, text, spot)?),
         NameFault::UnknownModule(_) => (
             "34 UnknownModule",
             format!(in alloc; "no text is the module {name}, from which names are imported")?,
@@ -225,17 +270,25 @@ fn of_construct(
     Ok((told, words))
 }
 
-fn of_value(alloc: Global, fault: &ValueFault, job: &Job) -> Result<(String, String), AllocError> {
+fn of_value(
+    alloc: Global,
+    texts: &[Vec<u8>],
+    fault: &ValueFault,
+    job: &Job,
+) -> Result<(String, String), AllocError> {
     let ty = shown(alloc, job.ty.as_str())?;
     let value = shown(alloc, job.value.as_str())?;
     let (_, told) = names_in(spot_of_value(fault));
     let name = shown(alloc, told)?;
     let (class, words) = match fault {
         ValueFault::Memory => ("1 Memory", String::from_str(alloc, "out of memory")?),
-        ValueFault::UnknownName(_) => (
-            "31 UnknownName",
-            format!(in alloc; "{name} is no value of its module")?,
-        ),
+        ValueFault::UnknownName(_) => {
+            let hint = did_you_mean(alloc, texts, told)?;
+            (
+                "31 UnknownName",
+                format!(in alloc; "{name} is no value of its module{hint}")?,
+            )
+        }
         ValueFault::Circular(_) => (
             "33 Circular",
             format!(in alloc; "the value {name} comes back to itself")?,
@@ -246,10 +299,15 @@ fn of_value(alloc: Global, fault: &ValueFault, job: &Job) -> Result<(String, Str
                 "{value} is no value of the type {ty}: it is of another kind, or its components stand in another order"
             )?,
         ),
-        ValueFault::UnknownItem(_) => (
-            "62 UnknownItem",
-            format!(in alloc; "{name} is neither a component of the type {ty} nor a value")?,
-        ),
+        ValueFault::UnknownItem(_) => {
+            let hint = did_you_mean(alloc, texts, told)?;
+            (
+                "62 UnknownItem",
+                format!(in alloc;
+                    "{name} is neither a component of the type {ty} nor a value{hint}"
+                )?,
+            )
+        }
         ValueFault::Missing(_) => (
             "63 Missing",
             format!(in alloc; "{value} gives no value for the component {name} of the type {ty}")?,
@@ -268,31 +326,58 @@ fn of_file(alloc: Global, name: &str, what: &str) -> Result<(String, String), Al
     Ok((String::from_str(alloc, "3 File")?, words))
 }
 
+/// Why a name of the command line, as `Module.Name`, means nothing; `value` tells whether it had to be a value's.
+fn of_no_name(
+    alloc: Global,
+    texts: &[Vec<u8>],
+    name: &str,
+    value: bool,
+) -> Result<(String, String), AllocError> {
+    let class = String::from_str(alloc, "31 UnknownName")?;
+    let kind = if value { "value" } else { "type" };
+    let told = shown(alloc, name)?;
+    let (within, simple) = parts(name);
+    if within.is_empty() {
+        let words = format!(in alloc;
+            "{told} names no module: a {kind} is named as MODULE, a dot, and its name"
+        )?;
+        return Ok((class, words));
+    }
+    let module = shown(alloc, within)?;
+    if module_text(alloc, texts, 0, within)?.is_none() {
+        let words = format!(in alloc; "there is no module {module} for {told}")?;
+        return Ok((class, words));
+    }
+    if is_small(simple) != value {
+        let other = if value { "type" } else { "value" };
+        let words = format!(in alloc; "{told} is the name of a {other}, and not of a {kind}")?;
+        return Ok((class, words));
+    }
+    let hint = did_you_mean(alloc, texts, simple)?;
+    let words = format!(in alloc;
+        "the module has no {kind} {told}: it neither assigns nor imports one of this name{hint}"
+    )?;
+    Ok((class, words))
+}
+
 /// The name and the sentence of a fault.
 fn sentence(
     alloc: Global,
     job: &Job,
+    texts: &[Vec<u8>],
     text: &[u8],
     fault: &Fault,
 ) -> Result<(String, String), AllocError> {
     match fault {
         Fault::Text(_, inner) => of_text(alloc, text, inner),
         Fault::Tree(_, inner) => of_tree(alloc, text, inner),
-        Fault::Name(inner) => of_names(alloc, inner),
+        Fault::Name(inner) => of_names(alloc, texts, text, inner),
         Fault::OutOfProfile(construct, spot) => {
             of_construct(alloc, *construct, spot.name.as_str())
         }
-        Fault::Value(inner) => of_value(alloc, inner, job),
-        Fault::NoType(name) => {
-            let name = shown(alloc, name.as_str())?;
-            let words = format!(in alloc; "the module has no type {name}")?;
-            Ok((String::from_str(alloc, "31 UnknownName")?, words))
-        }
-        Fault::NoValue(name) => {
-            let name = shown(alloc, name.as_str())?;
-            let words = format!(in alloc; "the module has no value {name}")?;
-            Ok((String::from_str(alloc, "31 UnknownName")?, words))
-        }
+        Fault::Value(inner) => of_value(alloc, texts, inner, job),
+        Fault::NoType(name) => of_no_name(alloc, texts, name.as_str(), false),
+        Fault::NoValue(name) => of_no_name(alloc, texts, name.as_str(), true),
         Fault::TooLong => Ok((
             String::from_str(alloc, "71 TooLong")?,
             String::from_str(alloc, "the encoding has more than 16777216 octets")?,
@@ -314,7 +399,8 @@ fn sentence(
 }
 
 /// One line that tells a user of a fault that a job met in the texts of its files, as
-/// `error 20 Unexpected: m.asn:3:14: found '}', expected a type`. Lines and columns count from 1.
+/// `error 20 Unexpected: m.asn:3:14: found '}', expected a type`. Lines and columns count from 1. Where the job asks for the
+/// context and the fault stands at an octet of a text, its line and a line with a caret follow.
 pub fn report(
     alloc: Global,
     job: &Job,
@@ -322,7 +408,7 @@ pub fn report(
     fault: &Fault,
 ) -> Result<String, AllocError> {
     let Some(number) = text_number(alloc, texts, fault)? else {
-        let (name, words) = sentence(alloc, job, &[], fault)?;
+        let (name, words) = sentence(alloc, job, texts, &[], fault)?;
         let line = format!(in alloc; "error {name}: {words}")?;
         return on_one_line(alloc, line.as_str());
     };
@@ -330,17 +416,21 @@ pub fn report(
         Some(text) => text.as_slice(),
         None => &[],
     };
-    let (name, words) = sentence(alloc, job, text, fault)?;
+    let (name, words) = sentence(alloc, job, texts, text, fault)?;
     let file = match job.files.get(number) {
         Some(file) => escaped(alloc, file.as_str())?,
         None => String::from_str(alloc, "a text")?,
     };
-    let line = match octet_of(alloc, text, fault)? {
-        Some(octet) => {
-            let (line, column) = line_and_column(text, octet);
-            format!(in alloc; "error {name}: {file}:{line}:{column}: {words}")?
-        }
-        None => format!(in alloc; "error {name}: {file}: {words}")?,
+    let Some(octet) = octet_of(alloc, text, fault)? else {
+        let line = format!(in alloc; "error {name}: {file}: {words}")?;
+        return on_one_line(alloc, line.as_str());
     };
-    on_one_line(alloc, line.as_str())
+    let (line, column) = line_and_column(text, octet);
+    let told = format!(in alloc; "error {name}: {file}:{line}:{column}: {words}")?;
+    let mut told = on_one_line(alloc, told.as_str())?;
+    if job.context {
+        let lines = context(alloc, text, octet)?;
+        told.push_str(lines.as_str())?;
+    }
+    Ok(told)
 }

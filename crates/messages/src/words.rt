@@ -3,7 +3,7 @@
 ghost use Rattle.std.specs.Prelude.{◌≡◌, IfOk, IfErr, Some, codes, false, true, map, string_bytes, unwrap_or, if◌then◌else◌};
 ghost use Rattle.clap.specs.Words.{app_of, first_of, kind_of, found_of, one_of, rows_of, rule_of};
 ghost use Rattle.clap.specs.declared.builder.command.Command.TheViews.{out-Command};
-ghost use Rattle.messages.specs.CommandLine.{asnc_app, der_app, files_rule, raw_rule, text_in, text_rule, texts_in, IsAsked, IsFaultOf, IsRefused, IsDerOf};
+ghost use Rattle.messages.specs.CommandLine.{asnc_app, der_app, der_flags_app, der_names_app, files_rule, flag_rule, text_in, text_rule, texts_in, IsAsked, IsFaultOf, IsRefused, IsDerOf};
 
 use crate::fault::Fault;
 use crate::line::on_one_line;
@@ -11,6 +11,22 @@ use crate::request::{Given, Job, Verb};
 use clap::error::ErrorKind;
 use clap::{Arg, ArgAction, ArgMatches, Command};
 use std::alloc::{AllocError, Global};
+
+/// What the help shows at its end.
+const AFTER_HELP: &str = "\
+Example:
+  asnc der --type M.T --value M.v m.asn
+
+Exit status: 0 done, 1 the texts, names or values are refused, 2 a bad command line,
+3 memory, a file or a device was wanting. A refusal is one line, with its number and
+its name; man asnc lists them.";
+
+/// What the help of `der` shows at its end.
+const DER_EXAMPLES: &str = "\
+Examples:
+  asnc der --type M.T --value M.v m.asn
+  asnc der --raw --type M.T --value M.v m.asn > v.der
+  cat m.asn | asnc der --context --type M.T --value M.v -";
 
 /// `--ID <SHOWN>`, which has to be there.
 fn text_arg<'a>(alloc: Global, id: &'a str, shown: &'a str, help: &'a str) -> Arg<'a>
@@ -25,15 +41,15 @@ fn text_arg<'a>(alloc: Global, id: &'a str, shown: &'a str, help: &'a str) -> Ar
         .help(help)
 }
 
-/// `--raw`.
-fn raw_arg<'a>(alloc: Global) -> Arg<'a>
-    ensures rule { rule_of result ≡ raw_rule }
+/// `--ID`, which may be there.
+fn flag_arg<'a>(alloc: Global, id: &'a str, help: &'a str) -> Arg<'a>
+    ensures rule { rule_of result ≡ flag_rule id.entry.now }
     ensures local { result.global ≡ false }
 {
-    Arg::new(alloc, "raw")
-        .long("raw")
+    Arg::new(alloc, id)
+        .long(id)
         .action(ArgAction::SetTrue)
-        .help("Write the octets themselves, not hexadecimal")
+        .help(help)
 }
 
 /// The files, one at least.
@@ -44,19 +60,40 @@ fn files_arg<'a>(alloc: Global) -> Arg<'a>
     Arg::new(alloc, "FILE")
         .required(true)
         .action(ArgAction::Append)
-        .help("The modules' texts")
+        .help("The modules' texts; - is standard input, once")
+}
+
+/// `der` with the names of a type and of a value.
+fn der_names<'a>(alloc: Global) -> Result<Command<'a>, AllocError>
+    ensures shape { IfOk result (λ c. app_of c ≡ der_names_app) }
+    ensures local { IfOk result (λ c. (out-Command c).has_globals ≡ false) }
+{
+    Command::new(alloc, "der")
+        .about("Write the DER encoding of a value that a module names")
+        .after_help(DER_EXAMPLES)
+        .arg(text_arg(alloc, "type", "MODULE.TYPE", "The type"))?
+        .arg(text_arg(alloc, "value", "MODULE.VALUE", "The value"))
+}
+
+/// The same with its flags.
+fn der_flags<'a>(alloc: Global) -> Result<Command<'a>, AllocError>
+    ensures shape { IfOk result (λ c. app_of c ≡ der_flags_app) }
+    ensures local { IfOk result (λ c. (out-Command c).has_globals ≡ false) }
+{
+    let raw = flag_arg(alloc, "raw", "Write the octets themselves, not hexadecimal");
+    let context = flag_arg(
+        alloc,
+        "context",
+        "Show the line in which a fault stands, too",
+    );
+    der_names(alloc)?.arg(raw)?.arg(context)
 }
 
 fn der_command<'a>(alloc: Global) -> Result<Command<'a>, AllocError>
     ensures shape { IfOk result (λ c. app_of c ≡ der_app) }
     ensures local { IfOk result (λ c. (out-Command c).has_globals ≡ false) }
 {
-    Command::new(alloc, "der")
-        .about("Write the DER encoding of a value that a module names")
-        .arg(text_arg(alloc, "type", "MODULE.TYPE", "The type"))?
-        .arg(text_arg(alloc, "value", "MODULE.VALUE", "The value"))?
-        .arg(raw_arg(alloc))?
-        .arg(files_arg(alloc))
+    der_flags(alloc)?.arg(files_arg(alloc))
 }
 
 fn asnc_command<'a>(alloc: Global) -> Result<Command<'a>, AllocError>
@@ -66,6 +103,8 @@ fn asnc_command<'a>(alloc: Global) -> Result<Command<'a>, AllocError>
 {
     Command::new(alloc, "asnc")
         .about("An ASN.1 compiler: from modules' texts to octets")
+        .version("0.1.0")
+        .after_help(AFTER_HELP)
         .subcommand_required(true)
         .disable_help_subcommand(true)
         .subcommand(der_command(alloc)?)
@@ -99,6 +138,7 @@ fn fault_of_clap(alloc: Global, error: &clap::Error) -> Result<Fault, AllocError
     match error.kind() {
         ErrorKind::OutOfMemory => Ok(Fault::Memory),
         ErrorKind::DisplayHelp => Ok(Fault::Help(error.to_string(alloc)?)),
+        ErrorKind::DisplayVersion => Ok(Fault::Help(error.to_string(alloc)?)),
         _ => {
             let message = error.to_string(alloc)?;
             Ok(Fault::BadWords(complaint(alloc, message.as_str())?))
@@ -136,6 +176,7 @@ fn der_job(alloc: Global, found: &ArgMatches<'_>) -> Result<Job, AllocError>
     ensures { IfOk result (IsDerOf (rows_of (found_of found.now))) }
 {
     let raw = found.get_flag("raw");
+    let context = found.get_flag("context");
     Ok(Job {
         verb: Verb::Der,
         ty: text_of(alloc, found, "type")?,
@@ -144,13 +185,14 @@ fn der_job(alloc: Global, found: &ArgMatches<'_>) -> Result<Job, AllocError>
         octets: Given::Nothing,
         raw,
         strict: false,
+        context,
         files: files_of(alloc, found)?,
     })
 }
 
 /// The job that the words ask for. The first word is the program's name.
 ///
-/// `BadWords` where the words ask for nothing that the program does, and `Help` where they ask for help.
+/// `BadWords` where the words ask for nothing that the program does, and `Help` where they ask for help or for the version.
 pub fn job(alloc: Global, words: &[String]) -> Result<Job, Fault>
     ensures asked { IfOk result (IsAsked (map string_bytes words.now)) }
     ensures refused { IfErr result (IsRefused (map string_bytes words.now)) }

@@ -9,7 +9,7 @@ use row_files::Row;
 use std::alloc::{AllocError, Global};
 
 /// The kind of this name.
-fn kind_named(name: &str) -> Option<LeafKind> {
+pub fn kind_named(name: &str) -> Option<LeafKind> {
     match name {
         "boolean" => Some(LeafKind::Boolean),
         "integer" => Some(LeafKind::Integer),

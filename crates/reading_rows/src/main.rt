@@ -1,5 +1,5 @@
-//! Answers rows of encodings of values that hold no others, read by the public calls of `octets` and `leaf_readings`, and
-//! prints each answer below its row's words.
+//! Answers rows of encodings of values that hold no others, read by the public calls of `octets`, `leaf_readings` and
+//! `segmented_strings`, and prints each answer below its row's words.
 //!
 //! The files that its words name are files of rows, each described at its head. The answers that the stored run compares are
 //! written by hand, not taken from this program.
@@ -7,6 +7,7 @@
 
 mod leaf;
 mod refusal;
+mod segments;
 
 use crate::refusal::{Refusal, told};
 use row_files::{Row, rows};
@@ -18,6 +19,7 @@ use std::{env, fs, io};
 fn answer_of(alloc: Global, row: &Row) -> Result<String, Refusal> {
     match row.command() {
         "leaf" => leaf::answer(alloc, row),
+        "segments" => segments::answer(alloc, row),
         _ => Err(told(alloc, &"no such command")),
     }
 }

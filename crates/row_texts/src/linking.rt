@@ -1,5 +1,8 @@
 //! The modules of a row's texts.
 
+ghost use Rattle.std.specs.Prelude.{IfOk};
+ghost use Rattle.type_table.specs.Lists.{AreSound};
+
 use crate::refusal::{Refusal, told};
 use crate::requests::texts_of;
 use asn_base::schema::TypeId;
@@ -22,7 +25,9 @@ fn module(alloc: Global, text: &[u8]) -> Result<Module, Refusal> {
 }
 
 /// The modules of a row's texts, linked, or the fault that a text has or that linking tells, in words.
-pub fn linked(alloc: Global, row: &Row) -> Result<Linked, Refusal> {
+pub fn linked(alloc: Global, row: &Row) -> Result<Linked, Refusal>
+    ensures { IfOk result (λ l. AreSound l.types) }
+{
     let mut modules = Vec::new(alloc);
     for text in &texts_of(alloc, row)? {
         modules.push(module(alloc, text.as_slice())?)?;

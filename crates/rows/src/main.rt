@@ -2,7 +2,9 @@
 //!
 //! The files that its words name are files of rows. A row's first word is a command and its second the row's own name:
 //! `link`, `tags`, `header`, `octets`, `line`, `asnc` and `job`, each described where it is answered and at the head of the
-//! files that use it. The answers that the stored run compares are written by hand, not taken from this program. A row
+//! files that use it. The answers that the stored run compares are written by hand, not taken from this program, but for those of
+//! `hints.rows` and lists of expected tokens, which were compared by hand with the grammar. A row with `caret` among its words is
+//! told with the line of its fault, and a row
 //! with `numbered` among its words has each `#` of its texts counted, from 0.
 #![tactic(auto)]
 

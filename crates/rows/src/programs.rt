@@ -75,6 +75,7 @@ pub fn line(alloc: Global, row: &Row) -> Result<String, Refusal> {
         octets: Given::Nothing,
         raw: false,
         strict: false,
+        context: row.has("caret"),
         files: names_of(alloc, row.texts.as_slice())?,
     };
     let texts = texts_of(alloc, row)?;
@@ -122,9 +123,9 @@ pub fn job_of(alloc: Global, row: &Row) -> Result<String, Refusal> {
         Given::Path(_) => "a file",
     };
     let (ty, value, raw) = (job.ty.as_str(), job.value.as_str(), job.raw);
-    let (account, strict) = (job.account.as_str(), job.strict);
+    let (account, strict, context) = (job.account.as_str(), job.strict, job.context);
     let mut text = format!(in alloc;
-        "{verb} of value {value} under type {ty}\nraw {raw}\naccount '{account}', octets: {octets}, strict {strict}"
+        "{verb} of value {value} under type {ty}\nraw {raw}, context {context}\naccount '{account}', octets: {octets}, strict {strict}"
     )?;
     for file in &job.files {
         let line = format!(in alloc; "\nfile {file}")?;

@@ -3,9 +3,9 @@
 use row_files::Row;
 use std::alloc::{AllocError, Global};
 
-/// Whether a word says how a row's texts are written, and nothing of what is asked.
+/// Whether a word says how a row's texts are written or how a fault in them is told, and nothing of what is asked.
 fn is_form(word: &str) -> bool {
-    matches!(word, "lines" | "repeat" | "hex" | "numbered")
+    matches!(word, "lines" | "repeat" | "hex" | "numbered" | "caret")
 }
 
 /// The words of a row that say what is asked of which name: those behind its command and its own name.

@@ -1,5 +1,5 @@
 -- Lists of trees in braces are the lists that they were made of.
-use Rattle.std.proofs.Common.{◌≡◌, ◌∙◌, ◌∷◌, [], List, Some, None, Option, refl, sym, ap, map, option_map}
+use Rattle.std.proofs.Common.{◌≡◌, ◌∙◌, ◌∷◌, [], List, Some, None, refl, sym, ap, map, option_map}
 use Rattle.std.specs.Prelude.{Vec}
 use Rattle.std.specs.Global.{Global}
 use Rattle.trees.specs.Values.{Name, Tree, member_of, name_at, tree_of, value_layer}

@@ -1,16 +1,15 @@
 -- A notation in which a fault stands stands for no value of its type within the limits.
-use Rattle.std.proofs.Common.{inl, inr, ◌≡◌, ℕ, zero, suc, ◌+◌, ◌<◌, ◌≤◌, refl, sym, ap, subst, ◌∙◌, Some, None, Bool, arith}
-use Rattle.std.specs.Prelude.{List, [], ◌∷◌, ◌++◌, Option, slice_get, ◌^◌, ◌⊎◌, pos, map}
-use Rattle.std.specs.List.{AllByRecursion}
+use Rattle.std.proofs.Common.{inl, inr, ◌≡◌, ℕ, zero, suc, ◌+◌, ◌≤◌, refl, sym, ap, subst, ◌∙◌, Some, None, Bool, arith}
+use Rattle.std.specs.Prelude.{List, [], ◌∷◌, ◌++◌, Option, slice_get}
 use Rattle.std.proofs.lemmas.Option.{same_Some}
 use Rattle.asn_base.specs.Abstract.{AbstractValue, boolean, integer, enumerated, bits, octets, text, null, oid, relative_oid, fields, list, alternative, Row}
-use Rattle.asn_base.specs.Typed.{nodes, row_nodes, members, IsObjectIdentifier, arcs, IsRelativeOid}
+use Rattle.asn_base.specs.Typed.{nodes, row_nodes, IsObjectIdentifier, arcs, IsRelativeOid}
 use Rattle.trees.specs.declared.types.ListKind.{ListKind}
 use Rattle.trees.specs.declared.types.ListKind.TheVariants.{Sequence, Set, Choice}
 use Rattle.trees.specs.declared.types.ElementsKind.{ElementsKind}
-use Rattle.trees.specs.declared.types.Standing.TheVariants.{Root, Addition}
+use Rattle.trees.specs.declared.types.Standing.TheVariants.{Root}
 use Rattle.trees.specs.Values.{Name, Tree, chosen}
-use Rattle.trees.specs.Types.{Plain, PresenceTree, mandatory, optional, default, an_integer, a_bit_string, an_octet_string, an_object_identifier, a_relative_oid, a_utf8_string, a_restricted_string}
+use Rattle.trees.specs.Types.{Plain, PresenceTree, mandatory, optional, default, a_bit_string}
 use Rattle.names.specs.Modules.{StandsIn, AreDistinct}
 use Rattle.names.specs.Names.{IsApart}
 use Rattle.type_table.specs.Table.{Type', Kind, simple, elements, Part, next}
@@ -27,10 +26,8 @@ use Rattle.value_notations.specs.Values.{ValueIn, ValueOf, AreComponents, AreEle
 use Rattle.value_notations.specs.Values as values
 use Rattle.value_notations.specs.Wrong.{Trouble, IsRead, IsWrongHere, IsLost, IsDisarranged}
 use Rattle.value_notations.specs.Wrong as wrong
-use Rattle.value_notations.specs.Outside.{IsLeftOut, HasPast, ArePast, IsOutside}
-use Rattle.value_notations.specs.Faults.{StandsForPast}
+use Rattle.value_notations.specs.Outside.{IsLeftOut, HasPast, ArePast}
 use Rattle.values.specs.Allowing.{Allows, AllowsCode}
-use Rattle.values.specs.Arranged.{IsWrongField, IsRepeatedField, IsMissingPart, IsBehind}
 use Rattle.typed_values.specs.declared.fault.Cause.{Cause}
 use Rattle.typed_values.specs.declared.fault.Cause.TheVariants as cause
 use Rattle.typed_values.specs.declared.fault.ValueFault.{ValueFault}
@@ -379,9 +376,9 @@ module _ (p : Program) (s : IsKept p) (one : OneValue) (none_wrong : NoneWrong) 
   lost_none None x a l h = wrong_none (wrong.unknown_item x) (wrong.lost_item a l) h
   lost_none (Some q) x a l h = wrong_none (wrong.unknown_name x) (wrong.lost_name a l) h
 
-  names_none : {os : List ℕ} {M : Name} {i : ℕ} {n l : Tree} {v : AbstractValue}
+  names_none : {os : List ℕ} {M K : Name} {i : ℕ} {n l : Tree} {v : AbstractValue}
       {P : ListKind → List Part → List Name → Type 0}
-      (h : HasNames p os M i n l P) (t : Trouble) →
+      (h : HasNames p os M K i n l P) (t : Trouble) →
       IsDisarranged h.list h.parts (field_names h.fields) t →
       Notation p os M i n v → ⊥
   names_none h t d g = wrong_none t (wrong.names h.is h.no_choice h.last h.in_braces d) g
@@ -408,19 +405,20 @@ module _ (p : Program) (s : IsKept p) (one : OneValue) (none_wrong : NoneWrong) 
   cause_none (cause.Lost K l) m w h a b = lost_none w.such.prefix w.such.name w.is w.such.lost h
   cause_none (cause.Circular j K l) m w h a b = wrong_none (wrong.circular j) (wrong.round w.is w.such.round) h
   cause_none cause.NotOfType m w h a b = wrong_none wrong.not_of_type w h
-  cause_none (cause.UnknownBit l) m w h a b =
+  cause_none (cause.UnknownBit K l) m w h a b =
       wrong_none (wrong.unknown_item w.such.name) (wrong.bit w.is w.last w.such.unknown) h
   cause_none {v = v} cause.Oid m w h a b =
-      let g = leaf_in (at_last w.is w.last h) in
-      let o = of_value w.is a in
-      let e = same_value (family.notation w.is w.last (family.of_leaf w.such.stands)) h in
-      past_none p _ g (subst HasPast e w.such.past) (plain_in o.value)
+      let l = w.leaf in
+      let g = leaf_in (at_last l.is l.last h) in
+      let o = of_value l.is a in
+      let e = same_value (family.notation l.is l.last (family.of_leaf l.such.stands)) h in
+      past_none p _ g (subst HasPast e l.such.past) (plain_in o.value)
   cause_none cause.UnknownAlternative m w h a b =
       wrong_none (wrong.unknown_item w.name) (wrong.other_alternative w.is w.last w.none) h
-  cause_none (cause.UnknownField j l) m w h a b = names_none w (wrong.unknown_item w.such.name) w.such.wrong h
-  cause_none (cause.Repeated j l) m w h a b = names_none w (wrong.repeated w.such.name) w.such.wrong h
-  cause_none (cause.Missing j l) m w h a b = names_none w (wrong.missing w.such.part.name) w.such.wrong h
-  cause_none (cause.Behind j l) m w h a b =
+  cause_none (cause.UnknownField j K l) m w h a b = names_none w (wrong.unknown_item w.such.name) w.such.wrong h
+  cause_none (cause.Repeated j K l) m w h a b = names_none w (wrong.repeated w.such.name) w.such.wrong h
+  cause_none (cause.Missing j K l) m w h a b = names_none w (wrong.missing w.such.part.name) w.such.wrong h
+  cause_none (cause.Behind j K l) m w h a b =
       names_none w (wrong.out_of_order w.such.name w.such.other) w.such.wrong h
   cause_none {i = i} {v = v} cause.Outside m w h a b =
       let e = same_value w.stands h in

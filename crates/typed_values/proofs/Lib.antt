@@ -4,3 +4,4 @@ pub mod Following
 pub mod Rows
 pub mod Readings
 pub mod Excluding
+pub mod Absences

@@ -1,7 +1,7 @@
 -- What the parts of a reading answer, put together.
 use Rattle.std.proofs.Common.{◌≡◌, ℕ, zero, suc, ◌+◌, ◌<◌, Bool, List, [], ◌∷◌, ◌++◌, Option, Some, None, refl, sym, ap, ◌∙◌, length, map, arith, subst, get_or, cond, option_map, take, drop, ◌-◌}
 use native.Mathlib.Numerals.{unary_clauses}
-use Rattle.std.specs.Prelude.{slice_get, IsTrue, pos, All, true, false, bytes_eq}
+use Rattle.std.specs.Prelude.{slice_get, pos, All, true, false, bytes_eq}
 use Rattle.std.proofs.lemmas.List.{length-map}
 use Rattle.std.proofs.lemmas.Option.{same_Some}
 use Rattle.asn_base.specs.declared.tag.Tag.{Tag}
@@ -16,7 +16,7 @@ use Rattle.type_table.specs.declared.table.Component.{Component}
 use Rattle.typed_values.proofs.Rows.{got, got_or, got_plain, place_below, split, taken, map_end, one_more, none_yet, one_field_more, no_field_yet}
 use Rattle.asn_base.specs.declared.value.Value.{Value}
 use Rattle.asn_base.specs.Abstract.{AbstractValue, abstract, Row, row_of_list, row_of_options, fields, list, alternative}
-use Rattle.asn_base.specs.Typed.{nodes, row_nodes, members, GroupsAreWhole}
+use Rattle.asn_base.specs.Typed.{nodes, members, GroupsAreWhole}
 use Rattle.trees.specs.declared.types.ListKind.{ListKind}
 use Rattle.trees.specs.declared.types.ListKind.TheVariants.{Sequence, Set, Choice}
 use Rattle.trees.specs.declared.types.ElementsKind.{ElementsKind}
@@ -241,7 +241,7 @@ fields_mean w none d h g m =
 
 -- ---- types
 
-in_core : {p : Program} {i : ℕ} {k : Kind} {N : Name} (w : IsWritten p i k N) → Is p.types w.core k w.type.default w.type.place
+pub in_core : {p : Program} {i : ℕ} {k : Kind} {N : Name} (w : IsWritten p i k N) → Is p.types w.core k w.type.default w.type.place
 in_core {p} w =
     subst (λ (x : Kind). Is p.types w.core x w.type.default w.type.place) w.kind
     (record { constraints = w.type.constraints; assignment = w.type.assignment; found = w.there })

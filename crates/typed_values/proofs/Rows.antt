@@ -1,14 +1,12 @@
 -- Rows of values that grow at their end, and lists that are split at a place.
-use Rattle.std.proofs.Common.{◌≡◌, ℕ, zero, suc, ◌+◌, ◌<◌, List, [], ◌∷◌, ◌++◌, Option, Some, None, refl, sym, ap, ◌∙◌, take, drop, length, map, arith, get_or, subst}
-use Rattle.std.specs.Prelude.{slice_get, IsTrue, option_map}
-use Rattle.asn_base.specs.declared.value.Value.{Value}
-use Rattle.asn_base.specs.Abstract.{AbstractValue, abstract, Row, row_of_list, row_of_options}
+use Rattle.std.proofs.Common.{◌≡◌, ℕ, zero, suc, ◌+◌, ◌<◌, List, [], ◌∷◌, ◌++◌, Option, Some, None, refl, sym, ap, take, drop, length, map, arith, get_or}
+use Rattle.std.specs.Prelude.{slice_get}
+use Rattle.asn_base.specs.Abstract.{AbstractValue, row_of_list, row_of_options}
 use Rattle.asn_base.specs.Typed.{nodes, row_nodes}
 use Rattle.trees.specs.Values.{Name, Tree}
-use Rattle.names.specs.Modules.{StandsIn}
 use Rattle.type_table.specs.Table.{Part}
 use Rattle.resolve.specs.Program.{Program}
-use Rattle.value_notations.specs.Notations.{Notation, Fields, Elements, no_element, one_element, no_part, part_absent, part_present, field_names, may_be_absent}
+use Rattle.value_notations.specs.Notations.{Notation, Fields, Elements, no_element, one_element, no_part, part_absent, part_present}
 use Rattle.value_notations.specs.Values.{ValueIn, AreComponents, AreElements, MayBeAbsent, no_component, component_absent, component_present}
 use Rattle.value_notations.specs.Values as values
 use Rattle.values.specs.Allowing.{Allows, AllowsCode}

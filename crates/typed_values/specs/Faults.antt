@@ -41,28 +41,32 @@ pub record HasKind (p : Program) (i : ℕ) (P : Kind → Type 0) : Type 0 where
   pub is : IsOfKind p.types i kind
   pub such : P kind
 
--- type i holds no other types, and P holds of it and of the notation behind the references of notation n
-pub record HasLeaf (p : Program) (os : List ℕ) (M : Name) (i : ℕ) (n : Tree) (P : Plain → Tree → Type 0) : Type 0 where
+-- type i holds no other types, and P holds of it and of the notation behind the references of notation n, which is read in
+-- module K
+pub record HasLeafIn (p : Program) (os : List ℕ) (M K : Name) (i : ℕ) (n : Tree) (P : Plain → Tree → Type 0) : Type 0 where
   pub plain : Plain
   pub is : IsOfKind p.types i (simple plain)
   pub opened : List ℕ
-  pub within : Name
   pub notation : Tree
-  pub last : IsLast p (simple plain) os M n opened within notation
+  pub last : IsLast p (simple plain) os M n opened K notation
   pub such : P plain notation
 
--- type i is a SEQUENCE or SET, l is the notation behind the references of notation n, and P holds of the kind of list, of
--- its components and of the names of the fields in braces
-pub record HasNames (p : Program) (os : List ℕ) (M : Name) (i : ℕ) (n l : Tree) (P : ListKind → List Part → List Name → Type 0)
-    : Type 0 where
+-- the same with any module
+pub record HasLeaf (p : Program) (os : List ℕ) (M : Name) (i : ℕ) (n : Tree) (P : Plain → Tree → Type 0) : Type 0 where
+  pub within : Name
+  pub leaf : HasLeafIn p os M within i n P
+
+-- type i is a SEQUENCE or SET, l, which is read in module K, is the notation behind the references of notation n, and P
+-- holds of the kind of list, of its components and of the names of the fields in braces
+pub record HasNames (p : Program) (os : List ℕ) (M K : Name) (i : ℕ) (n l : Tree)
+    (P : ListKind → List Part → List Name → Type 0) : Type 0 where
   pub list : ListKind
   pub marked : Bool
   pub parts : List Part
   pub is : IsOfKind p.types i (table.members list marked parts)
   pub no_choice : list ≡ Choice → ⊥
   pub opened : List ℕ
-  pub within : Name
-  pub last : IsLast p (table.members list marked parts) os M n opened within l
+  pub last : IsLast p (table.members list marked parts) os M n opened K l
   pub fields : List (Name × Tree)
   pub in_braces : fields_in l ≡ Some fields
   pub such : P list parts (field_names fields)
@@ -88,18 +92,18 @@ IsCause p levels left os M i n (cause.Lost K l) = HasKind p i (λ k. IsLostAt p 
 IsCause p levels left os M i n (cause.Circular j K l) =
     HasKind p i (λ k. ComesRoundAt p k os M n j K.now (tree_of l.now))
 IsCause p levels left os M i n cause.NotOfType = IsWrongHere p os M i n not_of_type
-IsCause p levels left os M i n (cause.UnknownBit b) =
-    HasLeaf p os M i n (λ k l. IsUnknownBitAt k l (tree_of b.now))
+IsCause p levels left os M i n (cause.UnknownBit K b) =
+    HasLeafIn p os M K.now i n (λ k l. IsUnknownBitAt k l (tree_of b.now))
 IsCause p levels left os M i n cause.Oid = HasLeaf p os M i n StandsForPast
 IsCause p levels left os M i n cause.UnknownAlternative = HasNoAlternative p os M i n
-IsCause p levels left os M i n (cause.UnknownField a l) =
-    HasNames p os M i n (tree_of l.now) (λ k cs fs. IsWrongField k cs fs a)
-IsCause p levels left os M i n (cause.Repeated a l) =
-    HasNames p os M i n (tree_of l.now) (λ k cs fs. IsRepeatedField k cs fs a)
-IsCause p levels left os M i n (cause.Missing a l) =
-    HasNames p os M i n (tree_of l.now) (λ k cs fs. IsMissingPart k cs fs a)
-IsCause p levels left os M i n (cause.Behind a l) =
-    HasNames p os M i n (tree_of l.now) (λ k cs fs. IsBehind k cs fs a)
+IsCause p levels left os M i n (cause.UnknownField a K l) =
+    HasNames p os M K.now i n (tree_of l.now) (λ k cs fs. IsWrongField k cs fs a)
+IsCause p levels left os M i n (cause.Repeated a K l) =
+    HasNames p os M K.now i n (tree_of l.now) (λ k cs fs. IsRepeatedField k cs fs a)
+IsCause p levels left os M i n (cause.Missing a K l) =
+    HasNames p os M K.now i n (tree_of l.now) (λ k cs fs. IsMissingPart k cs fs a)
+IsCause p levels left os M i n (cause.Behind a K l) =
+    HasNames p os M K.now i n (tree_of l.now) (λ k cs fs. IsBehind k cs fs a)
 IsCause p levels left os M i n cause.Outside = IsOutside p (Allows p) (AllowsCode p) os M i n
 
 -- A fault stands in notation n, which is read in module M under type i, where at most so many levels are left, and so many

@@ -44,20 +44,20 @@ pub enum Cause<'a> {
     Circular(usize, &'a str, &'a ValueSyntax),
     /// It is of another form than the type's, or has a character that is none of the type's.
     NotOfType,
-    /// This name in its braces is no bit of the type.
-    UnknownBit(&'a ValueSyntax),
+    /// This name in its braces, which is read in this module, is no bit of the type.
+    UnknownBit(&'a str, &'a ValueSyntax),
     /// It stands for an object identifier, a relative one or not, of more than 64 numbers or with one from 2^64 on.
     Oid,
     /// The CHOICE has no alternative of its name.
     UnknownAlternative,
-    /// No component has the name of this field of the notation.
-    UnknownField(usize, &'a ValueSyntax),
-    /// An earlier field of the notation has the name of this one.
-    Repeated(usize, &'a ValueSyntax),
-    /// This component has no field in the notation, though it has to be there.
-    Missing(usize, &'a ValueSyntax),
-    /// This field of the notation stands behind one that it goes before.
-    Behind(usize, &'a ValueSyntax),
+    /// No component has the name of this field of the notation, which is read in this module.
+    UnknownField(usize, &'a str, &'a ValueSyntax),
+    /// An earlier field of the notation, which is read in this module, has the name of this one.
+    Repeated(usize, &'a str, &'a ValueSyntax),
+    /// This component has no field in the notation, which is read in this module, though it has to be there.
+    Missing(usize, &'a str, &'a ValueSyntax),
+    /// This field of the notation, which is read in this module, stands behind one that it goes before.
+    Behind(usize, &'a str, &'a ValueSyntax),
     /// It stands for a number, size or character that the constraints of the type don't allow.
     Outside,
 }
@@ -84,37 +84,41 @@ pub(crate) fn unfollowed<'a>(fault: FollowFault<'a>) -> Cause<'a>
 }
 
 /// What is wrong where a notation gives no value of a type that holds no others.
-pub(crate) fn no_leaf<'a>(fault: LeafFault<'a>) -> Cause<'a>
-    ensures { (p : Program) (levels left i : ℕ) (os ps : List ℕ) (M K : Name) (n l : Tree) (k : Plain)
+pub(crate) fn no_leaf<'a>(fault: LeafFault<'a>, within: &'a str) -> Cause<'a>
+    ensures { (p : Program) (levels left i : ℕ) (os ps : List ℕ) (M : Name) (n l : Tree) (k : Plain)
         → IsOfKind p.types i (simple k)
-        → IsLast p (simple k) os M n ps K l
+        → IsLast p (simple k) os M n ps within.now l
         → IsLeafFault k l fault.entry
         → IsCause p levels left os M i n result }
 {
     match fault {
         LeafFault::Memory => Cause::Memory,
         LeafFault::NotOfType => Cause::NotOfType,
-        LeafFault::UnknownBit(bit) => Cause::UnknownBit(bit),
+        LeafFault::UnknownBit(bit) => Cause::UnknownBit(within, bit),
         LeafFault::Oid => Cause::Oid,
     }
 }
 
 /// What is wrong where names of fields are not arranged as those of components.
-pub(crate) fn unarranged<'a>(fault: NamesFault, notation: &'a ValueSyntax) -> Cause<'a>
-    ensures { (p : Program) (levels left i : ℕ) (os ps : List ℕ) (M K : Name) (n : Tree) (k : ListKind') (e : Bool)
+pub(crate) fn unarranged<'a>(
+    fault: NamesFault,
+    within: &'a str,
+    notation: &'a ValueSyntax,
+) -> Cause<'a>
+    ensures { (p : Program) (levels left i : ℕ) (os ps : List ℕ) (M : Name) (n : Tree) (k : ListKind') (e : Bool)
         (cs : List Part) (fs : List (Name × Tree))
         → IsOfKind p.types i (members k e cs)
         → (k ≡ choice → ⊥)
-        → IsLast p (members k e cs) os M n ps K (tree_of notation.now)
+        → IsLast p (members k e cs) os M n ps within.now (tree_of notation.now)
         → fields_in (tree_of notation.now) ≡ Some fs
         → IsNamesFault k cs (field_names fs) fault
         → IsCause p levels left os M i n result }
 {
     match fault {
         NamesFault::Memory => Cause::Memory,
-        NamesFault::Unknown(field) => Cause::UnknownField(field, notation),
-        NamesFault::Repeated(field) => Cause::Repeated(field, notation),
-        NamesFault::Missing(component) => Cause::Missing(component, notation),
-        NamesFault::Behind(field) => Cause::Behind(field, notation),
+        NamesFault::Unknown(field) => Cause::UnknownField(field, within, notation),
+        NamesFault::Repeated(field) => Cause::Repeated(field, within, notation),
+        NamesFault::Missing(component) => Cause::Missing(component, within, notation),
+        NamesFault::Behind(field) => Cause::Behind(field, within, notation),
     }
 }

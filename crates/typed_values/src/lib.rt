@@ -4,9 +4,11 @@
 mod fault;
 mod forms;
 pub mod law;
+mod levels;
 mod reading;
 mod simple;
 mod written;
 
 pub use fault::{Cause, Place, ValueFault};
-pub use reading::typed;
+pub use levels::Defaults;
+pub use reading::{typed, typed_with};

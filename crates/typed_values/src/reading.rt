@@ -17,10 +17,12 @@ ghost use Rattle.value_notations.specs.Values.{IsTyped, MayBeAbsent};
 ghost use Rattle.values.specs.Allowing.{Allows, AllowsCode};
 ghost use Rattle.values.specs.Arranged.{place_of};
 ghost use Rattle.typed_values.specs.Faults.{IsWritten, Stands};
+ghost use Rattle.typed_values.specs.Known.{AreKnown, AreListed, IsListed};
 ghost use Rattle.typed_values.specs.proving.Reading.{ArePlaced, IsField, IsWrongDefault, IsWrongField, MeanFields, MeanRow, StandsInField, StandsInOne, Tells, option_nodes};
 
 use crate::fault::{Cause, Place, ValueFault, unarranged, unfollowed};
 use crate::forms::{chosen_in, fields_in, values_in};
+use crate::levels::Defaults;
 use crate::simple::simple_value;
 use crate::written::written;
 use asn_base::law::abstract_values;
@@ -59,6 +61,7 @@ fn is_choice(kind: ListKind) -> bool
 fn read<'a>(
     alloc: Global,
     bounded: &Bounded<'a>,
+    defaults: &mut Defaults,
     levels: u8,
     left: &mut u32,
     opened: &mut Opened,
@@ -66,9 +69,11 @@ fn read<'a>(
 ) -> Result<Value, ValueFault<'a>>
     requires there { at.ty.index < length bounded.now.types }
     requires sound { AreSound bounded.now.types }
+    requires known { AreKnown bounded.now defaults.old }
     ensures tells { Tells bounded.now levels left.old left.new opened.old at.entry.within.now at.entry.ty.index
         (tree_of at.entry.notation.now) result }
     ensures back { OnOk result (opened.new ≡ opened.old) }
+    ensures known { AreKnown bounded.now defaults.new }
 {
     if levels == 0 {
         let cause = Cause::Depth;
@@ -79,6 +84,7 @@ fn read<'a>(
         return Err(ValueFault { at, cause });
     }
     *left -= 1;
+    defaults.reach(levels - 1);
     let count = opened.count();
     let linked = bounded.linked();
     let (shape, home) = written(linked, at.ty);
@@ -91,6 +97,7 @@ fn read<'a>(
             match value_of(
                 alloc,
                 bounded,
+                defaults,
                 levels - 1,
                 left,
                 opened,
@@ -115,6 +122,7 @@ fn read<'a>(
 fn value_of<'a>(
     alloc: Global,
     bounded: &Bounded<'a>,
+    defaults: &mut Defaults,
     levels: u8,
     left: &mut u32,
     opened: &mut Opened,
@@ -127,32 +135,35 @@ fn value_of<'a>(
     requires there { at.ty.index < length bounded.now.types }
     requires sound { AreSound bounded.now.types }
     requires written { IsWritten bounded.now at.ty.index (kind_of shape.now) home.now }
+    requires known { AreKnown bounded.now defaults.old }
     ensures tells { (os : List ℕ)
         → IsLast bounded.now (kind_of shape.now) os at.entry.within.now (tree_of at.entry.notation.now) opened.old within.now
         (tree_of last.now)
         → Tells bounded.now (suc levels) (suc left.old) left.new os at.entry.within.now at.entry.ty.index (tree_of at.entry.notation.now)
         result }
     ensures back { OnOk result (opened.new ≡ opened.old) }
+    ensures known { AreKnown bounded.now defaults.new }
 {
     let linked = bounded.linked();
     linked.whole();
     match shape {
-        Shape::Simple(simple) => simple_value(alloc, bounded, at, simple, last),
+        Shape::Simple(simple) => simple_value(alloc, bounded, at, simple, within, last),
         Shape::Elements(_, element) => {
             let element = TypeId { index: *element };
             list(
-                alloc, bounded, levels, left, opened, at, element, within, last,
+                alloc, bounded, defaults, levels, left, opened, at, element, within, last,
             )
         }
         Shape::Members(kind, _, parts) => {
             let members = parts.as_slice();
             if is_choice(*kind) {
                 chosen(
-                    alloc, bounded, levels, left, opened, at, members, within, last,
+                    alloc, bounded, defaults, levels, left, opened, at, members, within, last,
                 )
             } else {
                 fields(
-                    alloc, bounded, levels, left, opened, at, *kind, members, home, within, last,
+                    alloc, bounded, defaults, levels, left, opened, at, *kind, members, home,
+                    within, last,
                 )
             }
         }
@@ -166,6 +177,7 @@ fn value_of<'a>(
 fn list<'a>(
     alloc: Global,
     bounded: &Bounded<'a>,
+    defaults: &mut Defaults,
     levels: u8,
     left: &mut u32,
     opened: &mut Opened,
@@ -177,6 +189,7 @@ fn list<'a>(
     requires there { at.ty.index < length bounded.now.types }
     requires element { element.index < length bounded.now.types }
     requires sound { AreSound bounded.now.types }
+    requires known { AreKnown bounded.now defaults.old }
     ensures tells { (os : List ℕ) (k : ElementsKind') (N : Name)
         → IsWritten bounded.now at.entry.ty.index (elements k element.index) N
         → IsLast bounded.now (elements k element.index) os at.entry.within.now (tree_of at.entry.notation.now) opened.old within.now
@@ -184,6 +197,7 @@ fn list<'a>(
         → Tells bounded.now (suc levels) (suc left.old) left.new os at.entry.within.now at.entry.ty.index (tree_of at.entry.notation.now)
         result }
     ensures back { OnOk result (opened.new ≡ opened.old) }
+    ensures known { AreKnown bounded.now defaults.new }
 {
     abstract_values();
     let Some(notations) = values_in(last) else {
@@ -191,7 +205,7 @@ fn list<'a>(
         return Err(ValueFault { at, cause });
     };
     let values = match all(
-        alloc, bounded, levels, left, opened, element, within, notations,
+        alloc, bounded, defaults, levels, left, opened, element, within, notations,
     ) {
         Ok(values) => values,
         Err(fault) => return Err(fault),
@@ -208,6 +222,7 @@ fn list<'a>(
 fn all<'a>(
     alloc: Global,
     bounded: &Bounded<'a>,
+    defaults: &mut Defaults,
     levels: u8,
     left: &mut u32,
     opened: &mut Opened,
@@ -217,11 +232,13 @@ fn all<'a>(
 ) -> Result<Vec<Value>, ValueFault<'a>>
     requires there { element.index < length bounded.now.types }
     requires sound { AreSound bounded.now.types }
+    requires known { AreKnown bounded.now defaults.old }
     ensures value { IfOk result (λ vs. MeanRow bounded.now levels left.old left.new opened.old within.now element.index
         (map tree_of notations.now) (row_of_list (map abstract vs.items))) }
     ensures fault { IfErr result (StandsInOne bounded.now levels left.old opened.old within.now element.index
         (map tree_of notations.now)) }
     ensures back { OnOk result (opened.new ≡ opened.old) }
+    ensures known { AreKnown bounded.now defaults.new }
 {
     let mut values = Vec::new(alloc);
     for i in 0..notations.len() {
@@ -230,7 +247,7 @@ fn all<'a>(
             within,
             notation: &notations[i],
         };
-        let value = match read(alloc, bounded, levels, left, opened, at) {
+        let value = match read(alloc, bounded, defaults, levels, left, opened, at) {
             Ok(value) => value,
             Err(fault) => return Err(fault),
         };
@@ -250,6 +267,7 @@ fn all<'a>(
 fn chosen<'a>(
     alloc: Global,
     bounded: &Bounded<'a>,
+    defaults: &mut Defaults,
     levels: u8,
     left: &mut u32,
     opened: &mut Opened,
@@ -261,6 +279,7 @@ fn chosen<'a>(
     requires members { (j : ℕ) (c : Part) → slice_get (map part_of alternatives.now) j ≡ Some c
         → c.ty < length bounded.now.types }
     requires sound { AreSound bounded.now.types }
+    requires known { AreKnown bounded.now defaults.old }
     ensures tells { (os : List ℕ) (e : 𝔹) (N : Name)
         → IsWritten bounded.now at.entry.ty.index (members choice e (map part_of alternatives.now)) N
         → IsLast bounded.now (members choice e (map part_of alternatives.now)) os at.entry.within.now
@@ -268,6 +287,7 @@ fn chosen<'a>(
         → Tells bounded.now (suc levels) (suc left.old) left.new os at.entry.within.now at.entry.ty.index (tree_of at.entry.notation.now)
         result }
     ensures back { OnOk result (opened.new ≡ opened.old) }
+    ensures known { AreKnown bounded.now defaults.new }
 {
     abstract_values();
     let Some((name, notation)) = chosen_in(last) else {
@@ -286,7 +306,7 @@ fn chosen<'a>(
         within,
         notation,
     };
-    let value = match read(alloc, bounded, levels, left, opened, inner) {
+    let value = match read(alloc, bounded, defaults, levels, left, opened, inner) {
         Ok(value) => value,
         Err(fault) => return Err(fault),
     };
@@ -304,6 +324,7 @@ fn chosen<'a>(
 fn fields<'a>(
     alloc: Global,
     bounded: &Bounded<'a>,
+    defaults: &mut Defaults,
     levels: u8,
     left: &mut u32,
     opened: &mut Opened,
@@ -319,6 +340,8 @@ fn fields<'a>(
     requires members { (j : ℕ) (c : Part) → slice_get (map part_of components.now) j ≡ Some c
         → c.ty < length bounded.now.types }
     requires sound { AreSound bounded.now.types }
+    requires listed { AreListed bounded.now home.now (map part_of components.now) }
+    requires known { AreKnown bounded.now defaults.old }
     ensures tells { (os : List ℕ) (e : 𝔹)
         → IsWritten bounded.now at.entry.ty.index (members kind e (map part_of components.now)) home.now
         → IsLast bounded.now (members kind e (map part_of components.now)) os at.entry.within.now (tree_of at.entry.notation.now)
@@ -326,6 +349,7 @@ fn fields<'a>(
         → Tells bounded.now (suc levels) (suc left.old) left.new os at.entry.within.now at.entry.ty.index (tree_of at.entry.notation.now)
         result }
     ensures back { OnOk result (opened.new ≡ opened.old) }
+    ensures known { AreKnown bounded.now defaults.new }
 {
     abstract_values();
     stands_for_fields();
@@ -337,13 +361,14 @@ fn fields<'a>(
     let places = match arranged(alloc, kind, components, given) {
         Ok(places) => places,
         Err(fault) => {
-            let cause = unarranged(fault, last);
+            let cause = unarranged(fault, within, last);
             return Err(ValueFault { at, cause });
         }
     };
     match all_fields(
         alloc,
         bounded,
+        defaults,
         levels,
         left,
         opened,
@@ -364,6 +389,7 @@ fn fields<'a>(
 fn all_fields<'a>(
     alloc: Global,
     bounded: &Bounded<'a>,
+    defaults: &mut Defaults,
     levels: u8,
     left: &mut u32,
     opened: &mut Opened,
@@ -378,17 +404,21 @@ fn all_fields<'a>(
     requires members { (j : ℕ) (c : Part) → slice_get (map part_of components.now) j ≡ Some c
         → c.ty < length bounded.now.types }
     requires sound { AreSound bounded.now.types }
+    requires listed { AreListed bounded.now home.now (map part_of components.now) }
+    requires known { AreKnown bounded.now defaults.old }
     ensures value { IfOk result (λ vs. MeanFields bounded.now levels left.old left.new opened.old within.now home.now
         (map member_of given.now) (map part_of components.now) (row_of_options (map (option_map abstract) vs.items))) }
     ensures fault { IfErr result (StandsInField bounded.now levels left.old opened.old within.now home.now
         (map member_of given.now) (map part_of components.now)) }
     ensures back { OnOk result (opened.new ≡ opened.old) }
+    ensures known { AreKnown bounded.now defaults.new }
 {
     let mut values = Vec::new(alloc);
     for i in 0..components.len() {
         let component = &components[i];
         let value = match field(
-            alloc, bounded, levels, left, opened, component, home, within, given, places[i],
+            alloc, bounded, defaults, levels, left, opened, component, home, within, given,
+            places[i],
         ) {
             Ok(value) => value,
             Err(fault) => return Err(fault),
@@ -409,6 +439,7 @@ fn all_fields<'a>(
 fn field<'a>(
     alloc: Global,
     bounded: &Bounded<'a>,
+    defaults: &mut Defaults,
     levels: u8,
     left: &mut u32,
     opened: &mut Opened,
@@ -422,12 +453,15 @@ fn field<'a>(
     requires placed { place ≡ place_of (part_of component.now).name (field_names (map member_of given.now)) }
     requires may { place ≡ None → may_be_absent (part_of component.now) ≡ true }
     requires sound { AreSound bounded.now.types }
+    requires listed { IsListed bounded.now home.now (part_of component.now) }
+    requires known { AreKnown bounded.now defaults.old }
     ensures value { IfOk result (λ o. IsField bounded.now levels opened.old within.now home.now (map member_of given.now)
         (part_of component.now) (option_map abstract o)) }
     ensures counted { IfOk result (λ o. left.old ≡ left.new + option_nodes (option_map abstract o)) }
     ensures fault { IfErr result (IsWrongField bounded.now levels left.old opened.old within.now home.now
         (map member_of given.now) (part_of component.now)) }
     ensures back { OnOk result (opened.new ≡ opened.old) }
+    ensures known { AreKnown bounded.now defaults.new }
 {
     let ty = TypeId {
         index: component.ty,
@@ -440,12 +474,12 @@ fn field<'a>(
                 within,
                 notation,
             };
-            match read(alloc, bounded, levels, left, opened, at) {
+            match read(alloc, bounded, defaults, levels, left, opened, at) {
                 Ok(value) => Ok(Some(value)),
                 Err(fault) => Err(fault),
             }
         }
-        None => match default(alloc, bounded, levels, component, home) {
+        None => match default(alloc, bounded, defaults, levels, component, home) {
             Ok(()) => Ok(None),
             Err(fault) => Err(fault),
         },
@@ -457,6 +491,7 @@ fn field<'a>(
 fn default<'a>(
     alloc: Global,
     bounded: &Bounded<'a>,
+    defaults: &mut Defaults,
     levels: u8,
     component: &'a Component,
     home: &'a str,
@@ -464,9 +499,12 @@ fn default<'a>(
     requires there { component.now.ty < length bounded.now.types }
     requires may { may_be_absent (part_of component.now) ≡ true }
     requires sound { AreSound bounded.now.types }
+    requires listed { IsListed bounded.now home.now (part_of component.now) }
+    requires known { AreKnown bounded.now defaults.old }
     ensures may { OnOk result (MayBeAbsent bounded.now (Allows bounded.now) (AllowsCode bounded.now) levels home.now
         (part_of component.now)) }
     ensures fault { IfErr result (IsWrongDefault bounded.now levels home.now (part_of component.now)) }
+    ensures known { AreKnown bounded.now defaults.new }
 {
     match component.standing {
         Standing::Addition(_) => Ok(()),
@@ -474,17 +512,18 @@ fn default<'a>(
             PresenceSyntax::Mandatory => Ok(()),
             PresenceSyntax::Optional => Ok(()),
             PresenceSyntax::Default(notation) => whole_default(
-                alloc, bounded, levels, component, home, notation,
+                alloc, bounded, defaults, levels, component, home, notation,
             ),
         },
     }
 }
 
-/// Reads a DEFAULT in the module where it is written, with 2^24 nodes.
+/// Reads a DEFAULT, unless the table tells that it stands for a value of so few levels; then the table tells so.
 #[cycle(reading)]
 fn whole_default<'a>(
     alloc: Global,
     bounded: &Bounded<'a>,
+    defaults: &mut Defaults,
     levels: u8,
     component: &'a Component,
     home: &'a str,
@@ -494,9 +533,51 @@ fn whole_default<'a>(
     requires root { (part_of component.now).standing ≡ Root }
     requires presence { (part_of component.now).presence ≡ default' (tree_of notation.now) }
     requires sound { AreSound bounded.now.types }
+    requires listed { IsListed bounded.now home.now (part_of component.now) }
+    requires known { AreKnown bounded.now defaults.old }
     ensures may { OnOk result (MayBeAbsent bounded.now (Allows bounded.now) (AllowsCode bounded.now) levels home.now
         (part_of component.now)) }
     ensures fault { IfErr result (IsWrongDefault bounded.now levels home.now (part_of component.now)) }
+    ensures known { AreKnown bounded.now defaults.new }
+{
+    if defaults.allows(bounded, component, home, levels) {
+        return Ok(());
+    }
+    let before = defaults.begin(levels);
+    match read_default(alloc, bounded, defaults, levels, component, home, notation) {
+        Ok(()) => {}
+        Err(fault) => return Err(fault),
+    }
+    let used = defaults.used(levels);
+    match read_default(alloc, bounded, defaults, used, component, home, notation) {
+        Ok(()) => defaults.note(bounded, component, home, used),
+        Err(_) => defaults.note(bounded, component, home, levels),
+    }
+    let _ = defaults.begin(before);
+    defaults.reach(levels - used);
+    Ok(())
+}
+
+/// Reads a DEFAULT in the module where it is written, with 2^24 nodes.
+#[cycle(reading)]
+fn read_default<'a>(
+    alloc: Global,
+    bounded: &Bounded<'a>,
+    defaults: &mut Defaults,
+    levels: u8,
+    component: &'a Component,
+    home: &'a str,
+    notation: &'a ValueSyntax,
+) -> Result<(), ValueFault<'a>>
+    requires there { component.now.ty < length bounded.now.types }
+    requires root { (part_of component.now).standing ≡ Root }
+    requires presence { (part_of component.now).presence ≡ default' (tree_of notation.now) }
+    requires sound { AreSound bounded.now.types }
+    requires known { AreKnown bounded.now defaults.old }
+    ensures may { OnOk result (MayBeAbsent bounded.now (Allows bounded.now) (AllowsCode bounded.now) levels home.now
+        (part_of component.now)) }
+    ensures fault { IfErr result (IsWrongDefault bounded.now levels home.now (part_of component.now)) }
+    ensures known { AreKnown bounded.now defaults.new }
 {
     let at = Place {
         ty: TypeId {
@@ -507,13 +588,53 @@ fn whole_default<'a>(
     };
     let mut left = MOST_NODES;
     let mut opened = Opened::new(alloc);
-    match read(alloc, bounded, levels, &mut left, &mut opened, at) {
+    match read(alloc, bounded, defaults, levels, &mut left, &mut opened, at) {
         Ok(_) => Ok(()),
         Err(fault) => Err(fault),
     }
 }
 
-/// The value that a notation stands for under a type.
+/// The value that a notation stands for under a type (X.680, clause 17), as [`typed`] answers it, with a table that is lent:
+/// where many notations of the same modules are read, one table serves them all.
+pub fn typed_with<'a>(
+    alloc: Global,
+    bounded: &Bounded<'a>,
+    defaults: &mut Defaults,
+    ty: TypeId,
+    within: &'a str,
+    notation: &'a ValueSyntax,
+) -> Result<Value, ValueFault<'a>>
+    requires there { ty.index < length bounded.now.types }
+    requires sound { AreSound bounded.now.types }
+    requires known { AreKnown bounded.now defaults.old }
+    ensures value { IfOk result (λ v. IsTyped bounded.now (Allows bounded.now) (AllowsCode bounded.now) within.now ty.index
+        (tree_of notation.now) (abstract v)) }
+    ensures fault { IfErr result (Stands bounded.now 64 16777216 [] within.now ty.index (tree_of notation.now)) }
+    ensures known { AreKnown bounded.now defaults.new }
+{
+    let at = Place {
+        ty,
+        within,
+        notation,
+    };
+    let mut left = MOST_NODES;
+    let mut opened = Opened::new(alloc);
+    read(
+        alloc,
+        bounded,
+        defaults,
+        MOST_LEVELS,
+        &mut left,
+        &mut opened,
+        at,
+    )
+}
+
+/// The value that a notation stands for under a type (X.680, clause 17): `ty` is the type, `within` the name of the module in
+/// which the notation is read. A value has at most 64 levels and 2^24 nodes, an absent component counting with the levels of its
+/// DEFAULT.
+///
+/// An `Err` is the first thing that is wrong, as the notation is read from its front, and where: `Cause` says what.
 pub fn typed<'a>(
     alloc: Global,
     bounded: &Bounded<'a>,
@@ -527,12 +648,16 @@ pub fn typed<'a>(
         (tree_of notation.now) (abstract v)) }
     ensures fault { IfErr result (Stands bounded.now 64 16777216 [] within.now ty.index (tree_of notation.now)) }
 {
-    let at = Place {
-        ty,
-        within,
-        notation,
-    };
-    let mut left = MOST_NODES;
-    let mut opened = Opened::new(alloc);
-    read(alloc, bounded, MOST_LEVELS, &mut left, &mut opened, at)
+    match Defaults::of(alloc, bounded) {
+        Ok(mut defaults) => typed_with(alloc, bounded, &mut defaults, ty, within, notation),
+        Err(_) => {
+            let at = Place {
+                ty,
+                within,
+                notation,
+            };
+            let cause = Cause::Memory;
+            Err(ValueFault { at, cause })
+        }
+    }
 }

@@ -24,21 +24,22 @@ pub(crate) fn simple_value<'a>(
     bounded: &Bounded<'a>,
     at: Place<'a>,
     simple: &Simple,
+    within: &'a str,
     last: &'a ValueSyntax,
 ) -> Result<Value, ValueFault<'a>>
     requires there { at.ty.index < length bounded.now.types }
     requires sound { IsSoundPlain (plain_of simple.now) }
     requires is { IsOfKind bounded.now.types at.ty.index (simple' (plain_of simple.now)) }
-    ensures { (levels left : ℕ) (os ps : List ℕ) (K N : Name)
+    ensures { (levels left : ℕ) (os ps : List ℕ) (N : Name)
         → IsWritten bounded.now at.entry.ty.index (simple' (plain_of simple.now)) N
-        → IsLast bounded.now (simple' (plain_of simple.now)) os at.entry.within.now (tree_of at.entry.notation.now) ps K
-        (tree_of last.now)
+        → IsLast bounded.now (simple' (plain_of simple.now)) os at.entry.within.now (tree_of at.entry.notation.now) ps
+        within.now (tree_of last.now)
         → Tells bounded.now (suc levels) (suc left) left os at.entry.within.now at.entry.ty.index (tree_of at.entry.notation.now) result }
 {
     let value = match leaf(alloc, simple, last) {
         Ok(value) => value,
         Err(fault) => {
-            let cause = no_leaf(fault);
+            let cause = no_leaf(fault, within);
             return Err(ValueFault { at, cause });
         }
     };

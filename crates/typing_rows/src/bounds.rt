@@ -2,6 +2,7 @@
 
 ghost use Rattle.std.specs.Prelude.{◌<◌, length};
 
+use crate::places::place;
 use asn_base::constraint::{Bounds, Range};
 use asn_base::schema::TypeId;
 use constraints::{
@@ -62,7 +63,7 @@ fn ranges(alloc: Global, ranges: &[Range]) -> Result<String, AllocError> {
 }
 
 /// What a type's constraints leave: what the packed encoding sees, and what is allowed.
-fn left(alloc: Global, bounded: &Bounded<'_>, ty: TypeId) -> Result<String, AllocError>
+pub fn left(alloc: Global, bounded: &Bounded<'_>, ty: TypeId) -> Result<String, AllocError>
     requires { ty.index < length bounded.now.types }
 {
     let mut text = seen(alloc, "range", range(bounded, ty))?;
@@ -137,28 +138,6 @@ fn entry(alloc: Global, bounded: &Bounded<'_>, word: &str) -> Result<String, All
     )
 }
 
-/// Where a fault stands: what is written there, up to a blank.
-fn place(
-    alloc: Global,
-    linked: &Linked,
-    texts: &[Vec<u8>],
-    spot: &Spot,
-) -> Result<String, AllocError> {
-    let at = spot.at;
-    let mut text = format!(in alloc; " at {at} ")?;
-    for (header, octets) in linked.headers().iter().zip(texts) {
-        if header.name.it.as_str() == spot.module.as_str() {
-            for octet in octets.iter().skip(at) {
-                if *octet == b' ' {
-                    return Ok(text);
-                }
-                text.push(char::from(*octet))?;
-            }
-        }
-    }
-    Ok(text)
-}
-
 /// The place of a fault that has one.
 fn spot_of(fault: &BoundFault) -> Option<&Spot> {
     match fault {
@@ -181,7 +160,7 @@ fn refused(
 ) -> Result<String, AllocError> {
     let mut text = format!(in alloc; "{fault}")?;
     if let Some(spot) = spot_of(fault) {
-        let place = place(alloc, linked, texts, spot)?;
+        let place = place(alloc, linked, texts, spot.module.as_str(), spot.at)?;
         text.push_str(place.as_str())?;
     }
     Ok(text)

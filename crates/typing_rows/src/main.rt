@@ -1,11 +1,15 @@
 //! Answers rows of data by the public calls of the crates that type values, and prints each answer below its row's words.
 //!
 //! The files that its words name are files of rows. A row's first word is a command and its second the row's own name:
-//! `bounds`, described where it is answered and at the head of its file. The answers that the stored run compares are written
+//! `bounds` or `typed`, described where it is answered and at the head of its file. The answers that the stored run compares are written
 //! by hand, not taken from this program.
 #![tactic(auto)]
 
 mod bounds;
+mod expected;
+mod notations;
+mod places;
+mod shown;
 
 use row_files::{Row, rows};
 use row_texts::{Refusal, entry, told};
@@ -17,6 +21,7 @@ use std::{env, fs, io};
 fn answer_of(alloc: Global, row: &Row) -> Result<String, Refusal> {
     match row.command() {
         "bounds" => bounds::answer(alloc, row),
+        "typed" => notations::answer(alloc, row),
         _ => Err(told(alloc, &"no such command")),
     }
 }

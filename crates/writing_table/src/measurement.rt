@@ -27,6 +27,9 @@ use std::alloc::Global;
 /// The most octets of an encoding.
 const MOST_OCTETS: usize = 16_777_216;
 
+/// No more rows than these are guessed.
+const MOST_GUESSED: usize = 1 << 20;
+
 /// The parts of an encoding in the order of writing, how many octets they have, and the rows of their account.
 #[derive(Drop)]
 pub struct Measured<'a> {
@@ -79,6 +82,28 @@ pub fn measure<'a>(
     }
 }
 
+/// How many rows there may be, so that lists needn't grow: as many as if all members of a list were like the first one.
+/// At most 2^20, and any guess will do.
+fn guessed_rows(value: &Value) -> usize {
+    match value {
+        Value::List(values) => match values.as_slice().first() {
+            Some(first) => values.len().saturating_mul(guessed_members(first)),
+            None => 1,
+        },
+        _ => guessed_members(value),
+    }
+    .min(MOST_GUESSED)
+}
+
+/// The value and what it holds, one level down.
+fn guessed_members(value: &Value) -> usize {
+    match value {
+        Value::List(values) => values.len().saturating_add(1),
+        Value::Fields(values) => values.len().saturating_add(1),
+        _ => 1,
+    }
+}
+
 /// The same of a value of the type.
 fn table_of<'a>(
     alloc: Global,
@@ -106,7 +131,7 @@ fn table_of<'a>(
     told_rows();
     accounts_within_bounds();
     account_laws();
-    let mut table = Table::new(alloc);
+    let mut table = Table::new(alloc, guessed_rows(value));
     match run(alloc, code, id, value, &mut table) {
         Ok(()) => {
             if table.count > MOST_OCTETS {

@@ -13,7 +13,7 @@ ghost use Rattle.writing_table.specs.Rows.{told};
 
 use crate::places::{Arrangement, arrangement_of};
 use crate::rows::{header_row, sum};
-use crate::scratch::push_parts;
+use crate::scratch::octets_of;
 use crate::sort::{sort_by_octets, sort_by_rank};
 use crate::table::{Group, Member, Open, Table};
 use asn_base::value::Value;
@@ -156,8 +156,7 @@ pub(crate) fn end_member<'a>(table: &mut Table<'a>, rank: usize) -> Result<(), A
 {
     match table.groups.pop() {
         Some(group) => {
-            let mut octets = Vec::new(table.alloc);
-            push_parts(table.alloc, table.parts.as_slice(), &mut octets)?;
+            let octets = octets_of(table.alloc, table.parts.as_slice())?;
             let parts = std::mem::replace(&mut table.parts, Vec::new(table.alloc));
             let mut members = group.members;
             let number = members.len();

@@ -50,7 +50,8 @@ pub struct Table<'a> {
 }
 
 impl<'a> Table<'a> {
-    pub(crate) fn new(alloc: Global) -> Self
+    /// The table of nothing, with room for so many rows and twice as many parts, where there is memory for them.
+    pub(crate) fn new(alloc: Global, rows: usize) -> Self
         ensures parts { result.parts.items ≡ [] }
         ensures opened { result.opened.items ≡ [] }
         ensures groups { result.groups.items ≡ [] }
@@ -60,12 +61,22 @@ impl<'a> Table<'a> {
     {
         Table {
             alloc,
-            parts: Vec::new(alloc),
+            parts: with_room(alloc, rows.saturating_mul(2)),
             opened: Vec::new(alloc),
             groups: Vec::new(alloc),
             count: 0,
-            rows: Vec::new(alloc),
+            rows: with_room(alloc, rows),
             members: 0,
         }
+    }
+}
+
+/// An empty list, with room for so many from the start where there is memory for them.
+fn with_room<T: Drop>(alloc: Global, room: usize) -> Vec<T>
+    ensures { result.items ≡ [] }
+{
+    match Vec::with_capacity(alloc, room) {
+        Ok(list) => list,
+        Err(_) => Vec::new(alloc),
     }
 }

@@ -4,10 +4,11 @@ use mir.Val.{SFits}
 use Rattle.std.proofs.lemmas.Int.{to_z-of_z}
 use Rattle.encodings.specs.Contents.{Number}
 use Rattle.asn_base.specs.Abstract.{abstract}
+use Rattle.leaf_contents.specs.Pieces.{joined_pieces}
 use Rattle.leaf_contents.proofs.Contents.{has_enumerated}
 use Rattle.leaf_contents.proofs.leaf.of_enumerated.Goals as goal
 
 pub returns-in-Enum : goal.returns-in-Enum
 returns-in-Enum c =
     let f : SFits w128 c.in-Enum.number = search rules in
-    has_enumerated (ap abstract c.in-Enum.is ∙ c.abstract_values.ensures.enum_ c.in-Enum.number) (subst (λ z. Number z c.number_octets.result.items) (to_z-of_z w128 c.in-Enum.number f) c.number_octets.ensures)
+    has_enumerated (ap abstract c.in-Enum.is ∙ c.abstract_values.ensures.enum_ c.in-Enum.number) (subst (λ z. Number z (joined_pieces c.number_pieces.result)) (to_z-of_z w128 c.in-Enum.number f) c.number_pieces.ensures)

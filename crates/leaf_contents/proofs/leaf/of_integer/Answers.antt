@@ -4,10 +4,11 @@ use mir.Val.{SFits}
 use Rattle.std.proofs.lemmas.Int.{to_z-of_z}
 use Rattle.encodings.specs.Contents.{Number}
 use Rattle.asn_base.specs.Abstract.{abstract}
+use Rattle.leaf_contents.specs.Pieces.{joined_pieces}
 use Rattle.leaf_contents.proofs.Contents.{has_integer}
 use Rattle.leaf_contents.proofs.leaf.of_integer.Goals as goal
 
 pub returns-in-Int : goal.returns-in-Int
 returns-in-Int c =
     let f : SFits w128 c.in-Int.number = search rules in
-    has_integer (ap abstract c.in-Int.is ∙ c.abstract_values.ensures.int c.in-Int.number) (subst (λ z. Number z c.number_octets.result.items) (to_z-of_z w128 c.in-Int.number f) c.number_octets.ensures)
+    has_integer (ap abstract c.in-Int.is ∙ c.abstract_values.ensures.int c.in-Int.number) (subst (λ z. Number z (joined_pieces c.number_pieces.result)) (to_z-of_z w128 c.in-Int.number f) c.number_pieces.ensures)

@@ -1,22 +1,21 @@
-use Rattle.std.proofs.Common.{rules, arith, ◌<◌, ◌≡◌, ◌+◌, ◌∙◌, sym, ap, refl, subst, length, map, take, option_map, get_or, Some}
+use Rattle.std.proofs.Common.{rules, arith, ◌∙◌, sym, ap, refl, subst, map, get_or}
 use Rattle.std.specs.Prelude.{pos}
 use Rattle.values.specs.Allowing.{Allows}
 use Rattle.typed_values.specs.proving.Reading.{ArePlaced}
 use Rattle.std.proofs.lemmas.List.{length-map}
 use Rattle.asn_base.specs.Abstract.{abstract, alternative}
-use Rattle.asn_base.specs.Typed.{members}
 use Rattle.trees.specs.Values.{member_of, tree_of}
 use Rattle.type_table.specs.Seen.{kind_of, part_of}
 use Rattle.type_table.specs.Table as table
 use Rattle.resolve.specs.Program.{Program, IsWhole}
-use Rattle.value_notations.specs.Notations.{fields_in, field_names}
+use Rattle.value_notations.specs.Notations.{field_names}
 use Rattle.value_notations.specs.Values as values
 use Rattle.value_notations.specs.Wrong.{misfit}
 use Rattle.typed_values.specs.Faults as faults
 use Rattle.typed_values.specs.proving.Reading as reading
 use Rattle.typed_values.proofs.Following.{sound_kind}
-use Rattle.typed_values.proofs.Rows.{got, place_below}
-use Rattle.typed_values.proofs.Readings.{of_kind, own_fault, row_none, row_wrong, row_more, fields_none, fields_wrong, fields_more, place_at, as_many, placed, field_there, field_stands, place_none, list_means, list_outside, list_fault, choice_means, choice_fault, alternative_named, fields_fault, fields_mean, value_as, means_as, alternative_below, alternative_at, alternative_name, no_alternative, names_misfit, row_count, unfollowed_at, written_of, last_of, member_there, element_there, no_reference, no_tagged, absent_addition, absent_optional, absent_mandatory, read_means, read_stands, last_at, stands_as}
+use Rattle.typed_values.proofs.Rows.{got}
+use Rattle.typed_values.proofs.Readings.{of_kind, own_fault, row_none, row_wrong, row_more, fields_none, fields_wrong, fields_more, place_at, as_many, placed, field_there, field_stands, place_none, list_means, list_outside, list_fault, choice_means, choice_fault, fields_fault, fields_mean, value_as, means_as, alternative_below, alternative_at, alternative_name, no_alternative, names_misfit, row_count, unfollowed_at, written_of, last_of, member_there, element_there, no_reference, no_tagged, absent_addition, absent_optional, absent_mandatory, read_means, read_stands, last_at, stands_as}
 use Rattle.typed_values.proofs.Braces.{values_found, values_none_found, fields_found, fields_none_found}
 use Rattle.typed_values.proofs.reading.+reading.Goals as goal
 
@@ -24,7 +23,7 @@ use Rattle.typed_values.proofs.reading.+reading.Goals as goal
 
 pub all-loop-i-init : goal.all-loop-i-init
 all-loop-i-init t c =
-    record { read = row_none _ _ _ _ _ _ c.new-values.result.items c.new-values.ensures.items; back = refl }
+    record { read = row_none _ _ _ _ _ _ c.new-values.result.items c.new-values.ensures.items; back = refl; known = c.requires.1.1.1.1 }
 
 pub all-returns-in-Err-clause-fault : goal.all-returns-in-Err-clause-fault
 all-returns-in-Err-clause-fault t c =
@@ -43,13 +42,14 @@ all-loop-i-preserved t c =
           c.index-notations-i.result c.loop-i-test.true c.index-notations-i.is c.in-Ok-push.ensures.items
           c.loop-i.invariant.read c.loop-i.invariant.back c.in-Ok.ensures.tells;
       back = c.in-Ok.ensures.back ∙ c.loop-i.invariant.back;
+      known = c.in-Ok.ensures.known;
     }
 
 -- ---- components
 
 pub all_fields-loop-i-init : goal.all_fields-loop-i-init
 all_fields-loop-i-init t c =
-    record { read = fields_none _ _ _ _ _ _ _ c.new-values.result.items c.new-values.ensures.items; back = refl }
+    record { read = fields_none _ _ _ _ _ _ _ c.new-values.result.items c.new-values.ensures.items; back = refl; known = c.requires.1.1.1.1.1.1 }
 
 pub all_fields-field-requires : goal.all_fields-field-requires
 all_fields-field-requires t c =
@@ -60,8 +60,22 @@ all_fields-field-requires t c =
     let same = length-map c.args.components.now part_of in
     let test = c.loop-i-test.true in
     let at = place_at cs fs c.args.places.now c.loop-i.i (part_of c.index-components-i.result) _ c.requires.1.1.0 there
-    (omega (arith, many, same, test)) in
-    (search rules, (c.requires.1.1.1.0 c.loop-i.i _ there, (at.0, (at.1, c.requires.1.1.1.1))))
+    (omega (arith, many, same, test)) in (
+      search rules,
+      (
+        c.requires.1.1.1.0 c.loop-i.i _ there,
+        (
+          at.0,
+          (
+            at.1,
+            (
+              c.requires.1.1.1.1.0,
+              (record { parts = cs; listed = c.requires.1.1.1.1.1.0; there = (c.loop-i.i, there) }, c.loop-i.invariant.known),
+            ),
+          ),
+        ),
+      ),
+    )
 
 pub all_fields-returns-in-Err-clause-fault : goal.all_fields-returns-in-Err-clause-fault
 all_fields-returns-in-Err-clause-fault t c =
@@ -80,6 +94,7 @@ all_fields-loop-i-preserved t c =
           c.index-components-i.result c.loop-i-test.true c.index-components-i.is c.in-Ok-push.ensures.items
           c.loop-i.invariant.read c.loop-i.invariant.back c.in-Ok.ensures.value c.in-Ok.ensures.counted;
       back = c.in-Ok.ensures.back ∙ c.loop-i.invariant.back;
+      known = c.in-Ok.ensures.known;
     }
 
 -- ---- alternatives
@@ -108,7 +123,7 @@ chosen-read-requires t c = (
     c.requires.1.1.0 c.in-Some-alternative.number _
         (alternative_at c.args.alternatives.now c.in-Some-alternative.number c.index-alternatives-number.result _
         c.in-Some-alternative.ensures),
-    c.requires.1.1.1,
+    (c.requires.1.1.1.0, c.requires.1.1.1.1),
   ),
 )
 
@@ -138,8 +153,8 @@ chosen-returns-clause-tells t c = λ os e N w h. faults.no_memory refl
 
 -- ---- defaults
 
-pub whole_default-returns-in-Ok-clause-may : goal.whole_default-returns-in-Ok-clause-may
-whole_default-returns-in-Ok-clause-may t c =
+pub read_default-returns-in-Ok-clause-may : goal.read_default-returns-in-Ok-clause-may
+read_default-returns-in-Ok-clause-may t c =
     let m = means_as c.new-opened.ensures c.in-Ok.ensures.tells in
     values.where_default c.requires.1.1.1.0 c.requires.1.1.1.1.0 m.stands m.value
 
@@ -180,7 +195,7 @@ fields-returns-in_default-clause-tells t c = λ os e w h.
 pub fields-returns-in-Err-clause-tells : goal.fields-returns-in-Err-clause-tells
 fields-returns-in-Err-clause-tells t c = λ os e w h.
     own_fault _ refl refl refl
-    (c.unarranged-cause.ensures c.args.bounded.now _ _ _ os _ _ _ _ c.args.kind e _ _ (of_kind w) c.requires.1.1.0 h
+    (c.unarranged-cause.ensures c.args.bounded.now _ _ _ os _ _ _ c.args.kind e _ _ (of_kind w) c.requires.1.1.0 h
     (fields_found _ _ c.in-Some.ensures) c.in-Err.ensures)
 
 pub fields-all_fields-requires : goal.fields-all_fields-requires
@@ -189,7 +204,7 @@ fields-all_fields-requires t c = (
   (
     subst (λ ps. ArePlaced (map part_of c.args.components.now) (field_names (map member_of c.in-Some.given.now)) ps)
         (sym c.as_slice.ensures.value) (placed c.args.kind _ _ _ c.in-Ok.ensures),
-    (c.requires.1.1.1.1.0, c.requires.1.1.1.1.1),
+    (c.requires.1.1.1.1.0, (c.requires.1.1.1.1.1.0, (c.requires.1.1.1.1.1.1.0, c.requires.1.1.1.1.1.1.1))),
   ),
 )
 
@@ -249,33 +264,47 @@ pub value_of-list-requires : goal.value_of-list-requires
 value_of-list-requires t c =
     let l = (subst (λ (p : Program). IsWhole p) c.linked-linked.ensures c.whole.ensures).linked in
     let e = ap kind_of c.in-Elements.is in
-    (search rules, (c.requires.1.1.0, (element_there l (written_of e c.requires.1.1.1.1), c.requires.1.1.1.0)))
+    (search rules, (c.requires.1.1.0, (element_there l (written_of e c.requires.1.1.1.1.0), (c.requires.1.1.1.0, c.requires.1.1.1.1.1))))
 
 pub value_of-chosen-requires : goal.value_of-chosen-requires
 value_of-chosen-requires t c =
     let l = (subst (λ (p : Program). IsWhole p) c.linked-linked.ensures c.whole.ensures).linked in
     let e = ap kind_of c.in-Members.is
     ∙ ap (λ cs. table.members c.in-Members.kind c.in-Members.field-1 (map part_of cs)) (sym c.as_slice-members.ensures.value) in
-    (search rules, (member_there l (written_of e c.requires.1.1.1.1), c.requires.1.1.1.0))
+    (search rules, (member_there l (written_of e c.requires.1.1.1.1.0), (c.requires.1.1.1.0, c.requires.1.1.1.1.1)))
 
 pub value_of-fields-requires : goal.value_of-fields-requires
 value_of-fields-requires t c =
     let l = (subst (λ (p : Program). IsWhole p) c.linked-linked.ensures c.whole.ensures).linked in
     let e = ap kind_of c.in-Members.is
     ∙ ap (λ cs. table.members c.in-Members.kind c.in-Members.field-1 (map part_of cs)) (sym c.as_slice-members.ensures.value) in
-    let w = written_of e c.requires.1.1.1.1 in
-    let s = sound_kind c.args.bounded.now.types _ _ c.requires.1.1.1.0 (of_kind w) in
-    (search rules, (c.is_choice.ensures.no c.if-is_choice.false, (s.names, (member_there l w, c.requires.1.1.1.0))))
+    let w = written_of e c.requires.1.1.1.1.0 in
+    let s = sound_kind c.args.bounded.now.types _ _ c.requires.1.1.1.0 (of_kind w) in (
+      search rules,
+      (
+        c.is_choice.ensures.no c.if-is_choice.false,
+        (
+          s.names,
+          (
+            member_there l w,
+            (
+              c.requires.1.1.1.0,
+              (record { type = c.args.at.ty.index; kind = c.in-Members.kind; marked = c.in-Members.field-1; written = w }, c.requires.1.1.1.1.1),
+            ),
+          ),
+        ),
+      ),
+    )
 
 pub value_of-returns-in-Simple-clause-tells : goal.value_of-returns-in-Simple-clause-tells
 value_of-returns-in-Simple-clause-tells t c = λ os h.
     let e = ap kind_of c.in-Simple.is in
-    c.simple_value.ensures _ _ os _ _ c.args.home.now (written_of e c.requires.1.1.1.1) (last_of e h)
+    c.simple_value.ensures _ _ os _ c.args.home.now (written_of e c.requires.1.1.1.1.0) (last_of e h)
 
 pub value_of-returns-in-Elements-clause-tells : goal.value_of-returns-in-Elements-clause-tells
 value_of-returns-in-Elements-clause-tells t c = λ os h.
     let e = ap kind_of c.in-Elements.is in
-    c.list.ensures.tells os _ c.args.home.now (written_of e c.requires.1.1.1.1) (last_of e h)
+    c.list.ensures.tells os _ c.args.home.now (written_of e c.requires.1.1.1.1.0) (last_of e h)
 
 -- ---- the rest
 
@@ -285,39 +314,39 @@ value_of-returns-then-is_choice-clause-tells t c = λ os h.
     ∙ ap (λ cs. table.members c.in-Members.kind c.in-Members.field-1 (map part_of cs)) (sym c.as_slice-members.ensures.value) in
     let g = e ∙ ap (λ k. table.members k c.in-Members.field-1 (map part_of c.as_slice-members.result.now))
     (c.is_choice.ensures.yes c.if-is_choice.true) in
-    c.chosen.ensures.tells os _ c.args.home.now (written_of g c.requires.1.1.1.1) (last_of g h)
+    c.chosen.ensures.tells os _ c.args.home.now (written_of g c.requires.1.1.1.1.0) (last_of g h)
 
 pub value_of-returns-else-is_choice-clause-tells : goal.value_of-returns-else-is_choice-clause-tells
 value_of-returns-else-is_choice-clause-tells t c = λ os h.
     let e = ap kind_of c.in-Members.is
     ∙ ap (λ cs. table.members c.in-Members.kind c.in-Members.field-1 (map part_of cs)) (sym c.as_slice-members.ensures.value) in
-    c.fields.ensures.tells os _ (written_of e c.requires.1.1.1.1) (last_of e h)
+    c.fields.ensures.tells os _ (written_of e c.requires.1.1.1.1.0) (last_of e h)
 
 pub value_of-unreachable-requires : goal.value_of-unreachable-requires
 value_of-unreachable-requires t c =
-    no_reference (written_of (ap kind_of c.in-Reference.is) c.requires.1.1.1.1)
+    no_reference (written_of (ap kind_of c.in-Reference.is) c.requires.1.1.1.1.0)
 
 pub value_of-unreachable-requires-in-Tagged : goal.value_of-unreachable-requires-in-Tagged
 value_of-unreachable-requires-in-Tagged t c =
-    no_tagged (written_of (ap kind_of c.in-Tagged.is) c.requires.1.1.1.1)
+    no_tagged (written_of (ap kind_of c.in-Tagged.is) c.requires.1.1.1.1.0)
 
 pub value_of-unreachable-unreachable : goal.value_of-unreachable-unreachable
 value_of-unreachable-unreachable t c =
-    no_reference (written_of (ap kind_of c.in-Reference.is) c.requires.1.1.1.1)
+    no_reference (written_of (ap kind_of c.in-Reference.is) c.requires.1.1.1.1.0)
 
 pub value_of-unreachable-unreachable-in-Tagged : goal.value_of-unreachable-unreachable-in-Tagged
 value_of-unreachable-unreachable-in-Tagged t c =
-    no_tagged (written_of (ap kind_of c.in-Tagged.is) c.requires.1.1.1.1)
+    no_tagged (written_of (ap kind_of c.in-Tagged.is) c.requires.1.1.1.1.0)
 
 pub value_of-simple_value-requires-clause-there : goal.value_of-simple_value-requires-clause-there
 value_of-simple_value-requires-clause-there t c = c.requires.1.1.0
 
 pub value_of-simple_value-requires-clause-sound : goal.value_of-simple_value-requires-clause-sound
 value_of-simple_value-requires-clause-sound t c =
-    sound_kind c.args.bounded.now.types _ _ c.requires.1.1.1.0 (of_kind (written_of (ap kind_of c.in-Simple.is) c.requires.1.1.1.1))
+    sound_kind c.args.bounded.now.types _ _ c.requires.1.1.1.0 (of_kind (written_of (ap kind_of c.in-Simple.is) c.requires.1.1.1.1.0))
 
 pub value_of-simple_value-requires-clause-is : goal.value_of-simple_value-requires-clause-is
-value_of-simple_value-requires-clause-is t c = of_kind (written_of (ap kind_of c.in-Simple.is) c.requires.1.1.1.1)
+value_of-simple_value-requires-clause-is t c = of_kind (written_of (ap kind_of c.in-Simple.is) c.requires.1.1.1.1.0)
 
 pub read-returns-in-Ok-value_of-clause-tells : goal.read-returns-in-Ok-value_of-clause-tells
 read-returns-in-Ok-value_of-clause-tells t c =
@@ -333,8 +362,8 @@ pub read-returns-in-Ok-value_of-clause-back : goal.read-returns-in-Ok-value_of-c
 read-returns-in-Ok-value_of-clause-back t c =
     c.close.ensures c.in-Ok.ensures.grown.0 _ (c.in-Ok-value_of.ensures.back ∙ c.in-Ok.ensures.grown.1) (sym c.count-count.ensures)
 
-pub whole_default-returns-clause-fault : goal.whole_default-returns-clause-fault
-whole_default-returns-clause-fault t c =
+pub read_default-returns-clause-fault : goal.read_default-returns-clause-fault
+read_default-returns-clause-fault t c =
     record {
       default = tree_of c.args.notation.now;
       standing = c.requires.1.1.1.0;

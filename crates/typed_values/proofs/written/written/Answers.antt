@@ -1,4 +1,4 @@
-use Rattle.std.proofs.Common.{sym, ap, length, arith, map}
+use Rattle.std.proofs.Common.{ap, length, arith}
 use Rattle.std.proofs.lemmas.List.{length-map}
 use Rattle.type_table.specs.Seen.{type_of}
 use Rattle.typed_values.proofs.Readings.{written_at}

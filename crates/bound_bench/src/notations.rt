@@ -1,0 +1,255 @@
+//! Long notations of values: how long it takes to read them, to type them and to print their values.
+
+ghost use Rattle.std.specs.Prelude.{IfOk, IfSome};
+ghost use Rattle.type_table.specs.Lists.{AreSound};
+
+use asn_base::schema::{Schema, TypeId};
+use asn_base::value::Value;
+use constraints::{Bounded, bound};
+use notation::value_at;
+use resolve::{Found, Linked, link};
+use sample_types::{schema, type_named};
+use std::alloc::{AllocError, Global};
+use std::io;
+use std::time::{Duration, Instant};
+use tagging::tag;
+use trees::ValueSyntax;
+use typed_values::typed;
+use value_text::print;
+
+/// The types of the notations, as sample types have them too but for the last one, whose components have a DEFAULT of so
+/// many empty lists.
+const TYPES: &str =
+    "M DEFINITIONS ::= BEGIN N ::= SEQUENCE OF INTEGER L ::= SEQUENCE OF L O ::= OCTET STRING \
+    D ::= SEQUENCE OF SEQUENCE {a L DEFAULT {{}";
+
+const LISTS_IN_DEFAULT: usize = 2_000;
+
+const BEHIND_DEFAULT: &str = "}, b NULL} END";
+
+/// What a notation is full of.
+#[derive(Clone, Copy)]
+pub enum Notation {
+    /// One list of numbers.
+    Numbers,
+    /// Lists in lists, 62 of them deep, again and again.
+    Lists,
+    /// One hexadecimal text.
+    Digits,
+    /// One list of components, each with one beside it whose DEFAULT is left out.
+    Defaults,
+}
+
+pub const NOTATIONS: [Notation; 4] = [
+    Notation::Numbers,
+    Notation::Lists,
+    Notation::Digits,
+    Notation::Defaults,
+];
+
+impl Notation {
+    pub fn name(self) -> &'static str {
+        match self {
+            Notation::Numbers => "numbers",
+            Notation::Lists => "deep lists",
+            Notation::Digits => "digits",
+            Notation::Defaults => "defaults left out",
+        }
+    }
+
+    /// The name of the type in the module, and of the sample type by which the value is printed.
+    fn types(self) -> (&'static str, &'static str) {
+        match self {
+            Notation::Numbers => ("N", "numbers"),
+            Notation::Lists => ("L", "levels"),
+            Notation::Digits => ("O", "octets"),
+            Notation::Defaults => ("D", "none-such"),
+        }
+    }
+
+    /// What the notation begins with, what it is full of, and its end.
+    fn pieces(self) -> (&'static str, &'static str, &'static str) {
+        match self {
+            Notation::Numbers => ("{1", ", 1234567", "}"),
+            Notation::Lists => (
+                "{{}",
+                ", {{{{{{{{{{{{{{{{{{{{{{{{{{{{{{{{{{{{{{{{{{{{{{{{{{{{{{{{{{{{{{}}}}}}}}}}}}}}}}}}}}}}}}}}}}}}}}}}}}}}}}}}}}}}}}}}}}}}}}}}}}}}",
+                "}",
+            ),
+            Notation::Digits => ("'", "0123456789ABCDEF", "'H"),
+            Notation::Defaults => ("{{b NULL}", ", {b NULL}", "}"),
+        }
+    }
+
+    /// A notation of about so many octets.
+    fn text(self, alloc: Global, octets: usize) -> Result<Vec<u8>, AllocError> {
+        let (first, piece, last) = self.pieces();
+        let mut text = Vec::new(alloc);
+        text.extend_from_slice(first.as_bytes())?;
+        let times = octets / piece.len().max(1);
+        for _ in 0..times {
+            text.extend_from_slice(piece.as_bytes())?;
+        }
+        text.extend_from_slice(last.as_bytes())?;
+        Ok(text)
+    }
+}
+
+/// The least times of some runs, and how many octets were printed.
+#[derive(Clone, Copy)]
+struct Times {
+    reading: Duration,
+    typing: Duration,
+    printing: Duration,
+    printed: usize,
+}
+
+const NEVER: Times = Times {
+    reading: Duration::MAX,
+    typing: Duration::MAX,
+    printing: Duration::MAX,
+    printed: 0,
+};
+
+/// The module, linked; None where it is refused.
+fn linked_of(alloc: Global) -> Result<Option<Linked>, AllocError>
+    ensures { IfOk result (λ o. IfSome o (λ l. AreSound l.types)) }
+{
+    let mut text = Vec::new(alloc);
+    text.extend_from_slice(TYPES.as_bytes())?;
+    for _ in 0..LISTS_IN_DEFAULT {
+        text.extend_from_slice(", {}".as_bytes())?;
+    }
+    text.extend_from_slice(BEHIND_DEFAULT.as_bytes())?;
+    let text = text.as_slice();
+    let Ok(tokens) = text::lex(alloc, text) else {
+        return Ok(None);
+    };
+    let Ok(module) = syntax::parse(alloc, text, tokens.as_slice()) else {
+        return Ok(None);
+    };
+    let mut modules = Vec::new(alloc);
+    modules.push(module)?;
+    match link(alloc, modules) {
+        Ok(linked) => Ok(Some(linked)),
+        Err(_) => Ok(None),
+    }
+}
+
+/// Prints a value once.
+fn print_once(
+    rt: &HostRuntime,
+    samples: &Schema,
+    ty: TypeId,
+    value: &Value,
+    times: &mut Times,
+) -> io::Result<()> {
+    let start = Instant::now(rt)?;
+    if let Ok(text) = print(rt.alloc(), samples, ty, value) {
+        times.printed = text.len();
+        times.printing = times.printing.min(start.elapsed(rt)?);
+    }
+    Ok(())
+}
+
+/// Types a notation once, and prints its value.
+fn type_once(
+    rt: &HostRuntime,
+    bounded: &Bounded<'_>,
+    samples: &Schema,
+    notation: Notation,
+    syntax: &ValueSyntax,
+    times: &mut Times,
+) -> io::Result<()>
+    requires { AreSound bounded.now.types }
+{
+    let (name, sample) = notation.types();
+    let Some(Found::TypeNamed(ty)) = bounded.linked().find("M", name) else {
+        return Ok(());
+    };
+    if !bounded.has(ty) {
+        return Ok(());
+    }
+    let start = Instant::now(rt)?;
+    if let Ok(value) = typed(rt.alloc(), bounded, ty, "M", syntax) {
+        times.typing = times.typing.min(start.elapsed(rt)?);
+        if let Some(ty) = type_named(sample) {
+            print_once(rt, samples, ty, &value, times)?;
+        }
+    }
+    Ok(())
+}
+
+/// Reads a notation once, types it and prints its value.
+fn read_once(
+    rt: &HostRuntime,
+    bounded: &Bounded<'_>,
+    samples: &Schema,
+    notation: Notation,
+    text: &[u8],
+    times: &mut Times,
+) -> io::Result<()>
+    requires { AreSound bounded.now.types }
+{
+    let start = Instant::now(rt)?;
+    let Ok(tokens) = text::lex(rt.alloc(), text) else {
+        return Ok(());
+    };
+    let Ok((syntax, _)) = value_at(rt.alloc(), text, tokens.as_slice(), 0, 0) else {
+        return Ok(());
+    };
+    times.reading = times.reading.min(start.elapsed(rt)?);
+    type_once(rt, bounded, samples, notation, &syntax, times)
+}
+
+/// How long a notation of about so many octets takes, the least of five runs; how many octets were printed is written.
+fn measure(
+    rt: &HostRuntime,
+    bounded: &Bounded<'_>,
+    samples: &Schema,
+    notation: Notation,
+    octets: usize,
+) -> io::Result<()>
+    requires { AreSound bounded.now.types }
+{
+    let text = notation.text(rt.alloc(), octets)?;
+    let mut times = NEVER;
+    for _ in 0..5 {
+        read_once(rt, bounded, samples, notation, text.as_slice(), &mut times)?;
+    }
+    let name = notation.name();
+    let (length, printed) = (text.len(), times.printed);
+    println!(rt; "{name}: {length} octets, {printed} printed")?;
+    eprintln!(rt;
+        "{name}: {length} octets, read {} us, typed {} us, printed {} us",
+        times.reading.as_micros(),
+        times.typing.as_micros(),
+        times.printing.as_micros()
+    )
+}
+
+/// Measures each notation, of 4 MiB and of 8 MiB.
+fn measure_each(rt: &HostRuntime, bounded: &Bounded<'_>, samples: &Schema) -> io::Result<()>
+    requires { AreSound bounded.now.types }
+{
+    for notation in &NOTATIONS {
+        measure(rt, bounded, samples, *notation, 4_194_304)?;
+        measure(rt, bounded, samples, *notation, 8_388_608)?;
+    }
+    Ok(())
+}
+
+/// Each notation, of 4 MiB and of 8 MiB.
+pub fn measure_all(rt: &HostRuntime) -> io::Result<()> {
+    let samples = schema(rt.alloc())?;
+    let Some(linked) = linked_of(rt.alloc())? else {
+        return Ok(());
+    };
+    let Ok(tagged) = tag(rt.alloc(), &linked) else {
+        return Ok(());
+    };
+    let Ok(bounded) = bound(rt.alloc(), &tagged) else {
+        return Ok(());
+    };
+    measure_each(rt, &bounded, &samples)
+}

@@ -1,0 +1,193 @@
+//! Each growth refused in turn: `Memory` and nothing out, or the answer.
+
+use super::values::{mixed_octets, mixed_value};
+use asn_base::schema::{Schema, TypeId};
+use asn_base::value::Value;
+use codec_code::{Code, Coding, Fault, compile};
+use der_writer::{Sink, WriteFault, write_der, write_der_to};
+use sample_types::{schema, type_named};
+use starving::{Starved, Swept, Turn, sweep};
+use std::alloc::Global;
+use std::io;
+use std::test::Fail;
+
+/// A sink that takes no memory: it compares what it gets with octets that it has.
+#[derive(Drop)]
+struct Compared {
+    octets: Vec<u8>,
+    taken: usize,
+    wrong: bool,
+    failures: u64,
+}
+
+impl Sink for Compared {
+    ghost use Rattle.std.specs.Prelude.{None};
+
+    ghost taken = { λ s. None };
+
+    ghost failed = { λ s. s.failures };
+
+    fn failures(&self) -> u64 {
+        self.failures
+    }
+
+    fn put(&mut self, octets: &[u8]) -> io::Result<usize> {
+        if !stands_at(self.octets.as_slice(), self.taken, octets) {
+            self.wrong = true;
+        }
+        self.taken = self.taken.wrapping_add(octets.len());
+        Ok(octets.len())
+    }
+}
+
+/// Whether a part of the octets stands at a place.
+fn stands_at(octets: &[u8], at: usize, part: &[u8]) -> bool {
+    at <= octets.len() && octets[at..].starts_with(part)
+}
+
+/// `compile`: the code has a routine of the last type.
+#[derive(Drop)]
+struct Compiling {
+    schema: Schema,
+    id: TypeId,
+    steps: usize,
+}
+
+impl Starved for Compiling {
+    fn call(&mut self, alloc: Global) -> Turn {
+        match compile(alloc, &self.schema) {
+            Ok(code) if code.steps(self.id, Coding::Tagged).len() == self.steps => Turn::Right,
+            Ok(_) => Turn::Wrong,
+            Err(Fault::Memory) => Turn::Refused,
+        }
+    }
+}
+
+/// `write_der`.
+#[derive(Drop)]
+struct Writing {
+    code: Code,
+    id: TypeId,
+    value: Value,
+    octets: Vec<u8>,
+}
+
+impl Starved for Writing {
+    fn call(&mut self, alloc: Global) -> Turn {
+        match write_der(alloc, &self.code, self.id, &self.value) {
+            Ok((octets, _account)) => {
+                let right = octets.as_slice() == self.octets.as_slice();
+                if right { Turn::Right } else { Turn::Wrong }
+            }
+            Err(WriteFault::Memory) => Turn::Refused,
+            Err(_) => Turn::Wrong,
+        }
+    }
+}
+
+/// `write_der_to`: where it is refused, nothing went out.
+#[derive(Drop)]
+struct Sending {
+    code: Code,
+    id: TypeId,
+    value: Value,
+    sink: Compared,
+}
+
+impl Starved for Sending {
+    fn call(&mut self, alloc: Global) -> Turn {
+        if self.sink.wrong || self.sink.failures > 0 {
+            return Turn::Wrong;
+        }
+        self.sink.taken = 0;
+        let answer = write_der_to(alloc, &self.code, self.id, &self.value, &mut self.sink);
+        if self.sink.wrong || self.sink.failures > 0 {
+            return Turn::Wrong;
+        }
+        match answer {
+            Ok(_) if self.sink.taken == self.sink.octets.len() => Turn::Right,
+            Err(WriteFault::Memory) if self.sink.taken == 0 => Turn::Refused,
+            _ => Turn::Wrong,
+        }
+    }
+}
+
+/// That a sweep met many refusals and many answers, and nothing else.
+fn told(rt: &HostRuntime, name: &str, swept: Swept) -> Result<(), Fail> {
+    match swept {
+        Swept::Endless => Ok(()),
+        Swept::Wrong(turn) => {
+            eprintln!(rt; "{name}: wrong in turn {turn}")?;
+            Err("another answer".into())
+        }
+        Swept::Through { refused, right } => {
+            eprintln!(rt; "{name}: refused {refused}, right {right}")?;
+            if refused > 20 && right > 100 {
+                Ok(())
+            } else {
+                Err("too few turns of a kind".into())
+            }
+        }
+    }
+}
+
+/// The type whose value is written.
+fn mixed() -> Result<TypeId, Fail> {
+    match type_named("mixed") {
+        Some(id) => Ok(id),
+        None => Err("no type".into()),
+    }
+}
+
+/// The codes of the sample types.
+fn sample_code(alloc: Global) -> Result<Code, Fail> {
+    let schema = schema(alloc)?;
+    match compile(alloc, &schema) {
+        Ok(code) => Ok(code),
+        Err(_) => Err("no code".into()),
+    }
+}
+
+#[test]
+fn compile_with_ever_more_memory(rt: HostRuntime) -> Result<(), Fail> {
+    let alloc = rt.alloc();
+    // Head, four components, Rest and End.
+    let mut compiling = Compiling {
+        schema: schema(alloc)?,
+        id: mixed()?,
+        steps: 7,
+    };
+    let swept = sweep(alloc, &mut compiling)?;
+    told(&rt, "compile", swept)
+}
+
+#[test]
+fn write_der_with_ever_more_memory(rt: HostRuntime) -> Result<(), Fail> {
+    let alloc = rt.alloc();
+    let mut writing = Writing {
+        code: sample_code(alloc)?,
+        id: mixed()?,
+        value: mixed_value(alloc)?,
+        octets: mixed_octets(alloc)?,
+    };
+    let swept = sweep(alloc, &mut writing)?;
+    told(&rt, "write_der", swept)
+}
+
+#[test]
+fn write_der_to_with_ever_more_memory(rt: HostRuntime) -> Result<(), Fail> {
+    let alloc = rt.alloc();
+    let mut sending = Sending {
+        code: sample_code(alloc)?,
+        id: mixed()?,
+        value: mixed_value(alloc)?,
+        sink: Compared {
+            octets: mixed_octets(alloc)?,
+            taken: 0,
+            wrong: false,
+            failures: 0,
+        },
+    };
+    let swept = sweep(alloc, &mut sending)?;
+    told(&rt, "write_der_to", swept)
+}

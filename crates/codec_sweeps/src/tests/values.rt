@@ -1,0 +1,28 @@
+//! What is written.
+
+use asn_base::value::Value;
+use std::alloc::{AllocError, Global};
+
+/// {b {{2, 1}, {0}}, c 6, d TRUE, a NULL} of a SET in which b stands first, then c, d and a (X.690, 10.3).
+pub fn mixed_value(alloc: Global) -> Result<Value, AllocError> {
+    let two = vec![in alloc; Value::Int(2), Value::Int(1)]?;
+    let one = vec![in alloc; Value::Int(0)]?;
+    let sets = vec![in alloc; Value::List(two), Value::List(one)]?;
+    let fields = vec![in alloc;
+        Some(Value::Null),
+        Some(Value::List(sets)),
+        Some(Value::Int(6)),
+        Some(Value::Bool(true)),
+    ]?;
+    Ok(Value::Fields(fields))
+}
+
+/// Its encoding: 3117 310D3103020100 3106020101020102 800106 8101FF 8200, worked out by hand.
+pub fn mixed_octets(alloc: Global) -> Result<Vec<u8>, AllocError> {
+    let mut octets = Vec::new(alloc);
+    octets.extend_from_slice(&[0x31, 0x17, 0x31, 0x0D])?;
+    octets.extend_from_slice(&[0x31, 0x03, 0x02, 0x01, 0x00])?;
+    octets.extend_from_slice(&[0x31, 0x06, 0x02, 0x01, 0x01, 0x02, 0x01, 0x02])?;
+    octets.extend_from_slice(&[0x80, 0x01, 0x06, 0x81, 0x01, 0xFF, 0x82, 0x00])?;
+    Ok(octets)
+}

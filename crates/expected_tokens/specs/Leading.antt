@@ -1,0 +1,43 @@
+-- Which tokens a text can go on with, by the rules.
+use Rattle.std.specs.Prelude.{◌≡◌, ◌⊎◌, List, [], ◌∷◌, ◌++◌, map}
+use Rattle.text.specs.declared.token.Token.{Token}
+use Rattle.text.specs.declared.token.TokenKind.{TokenKind}
+use Rattle.expected_tokens.specs.declared.rules.Part.{Part}
+use Rattle.expected_tokens.specs.declared.rules.Part.TheVariants.{Is, Of}
+use Rattle.expected_tokens.specs.declared.rules.Symbol.{Symbol}
+use Rattle.expected_tokens.specs.declared.rules.Symbol.TheVariants as symbols
+use Rattle.expected_tokens.specs.Rules.{nothing, begins, rules}
+
+-- x is one of these
+abbrev pub IsOne : {X : Type 0} → List X → X → Type 0
+IsOne [] x = ⊥
+IsOne (y ∷ ys) x = (y ≡ x) ⊎ IsOne ys x
+
+-- Parts that stand for a text which begins with these tokens; behind them the other parts stand for what follows. A part is its
+-- token, or what a rule of its symbol says.
+pub data Leads : List Part → List TokenKind → List Part → Type 0 where
+  here : {is : List Part} → Leads is [] is
+  token : {is js : List Part} {ts : List TokenKind} (k : TokenKind) → Leads is ts js → Leads (Is k ∷ is) (k ∷ ts) js
+  begun : {is js : List Part} {ts : List TokenKind} (s : Symbol) (k : TokenKind) (ps : List Part)
+      → IsOne (rules s) (begins k ps)
+      → Leads (ps ++ is) ts js
+      → Leads (Of s ∷ is) (k ∷ ts) js
+  absent : {is js : List Part} {ts : List TokenKind} (s : Symbol) (k : TokenKind)
+      → IsOne (rules s) nothing
+      → Leads is (k ∷ ts) js
+      → Leads (Of s ∷ is) (k ∷ ts) js
+
+-- a module
+abbrev pub whole : List Part
+whole = Of symbols.Module ∷ []
+
+-- A module can begin with these tokens.
+abbrev pub CanGoOn : List TokenKind → Type 0
+CanGoOn ts = (js : List Part) × Leads whole ts js
+
+-- Behind these tokens one of this kind can come next.
+abbrev pub CanFollow : List TokenKind → TokenKind → Type 0
+CanFollow ts k = CanGoOn (ts ++ k ∷ [])
+
+abbrev pub kinds_of : List Token → List TokenKind
+kinds_of = map (λ t. t.kind)

@@ -1,0 +1,80 @@
+//! The tokens that can come next.
+
+ghost use Rattle.std.specs.Prelude.{◌≡◌, ◌⊎◌, ◌↔◌, [], IsTrue, IfOk, List, map, true, false};
+ghost use Rattle.text.specs.declared.token.TokenKind.{TokenKind as TokenKind'};
+ghost use Rattle.expected_tokens.specs.Leading.{CanFollow, IsOne, kinds_of};
+ghost use Rattle.expected_tokens.specs.proving.Next.{AnyGoesOn, GoesOn};
+
+use crate::kinds::ALL;
+use crate::stacks::{Stack, after, behind};
+use std::alloc::{AllocError, Global};
+use text::{Token, TokenKind};
+
+/// Whether there is a stack.
+fn is_some_left(stacks: &[Stack]) -> bool
+    ensures none { result ≡ false → map (λ s. s.items) stacks.now ≡ [] }
+    ensures some { result ≡ true → map (λ s. s.items) stacks.now ≡ [] → ⊥ }
+{
+    match stacks {
+        [_, ..] => true,
+        [] => false,
+    }
+}
+
+/// Whether some stacks go on with a token of a kind.
+fn goes_on(alloc: Global, stacks: &[Stack], kind: TokenKind) -> Result<bool, AllocError>
+    ensures { IfOk result (λ b. IsTrue b ↔ GoesOn (map (λ s. s.items) stacks.now) kind) }
+{
+    let left = after(alloc, stacks, kind)?;
+    Ok(is_some_left(left.as_slice()))
+}
+
+/// Puts a kind to others, if some stacks go on with it.
+fn put_if_goes(
+    alloc: Global,
+    stacks: &[Stack],
+    kind: TokenKind,
+    to: Vec<TokenKind>,
+) -> Result<Vec<TokenKind>, AllocError>
+    ensures { IfOk result (λ v. (k : TokenKind') →
+        IsOne v.items k ↔ (IsOne to.items k ⊎ ((kind ≡ k) × GoesOn (map (λ s. s.items) stacks.now) kind))) }
+{
+    if !goes_on(alloc, stacks, kind)? {
+        return Ok(to);
+    }
+    let mut all = to;
+    all.push(kind)?;
+    Ok(all)
+}
+
+/// Puts to some kinds those of others with which some stacks go on.
+fn put_those_that_go(
+    alloc: Global,
+    stacks: &[Stack],
+    kinds: &[TokenKind],
+    to: Vec<TokenKind>,
+) -> Result<Vec<TokenKind>, AllocError>
+    ensures { IfOk result (λ v. (k : TokenKind') →
+        IsOne v.items k ↔ (IsOne to.items k ⊎ AnyGoesOn (map (λ s. s.items) stacks.now) kinds.now k)) }
+{
+    match kinds {
+        [kind, rest @ ..] => {
+            let to = put_if_goes(alloc, stacks, *kind, to)?;
+            put_those_that_go(alloc, stacks, rest, to)
+        }
+        [] => Ok(to),
+    }
+}
+
+/// The kinds of tokens that can come next behind some tokens in a module's text.
+///
+/// None can where a module ends there, or where no module begins with these tokens. Linear in the number of tokens, where
+/// things nest as deep as a module may have them. `AllocError` where memory runs out.
+pub fn expected(alloc: Global, tokens: &[Token]) -> Result<Vec<TokenKind>, AllocError>
+    ensures { IfOk result (λ v. (k : TokenKind') → IsOne v.items k ↔ CanFollow (kinds_of tokens.now) k) }
+{
+    let stacks = behind(alloc, tokens)?;
+    let none = Vec::new(alloc);
+    let kinds = put_those_that_go(alloc, stacks.as_slice(), &ALL, none)?;
+    Ok(kinds)
+}

@@ -1,0 +1,212 @@
+//! What can follow a front of a text: each way to read it leaves a stack of parts that stand for the rest.
+
+ghost use Rattle.std.specs.Prelude.{◌≡◌, ◌⊎◌, ◌↔◌, ◌++◌, ◌∷◌, ◌<◌, [], IsTrue, IfOk, MatchOption, List, length, map, true, false};
+ghost use Rattle.text.specs.declared.token.TokenKind.{TokenKind as TokenKind'};
+ghost use Rattle.expected_tokens.specs.declared.rules.Part.{Part as Part'};
+ghost use Rattle.expected_tokens.specs.Rules.{nothing, rules, rule_of};
+ghost use Rattle.expected_tokens.specs.Leading.{IsOne, Leads, kinds_of, whole};
+ghost use Rattle.expected_tokens.specs.proving.Next.{AnyNext, Begun, ByRule, LeadsAny, Next, parts_of};
+
+use crate::rules::{Part, Rule, Symbol, rules_of};
+use std::alloc::{AllocError, Global};
+use text::reserved::Word;
+use text::{Mark, Token, TokenKind};
+
+/// Parts that stand for what follows, the next of them first.
+pub type Stack = Vec<Part>;
+
+fn is_same_word(one: Word, other: Word) -> bool
+    ensures same { result ≡ true → one ≡ other }
+    ensures other { result ≡ false → one ≡ other → ⊥ }
+{
+    one == other
+}
+
+fn is_same_mark(one: Mark, other: Mark) -> bool
+    ensures same { result ≡ true → one ≡ other }
+    ensures other { result ≡ false → one ≡ other → ⊥ }
+{
+    one == other
+}
+
+/// Whether two kinds are the same.
+pub fn is_same(one: TokenKind, other: TokenKind) -> bool
+    ensures same { result ≡ true → one ≡ other }
+    ensures other { result ≡ false → one ≡ other → ⊥ }
+{
+    match one {
+        TokenKind::TypeReference => matches!(other, TokenKind::TypeReference),
+        TokenKind::Identifier => matches!(other, TokenKind::Identifier),
+        TokenKind::Number => matches!(other, TokenKind::Number),
+        TokenKind::CharacterString => matches!(other, TokenKind::CharacterString),
+        TokenKind::BinaryString => matches!(other, TokenKind::BinaryString),
+        TokenKind::HexString => matches!(other, TokenKind::HexString),
+        TokenKind::Reserved(word) => match other {
+            TokenKind::Reserved(another) => is_same_word(word, another),
+            _ => false,
+        },
+        TokenKind::Mark(mark) => match other {
+            TokenKind::Mark(another) => is_same_mark(mark, another),
+            _ => false,
+        },
+    }
+}
+
+/// Whether one of the rules says nothing.
+fn can_be_absent(rules: &[Rule]) -> bool
+    ensures { IsTrue result ↔ IsOne (map rule_of rules.now) nothing }
+{
+    match rules {
+        [rule, rest @ ..] => match *rule {
+            Rule::Nothing => true,
+            Rule::Begins(_, _) => can_be_absent(rest),
+        },
+        [] => false,
+    }
+}
+
+/// A stack of these parts above those.
+fn stacked(alloc: Global, above: &[Part], below: &[Part]) -> Result<Stack, AllocError>
+    ensures { IfOk result (λ s. s.items ≡ above.now ++ below.now) }
+{
+    let mut stack = Vec::new(alloc);
+    stack.extend_from_slice(above)?;
+    stack.extend_from_slice(below)?;
+    Ok(stack)
+}
+
+/// Puts to some stacks the one of these parts above those, if two kinds are the same.
+fn put_if(
+    alloc: Global,
+    first: TokenKind,
+    kind: TokenKind,
+    above: &[Part],
+    below: &[Part],
+    to: Vec<Stack>,
+) -> Result<Vec<Stack>, AllocError>
+    ensures { IfOk result (λ v. (js : List Part') →
+        IsOne (parts_of v) js ↔ (IsOne (parts_of to) js ⊎ ((first ≡ kind) × (js ≡ above.now ++ below.now)))) }
+{
+    if !is_same(first, kind) {
+        return Ok(to);
+    }
+    let stack = stacked(alloc, above, below)?;
+    let mut all = to;
+    all.push(stack)?;
+    Ok(all)
+}
+
+/// Puts to some stacks the one that a rule leaves behind a token of a kind, above the parts below.
+fn by_rule(
+    alloc: Global,
+    rule: Rule,
+    kind: TokenKind,
+    below: &[Part],
+    to: Vec<Stack>,
+) -> Result<Vec<Stack>, AllocError>
+    ensures { IfOk result (λ v. (js : List Part') →
+        IsOne (parts_of v) js ↔ (IsOne (parts_of to) js ⊎ ByRule (rule_of rule) kind below.now js)) }
+{
+    match rule {
+        Rule::Nothing => Ok(to),
+        Rule::Begins(first, parts) => put_if(alloc, first, kind, parts, below, to),
+    }
+}
+
+/// Puts to some stacks those that some rules leave behind a token of a kind, above the parts below.
+fn by_rules(
+    alloc: Global,
+    rules: &[Rule],
+    kind: TokenKind,
+    below: &[Part],
+    to: Vec<Stack>,
+) -> Result<Vec<Stack>, AllocError>
+    ensures { IfOk result (λ v. (js : List Part') →
+        IsOne (parts_of v) js ↔ (IsOne (parts_of to) js ⊎ Begun (map rule_of rules.now) kind below.now js)) }
+{
+    match rules {
+        [rule, rest @ ..] => {
+            let to = by_rule(alloc, *rule, kind, below, to)?;
+            by_rules(alloc, rest, kind, below, to)
+        }
+        [] => Ok(to),
+    }
+}
+
+/// Puts to some stacks those that a stack leaves behind a token of a kind.
+fn next(
+    alloc: Global,
+    stack: &[Part],
+    kind: TokenKind,
+    to: Vec<Stack>,
+) -> Result<Vec<Stack>, AllocError>
+    ensures { IfOk result (λ v. (js : List Part') →
+        IsOne (parts_of v) js ↔ (IsOne (parts_of to) js ⊎ Next stack.now kind js)) }
+{
+    match stack {
+        [Part::Is(first), below @ ..] => put_if(alloc, *first, kind, &[], below, to),
+        [Part::Of(symbol), below @ ..] => {
+            let rules = rules_of(*symbol);
+            let to = by_rules(alloc, rules, kind, below, to)?;
+            if can_be_absent(rules) {
+                next(alloc, below, kind, to)
+            } else {
+                Ok(to)
+            }
+        }
+        [] => Ok(to),
+    }
+}
+
+/// Puts to some stacks those that others leave behind a token of a kind.
+fn after_each(
+    alloc: Global,
+    stacks: &[Stack],
+    kind: TokenKind,
+    to: Vec<Stack>,
+) -> Result<Vec<Stack>, AllocError>
+    ensures { IfOk result (λ v. (js : List Part') →
+        IsOne (parts_of v) js ↔ (IsOne (parts_of to) js ⊎ AnyNext (map (λ s. s.items) stacks.now) kind js)) }
+{
+    match stacks {
+        [stack, rest @ ..] => {
+            let to = next(alloc, stack.as_slice(), kind, to)?;
+            after_each(alloc, rest, kind, to)
+        }
+        [] => Ok(to),
+    }
+}
+
+/// The stacks that some stacks leave behind a token of a kind.
+pub fn after(alloc: Global, stacks: &[Stack], kind: TokenKind) -> Result<Vec<Stack>, AllocError>
+    ensures { IfOk result (λ v. (js : List Part') →
+        IsOne (parts_of v) js ↔ AnyNext (map (λ s. s.items) stacks.now) kind js) }
+{
+    after_each(alloc, stacks, kind, Vec::new(alloc))
+}
+
+/// The kind of the first token, and the tokens behind it.
+fn first_of(tokens: &[Token]) -> Option<(TokenKind, &[Token])>
+    ensures { MatchOption result (kinds_of tokens.now ≡ [])
+        (λ x. (kinds_of tokens.now ≡ x.0 ∷ kinds_of x.1.now) × (length x.1.now < length tokens.now)) }
+{
+    match tokens {
+        [token, rest @ ..] => Some((token.kind, rest)),
+        [] => None,
+    }
+}
+
+/// The stacks that a module leaves behind some tokens.
+pub fn behind(alloc: Global, tokens: &[Token]) -> Result<Vec<Stack>, AllocError>
+    ensures { IfOk result (λ v. (ts : List TokenKind') (js : List Part') →
+        Leads whole (kinds_of tokens.now ++ ts) js ↔ LeadsAny (parts_of v) ts js) }
+{
+    let mut stacks = Vec::new(alloc);
+    stacks.push(stacked(alloc, &[Part::Of(Symbol::Module)], &[])?)?;
+    let mut left = tokens;
+    while let Some((kind, rest)) = first_of(left) {
+        stacks = after(alloc, stacks.as_slice(), kind)?;
+        left = rest;
+    }
+    Ok(stacks)
+}

@@ -1,0 +1,70 @@
+-- The values of all DEFAULTs, by the numbers of the types that they are written in, and what parts of the walk tell.
+use Rattle.std.specs.Prelude.{◌≡◌, ◌<◌, ℕ, List, Option, Some, length, map, option_map, slice_get, Vec}
+use Rattle.std.specs.declared.alloc.Global.{Global}
+use Rattle.asn_base.specs.Abstract.{AbstractValue, abstract}
+use Rattle.asn_base.specs.declared.value.Value.{Value}
+use Rattle.asn_base.specs.Types.{Resolved}
+use Rattle.trees.specs.Values.{Name}
+use Rattle.type_table.specs.Table.{Part}
+use Rattle.names.specs.Sources as sources
+use Rattle.resolve.specs.Program.{Program, IsAssignment}
+use Rattle.typed_values.specs.declared.fault.ValueFault.{ValueFault}
+use Rattle.values.specs.Allowing.{Allows, AllowsCode}
+use Rattle.schema_of.specs.SchemaOf.{IsTypeOf}
+use Rattle.settled.specs.Settled.{IsSettledType}
+use Rattle.resolved_types.specs.Defaults.{AreDefaultsOf}
+use Rattle.extensions.specs.Faults.{IsList, IsFirstIn, IsWrong}
+use Rattle.extensions.specs.declared.wrong.Wrong.{Wrong}
+use Rattle.extensions.specs.declared.wrong.Wrong.TheVariants.{Memory, At}
+
+-- want of memory, or a fault of which P holds
+abbrev pub Tells : (ValueFault → Type 0) → Wrong → Type 0
+Tells P Memory = Unit {0}
+Tells P (At f) = P f
+
+-- as many as n, and R holds of each with its number
+pub record AreEach {B : Type 0} (R : ℕ → B → Type 0) (n : ℕ) (bs : List B) : Type 0 where
+  pub as_many : length bs ≡ n
+  pub each : (i : ℕ) (b : B) → slice_get bs i ≡ Some b → R i b
+
+abbrev pub defaults_seen : List (Option Value) → List (Option AbstractValue)
+defaults_seen = map (option_map abstract)
+
+abbrev pub row_seen : Vec (Option Value) Global → List (Option AbstractValue)
+row_seen v = defaults_seen v.items
+
+abbrev pub table_seen : List (Vec (Option Value) Global) → List (List (Option AbstractValue))
+table_seen = map row_seen
+
+-- the types of these components are below n
+abbrev pub HaveTypes : ℕ → List Part → Type 0
+HaveTypes n cs = (i : ℕ) (c : Part) → slice_get cs i ≡ Some c → c.ty < n
+
+-- type i is no list, or these are its DEFAULTs
+abbrev pub AreDefaultsAt : Program → ℕ → List (Option AbstractValue) → Type 0
+AreDefaultsAt p i vs = (M : Name) (cs : List Part) → IsList p i M cs → AreDefaultsOf p M cs vs
+
+-- these are the DEFAULTs of the first n types
+abbrev pub AreTabled : Program → ℕ → List (List (Option AbstractValue)) → Type 0
+AreTabled p n table = AreEach (AreDefaultsAt p) n table
+
+-- in the DEFAULTs of type i the fault stands first
+pub record IsFirstAt (p : Program) (i : ℕ) (f : ValueFault) : Type 0 where
+  pub within : Name
+  pub parts : List Part
+  pub list : IsList p i within parts
+  pub first : IsFirstIn p within parts f
+
+-- it stands in value i
+pub record IsWrongValue (p : Program) (i : ℕ) (f : ValueFault) : Type 0 where
+  pub value : sources.Value
+  pub there : slice_get p.values i ≡ Some value
+  pub within : Name
+  pub assigns : Name
+  pub stands : IsAssignment p value.assignment within assigns
+  pub wrong : IsWrong p within value.ty value.notation f
+
+-- resolved type r is type i in a schema
+pub record IsResolved (p : Program) (i : ℕ) (r : Resolved) : Type 0 where
+  pub is : IsTypeOf p (Allows p) (AllowsCode p) i r.kind
+  pub settled : IsSettledType p i r

@@ -1,0 +1,64 @@
+//! Value assignments.
+
+ghost use Rattle.std.specs.Prelude.{◌≡◌, ◌<◌, Some, OnOk, IfErr, length, slice_get, map};
+ghost use Rattle.names.specs.Sources.{value_of as value_seen};
+ghost use Rattle.type_table.specs.Lists.{AreSound};
+ghost use Rattle.typed_values.specs.Known.{AreKnown};
+ghost use Rattle.extensions.specs.Faults.{IsFirstValue, IsTypedValue};
+ghost use Rattle.extensions.specs.Settles.{AreTypedValues};
+ghost use Rattle.extensions.specs.proving.Tables.{IsWrongValue, Tells};
+
+use crate::wrong::{Wrong, value_of};
+use asn_base::schema::TypeId;
+use constraints::Bounded;
+use names::ValueAt;
+use std::alloc::Global;
+use typed_values::Defaults;
+
+/// Whether the value of this number stands for a value of its type.
+fn is_typed<'a>(
+    alloc: Global,
+    bounded: &Bounded<'a>,
+    defaults: &mut Defaults,
+    number: usize,
+    value: &'a ValueAt,
+) -> Result<(), Wrong<'a>>
+    requires is { slice_get bounded.now.values number ≡ Some (value_seen value.now) }
+    requires sound { AreSound bounded.now.types }
+    requires known { AreKnown bounded.now defaults.old }
+    ensures typed { OnOk result (IsTypedValue bounded.now number) }
+    ensures fault { IfErr result (Tells (IsWrongValue bounded.now number)) }
+    ensures known { AreKnown bounded.now defaults.new }
+{
+    let linked = bounded.linked();
+    linked.whole();
+    let home = linked.assigned(value.assignment);
+    let ty = TypeId { index: value.ty };
+    match value_of(alloc, bounded, defaults, ty, home.module, &value.syntax) {
+        Ok(_) => Ok(()),
+        Err(wrong) => Err(wrong),
+    }
+}
+
+/// Whether each value assignment stands for a value of its type, or the first fault that stands in one.
+pub(crate) fn all_typed<'a>(
+    alloc: Global,
+    bounded: &Bounded<'a>,
+    defaults: &mut Defaults,
+    values: &'a [ValueAt],
+) -> Result<(), Wrong<'a>>
+    requires is { map value_seen values.now ≡ bounded.now.values }
+    requires sound { AreSound bounded.now.types }
+    requires known { AreKnown bounded.now defaults.old }
+    ensures typed { OnOk result (AreTypedValues bounded.now) }
+    ensures fault { IfErr result (Tells (IsFirstValue bounded.now)) }
+    ensures known { AreKnown bounded.now defaults.new }
+{
+    for number in 0..values.len() {
+        match is_typed(alloc, bounded, defaults, number, &values[number]) {
+            Ok(()) => {}
+            Err(wrong) => return Err(wrong),
+        }
+    }
+    Ok(())
+}

@@ -1,0 +1,154 @@
+//! The values of DEFAULTs.
+
+ghost use Rattle.std.specs.Prelude.{◌≡◌, ◌++◌, ◌∷◌, [], ◌<◌, IfOk, IfErr, OnOk, length, map, option_map, slice_get, Some};
+ghost use Rattle.asn_base.specs.Abstract.{abstract};
+ghost use Rattle.type_table.specs.Lists.{AreSound};
+ghost use Rattle.type_table.specs.Seen.{part_of, type_of, types_of};
+ghost use Rattle.typed_values.specs.Known.{AreKnown};
+ghost use Rattle.resolved_types.specs.Defaults.{AreDefaultsOf, IsDefaultOf};
+ghost use Rattle.extensions.specs.Faults.{IsFirstDefault, IsFirstIn, IsWrongDefault};
+ghost use Rattle.extensions.specs.proving.Tables.{AreDefaultsAt, AreTabled, HaveTypes, IsFirstAt, Tells, defaults_seen, table_seen};
+
+use crate::wrong::{Wrong, value_of};
+use asn_base::schema::TypeId;
+use asn_base::value::Value;
+use constraints::Bounded;
+use std::alloc::{AllocError, Global};
+use trees::PresenceSyntax;
+use type_table::{Component, Shape, Written};
+use typed_values::Defaults;
+
+/// The value of a component's DEFAULT, which is read in this module; None where it has none.
+fn default_of<'a>(
+    alloc: Global,
+    bounded: &Bounded<'a>,
+    defaults: &mut Defaults,
+    within: &'a str,
+    component: &'a Component,
+) -> Result<Option<Value>, Wrong<'a>>
+    requires there { component.now.ty < length bounded.now.types }
+    requires sound { AreSound bounded.now.types }
+    requires known { AreKnown bounded.now defaults.old }
+    ensures value { IfOk result (λ v. IsDefaultOf bounded.now within.now (part_of component.now) (option_map abstract v)) }
+    ensures fault { IfErr result (Tells (IsWrongDefault bounded.now within.now (part_of component.now))) }
+    ensures known { AreKnown bounded.now defaults.new }
+{
+    let ty = TypeId {
+        index: component.ty,
+    };
+    match &component.presence {
+        PresenceSyntax::Mandatory => Ok(None),
+        PresenceSyntax::Optional => Ok(None),
+        PresenceSyntax::Default(notation) => {
+            match value_of(alloc, bounded, defaults, ty, within, notation) {
+                Ok(value) => Ok(Some(value)),
+                Err(wrong) => Err(wrong),
+            }
+        }
+    }
+}
+
+/// Adds a value, or that there is none.
+fn add(values: &mut Vec<Option<Value>>, value: Option<Value>) -> Result<(), AllocError>
+    ensures { OnOk result (defaults_seen values.new.items ≡ defaults_seen values.old.items ++ option_map abstract value ∷ []) }
+{
+    values.push(value)?;
+    Ok(())
+}
+
+/// The values of the DEFAULTs of a list's components, which are read in this module.
+fn defaults_in<'a>(
+    alloc: Global,
+    bounded: &Bounded<'a>,
+    defaults: &mut Defaults,
+    within: &'a str,
+    components: &'a [Component],
+) -> Result<Vec<Option<Value>>, Wrong<'a>>
+    requires there { HaveTypes (length bounded.now.types) (map part_of components.now) }
+    requires sound { AreSound bounded.now.types }
+    requires known { AreKnown bounded.now defaults.old }
+    ensures values { IfOk result (λ v. AreDefaultsOf bounded.now within.now (map part_of components.now) (defaults_seen v.items)) }
+    ensures fault { IfErr result (Tells (IsFirstIn bounded.now within.now (map part_of components.now))) }
+    ensures known { AreKnown bounded.now defaults.new }
+{
+    let mut values = Vec::new(alloc);
+    for at in 0..components.len() {
+        match default_of(alloc, bounded, defaults, within, &components[at]) {
+            Ok(value) => match add(&mut values, value) {
+                Ok(()) => {}
+                Err(_) => return Err(Wrong::Memory),
+            },
+            Err(wrong) => return Err(wrong),
+        }
+    }
+    Ok(values)
+}
+
+/// The values of the DEFAULTs that are written in a type; none where it is no list.
+fn defaults_at<'a>(
+    alloc: Global,
+    bounded: &Bounded<'a>,
+    defaults: &mut Defaults,
+    ty: usize,
+    written: &'a Written,
+) -> Result<Vec<Option<Value>>, Wrong<'a>>
+    requires there { ty < length bounded.now.types }
+    requires is { slice_get bounded.now.types ty ≡ Some (type_of written.now) }
+    requires sound { AreSound bounded.now.types }
+    requires known { AreKnown bounded.now defaults.old }
+    ensures values { IfOk result (λ v. AreDefaultsAt bounded.now ty (defaults_seen v.items)) }
+    ensures fault { IfErr result (Tells (IsFirstAt bounded.now ty)) }
+    ensures known { AreKnown bounded.now defaults.new }
+{
+    let linked = bounded.linked();
+    linked.whole();
+    let home = linked.home(TypeId { index: ty });
+    match &written.shape {
+        Shape::Members(_, _, components) => defaults_in(
+            alloc,
+            bounded,
+            defaults,
+            home.module,
+            components,
+        ),
+        Shape::Simple(_) => Ok(Vec::new(alloc)),
+        Shape::Reference(_) => Ok(Vec::new(alloc)),
+        Shape::Tagged(_, _, _) => Ok(Vec::new(alloc)),
+        Shape::Elements(_, _) => Ok(Vec::new(alloc)),
+    }
+}
+
+/// Adds a list of values.
+fn put(table: &mut Vec<Vec<Option<Value>>>, values: Vec<Option<Value>>) -> Result<(), AllocError>
+    ensures { OnOk result (table_seen table.new.items ≡ table_seen table.old.items ++ defaults_seen values.items ∷ []) }
+{
+    table.push(values)?;
+    Ok(())
+}
+
+/// The values of all DEFAULTs, by the numbers of the types that they are written in; or the first fault that stands in one.
+pub(crate) fn all_defaults<'a>(
+    alloc: Global,
+    bounded: &Bounded<'a>,
+    defaults: &mut Defaults,
+    types: &'a [Written],
+) -> Result<Vec<Vec<Option<Value>>>, Wrong<'a>>
+    requires types { types_of types.now ≡ bounded.now.types }
+    requires sound { AreSound bounded.now.types }
+    requires known { AreKnown bounded.now defaults.old }
+    ensures table { IfOk result (λ t. AreTabled bounded.now (length bounded.now.types) (table_seen t.items)) }
+    ensures fault { IfErr result (Tells (IsFirstDefault bounded.now)) }
+    ensures known { AreKnown bounded.now defaults.new }
+{
+    let mut table = Vec::new(alloc);
+    for ty in 0..types.len() {
+        match defaults_at(alloc, bounded, defaults, ty, &types[ty]) {
+            Ok(values) => match put(&mut table, values) {
+                Ok(()) => {}
+                Err(_) => return Err(Wrong::Memory),
+            },
+            Err(wrong) => return Err(wrong),
+        }
+    }
+    Ok(table)
+}

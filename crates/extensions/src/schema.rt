@@ -1,0 +1,51 @@
+//! The types of bounded modules, once all that is asked of them is checked.
+
+ghost use Rattle.std.specs.Prelude.{MatchResult};
+ghost use Rattle.asn_base.specs.Seen.{types_of};
+ghost use Rattle.extensions.specs.Faults.{Stands};
+ghost use Rattle.extensions.specs.Settles.{IsRead, AreSettled};
+
+use crate::assigned::all_typed;
+use crate::defaults::all_defaults;
+use crate::fault::{ExtFault, of_additions, of_assigned};
+use crate::types::all_types;
+use crate::wrong::Wrong;
+use additions::additions;
+use asn_base::schema::Resolved;
+use constraints::Bounded;
+use std::alloc::Global;
+use typed_values::Defaults;
+
+/// The types of the schema of bounded modules: one for each written type, by the same number. What stands behind extension markers
+/// is checked first, then each DEFAULT is typed (X.680, clause 25.1), in the order of written types, then each value assignment (clause
+/// 16.2). Or the first fault in this order: 55, 56 or 57, what is wrong with a notation, or `Memory`. The modules are as
+/// parsing and linking leave them.
+pub fn settled_types<'a>(
+    alloc: Global,
+    bounded: &Bounded<'a>,
+) -> Result<Vec<Resolved>, ExtFault<'a>>
+    requires { IsRead bounded.now }
+    ensures { MatchResult result (λ v. AreSettled bounded.now (types_of v.items)) (Stands bounded.now) }
+{
+    match additions(alloc, bounded) {
+        Ok(()) => {}
+        Err(fault) => return Err(of_additions(fault)),
+    }
+    let mut known = match Defaults::of(alloc, bounded) {
+        Ok(known) => known,
+        Err(_) => return Err(ExtFault::Memory),
+    };
+    let table = match all_defaults(alloc, bounded, &mut known, bounded.linked().types()) {
+        Ok(table) => table,
+        Err(Wrong::Memory) => return Err(ExtFault::Memory),
+        Err(Wrong::At(fault)) => return Err(ExtFault::Default(fault)),
+    };
+    match all_typed(alloc, bounded, &mut known, bounded.linked().values()) {
+        Ok(()) => {}
+        Err(wrong) => return Err(of_assigned(wrong)),
+    }
+    match all_types(alloc, bounded, &table) {
+        Ok(types) => Ok(types),
+        Err(_) => Err(ExtFault::Memory),
+    }
+}

@@ -1,0 +1,65 @@
+//! What reading one notation told, if it isn't a value.
+
+ghost use Rattle.std.specs.Prelude.{◌≡◌, ◌<◌, ℕ, false, IfOk, IfErr, length};
+ghost use Rattle.asn_base.specs.Abstract.{abstract};
+ghost use Rattle.trees.specs.Values.{tree_of};
+ghost use Rattle.type_table.specs.Lists.{AreSound};
+ghost use Rattle.typed_values.specs.declared.fault.Cause.TheVariants as causes;
+ghost use Rattle.typed_values.specs.Known.{AreKnown};
+ghost use Rattle.value_notations.specs.Values.{IsTyped};
+ghost use Rattle.values.specs.Allowing.{Allows, AllowsCode};
+ghost use Rattle.extensions.specs.Faults.{IsWrong};
+ghost use Rattle.extensions.specs.proving.Tables.{Tells};
+
+use asn_base::schema::TypeId;
+use asn_base::value::Value;
+use constraints::Bounded;
+use std::alloc::Global;
+use trees::ValueSyntax;
+use typed_values::{Cause, Defaults, ValueFault, typed_with};
+
+/// Why there is no value: want of memory, or a fault that stands in a notation.
+#[derive(Clone, Copy)]
+pub(crate) enum Wrong<'a> {
+    Memory,
+    At(ValueFault<'a>),
+}
+
+/// Whether it was memory that wanted.
+fn ran_out(cause: Cause<'_>) -> bool
+    ensures { result ≡ false → cause.entry ≡ causes.Memory → ⊥ }
+{
+    match cause {
+        Cause::Memory => true,
+        _ => false,
+    }
+}
+
+/// The value that a notation stands for under a type, in the module where it is read.
+pub(crate) fn value_of<'a>(
+    alloc: Global,
+    bounded: &Bounded<'a>,
+    defaults: &mut Defaults,
+    ty: TypeId,
+    within: &'a str,
+    notation: &'a ValueSyntax,
+) -> Result<Value, Wrong<'a>>
+    requires there { ty.index < length bounded.now.types }
+    requires sound { AreSound bounded.now.types }
+    requires known { AreKnown bounded.now defaults.old }
+    ensures value { IfOk result (λ v. IsTyped bounded.now (Allows bounded.now) (AllowsCode bounded.now) within.now ty.index
+        (tree_of notation.now) (abstract v)) }
+    ensures fault { IfErr result (Tells (IsWrong bounded.now within.now ty.index (tree_of notation.now))) }
+    ensures known { AreKnown bounded.now defaults.new }
+{
+    match typed_with(alloc, bounded, defaults, ty, within, notation) {
+        Ok(value) => Ok(value),
+        Err(fault) => {
+            if ran_out(fault.cause) {
+                Err(Wrong::Memory)
+            } else {
+                Err(Wrong::At(fault))
+            }
+        }
+    }
+}

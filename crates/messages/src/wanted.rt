@@ -1,0 +1,173 @@
+//! What can stand at a place of a module's text, in words.
+
+use crate::near::is_near;
+use expected_tokens::expected;
+use std::alloc::{AllocError, Global};
+use text::reserved::Word;
+use text::{Mark, Token, TokenKind};
+
+/// How many kinds of tokens a type can begin with.
+const TYPE_KINDS: usize = 19;
+
+/// How many kinds of tokens a value can begin with.
+const VALUE_KINDS: usize = 11;
+
+/// Whether a type can begin with this word.
+fn word_begins_type(word: Word) -> bool {
+    match word {
+        Word::Boolean | Word::Null | Word::Integer | Word::Enumerated | Word::Bit => true,
+        Word::Octet | Word::Object | Word::RelativeOid | Word::Utf8String => true,
+        Word::NumericString | Word::PrintableString | Word::Ia5String => true,
+        Word::VisibleString | Word::Iso646String => true,
+        Word::Sequence | Word::Set | Word::Choice => true,
+        _ => false,
+    }
+}
+
+/// Whether a type can begin with a token of this kind.
+fn begins_type(kind: TokenKind) -> bool {
+    match kind {
+        TokenKind::TypeReference | TokenKind::Mark(Mark::OpenBracket) => true,
+        TokenKind::Reserved(word) => word_begins_type(word),
+        _ => false,
+    }
+}
+
+/// Whether a value can begin with a token of this kind.
+fn begins_value(kind: TokenKind) -> bool {
+    match kind {
+        TokenKind::TypeReference | TokenKind::Identifier | TokenKind::Number => true,
+        TokenKind::CharacterString | TokenKind::BinaryString | TokenKind::HexString => true,
+        TokenKind::Mark(mark) => matches!(mark, Mark::Minus | Mark::OpenBrace),
+        TokenKind::Reserved(word) => matches!(word, Word::True | Word::False | Word::Null),
+    }
+}
+
+/// Whether all kinds are among these that a type can begin with.
+fn is_place_of_type(kinds: &[TokenKind]) -> bool {
+    let mut count: usize = 0;
+    for kind in kinds {
+        if begins_type(*kind) {
+            count = count.saturating_add(1);
+        }
+    }
+    count == TYPE_KINDS
+}
+
+/// Whether all kinds are among these that a value can begin with.
+fn is_place_of_value(kinds: &[TokenKind]) -> bool {
+    let mut count: usize = 0;
+    for kind in kinds {
+        if begins_value(*kind) {
+            count = count.saturating_add(1);
+        }
+    }
+    count == VALUE_KINDS
+}
+
+/// How a mark is written.
+fn mark_text(mark: Mark) -> &'static str {
+    match mark {
+        Mark::Assign => "'::='",
+        Mark::Ellipsis => "'...'",
+        Mark::Range => "'..'",
+        Mark::OpenVersion => "'[['",
+        Mark::CloseVersion => "']]'",
+        Mark::Dot => "'.'",
+        Mark::Comma => "','",
+        Mark::Semicolon => "';'",
+        Mark::Colon => "':'",
+        Mark::OpenBrace => "'{'",
+        Mark::CloseBrace => "'}'",
+        Mark::OpenParenthesis => "'('",
+        Mark::CloseParenthesis => "')'",
+        Mark::OpenBracket => "'['",
+        Mark::CloseBracket => "']'",
+        Mark::Bar => "'|'",
+        Mark::Minus => "'-'",
+        Mark::Caret => "'^'",
+        Mark::Less => "'<'",
+        Mark::Exclamation => "'!'",
+        Mark::At => "'@'",
+        Mark::Ampersand => "'&'",
+    }
+}
+
+/// What a kind of token is called.
+fn called(kind: TokenKind) -> &'static str {
+    match kind {
+        TokenKind::TypeReference => "a type reference",
+        TokenKind::Identifier => "an identifier",
+        TokenKind::Number => "a number",
+        TokenKind::CharacterString => "a string",
+        TokenKind::BinaryString => "a binary string",
+        TokenKind::HexString => "a hexadecimal string",
+        TokenKind::Mark(mark) => mark_text(mark),
+        TokenKind::Reserved(word) => word.text(),
+    }
+}
+
+/// Puts a thing to the words of a list.
+fn join(words: &mut String, thing: &str) -> Result<(), AllocError> {
+    words.push_str(if words.is_empty() {
+        ", expected "
+    } else {
+        " or "
+    })?;
+    words.push_str(thing)?;
+    Ok(())
+}
+
+/// Kinds of tokens in words: as a type or a value, where all stand there that one of these begins with, else one by one.
+fn list(alloc: Global, kinds: &[TokenKind]) -> Result<String, AllocError> {
+    let mut words = String::new(alloc);
+    let types = is_place_of_type(kinds);
+    let values = is_place_of_value(kinds);
+    if types {
+        join(&mut words, "a type")?;
+    }
+    if values {
+        join(&mut words, "a value")?;
+    }
+    for kind in kinds {
+        let is_told = (types && begins_type(*kind)) || (values && begins_value(*kind));
+        if !is_told {
+            join(&mut words, called(*kind))?;
+        }
+    }
+    if words.is_empty() {
+        join(&mut words, "the end of the text")?;
+    }
+    Ok(words)
+}
+
+/// The word among these kinds that a name is near to.
+fn meant(kinds: &[TokenKind], name: &str) -> Option<&'static str> {
+    for kind in kinds {
+        if let TokenKind::Reserved(word) = *kind {
+            let text = word.text();
+            if is_near(name.as_bytes(), text.as_bytes()) {
+                return Some(text);
+            }
+        }
+    }
+    None
+}
+
+/// What can stand at a place, in words, and what the token there may have been meant for.
+pub fn wanted(
+    alloc: Global,
+    tokens: &[Token],
+    place: usize,
+    found: &str,
+) -> Result<String, AllocError> {
+    let front = tokens.get(..place).unwrap_or(tokens);
+    let kinds = expected(alloc, front)?;
+    let mut words = list(alloc, kinds.as_slice())?;
+    if let Some(word) = meant(kinds.as_slice(), found) {
+        words.push_str("; did you mean ")?;
+        words.push_str(word)?;
+        words.push('?')?;
+    }
+    Ok(words)
+}

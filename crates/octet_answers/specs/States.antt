@@ -1,0 +1,158 @@
+-- Where a reader of octets stands.
+use Rattle.std.specs.Prelude.{ℕ, ◌+◌, Bool, true, List, ◌∷◌, ◌++◌, [], length, take}
+use Rattle.asn_base.specs.declared.schema.TypeId.{TypeId}
+use Rattle.asn_base.specs.Types.{Resolved}
+use Rattle.encodings.specs.Header.{Octets}
+use Rattle.codec_code.specs.declared.step.LeafKind.{LeafKind}
+
+-- Contents octets, constructed or not, as far as they are not read; the place in the message of the first of them; and how
+-- many components of the SETs around them were read.
+pub record Window : Type 0 where
+  pub constructed : Bool
+  pub octets : Octets
+  pub at : ℕ
+  pub from : ℕ
+
+-- what was read: values in order, with all that stands in them
+pub data Token : Type 0 where
+  -- the component at a place follows, or the alternative with a number
+  component : (place : ℕ) → Token
+  chosen : (index : ℕ) → Token
+  -- a value of a type begins, and ends
+  begun : TypeId → Token
+  ended : Token
+  -- contents octets, which begin at a place in the message
+  held : LeafKind → (constructed : Bool) → Octets → (at : ℕ) → Token
+  -- an addition that the type lacks was skipped
+  passed : Token
+
+-- The contents of the nearest open header, and what stands behind each of the open ones, the outermost first; the types
+-- of the values that are open, the outermost first; the places of the components that were read of the SETs that are
+-- open; what was read; and how many values may still begin.
+pub record State : Type 0 where
+  pub schema : List Resolved
+  pub here : Window
+  pub outer : List Window
+  pub values : List TypeId
+  pub marks : List ℕ
+  pub told : List Token
+  pub room : ℕ
+
+-- behind a header of k octets and its contents
+abbrev pub behind : Window → ℕ → Octets → Octets → Window
+behind w k x rest = record { constructed = w.constructed; octets = rest; at = w.at + (k + length x); from = w.from }
+
+-- the contents behind a header of k octets; as many components of SETs were read as there are marks
+abbrev pub inside : Window → Bool → ℕ → Octets → ℕ → Window
+inside w c k x marks = record { constructed = c; octets = x; at = w.at + k; from = marks }
+
+-- behind all contents
+abbrev pub at_end : Window → Window
+at_end w = record { constructed = w.constructed; octets = []; at = w.at + length w.octets; from = w.from }
+
+abbrev pub telling : State → Token → State
+telling a t = record {
+  schema = a.schema;
+  here = a.here;
+  outer = a.outer;
+  values = a.values;
+  marks = a.marks;
+  told = a.told ++ t ∷ [];
+  room = a.room;
+}
+
+-- behind an addition that the type lacks
+abbrev pub passing : State → ℕ → Octets → Octets → State
+passing a k x rest = record {
+  schema = a.schema;
+  here = behind a.here k x rest;
+  outer = a.outer;
+  values = a.values;
+  marks = a.marks;
+  told = a.told ++ passed ∷ [];
+  room = a.room;
+}
+
+-- within a value of the type
+abbrev pub begun_at : State → TypeId → ℕ → State
+begun_at a t left = record {
+  schema = a.schema;
+  here = a.here;
+  outer = a.outer;
+  values = a.values ++ t ∷ [];
+  marks = a.marks;
+  told = a.told ++ begun t ∷ [];
+  room = left;
+}
+
+-- behind a value, with the others that are open
+abbrev pub ended_at : State → List TypeId → State
+ended_at a others = record {
+  schema = a.schema;
+  here = a.here;
+  outer = a.outer;
+  values = others;
+  marks = a.marks;
+  told = a.told ++ ended ∷ [];
+  room = a.room;
+}
+
+-- within contents
+abbrev pub opened_at : State → Bool → ℕ → Octets → Octets → State
+opened_at a c k x rest = record {
+  schema = a.schema;
+  here = inside a.here c k x (length a.marks);
+  outer = a.outer ++ behind a.here k x rest ∷ [];
+  values = a.values;
+  marks = a.marks;
+  told = a.told;
+  room = a.room;
+}
+
+-- behind contents
+abbrev pub closed_at : State → Window → List Window → State
+closed_at a w others = record {
+  schema = a.schema;
+  here = w;
+  outer = others;
+  values = a.values;
+  marks = take a.here.from a.marks;
+  told = a.told;
+  room = a.room;
+}
+
+-- behind the contents octets of a value that holds no others
+abbrev pub held_at : State → LeafKind → State
+held_at a k = record {
+  schema = a.schema;
+  here = at_end a.here;
+  outer = a.outer;
+  values = a.values;
+  marks = a.marks;
+  told = a.told ++ held k a.here.constructed a.here.octets a.here.at ∷ [];
+  room = a.room;
+}
+
+-- before a component of a SET
+abbrev pub marked : State → ℕ → State
+marked a place = record {
+  schema = a.schema;
+  here = a.here;
+  outer = a.outer;
+  values = a.values;
+  marks = a.marks ++ place ∷ [];
+  told = a.told ++ component place ∷ [];
+  room = a.room;
+}
+
+-- at the front of a message, where so many values may begin
+abbrev pub front : List Resolved → Octets → ℕ → State
+front s o room = record {
+  schema = s;
+  here = record { constructed = true; octets = o; at = 0; from = 0 };
+  outer = [];
+  values = [];
+  marks = [];
+  told = [];
+  room = room;
+}

@@ -1,0 +1,6 @@
+mod Sorting
+mod Numbers
+mod Roots
+mod CoreKinds
+mod Parts
+mod Whole

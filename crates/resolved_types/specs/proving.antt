@@ -1,0 +1,3 @@
+-- What only contracts inside the crate and proofs speak of.
+pub mod Cores
+pub mod Items

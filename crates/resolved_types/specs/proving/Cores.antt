@@ -1,0 +1,83 @@
+-- What the parts of a resolved type answer.
+use Rattle.std.specs.Prelude.{◌≡◌, ◌<◌, ℕ, Bool, true, false, List, [], ◌∷◌, Option, Some, None, slice_get}
+use Rattle.asn_base.specs.Abstract.{AbstractValue}
+use Rattle.asn_base.specs.Types as types
+use Rattle.trees.specs.Values.{Name, Tree}
+use Rattle.trees.specs.Types.{PresenceTree, mandatory, optional, default}
+use Rattle.type_table.specs.Table.{Kind, Part, Type', IsCore}
+use Rattle.resolve.specs.Program.{Program, IsAssignment}
+use Rattle.tagging.specs.declared.path.Form.{Form}
+use Rattle.tagging.specs.declared.path.Form.TheVariants.{Implicit, Explicit}
+use Rattle.tagging.specs.Tags.{Label, Path}
+use Rattle.values.specs.Allowing.{Allows, AllowsCode}
+use Rattle.schema_of.specs.SchemaOf.{IsKindOf}
+use Rattle.additions.specs.Additions.{IsAdded, has_default}
+use Rattle.settled.specs.Settled.{IsConstrained, ItemsAscend, standing, without_first}
+
+-- ---- tags
+
+abbrev pub is_implicit : Form → Bool
+is_implicit Implicit = true
+is_implicit Explicit = false
+
+-- the tags that stand of these, in place of the first of which one before them stands or not
+abbrev pub standing_behind : Bool → Path → List Label
+standing_behind true p = without_first (standing p)
+standing_behind false p = standing p
+
+-- the tag, where none before it stands in its place
+abbrev pub unless : Bool → Label → List Label
+unless true l = []
+unless false l = l ∷ []
+
+-- ---- kinds
+
+-- type i, whose core is of kind k and is written in module M, is of kind r in a schema, with what its constraints leave
+-- and its items in order
+pub record IsCoreOf (p : Program) (i : ℕ) (M : Name) (k : Kind) (r : types.Kind) : Type 0 where
+  pub kind : IsKindOf p (Allows p) (AllowsCode p) i M k r
+  pub constrained : IsConstrained p k i r
+  pub items : ItemsAscend r
+
+-- ---- members
+
+-- an addition has no DEFAULT
+abbrev pub HaveNoDefaultBehind : List Part → Type 0
+HaveNoDefaultBehind cs = (n : ℕ) (c : Part) → slice_get cs n ≡ Some c → IsAdded c → has_default c.presence ≡ false
+
+-- behind an addition stand additions alone
+abbrev pub AreBehind : List Part → Type 0
+AreBehind cs = (m n : ℕ) (d c : Part) →
+    m < n →
+    slice_get cs m ≡ Some d →
+    slice_get cs n ≡ Some c →
+    IsAdded d →
+    IsAdded c
+
+abbrev pub is_optional : PresenceTree → Bool
+is_optional mandatory = false
+is_optional optional = true
+is_optional (default n) = false
+
+-- the component has a DEFAULT only where its value is there
+abbrev pub IsGiven : Part → Option AbstractValue → Type 0
+IsGiven c v = (n : Tree) → c.presence ≡ default n → v ≡ None → ⊥
+
+-- ---- types
+
+-- type i is of kind k behind its references and tags
+pub record IsCoreType (p : Program) (i : ℕ) (k : Kind) : Type 0 where
+  pub core : ℕ
+  pub type : Type'
+  pub leads : IsCore p.types i core
+  pub there : slice_get p.types core ≡ Some type
+  pub kind : type.kind ≡ k
+  pub within : Name
+  pub assigns : Name
+  pub stands : IsAssignment p type.assignment within assigns
+
+-- type i is of kind r in a schema
+pub record IsCoreIn (p : Program) (i : ℕ) (r : types.Kind) : Type 0 where
+  pub kind : Kind
+  pub is : IsCoreType p i kind
+  pub such : IsCoreOf p i is.within kind r

@@ -1,0 +1,73 @@
+-- Where segments fail, and why: the first fault from the front.
+use Rattle.std.specs.Prelude.{◌≡◌, ℕ, suc, ◌+◌, ◌%◌, ◌≤◌, Bool, true, false, List, [], length}
+use Rattle.asn_base.specs.declared.tag.Tag.{Tag}
+use Rattle.encodings.specs.Header.{Octets}
+use Rattle.encodings.specs.Strings.{octet_string_tag, bit_string_tag, WholeBits}
+use Rattle.octets.specs.Fronts.{HeaderAt, Stands}
+use Rattle.octets.specs.declared.fault.HeaderFault.{HeaderFault}
+use Rattle.segmented_strings.specs.declared.fault.Why.{Why}
+use Rattle.segmented_strings.specs.declared.fault.Why.TheVariants as whys
+use Rattle.segmented_strings.specs.Within.{UnitAt, PiecesWithin, BitPiecesWithin}
+
+-- at the front of octets no header stands with its contents, or one too deep, or one of another tag than a segment's
+pub data NoSegment (tag : Tag) (room : ℕ) (o : Octets) : Why → Type 0 where
+  no_header : {e : HeaderFault} → 1 ≤ length o → Stands e o → NoSegment tag room o (whys.Header e)
+  too_deep : {g : Tag} {c : Bool} {n k : ℕ} → HeaderAt g c n k o → room ≡ 0 → NoSegment tag room o whys.TooDeep
+  other_tag : {g : Tag} {c : Bool} {n k : ℕ}
+      → HeaderAt g c n k o
+      → 1 ≤ room
+      → (g ≡ tag → ⊥)
+      → NoSegment tag room o whys.UnexpectedTag
+
+-- a place in the contents of a segment with so long a header, and one behind it
+abbrev pub within_segment : {g : Tag} {c : Bool} {x rest o : Octets} → UnitAt g c x rest o → ℕ → ℕ
+within_segment u i = length u.header + i
+
+abbrev pub behind_segment : {g : Tag} {c : Bool} {x rest o : Octets} → UnitAt g c x rest o → ℕ → ℕ
+behind_segment {x = x} u i = length u.header + (length x + i)
+
+-- segments of octets fail with this fault at this place, where so many levels of headers may stand
+pub data OctetsFail : (room : ℕ) → Why → (at : ℕ) → Octets → Type 0 where
+  no_octets : {room : ℕ} {e : Why} {o : Octets} → NoSegment octet_string_tag room o e → OctetsFail room e 0 o
+  -- in a constructed segment
+  in_octets : {room i at : ℕ} {e : Why} {x rest o : Octets} (u : UnitAt octet_string_tag true x rest o)
+      → OctetsFail room e i x
+      → at ≡ within_segment u i
+      → OctetsFail (suc room) e at o
+  -- behind a segment
+  behind_octets : {room i at : ℕ} {e : Why} {s : Octets} {c : Bool} {x rest o : Octets}
+      (u : UnitAt octet_string_tag c x rest o)
+      → PiecesWithin room s c x
+      → OctetsFail (suc room) e i rest
+      → at ≡ behind_segment u i
+      → OctetsFail (suc room) e at o
+
+-- segments of bits fail
+pub data BitsFail : (room : ℕ) → Why → (at : ℕ) → Octets → Type 0 where
+  no_bits : {room : ℕ} {e : Why} {o : Octets} → NoSegment bit_string_tag room o e → BitsFail room e 0 o
+  -- there is to be one (8.6.4)
+  without_segments : {room : ℕ} {o : Octets} → o ≡ [] → BitsFail room whys.EmptySegments 0 o
+  -- contents of a primitive segment that are those of no bits (8.6.2)
+  bad_bits : {room : ℕ} {x rest o : Octets}
+      → UnitAt bit_string_tag false x rest o
+      → ((s : List Bool) → WholeBits s x → ⊥)
+      → BitsFail (suc room) whys.BadContents 0 o
+  -- a segment with unused bits that isn't the last (8.6.4.2)
+  odd_bits : {room : ℕ} {s : List Bool} {c : Bool} {x rest o : Octets}
+      → UnitAt bit_string_tag c x rest o
+      → BitPiecesWithin room s c x
+      → (length s % 8 ≡ 0 → ⊥)
+      → 1 ≤ length rest
+      → BitsFail (suc room) whys.BadContents 0 o
+  in_bits : {room i at : ℕ} {e : Why} {x rest o : Octets} (u : UnitAt bit_string_tag true x rest o)
+      → BitsFail room e i x
+      → at ≡ within_segment u i
+      → BitsFail (suc room) e at o
+  behind_bits : {room i at : ℕ} {e : Why} {s : List Bool} {c : Bool} {x rest o : Octets}
+      (u : UnitAt bit_string_tag c x rest o)
+      → BitPiecesWithin room s c x
+      → length s % 8 ≡ 0
+      → 1 ≤ length rest
+      → BitsFail (suc room) e i rest
+      → at ≡ behind_segment u i
+      → BitsFail (suc room) e at o

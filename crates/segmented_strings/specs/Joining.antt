@@ -1,0 +1,69 @@
+-- What constructed contents octets of each kind of string are read as, and why they are refused.
+use Rattle.std.specs.Prelude.{◌≡◌, ℕ, ◌<◌, ◌≤◌, Bool, true, false, length, string_bytes}
+use Rattle.asn_base.specs.Abstract.{AbstractValue, bits, octets, text}
+use Rattle.encodings.specs.Header.{Octets}
+use Rattle.encodings.specs.Rules.{Basic}
+use Rattle.encodings.specs.Contents.{Contents}
+use Rattle.encodings.specs.Levels.{leaf_levels}
+use Rattle.codec_code.specs.declared.step.LeafKind.{LeafKind}
+use Rattle.codec_code.specs.declared.step.LeafKind.TheVariants as kinds
+use Rattle.codec_code.specs.Steps.{plain}
+use Rattle.leaf_readings.specs.Leaves.{Suits, bits_but}
+use Rattle.segmented_strings.specs.declared.fault.Why.{Why}
+use Rattle.segmented_strings.specs.declared.fault.Why.TheVariants as whys
+use Rattle.segmented_strings.specs.declared.read.Joined.{Joined}
+use Rattle.segmented_strings.specs.declared.read.Joined.TheVariants as joined
+use Rattle.segmented_strings.specs.Within.{OctetsWithin}
+use Rattle.segmented_strings.specs.Failing.{OctetsFail, BitsFail}
+
+-- the value that is handed over
+abbrev pub Tells : Joined → AbstractValue → Type 0
+Tells (joined.Bits n o) v = v ≡ bits (bits_but n o.items)
+Tells (joined.Octets o) v = v ≡ octets o.items
+Tells (joined.Text s) v = v ≡ text (string_bytes s)
+
+-- x are constructed contents octets of v by the basic rules, with so many levels of headers in them at most
+pub record IsJoinedAs (k : LeafKind) (v : AbstractValue) (room : ℕ) (x : Octets) : Type 0 where
+  pub contents : Contents Basic (plain k) v true x
+  pub suits : Suits k v
+  pub few : leaf_levels contents ≤ room
+
+-- constructed contents octets x of this kind are those of the value that is told
+pub record Reads (k : LeafKind) (room : ℕ) (x : Octets) (j : Joined) : Type 0 where
+  pub value : AbstractValue
+  pub told : Tells j value
+  pub is_joined : IsJoinedAs k value room x
+
+-- less than eight bits are unused, and none where there are no octets
+abbrev pub HasFewUnused : Joined → Type 0
+HasFewUnused (joined.Bits n o) = (n < 8) × (length o.items ≡ 0 → n ≡ 0)
+HasFewUnused j = Unit {0}
+
+-- what the segments of a kind of string hold
+pub data Holding : Type 0 where
+  nothing : Holding
+  some_bits : Holding
+  some_octets : Holding
+  some_text : Holding
+
+abbrev pub holding : LeafKind → Holding
+holding kinds.BitString = some_bits
+holding kinds.NamedBits = some_bits
+holding kinds.OctetString = some_octets
+holding kinds.Utf8String = some_text
+holding (kinds.RestrictedString k) = some_text
+holding k = nothing
+
+-- constructed contents octets x of this kind fail
+pub data Fails (k : LeafKind) (room : ℕ) : Why → ℕ → Octets → Type 0 where
+  bits_fail : {i : ℕ} {e : Why} {x : Octets} → holding k ≡ some_bits → BitsFail room e i x → Fails k room e i x
+  octets_fail : {i : ℕ} {e : Why} {x : Octets} → holding k ≡ some_octets → OctetsFail room e i x → Fails k room e i x
+  text_fails : {i : ℕ} {e : Why} {x : Octets} → holding k ≡ some_text → OctetsFail room e i x → Fails k room e i x
+  -- the joined octets aren't UTF-8, or have a character that the type lacks (8.23.5, 8.23.10)
+  bad_text : {s x : Octets}
+      → holding k ≡ some_text
+      → OctetsWithin room s x
+      → (Suits k (text s) → ⊥)
+      → Fails k room whys.BadContents 0 x
+  -- the kind has no constructed form
+  never_constructed : {x : Octets} → holding k ≡ nothing → Fails k room whys.UnexpectedTag 0 x

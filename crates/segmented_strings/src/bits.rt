@@ -1,0 +1,103 @@
+//! Bits of segments.
+
+ghost use Rattle.encodings.specs.Strings.{WholeBits, bit_string_tag};
+ghost use Rattle.segmented_strings.specs.Failing.{BitsFail};
+ghost use Rattle.segmented_strings.specs.Refusing.{IsRefused, IsWhole, JoinsBits, JoinsOneBits};
+ghost use Rattle.std.specs.Prelude.{◌≡◌, ◌≤◌, Bool, IfErr, IfNone, IfOk, IfSome, List, length};
+
+use crate::fault::{SegmentsFault, Why};
+use crate::joined::moved;
+use crate::segment::{are_octets, extend, next_segment};
+use asn_base::tag::{Class, Tag};
+use octets::Form;
+
+/// The tag of a BIT STRING's segments.
+#[tactic(auto, using(crate::proofs::Tags::bit_tag))]
+fn bit_string() -> Tag
+    ensures { result ≡ bit_string_tag }
+{
+    Tag::of(Class::Universal, 3)
+}
+
+/// How many bits of the last octet are unused, and the octets behind the one that tells it (8.6.2).
+#[tactic(auto, using(crate::proofs::BitSteps::are_bits, crate::proofs::BitSteps::no_bits_there, crate::proofs::BitSteps::many_unused, crate::proofs::BitSteps::unused_of_none))]
+fn whole_bits(octets: &[u8]) -> Option<(u8, &[u8])>
+    ensures some { IfSome result (λ r. IsWhole r.0 r.1.now octets.now) }
+    ensures none { IfNone result ((s : List Bool) → WholeBits s octets.now → ⊥) }
+{
+    let Some((unused, behind)) = octets.split_first() else {
+        return None;
+    };
+    let unused = *unused;
+    if unused > 7 {
+        return None;
+    }
+    if behind.len() == 0 && unused > 0 {
+        return None;
+    }
+    are_octets(behind);
+    Some((unused, behind))
+}
+
+/// Adds the octets of segments' bits, where so many levels of headers may stand, and answers how many bits of the last one
+/// are unused. A refused call may have added some.
+#[cycle(bits)]
+pub(crate) fn add_bits(out: &mut Vec<u8>, contents: &[u8], room: usize) -> Result<u8, SegmentsFault>
+    requires { length contents.now ≤ 16777216 }
+    ensures ok { IfOk result (λ u. JoinsBits room contents.now out.old.items out.new.items u) }
+    ensures err { IfErr result (λ e. IsRefused (BitsFail room) e contents.now) }
+{
+    if contents.is_empty() {
+        return Err(SegmentsFault::At(0, Why::EmptySegments));
+    }
+    let mut rest = contents;
+    loop {
+        let before = contents.len() - rest.len();
+        let (unused, behind) = match add_bit_segment(out, rest, room) {
+            Ok(added) => added,
+            Err(fault) => return Err(moved(before, fault)),
+        };
+        if behind.is_empty() {
+            return Ok(unused);
+        }
+        if unused > 0 {
+            return Err(SegmentsFault::At(before, Why::BadContents));
+        }
+        rest = behind;
+    }
+}
+
+/// Adds the octets of the bits of the segment at the front, and answers how many bits of the last one are unused, and what
+/// stands behind the segment.
+#[cycle(bits)]
+fn add_bit_segment<'a>(
+    out: &mut Vec<u8>,
+    octets: &'a [u8],
+    room: usize,
+) -> Result<(u8, &'a [u8]), SegmentsFault>
+    requires some { 1 ≤ length octets.now }
+    requires short { length octets.now ≤ 16777216 }
+    ensures ok { IfOk result (λ r. JoinsOneBits room octets.now r.1.now out.old.items out.new.items r.0) }
+    ensures err { IfErr result (λ e. IsRefused (BitsFail room) e octets.now) }
+{
+    let segment = match next_segment(bit_string(), room, octets) {
+        Ok(segment) => segment,
+        Err(why) => return Err(SegmentsFault::At(0, why)),
+    };
+    match segment.form {
+        Form::Primitive => match whole_bits(segment.contents) {
+            Some((unused, bits)) => match extend(out, bits) {
+                Ok(()) => Ok((unused, segment.behind)),
+                Err(fault) => Err(fault),
+            },
+            None => Err(SegmentsFault::At(0, Why::BadContents)),
+        },
+        Form::Constructed => {
+            let before = octets.len() - segment.behind.len() - segment.contents.len();
+            match add_bits(out, segment.contents, room - 1) {
+                Ok(unused) => Ok((unused, segment.behind)),
+                Err(fault) => Err(moved(before, fault)),
+            }
+        }
+    }
+}

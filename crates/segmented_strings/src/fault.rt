@@ -1,0 +1,55 @@
+//! Why segments are refused.
+
+ghost use Rattle.segmented_strings.specs.declared.fault.SegmentsFault.TheVariants.{Memory};
+ghost use Rattle.std.specs.Prelude.{◌≡◌};
+
+use octets::HeaderFault;
+use std::alloc::{AllocError, AllocFailed};
+use thiserror::Error;
+
+/// What is wrong at a place.
+#[derive(Clone, Copy, Debug, PartialEq, Eq, Error)]
+pub enum Why {
+    /// No header stands there with its contents, which are to lie within those of the header round it.
+    #[error("{0}")]
+    Header(HeaderFault),
+    /// A header of another tag than a segment's.
+    #[error("84 UnexpectedTag")]
+    UnexpectedTag,
+    /// Contents of no bits; unused bits in a segment that isn't the last; or a joined string with a character that its type
+    /// lacks.
+    #[error("86 BadContents")]
+    BadContents,
+    /// A constructed BIT STRING, or such a segment of one, without segments.
+    #[error("87 EmptySegments")]
+    EmptySegments,
+    /// A header past the limit on levels.
+    #[error("95 TooDeep")]
+    TooDeep,
+}
+
+/// Why contents octets are no string in segments: more memory was asked for and refused, or what is wrong, and at which
+/// of the octets, counted from 0.
+#[derive(Clone, Copy, Debug, PartialEq, Eq, Error)]
+pub enum SegmentsFault {
+    #[error("1 Memory")]
+    Memory,
+    #[error("{1}, at octet {0}")]
+    At(usize, Why),
+}
+
+impl From<AllocError> for SegmentsFault {
+    ghost from_gives = { λ _ e. e ≡ Memory };
+
+    fn from(_e: AllocError) -> SegmentsFault {
+        SegmentsFault::Memory
+    }
+}
+
+impl<T: Drop> From<AllocFailed<T>> for SegmentsFault {
+    ghost from_gives = { λ _ e. e ≡ Memory };
+
+    fn from(_e: AllocFailed<T>) -> SegmentsFault {
+        SegmentsFault::Memory
+    }
+}

@@ -1,0 +1,32 @@
+//! Laws of strings in segments.
+
+ghost use Rattle.asn_base.specs.Abstract.{AbstractValue};
+ghost use Rattle.codec_code.specs.declared.step.LeafKind.{LeafKind};
+ghost use Rattle.segmented_strings.specs.Joining.{Fails, IsJoinedAs};
+ghost use Rattle.segmented_strings.specs.declared.fault.Why.{Why};
+ghost use Rattle.std.specs.Prelude.{◌≡◌, ◌≤◌, List, length, ℕ};
+
+use encodings::header_laws;
+use octets::law::one_front;
+
+/// Constructed contents octets of a kind, of at most 16,777,216 octets, are those of one value at most, or else one fault
+/// stands at one place, and never both.
+pub fn one_joining()
+    ensures value { (k : LeafKind) (v w : AbstractValue) (room : ℕ) (x : List ℕ)
+        → IsJoinedAs k v room x
+        → IsJoinedAs k w room x
+        → v ≡ w }
+    ensures fault { (k : LeafKind) (room i j : ℕ) (e f : Why) (x : List ℕ)
+        → length x ≤ 16777216
+        → Fails k room e i x
+        → Fails k room f j x
+        → (e ≡ f) × (i ≡ j) }
+    ensures either { (k : LeafKind) (room i : ℕ) (e : Why) (v : AbstractValue) (x : List ℕ)
+        → length x ≤ 16777216
+        → Fails k room e i x
+        → IsJoinedAs k v room x
+        → ⊥ }
+{
+    header_laws();
+    one_front();
+}

@@ -1,0 +1,137 @@
+//! Constructed contents octets of each kind of string.
+
+ghost use Rattle.asn_base.specs.Abstract.{AbstractValue, text as text'};
+ghost use Rattle.codec_code.specs.declared.step.LeafKind.TheVariants.{OctetString};
+ghost use Rattle.segmented_strings.specs.Joining.{Fails, HasFewUnused, IsJoinedAs, Reads, holding, some_bits, some_text};
+ghost use Rattle.segmented_strings.specs.Refusing.{IsRefused};
+ghost use Rattle.segmented_strings.specs.declared.fault.SegmentsFault.TheVariants.{At, Memory};
+ghost use Rattle.segmented_strings.specs.declared.fault.Why.{Why as Why'};
+ghost use Rattle.std.specs.Prelude.{◌≡◌, ◌≤◌, ◌⊎◌, Err, IfErr, IfOk, length, ℕ};
+
+use crate::bits::add_bits;
+use crate::fault::{SegmentsFault, Why};
+use crate::joined::add_octets;
+use crate::law::one_joining;
+use crate::text::text_of;
+use codec_code::LeafKind;
+use std::alloc::Global;
+
+/// A string that was joined from segments.
+#[derive(Debug, Drop)]
+pub enum Joined {
+    /// How many bits of the last octet are unused, and the octets.
+    Bits(u8, Vec<u8>),
+    Octets(Vec<u8>),
+    Text(String),
+}
+
+/// Reads the contents octets of a constructed string of this kind by the basic rules, where so many levels of headers may
+/// stand in them (X.690, 8.6.4, 8.7.3 and 8.23). Each segment is a BIT STRING, or else an OCTET STRING, which may be
+/// constructed again; of a BIT STRING's only the last may have unused bits. Time and memory grow with the octets, and no
+/// told length is trusted before it is seen to lie within them.
+///
+/// The fault that stands first from the front is told, with its place among the octets: `Header` where no header stands
+/// with its contents within those of the header round it, then `TooDeep` of a header past the limit, `UnexpectedTag` of
+/// one of another tag; `EmptySegments` where a BIT STRING's first segment is to stand; `BadContents` at a segment of no
+/// bits, or with unused bits before another one, and at 0 of a joined string that isn't UTF-8 or has a character that
+/// its type lacks. A kind that isn't a string has no constructed form: `UnexpectedTag` at 0.
+pub fn read_segments(
+    alloc: Global,
+    kind: LeafKind,
+    contents: &[u8],
+    room: usize,
+) -> Result<Joined, SegmentsFault>
+    requires { length contents.now ≤ 16777216 }
+    ensures ok { IfOk result (λ j. Reads kind room contents.now j) }
+    ensures few_unused { IfOk result (λ j. HasFewUnused j) }
+    ensures err { IfErr result (λ e. IsRefused (Fails kind room) e contents.now) }
+    // They are read wherever they are those of a value, and each fault is told just where it stands, memory apart.
+    ensures only { (v : AbstractValue) → IsJoinedAs kind v room contents.now → IfErr result (λ e. e ≡ Memory) }
+    ensures just { (e : Why') (i : ℕ) → Fails kind room e i contents.now
+        → (result ≡ Err (At i e)) ⊎ (result ≡ Err Memory) }
+{
+    one_joining();
+    read_kind(alloc, kind, contents, room)
+}
+
+/// The same, by the kind.
+fn read_kind(
+    alloc: Global,
+    kind: LeafKind,
+    contents: &[u8],
+    room: usize,
+) -> Result<Joined, SegmentsFault>
+    requires { length contents.now ≤ 16777216 }
+    ensures ok { IfOk result (λ j. Reads kind room contents.now j) }
+    ensures few_unused { IfOk result (λ j. HasFewUnused j) }
+    ensures err { IfErr result (λ e. IsRefused (Fails kind room) e contents.now) }
+{
+    match kind {
+        LeafKind::BitString => as_bits(alloc, kind, contents, room),
+        LeafKind::NamedBits => as_bits(alloc, kind, contents, room),
+        LeafKind::OctetString => as_octets(alloc, contents, room),
+        LeafKind::Utf8String => as_text(alloc, kind, contents, room),
+        LeafKind::RestrictedString(_) => as_text(alloc, kind, contents, room),
+        LeafKind::Boolean => Err(SegmentsFault::At(0, Why::UnexpectedTag)),
+        LeafKind::Integer => Err(SegmentsFault::At(0, Why::UnexpectedTag)),
+        LeafKind::Enumerated => Err(SegmentsFault::At(0, Why::UnexpectedTag)),
+        LeafKind::Null => Err(SegmentsFault::At(0, Why::UnexpectedTag)),
+        LeafKind::ObjectIdentifier => Err(SegmentsFault::At(0, Why::UnexpectedTag)),
+        LeafKind::RelativeOid => Err(SegmentsFault::At(0, Why::UnexpectedTag)),
+    }
+}
+
+fn as_bits(
+    alloc: Global,
+    kind: LeafKind,
+    contents: &[u8],
+    room: usize,
+) -> Result<Joined, SegmentsFault>
+    requires kind { holding kind ≡ some_bits }
+    requires short { length contents.now ≤ 16777216 }
+    ensures ok { IfOk result (λ j. Reads kind room contents.now j) }
+    ensures few_unused { IfOk result (λ j. HasFewUnused j) }
+    ensures err { IfErr result (λ e. IsRefused (Fails kind room) e contents.now) }
+{
+    let mut octets = Vec::new(alloc);
+    match add_bits(&mut octets, contents, room) {
+        Ok(unused) => Ok(Joined::Bits(unused, octets)),
+        Err(fault) => Err(fault),
+    }
+}
+
+fn as_octets(alloc: Global, contents: &[u8], room: usize) -> Result<Joined, SegmentsFault>
+    requires { length contents.now ≤ 16777216 }
+    ensures ok { IfOk result (λ j. Reads OctetString room contents.now j) }
+    ensures few_unused { IfOk result (λ j. HasFewUnused j) }
+    ensures err { IfErr result (λ e. IsRefused (Fails OctetString room) e contents.now) }
+{
+    let mut octets = Vec::new(alloc);
+    match add_octets(&mut octets, contents, room) {
+        Ok(()) => Ok(Joined::Octets(octets)),
+        Err(fault) => Err(fault),
+    }
+}
+
+fn as_text(
+    alloc: Global,
+    kind: LeafKind,
+    contents: &[u8],
+    room: usize,
+) -> Result<Joined, SegmentsFault>
+    requires kind { holding kind ≡ some_text }
+    requires short { length contents.now ≤ 16777216 }
+    ensures ok { IfOk result (λ j. Reads kind room contents.now j) }
+    ensures few_unused { IfOk result (λ j. HasFewUnused j) }
+    ensures err { IfErr result (λ e. IsRefused (Fails kind room) e contents.now) }
+{
+    let mut octets = Vec::new(alloc);
+    match add_octets(&mut octets, contents, room) {
+        Ok(()) => {}
+        Err(fault) => return Err(fault),
+    }
+    match text_of(alloc, kind, octets.as_slice()) {
+        Ok(text) => Ok(Joined::Text(text)),
+        Err(fault) => Err(fault),
+    }
+}

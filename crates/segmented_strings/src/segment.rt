@@ -1,0 +1,68 @@
+//! The segment at the front of octets.
+
+ghost use Rattle.octets.specs.Forms.{is_constructed};
+ghost use Rattle.segmented_strings.specs.Failing.{NoSegment};
+ghost use Rattle.segmented_strings.specs.Within.{UnitAt};
+ghost use Rattle.segmented_strings.specs.declared.fault.SegmentsFault.TheVariants.{Memory};
+ghost use Rattle.std.specs.Int.Digits.{AllBelowBase};
+ghost use Rattle.std.specs.Prelude.{◌≡◌, ◌≤◌, ◌↔◌, ◌++◌, IfErr, IfOk, IsTrue, OnOk, length};
+
+use crate::fault::{SegmentsFault, Why};
+use asn_base::tag::Tag;
+use octets::{Form, read_header};
+
+/// A segment: its form, its contents, and what stands behind them.
+#[derive(Clone, Copy, Drop)]
+pub(crate) struct Segment<'a> {
+    pub(crate) form: Form,
+    pub(crate) contents: &'a [u8],
+    pub(crate) behind: &'a [u8],
+}
+
+/// The segment of this tag at the front of octets, where so many levels of headers may stand.
+pub(crate) fn next_segment(tag: Tag, room: usize, octets: &[u8]) -> Result<Segment<'_>, Why>
+    requires { 1 ≤ length octets.now }
+    ensures room { IfOk result (λ r. 1 ≤ room) }
+    ensures ok { IfOk result (λ r. UnitAt tag (is_constructed r.form) r.contents.now r.behind.now octets.now) }
+    ensures err { IfErr result (λ e. NoSegment tag room octets.now e) }
+{
+    let header = match read_header(octets) {
+        Ok(header) => header,
+        Err(fault) => return Err(Why::Header(fault)),
+    };
+    if room == 0 {
+        return Err(Why::TooDeep);
+    }
+    if !are_same(header.tag, tag) {
+        return Err(Why::UnexpectedTag);
+    }
+    let (_, rest) = octets.split_at(header.octets);
+    let (contents, behind) = rest.split_at(header.contents);
+    Ok(Segment {
+        form: header.form,
+        contents,
+        behind,
+    })
+}
+
+/// Adds octets.
+pub(crate) fn extend(out: &mut Vec<u8>, octets: &[u8]) -> Result<(), SegmentsFault>
+    ensures ok { OnOk result (out.new.items ≡ out.old.items ++ octets.now) }
+    ensures err { IfErr result (λ e. e ≡ Memory) }
+{
+    out.extend_from_slice(octets)?;
+    Ok(())
+}
+
+/// Whether two tags are the same.
+#[tactic(auto, using(crate::proofs::Tags::tag_same))]
+fn are_same(tag: Tag, other: Tag) -> bool
+    ensures { IsTrue result ↔ (tag ≡ other) }
+{
+    tag.class == other.class && tag.number == other.number
+}
+
+/// They are octets.
+pub(crate) fn are_octets(octets: &[u8])
+    ensures { AllBelowBase 256 octets.now }
+{}

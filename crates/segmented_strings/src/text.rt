@@ -1,0 +1,60 @@
+//! Joined characters.
+
+ghost use Rattle.asn_base.specs.Abstract.{text as text'};
+ghost use Rattle.leaf_readings.specs.Leaves.{Suits};
+ghost use Rattle.segmented_strings.specs.Joining.{holding, some_text};
+ghost use Rattle.segmented_strings.specs.Texts.{IsTextRefused, is_text};
+ghost use Rattle.std.specs.Prelude.{◌≡◌, IfErr, IfNone, IfOk, IfSome, false, string_bytes};
+ghost use Rattle.leaf_readings.specs.declared.leaf.Leaf.TheVariants.{Text};
+ghost use Rattle.segmented_strings.specs.declared.fault.SegmentsFault.TheVariants.{Memory};
+
+use crate::fault::{SegmentsFault, Why};
+use crate::segment::are_octets;
+use codec_code::LeafKind;
+use leaf_readings::{Leaf, read_leaf};
+use std::alloc::Global;
+
+/// The text of a leaf that is one.
+fn text_in(leaf: Leaf<'_>) -> Option<&str>
+    ensures some { IfSome result (λ s. leaf.entry ≡ Text s) }
+    ensures none { IfNone result (is_text leaf.entry ≡ false) }
+{
+    match leaf {
+        Leaf::Text(text) => Some(text),
+        Leaf::Bool(_) => None,
+        Leaf::Int(_) => None,
+        Leaf::Enum(_) => None,
+        Leaf::Bits(_, _) => None,
+        Leaf::Octets(_) => None,
+        Leaf::Null => None,
+        Leaf::Oid(_) => None,
+        Leaf::RelativeOid(_) => None,
+    }
+}
+
+/// A copy of the text that octets are, where they are UTF-8, or characters of the kind.
+pub(crate) fn text_of(alloc: Global, kind: LeafKind, octets: &[u8]) -> Result<String, SegmentsFault>
+    requires { holding kind ≡ some_text }
+    ensures same { IfOk result (λ s. string_bytes s ≡ octets.now) }
+    ensures suits { IfOk result (λ s. Suits kind (text' octets.now)) }
+    ensures err { IfErr result (λ e. IsTextRefused kind octets.now e) }
+{
+    are_octets(octets);
+    let leaf = match read_leaf(kind, octets) {
+        Ok(leaf) => leaf,
+        Err(_) => return Err(SegmentsFault::At(0, Why::BadContents)),
+    };
+    match text_in(leaf) {
+        Some(text) => copied(alloc, text),
+        None => Err(SegmentsFault::At(0, Why::BadContents)),
+    }
+}
+
+/// A copy of a text.
+fn copied(alloc: Global, text: &str) -> Result<String, SegmentsFault>
+    ensures ok { IfOk result (λ s. string_bytes s ≡ text.now) }
+    ensures err { IfErr result (λ e. e ≡ Memory) }
+{
+    let copy = text.to_owned(alloc)?;
+    Ok(copy)
+}

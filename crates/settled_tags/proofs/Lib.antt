@@ -1,0 +1,5 @@
+pub mod Paths
+pub mod Lists
+pub mod Firsts
+pub mod Kept
+pub mod Rows

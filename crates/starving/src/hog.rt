@@ -1,0 +1,80 @@
+//! Takes all memory that the allocator gives, so that a call is left an exact number of octets.
+
+ghost use Rattle.std.specs.Prelude.{◌≤◌};
+
+use std::alloc::{AllocError, Global};
+
+/// Blocks that nothing is written to.
+type Blocks = Vec<Vec<u8>>;
+
+/// The octets of a reserve.
+const RESERVE: usize = 65536;
+
+/// More blocks than these are never taken.
+const MOST_BLOCKS: usize = 200_000;
+
+/// All memory that the allocator would give, but for some reserves.
+#[derive(Drop)]
+pub struct Hog {
+    blocks: Blocks,
+    crumbs: Blocks,
+    reserves: Blocks,
+}
+
+/// Takes blocks of a size, until one is refused.
+fn take_blocks(alloc: Global, blocks: &mut Blocks, size: usize) {
+    for _ in 0..100_000 {
+        if blocks.len() >= blocks.capacity() {
+            return;
+        }
+        let Ok(block) = Vec::with_capacity(alloc, size) else {
+            return;
+        };
+        let _ = blocks.push(block);
+    }
+}
+
+/// Takes the small blocks that were freed.
+fn take_crumbs(alloc: Global, crumbs: &mut Blocks) {
+    for shift in (11u32..20).rev() {
+        take_blocks(alloc, crumbs, 1 << shift);
+    }
+    for step in (0usize..130).rev() {
+        take_blocks(alloc, crumbs, 16 * step + 8);
+    }
+}
+
+impl Hog {
+    /// Takes all memory, but for as many reserves as there will be turns.
+    pub fn new(alloc: Global, turns: usize) -> Result<Hog, AllocError> {
+        let mut blocks = Vec::with_capacity(alloc, MOST_BLOCKS)?;
+        let crumbs = Vec::with_capacity(alloc, 2 * MOST_BLOCKS)?;
+        let mut reserves = Vec::with_capacity(alloc, turns)?;
+        for _ in 0..turns {
+            reserves.push(Vec::with_capacity(alloc, RESERVE)?)?;
+        }
+        for shift in (3u32..42).rev() {
+            take_blocks(alloc, &mut blocks, 1 << shift);
+        }
+        Ok(Hog {
+            blocks,
+            crumbs,
+            reserves,
+        })
+    }
+
+    /// Leaves about this many octets, in one piece, until the filler is dropped. After that there is a whole reserve.
+    /// Each reserve is used once.
+    pub fn leave(&mut self, alloc: Global, octets: usize) -> Option<Vec<u8>>
+        requires { octets ≤ 65536 }
+    {
+        take_crumbs(alloc, &mut self.crumbs);
+        drop(self.reserves.pop());
+        Vec::with_capacity(alloc, RESERVE - octets).ok()
+    }
+
+    /// Whether memory came to an end. There are runs of tests whose heap has none.
+    pub fn has_all(&self) -> bool {
+        self.blocks.len() < MOST_BLOCKS
+    }
+}

@@ -1,0 +1,128 @@
+-- What a user is told of a fault of a value: the number, the reason, the module, the name and the place.
+use Rattle.std.specs.Prelude.{◌≡◌, ℕ, Bool, true, false, List, [], Option, Some, None, string_bytes, slice_get}
+use Rattle.trees.specs.Values.{Name, name_at}
+use Rattle.trees.specs.declared.value.ValueSyntax.{ValueSyntax}
+use Rattle.trees.specs.declared.value.ValueSyntax.TheViews.{out-ValueSyntax}
+use Rattle.trees.specs.declared.value.ValueForm.{ValueForm}
+use Rattle.trees.specs.declared.value.ValueForm.TheVariants.{Reference, Fields}
+use Rattle.trees.specs.declared.value.Named.{Named}
+use Rattle.names.specs.Faults.{module_told, name_told}
+use Rattle.type_table.specs.Table.{Kind, Part, members}
+use Rattle.resolve.specs.Program.{Program}
+use Rattle.range_ends.specs.Ends.{IsOfKind}
+use Rattle.typed_values.specs.declared.fault.Place.{Place}
+use Rattle.typed_values.specs.declared.fault.Cause.{Cause}
+use Rattle.typed_values.specs.declared.fault.Cause.TheVariants as cause
+use Rattle.typed_values.specs.declared.fault.ValueFault.{ValueFault}
+use Rattle.told_values.specs.declared.telling.Reason.{Reason}
+use Rattle.told_values.specs.declared.telling.Reason.TheVariants as reasons
+use Rattle.told_values.specs.declared.telling.ValueTold.{ValueTold}
+
+abbrev pub number_of : Reason → ℕ
+number_of reasons.Depth = 2
+number_of reasons.Nodes = 2
+number_of reasons.Oid = 2
+number_of reasons.LostName = 31
+number_of reasons.LostItem = 62
+number_of reasons.Circular = 33
+number_of reasons.NotOfType = 60
+number_of reasons.UnknownBit = 62
+number_of reasons.UnknownAlternative = 62
+number_of reasons.UnknownField = 62
+number_of reasons.Repeated = 64
+number_of reasons.Missing = 63
+number_of reasons.Behind = 60
+number_of reasons.Outside = 61
+
+-- the form of a notation
+abbrev pub form_of : ValueSyntax → ValueForm ValueSyntax
+form_of l = (out-ValueSyntax l).form
+
+-- where it begins in its text
+abbrev pub begins : ValueSyntax → ℕ
+begins l = (out-ValueSyntax l).at
+
+-- the name that a notation is, empty where it is none
+abbrev pub name_of : ValueForm ValueSyntax → Name
+name_of (Reference r) = string_bytes r.name
+name_of f = []
+
+abbrev pub is_given : {A : Type 0} → Option A → Bool
+is_given None = false
+is_given (Some x) = true
+
+-- whether the name of a module stands before it
+abbrev pub has_prefix : ValueForm ValueSyntax → Bool
+has_prefix (Reference r) = is_given r.module
+has_prefix f = false
+
+-- a name that means nothing is told apart by whether a module's name stands before it
+abbrev pub lost_as : Bool → Reason
+lost_as true = reasons.LostName
+lost_as false = reasons.LostItem
+
+abbrev pub name_in_field : Option (Named ValueSyntax) → Name
+name_in_field None = []
+name_in_field (Some f) = name_at f.name
+
+abbrev pub place_in_field : ℕ → Option (Named ValueSyntax) → ℕ
+place_in_field n None = n
+place_in_field n (Some f) = f.name.at
+
+-- the name of field i of a notation
+abbrev pub field_name : ValueForm ValueSyntax → ℕ → Name
+field_name (Fields fs) i = name_in_field (slice_get fs.items i)
+field_name f i = []
+
+-- the place of that name, which is the notation's where there is no such field
+abbrev pub place_in : ℕ → ValueForm ValueSyntax → ℕ → ℕ
+place_in n (Fields fs) i = place_in_field n (slice_get fs.items i)
+place_in n f i = n
+
+abbrev pub field_place : ValueSyntax → ℕ → ℕ
+field_place l i = place_in (begins l) (form_of l) i
+
+-- the members of a list
+abbrev pub parts_in : Kind → List Part
+parts_in (members k m cs) = cs
+parts_in k = []
+
+abbrev pub name_in_part : Option Part → Name
+name_in_part None = []
+name_in_part (Some c) = c.name
+
+-- x is the name of member j of the list that type i is behind its references and tags
+pub record IsComponentName (p : Program) (i j : ℕ) (x : Name) : Type 0 where
+  pub kind : Kind
+  pub is : IsOfKind p.types i kind
+  pub name : x ≡ name_in_part (slice_get (parts_in kind) j)
+
+-- What is told of what is wrong at a place: T holds of the reason, the module, the name and the place in its text. Want of
+-- memory is never told so.
+abbrev pub IsOf : (T : Reason → (M x : Name) → ℕ → Type 0) → Program → Place → Cause → Type 0
+IsOf T p a cause.Memory = ⊥
+IsOf T p a cause.Depth = T reasons.Depth a.within.now [] (begins a.notation.now)
+IsOf T p a cause.Nodes = T reasons.Nodes a.within.now [] (begins a.notation.now)
+IsOf T p a cause.Oid = T reasons.Oid a.within.now [] (begins a.notation.now)
+IsOf T p a cause.NotOfType = T reasons.NotOfType a.within.now [] (begins a.notation.now)
+IsOf T p a cause.UnknownAlternative = T reasons.UnknownAlternative a.within.now [] (begins a.notation.now)
+IsOf T p a cause.Outside = T reasons.Outside a.within.now [] (begins a.notation.now)
+IsOf T p a (cause.Lost K l) = T (lost_as (has_prefix (form_of l.now))) K.now (name_of (form_of l.now)) (begins l.now)
+IsOf T p a (cause.Circular j K l) = T reasons.Circular K.now (name_of (form_of l.now)) (begins l.now)
+IsOf T p a (cause.UnknownBit K b) = T reasons.UnknownBit K.now (name_of (form_of b.now)) (begins b.now)
+IsOf T p a (cause.UnknownField j K l) = T reasons.UnknownField K.now (field_name (form_of l.now) j) (field_place l.now j)
+IsOf T p a (cause.Repeated j K l) = T reasons.Repeated K.now (field_name (form_of l.now) j) (field_place l.now j)
+IsOf T p a (cause.Behind j K l) = T reasons.Behind K.now (field_name (form_of l.now) j) (field_place l.now j)
+IsOf T p a (cause.Missing j K l) =
+    (x : Name) × IsComponentName p a.ty.index j x × T reasons.Missing K.now x (begins l.now)
+
+-- the reason, the module, the name and the place are these
+pub record TellsAs (t : ValueTold) (r : Reason) (M x : Name) (n : ℕ) : Type 0 where
+  pub reason : t.reason ≡ r
+  pub within : module_told t.spot ≡ M
+  pub name : name_told t.spot ≡ x
+  pub at : t.spot.at ≡ n
+
+-- what is told of a fault
+abbrev pub IsTold : Program → ValueFault → ValueTold → Type 0
+IsTold p f t = IsOf (TellsAs t) p f.at f.cause

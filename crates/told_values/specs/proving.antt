@@ -1,0 +1,2 @@
+-- What proofs need of what is pointed at.
+pub mod Pointed

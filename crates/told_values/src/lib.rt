@@ -1,0 +1,10 @@
+//! What a user is told of a notation that stands for no value of its type: why, in which module, which name, at which
+//! place, and what was expected there.
+#![tactic(auto)]
+
+mod expected;
+pub mod law;
+mod naming;
+mod telling;
+
+pub use telling::{Reason, ValueTold, number, told};

@@ -1,0 +1,32 @@
+-- What a table tells of the DEFAULTs of linked modules.
+use Rattle.std.specs.Prelude.{◌≡◌, ◌<◌, ℕ, Bool, List, Some, slice_get}
+use Rattle.trees.specs.declared.types.ListKind.{ListKind}
+use Rattle.trees.specs.Values.{Name}
+use Rattle.names.specs.Modules.{StandsIn}
+use Rattle.type_table.specs.Table.{Part, members}
+use Rattle.resolve.specs.Program.{Program}
+use Rattle.value_notations.specs.Values.{MayBeAbsent}
+use Rattle.values.specs.Allowing.{Allows, AllowsCode}
+use Rattle.typed_values.specs.Faults.{IsWritten}
+
+-- these are the components of a list that is written in module N
+pub record AreListed (p : Program) (N : Name) (cs : List Part) : Type 0 where
+  pub type : ℕ
+  pub kind : ListKind
+  pub marked : Bool
+  pub written : IsWritten p type (members kind marked cs) N
+
+-- component c stands in such a list
+pub record IsListed (p : Program) (N : Name) (c : Part) : Type 0 where
+  pub parts : List Part
+  pub listed : AreListed p N parts
+  pub there : StandsIn parts c
+
+-- Of each component the table has, by the number of its type, how many levels have to be left where it is absent: with so
+-- many its DEFAULT stands for a value. 255 tells nothing.
+abbrev pub AreKnown : Program → List ℕ → Type 0
+AreKnown p table = (N : Name) (c : Part) (l : ℕ) →
+    IsListed p N c →
+    slice_get table c.ty ≡ Some l →
+    l < 255 →
+    MayBeAbsent p (Allows p) (AllowsCode p) l N c

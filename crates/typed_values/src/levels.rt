@@ -1,0 +1,122 @@
+//! The levels of the values of DEFAULTs, found once for all notations of some modules.
+
+ghost use Rattle.std.specs.Prelude.{◌≡◌, ◌≤◌, IfOk, true};
+ghost use Rattle.type_table.specs.Seen.{part_of};
+ghost use Rattle.value_notations.specs.Values.{MayBeAbsent};
+ghost use Rattle.values.specs.Allowing.{Allows, AllowsCode};
+ghost use Rattle.typed_values.specs.Known.{AreKnown, IsListed};
+
+use constraints::Bounded;
+use std::alloc::{AllocError, Global};
+use std::marker::Model;
+use type_table::Component;
+
+/// The levels of a DEFAULT that was not read yet.
+const UNREAD: u8 = 255;
+
+/// How many levels the values of the DEFAULTs of some modules have, as far as DEFAULTs were read already. One table serves all
+/// notations of the modules: a DEFAULT that is left out is read once, however often it is left out, and a second time to
+/// see that its value has so many levels.
+#[derive(Drop)]
+pub struct Defaults {
+    /// By the numbers of the components' types.
+    levels: Vec<u8>,
+    /// How many levels were left below the deepest value that was read.
+    lowest: u8,
+}
+
+impl Model for Defaults {
+    ghost use Rattle.std.specs.Prelude.{ℕ, List};
+
+    ghost Value = { List ℕ };
+
+    ghost view = { λ d. d.levels.items };
+}
+
+impl Defaults {
+    /// The table of modules, of which no DEFAULT was read yet: an octet for each written type. An `Err` is want of memory.
+    pub fn of(alloc: Global, bounded: &Bounded<'_>) -> Result<Self, AllocError>
+        ensures { IfOk result (AreKnown bounded.now) }
+    {
+        let count = bounded.linked().types().len();
+        Ok(Defaults {
+            levels: vec![in alloc; UNREAD; count]?,
+            lowest: 0,
+        })
+    }
+
+    /// Whether the table tells that a component may be absent where so many levels are left. What is left below its DEFAULT
+    /// is noted.
+    pub(crate) fn allows(
+        &mut self,
+        bounded: &Bounded<'_>,
+        component: &Component,
+        home: &str,
+        levels: u8,
+    ) -> bool
+        requires known { AreKnown bounded.now self.old }
+        requires listed { IsListed bounded.now home.now (part_of component.now) }
+        ensures may { result ≡ true → MayBeAbsent bounded.now (Allows bounded.now) (AllowsCode bounded.now) levels home.now
+            (part_of component.now) }
+        ensures same { self.new ≡ self.old }
+    {
+        if component.ty >= self.levels.len() {
+            return false;
+        }
+        let least = self.levels[component.ty];
+        if least == UNREAD || least > levels {
+            return false;
+        }
+        self.reach(levels - least);
+        true
+    }
+
+    /// Notes that a component may be absent where so many levels are left.
+    pub(crate) fn note(
+        &mut self,
+        bounded: &Bounded<'_>,
+        component: &Component,
+        home: &str,
+        levels: u8,
+    )
+        requires known { AreKnown bounded.now self.old }
+        requires listed { IsListed bounded.now home.now (part_of component.now) }
+        requires may { MayBeAbsent bounded.now (Allows bounded.now) (AllowsCode bounded.now) levels home.now
+            (part_of component.now) }
+        ensures known { AreKnown bounded.now self.new }
+    {
+        bounded.linked().whole();
+        if component.ty < self.levels.len() {
+            self.levels[component.ty] = levels;
+        }
+    }
+
+    /// So many levels are left below a value.
+    pub(crate) fn reach(&mut self, levels: u8)
+        ensures { self.new ≡ self.old }
+    {
+        if levels < self.lowest {
+            self.lowest = levels;
+        }
+    }
+
+    /// Begins to count anew, where so many levels are left; answers what was counted before.
+    pub(crate) fn begin(&mut self, levels: u8) -> u8
+        ensures { self.new ≡ self.old }
+    {
+        let before = self.lowest;
+        self.lowest = levels;
+        before
+    }
+
+    /// How many of so many levels the value has that was read since counting began.
+    pub(crate) fn used(&self, levels: u8) -> u8
+        ensures { result ≤ levels }
+    {
+        if self.lowest <= levels {
+            levels - self.lowest
+        } else {
+            levels
+        }
+    }
+}
