@@ -18,7 +18,7 @@ use Rattle.resolve.specs.Program.{Program, IsAssignment}
 use Rattle.value_notations.specs.Values.{IsTyped}
 use Rattle.values.specs.Allowing.{Allows, AllowsCode}
 use Rattle.settled.specs.Settled.{IsTypedDefault, AreTypedDefaults, IsSettled}
-use Rattle.resolved_types.specs.Defaults.{IsDefaultOf, AreDefaultsOf, HasDefaults}
+use Rattle.extensions.specs.proving.Defaults.{IsDefaultOf, AreDefaultsOf, HasDefaults}
 use Rattle.typed_values.specs.declared.fault.ValueFault.{ValueFault}
 use Rattle.extensions.specs.declared.wrong.Wrong.{Wrong}
 use Rattle.extensions.specs.declared.wrong.Wrong.TheVariants.{Memory, At}

@@ -1,2 +1,8 @@
 mod Each
 mod Faults
+mod Sorting
+mod Numbers
+mod Roots
+mod CoreKinds
+mod Parts
+mod Whole

@@ -10,8 +10,7 @@ use crate::fault::ExtFault;
 use crate::schema::settled_types;
 use asn_base::schema::{Resolved, Schema};
 use constraints::Bounded;
-use settled_parts::law::settled_is_schema;
-use settled_tags::law::tags_are_kept;
+use settled::law::{settled_is_schema, tags_are_kept};
 use std::alloc::Global;
 
 /// The schema of settled types, of modules that keep all that is asked.

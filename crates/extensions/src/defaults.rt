@@ -5,7 +5,7 @@ ghost use Rattle.asn_base.specs.Abstract.{abstract};
 ghost use Rattle.type_table.specs.Lists.{AreSound};
 ghost use Rattle.type_table.specs.Seen.{part_of, type_of, types_of};
 ghost use Rattle.typed_values.specs.Known.{AreKnown};
-ghost use Rattle.resolved_types.specs.Defaults.{AreDefaultsOf, IsDefaultOf};
+ghost use Rattle.extensions.specs.proving.Defaults.{AreDefaultsOf, IsDefaultOf};
 ghost use Rattle.extensions.specs.Faults.{IsFirstDefault, IsFirstIn, IsWrongDefault};
 ghost use Rattle.extensions.specs.proving.Tables.{AreDefaultsAt, AreTabled, HaveTypes, IsFirstAt, Tells, defaults_seen, table_seen};
 

@@ -4,9 +4,14 @@
 mod accepted;
 mod assigned;
 mod defaults;
+mod each_type;
 mod fault;
+mod items;
 pub mod law;
+mod members;
 mod schema;
+mod simple;
+mod tags;
 mod types;
 mod wrong;
 

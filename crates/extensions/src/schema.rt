@@ -7,8 +7,8 @@ ghost use Rattle.extensions.specs.Settles.{IsRead, AreSettled};
 
 use crate::assigned::all_typed;
 use crate::defaults::all_defaults;
+use crate::each_type::all_types;
 use crate::fault::{ExtFault, of_additions, of_assigned};
-use crate::types::all_types;
 use crate::wrong::Wrong;
 use additions::additions;
 use asn_base::schema::Resolved;

@@ -1,62 +1,108 @@
-//! The types of the schema.
+//! Resolved types.
 
-ghost use Rattle.std.specs.Prelude.{◌≡◌, ◌++◌, ◌∷◌, [], ◌<◌, IfOk, OnOk, length};
-ghost use Rattle.asn_base.specs.Seen.{resolved_of, types_of};
+ghost use Rattle.std.specs.Prelude.{◌≡◌, ◌<◌, ℕ, IfOk, length, map, option_map};
+ghost use Rattle.asn_base.specs.Abstract.{abstract};
+ghost use Rattle.asn_base.specs.Seen.{kind_of as resolved_kind, resolved_of};
+ghost use Rattle.trees.specs.Values.{Name};
 ghost use Rattle.type_table.specs.Lists.{AreSound};
+ghost use Rattle.type_table.specs.Seen.{kind_of};
+ghost use Rattle.type_table.specs.Table.{elements};
+ghost use Rattle.range_ends.specs.Ends.{IsOfKind};
+ghost use Rattle.values.specs.Allowing.{Allows, AllowsCode};
+ghost use Rattle.schema_of.specs.SchemaOf.{IsTypeOf};
 ghost use Rattle.additions.specs.Additions.{KeepAdditions};
-ghost use Rattle.settled.specs.Settled.{IsSettled};
-ghost use Rattle.extensions.specs.proving.Tables.{AreTabled, IsResolved, table_seen};
+ghost use Rattle.settled.specs.Settled.{IsSettledType};
+ghost use Rattle.extensions.specs.proving.Defaults.{HasDefaults};
+ghost use Rattle.extensions.specs.proving.Cores.{IsCoreIn, IsCoreOf, IsCoreType};
 
-use asn_base::schema::{Resolved, TypeId};
+use crate::members::list_core;
+use crate::simple::simple_core;
+use crate::tags::tags;
+use asn_base::schema::{Core, Resolved, TypeId};
 use asn_base::value::Value;
-use constraints::Bounded;
-use resolved_types::resolved;
+use constraints::{Bounded, constraint};
+use resolve::Linked;
 use std::alloc::{AllocError, Global};
+use trees::ElementsKind;
+use type_table::Shape;
 
-/// The type of this number.
-fn type_of(
+/// A SEQUENCE OF or SET OF.
+fn elements_core(
     alloc: Global,
     bounded: &Bounded<'_>,
     ty: TypeId,
-    table: &[Vec<Option<Value>>],
-) -> Result<Resolved, AllocError>
+    kind: ElementsKind,
+    element: usize,
+) -> Result<Core, AllocError>
     requires there { ty.index < length bounded.now.types }
-    requires sound { AreSound bounded.now.types }
-    requires additions { KeepAdditions bounded.now.types }
-    requires table { AreTabled bounded.now (length bounded.now.types) (table_seen table.now) }
-    ensures { IfOk result (λ r. IsResolved bounded.now ty.index (resolved_of r)) }
+    requires is { IsOfKind bounded.now.types ty.index (elements kind element) }
+    ensures { (M : Name) → IfOk result (λ c. IsCoreOf bounded.now ty.index M (elements kind element) (resolved_kind c)) }
 {
-    let core = bounded.linked().core(ty);
-    match resolved(alloc, bounded, ty, &table[core.index]) {
-        Ok(one) => Ok(one),
+    let element = TypeId { index: element };
+    match constraint(alloc, bounded, ty) {
+        Ok(size) => match kind {
+            ElementsKind::SequenceOf => Ok(Core::SequenceOf(size, element)),
+            ElementsKind::SetOf => Ok(Core::SetOf(size, element)),
+        },
         Err(fault) => Err(fault),
     }
 }
 
-/// Adds a type.
-fn add(types: &mut Vec<Resolved>, one: Resolved) -> Result<(), AllocError>
-    ensures { OnOk result (types_of types.new.items ≡ types_of types.old.items ++ resolved_of one ∷ []) }
+/// What a type is behind its references and tags.
+fn behind(linked: &Linked, ty: TypeId) -> &Shape
+    requires { ty.index < length linked.now.types }
+    ensures { IsCoreType linked.now ty.index (kind_of result.now) }
 {
-    types.push(one)?;
-    Ok(())
+    let core = linked.core(ty);
+    let _home = linked.home(core);
+    &linked.types()[core.index].shape
 }
 
-/// A type for each written one, by the same numbers.
-pub(crate) fn all_types(
+/// What a type holds in a schema.
+fn core(
     alloc: Global,
     bounded: &Bounded<'_>,
-    table: &[Vec<Option<Value>>],
-) -> Result<Vec<Resolved>, AllocError>
+    ty: TypeId,
+    defaults: &[Option<Value>],
+) -> Result<Core, AllocError>
+    requires there { ty.index < length bounded.now.types }
     requires sound { AreSound bounded.now.types }
     requires additions { KeepAdditions bounded.now.types }
-    requires table { AreTabled bounded.now (length bounded.now.types) (table_seen table.now) }
-    ensures { IfOk result (λ v. IsSettled bounded.now (types_of v.items)) }
+    requires defaults { HasDefaults bounded.now ty.index (map (option_map abstract) defaults.now) }
+    ensures { IfOk result (λ c. IsCoreIn bounded.now ty.index (resolved_kind c)) }
 {
-    let count = bounded.linked().types().len();
-    let mut types = Vec::new(alloc);
-    for index in 0..count {
-        let one = type_of(alloc, bounded, TypeId { index }, table)?;
-        add(&mut types, one)?;
+    match behind(bounded.linked(), ty) {
+        Shape::Simple(simple) => simple_core(alloc, bounded, ty, simple),
+        Shape::Members(kind, marker, parts) => list_core(alloc, *kind, *marker, parts, defaults),
+        Shape::Elements(kind, element) => elements_core(alloc, bounded, ty, *kind, *element),
+        Shape::Reference(_) => unreachable!(),
+        Shape::Tagged(_, _, _) => unreachable!(),
     }
-    Ok(types)
+}
+
+/// The resolved type of a written one (X.680, clauses 17 to 33, 41 and 49 to 51): the tags that stand before its contents, what
+/// it is behind its references and tags, with what its constraints leave, the items of an enumeration by number, components
+/// and alternatives in order, and of a list the DEFAULTs, which are handed in, one of each component, None where it has none.
+/// It refuses for want of memory alone.
+pub(crate) fn resolved(
+    alloc: Global,
+    bounded: &Bounded<'_>,
+    ty: TypeId,
+    defaults: &[Option<Value>],
+) -> Result<Resolved, AllocError>
+    requires there { ty.index < length bounded.now.types }
+    requires sound { AreSound bounded.now.types }
+    requires additions { KeepAdditions bounded.now.types }
+    requires defaults { HasDefaults bounded.now ty.index (map (option_map abstract) defaults.now) }
+    ensures is { IfOk result (λ r. IsTypeOf bounded.now (Allows bounded.now) (AllowsCode bounded.now) ty.index (resolved_kind r.core)) }
+    ensures settled { IfOk result (λ r. IsSettledType bounded.now ty.index (resolved_of r)) }
+{
+    let tags = match tags(alloc, bounded, ty) {
+        Ok(tags) => tags,
+        Err(fault) => return Err(fault),
+    };
+    match core(alloc, bounded, ty, defaults) {
+        Ok(core) => Ok(Resolved { tags, core }),
+        Err(fault) => Err(fault),
+    }
 }

@@ -12,7 +12,7 @@ use Rattle.typed_values.specs.declared.fault.ValueFault.{ValueFault}
 use Rattle.values.specs.Allowing.{Allows, AllowsCode}
 use Rattle.schema_of.specs.SchemaOf.{IsTypeOf}
 use Rattle.settled.specs.Settled.{IsSettledType}
-use Rattle.resolved_types.specs.Defaults.{AreDefaultsOf}
+use Rattle.extensions.specs.proving.Defaults.{AreDefaultsOf}
 use Rattle.extensions.specs.Faults.{IsList, IsFirstIn, IsWrong}
 use Rattle.extensions.specs.declared.wrong.Wrong.{Wrong}
 use Rattle.extensions.specs.declared.wrong.Wrong.TheVariants.{Memory, At}

@@ -4,7 +4,7 @@ use Rattle.asn_base.specs.Abstract.{abstract}
 use Rattle.names.specs.proving.Distinct.{item_at}
 use Rattle.type_table.specs.Seen.{part_of}
 use Rattle.type_table.specs.Table.{Part}
-use Rattle.resolved_types.specs.Defaults.{IsDefaultOf}
+use Rattle.extensions.specs.proving.Defaults.{IsDefaultOf}
 use Rattle.extensions.specs.Faults.{IsFirstIn, IsWrongDefault}
 use Rattle.extensions.specs.proving.Tables.{defaults_seen}
 use Rattle.extensions.proofs.Each.{one_more, one_default, tells_more, typed_before}

@@ -1,9 +1,0 @@
-use Rattle.asn_base.specs.Seen.{resolved_of, types_of}
-use Rattle.extensions.specs.proving.Tables.{IsResolved}
-use Rattle.extensions.proofs.Each.{one_more}
-use Rattle.extensions.proofs.types.all_types.Goals as goal
-
-pub loop-index-preserved : goal.loop-index-preserved
-loop-index-preserved c =
-    one_more (IsResolved c.args.bounded.now) c.loop-index.index (types_of c.loop-index.types.items) (types_of c.add.new.types.items)
-    (resolved_of c.in_ok-one.one) c.loop-index.invariant c.in_ok-add.ensures c.in_ok-one.ensures

@@ -1,0 +1,58 @@
+//! The tags that stand before the contents of a type.
+
+ghost use Rattle.std.specs.Prelude.{◌≡◌, ◌<◌, ◌++◌, IfOk, OnOk, length, map};
+ghost use Rattle.tagging.specs.Tags.{Path, Tags, label, path_of};
+ghost use Rattle.settled.specs.Settled.{standing as standing'};
+ghost use Rattle.extensions.specs.proving.Cores.{is_implicit, unless};
+
+use asn_base::schema::TypeId;
+use asn_base::tag::Tag;
+use constraints::Bounded;
+use std::alloc::{AllocError, Global};
+use tagging::{Form, FormedTag, tags_of};
+
+/// Whether a tag stands in place of the tag after it.
+fn replaces(form: Form) -> bool
+    ensures { result ≡ is_implicit form }
+{
+    match form {
+        Form::Implicit => true,
+        Form::Explicit => false,
+    }
+}
+
+/// Adds a tag, unless one before it stands in its place.
+fn add(tags: &mut Vec<Tag>, replaced: bool, tag: Tag) -> Result<(), AllocError>
+    ensures { OnOk result (map label tags.new.items ≡ map label tags.old.items ++ unless replaced (label tag)) }
+{
+    if !replaced {
+        tags.push(tag)?;
+    }
+    Ok(())
+}
+
+/// Of the tags of a type those that stand before its contents.
+fn standing(alloc: Global, path: &[FormedTag]) -> Result<Vec<Tag>, AllocError>
+    ensures { IfOk result (λ v. map label v.items ≡ standing' (path_of path.now)) }
+{
+    let mut tags = Vec::new(alloc);
+    let mut replaced = false;
+    for formed in path {
+        add(&mut tags, replaced, formed.tag)?;
+        replaced = replaces(formed.form);
+    }
+    Ok(tags)
+}
+
+/// The tags that stand before the contents of a type, the outermost first: of those that are written, automatic or its own
+/// each but one that an implicit tag stands in place of (X.680, clause 31.2.7; X.690, clause 8.14).
+pub(crate) fn tags(alloc: Global, bounded: &Bounded<'_>, ty: TypeId) -> Result<Vec<Tag>, AllocError>
+    requires { ty.index < length bounded.now.types }
+    ensures { IfOk result (λ v. (p : Path) × Tags bounded.now.types ty.index p × (map label v.items ≡ standing' p)) }
+{
+    let path = tags_of(alloc, bounded.tagged(), ty)?;
+    match standing(alloc, &path) {
+        Ok(tags) => Ok(tags),
+        Err(fault) => Err(fault),
+    }
+}

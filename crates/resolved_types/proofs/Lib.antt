@@ -1,6 +1,0 @@
-mod Sorting
-mod Numbers
-mod Roots
-mod CoreKinds
-mod Parts
-mod Whole

@@ -1,8 +1,0 @@
-use Rattle.std.proofs.Common.{map}
-use Rattle.trees.specs.Types.{number_of}
-use Rattle.resolved_types.proofs.CoreKinds.{integer_core}
-use Rattle.resolved_types.proofs.simple.integer.Goals as goal
-
-pub returns-in-Ok : goal.returns-in-Ok
-returns-in-Ok c M =
-    integer_core c.args.bounded.now c.args.ty.index M (map number_of c.args.numbers.now) _ c.requires.is (c.in-Ok.ensures _ c.requires.is)

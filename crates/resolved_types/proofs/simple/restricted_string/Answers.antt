@@ -1,8 +1,0 @@
-use Rattle.resolved_types.proofs.CoreKinds.{string_core}
-use Rattle.resolved_types.proofs.simple.restricted_string.Goals as goal
-
-pub returns-in-Ok-constraint : goal.returns-in-Ok-constraint
-returns-in-Ok-constraint c M =
-    string_core c.args.bounded.now c.args.ty.index M c.args.kind c.in-Ok.alphabet.items _ c.requires.is
-    (c.in-Ok.ensures.strings c.args.kind c.requires.is)
-    (c.in-Ok-constraint.ensures _ c.requires.is)

@@ -1,6 +1,0 @@
-use Rattle.resolved_types.proofs.CoreKinds.{utf8_core}
-use Rattle.resolved_types.proofs.simple.utf8_string.Goals as goal
-
-pub returns-in-Ok : goal.returns-in-Ok
-returns-in-Ok c M =
-    utf8_core c.args.bounded.now c.args.ty.index M _ c.requires.is (c.in-Ok.ensures _ c.requires.is)

@@ -1,3 +1,0 @@
--- What only contracts inside the crate and proofs speak of.
-pub mod Cores
-pub mod Items

@@ -1,5 +1,0 @@
-pub mod Paths
-pub mod Lists
-pub mod Firsts
-pub mod Kept
-pub mod Rows

@@ -1,4 +1,0 @@
-//! The tags of settled schemas: laws, and no code that runs.
-#![tactic(auto)]
-
-pub mod law;
