@@ -1,7 +1,8 @@
 #!/usr/bin/env bash
 # Says how long the program takes to open modules of growing size, ordinary ones and those that cost a careless front end
 # more than their length: the least of five runs each, in milliseconds. The time grows as the text does. Where the program
-# bound_bench is built, it says too how long constraints take, one of 60,000 numbers among them, in microseconds.
+# bound_bench is built, it says too how long constraints take, one of 60,000 numbers among them, in microseconds, and how long
+# the notation of a long value takes to be typed, and its value to be printed: one run each, in milliseconds.
 set -euo pipefail
 
 if [[ $# -eq 1 && ($1 == --help || $1 == -h) ]]; then
@@ -132,10 +133,22 @@ measure defaulted_chain 1000 2000 4000
 measure endless 180 360 720
 measure long_name 1 2 4
 
-# Constraints are bounded by a program of their own, since asnc doesn't ask for bounds yet.
+# notations: lays out what bound_bench says of long notations, a line for each call that answered; other lines stay.
+notations() {
+  awk -F '[:,] ' '
+    function tell(call, words,   took) {
+      split(words, took, " ")
+      printf "%-24s %9d octets %6.1f ms\n", call " " $1, $2, took[2] / 1000
+    }
+    !/ octets, read / { print; next }
+    { tell("typed", $4) }
+    $5 ~ /^printed/ { tell("printed", $5) }'
+}
+
+# Constraints are bounded, and long notations read, by a program of their own, since asnc doesn't ask for them yet.
 bounds=$here/crates/bound_bench/out/bound_bench
 if [[ -x $bounds ]]; then
-  { "$bounds" >/dev/null; } 2>&1
+  { "$bounds" >/dev/null; } 2>&1 | notations
 else
   printf '%s\n' "bounds: bound_bench is not built (rt run in crates/bound_bench)"
 fi

@@ -27,6 +27,9 @@ const LISTS_IN_DEFAULT: usize = 2_000;
 
 const BEHIND_DEFAULT: &str = "}, b NULL} END";
 
+/// How often each notation is read, typed and printed; the least times are told.
+const RUNS: usize = 1;
+
 /// What a notation is full of.
 #[derive(Clone, Copy)]
 pub enum Notation {
@@ -202,7 +205,8 @@ fn read_once(
     type_once(rt, bounded, samples, notation, &syntax, times)
 }
 
-/// How long a notation of about so many octets takes, the least of five runs; how many octets were printed is written.
+/// Reads, types and prints a notation of about so many octets. How many octets were printed is written on standard output, how
+/// long it took on standard error.
 fn measure(
     rt: &HostRuntime,
     bounded: &Bounded<'_>,
@@ -214,17 +218,22 @@ fn measure(
 {
     let text = notation.text(rt.alloc(), octets)?;
     let mut times = NEVER;
-    for _ in 0..5 {
+    for _ in 0..RUNS {
         read_once(rt, bounded, samples, notation, text.as_slice(), &mut times)?;
     }
     let name = notation.name();
     let (length, printed) = (text.len(), times.printed);
     println!(rt; "{name}: {length} octets, {printed} printed")?;
+    let reading = times.reading.as_micros();
+    let typing = times.typing.as_micros();
+    if printed == 0 {
+        return eprintln!(rt;
+            "{name}: {length} octets, read {reading} us, typed {typing} us, not printed"
+        );
+    }
+    let printing = times.printing.as_micros();
     eprintln!(rt;
-        "{name}: {length} octets, read {} us, typed {} us, printed {} us",
-        times.reading.as_micros(),
-        times.typing.as_micros(),
-        times.printing.as_micros()
+        "{name}: {length} octets, read {reading} us, typed {typing} us, printed {printing} us"
     )
 }
 

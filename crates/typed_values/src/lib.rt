@@ -6,6 +6,7 @@ mod forms;
 pub mod law;
 mod levels;
 mod reading;
+mod room;
 mod simple;
 mod written;
 

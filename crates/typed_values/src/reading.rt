@@ -23,6 +23,7 @@ ghost use Rattle.typed_values.specs.proving.Reading.{ArePlaced, IsField, IsWrong
 use crate::fault::{Cause, Place, ValueFault, unarranged, unfollowed};
 use crate::forms::{chosen_in, fields_in, values_in};
 use crate::levels::Defaults;
+use crate::room::room_for;
 use crate::simple::simple_value;
 use crate::written::written;
 use asn_base::law::abstract_values;
@@ -240,7 +241,7 @@ fn all<'a>(
     ensures back { OnOk result (opened.new ≡ opened.old) }
     ensures known { AreKnown bounded.now defaults.new }
 {
-    let mut values = Vec::new(alloc);
+    let mut values = room_for(alloc, notations.len());
     for i in 0..notations.len() {
         let at = Place {
             ty: element,
@@ -413,7 +414,7 @@ fn all_fields<'a>(
     ensures back { OnOk result (opened.new ≡ opened.old) }
     ensures known { AreKnown bounded.now defaults.new }
 {
-    let mut values = Vec::new(alloc);
+    let mut values = room_for(alloc, components.len());
     for i in 0..components.len() {
         let component = &components[i];
         let value = match field(

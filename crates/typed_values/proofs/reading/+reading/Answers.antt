@@ -23,7 +23,7 @@ use Rattle.typed_values.proofs.reading.+reading.Goals as goal
 
 pub all-loop-i-init : goal.all-loop-i-init
 all-loop-i-init t c =
-    record { read = row_none _ _ _ _ _ _ c.new-values.result.items c.new-values.ensures.items; back = refl; known = c.requires.1.1.1.1 }
+    record { read = row_none _ _ _ _ _ _ c.room_for-values.result.items c.room_for-values.ensures; back = refl; known = c.requires.1.1.1.1 }
 
 pub all-returns-in-Err-clause-fault : goal.all-returns-in-Err-clause-fault
 all-returns-in-Err-clause-fault t c =
@@ -49,7 +49,7 @@ all-loop-i-preserved t c =
 
 pub all_fields-loop-i-init : goal.all_fields-loop-i-init
 all_fields-loop-i-init t c =
-    record { read = fields_none _ _ _ _ _ _ _ c.new-values.result.items c.new-values.ensures.items; back = refl; known = c.requires.1.1.1.1.1.1 }
+    record { read = fields_none _ _ _ _ _ _ _ c.room_for-values.result.items c.room_for-values.ensures; back = refl; known = c.requires.1.1.1.1.1.1 }
 
 pub all_fields-field-requires : goal.all_fields-field-requires
 all_fields-field-requires t c =
