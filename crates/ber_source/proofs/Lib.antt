@@ -1,0 +1,5 @@
+pub mod Windows
+pub mod Asked
+pub mod Passed
+pub mod Going
+pub mod Taken

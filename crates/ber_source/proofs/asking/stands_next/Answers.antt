@@ -1,0 +1,45 @@
+use Rattle.std.proofs.Common.{inr, refl, sym, ◌∙◌}
+use Rattle.octets.specs.Forms.{is_constructed}
+use Rattle.ber_source.specs.Seen.{state_of}
+use Rattle.ber_source.proofs.Windows.{fails, some_octets}
+use Rattle.ber_source.proofs.Asked.{stands_never, other_never}
+use Rattle.ber_source.proofs.asking.stands_next.Goals as goal
+
+pub returns-in-Err-clause-err : goal.returns-in-Err-clause-err
+returns-in-Err-clause-err c other there b d =
+    stands_never (state_of c.args.place.now) b c.args.field there
+    (some_octets c.args.place.now.here.octets.now c.is_empty.result c.is_empty.ensures c.if-is_empty.false)
+    c.in-Err.ensures.none d
+
+pub returns-then-can_begin-clause-ok : goal.returns-then-can_begin-clause-ok
+returns-then-can_begin-clause-ok c = record {
+  tag = c.in-Ok.unit.tag;
+  constructed = is_constructed c.in-Ok.unit.form;
+  count = c.in-Ok.unit.count;
+  contents = c.in-Ok.unit.contents.now;
+  rest = c.in-Ok.unit.rest.now;
+  unit = c.in-Ok.ensures.ok;
+  first = c.can_begin.ensures.0 c.if-can_begin.true;
+  is = c.in_ok-tell.ensures.ok;
+}
+
+pub returns-then-may_be_absent-2-clause-ok : goal.returns-then-may_be_absent-2-clause-ok
+returns-then-may_be_absent-2-clause-ok c = record {
+  may_be = sym c.may_be_absent-2.ensures ∙ c.if-may_be_absent-2.true;
+  next = inr (record {
+    tag = c.in-Ok.unit.tag;
+    constructed = is_constructed c.in-Ok.unit.form;
+    count = c.in-Ok.unit.count;
+    contents = c.in-Ok.unit.contents.now;
+    rest = c.in-Ok.unit.rest.now;
+    unit = c.in-Ok.ensures.ok;
+    not_first = fails c.can_begin.result c.if-can_begin.false c.can_begin.ensures;
+  });
+  is = refl;
+}
+
+pub returns-clause-err : goal.returns-clause-err
+returns-clause-err c other there b d =
+    other_never (state_of c.args.place.now) b c.args.field there c.in-Ok.unit.tag (is_constructed c.in-Ok.unit.form) c.in-Ok.unit.count c.in-Ok.unit.contents.now c.in-Ok.unit.rest.now
+    c.one_unit.ensures.once c.in-Ok.ensures.ok (fails c.can_begin.result c.if-can_begin.false c.can_begin.ensures)
+    (sym c.may_be_absent-2.ensures ∙ c.if-may_be_absent-2.false) d

@@ -1,0 +1,11 @@
+use Rattle.codec_source.specs.Events.{closes}
+use Rattle.ber_source.specs.Seen.{state_of}
+use Rattle.ber_source.proofs.Taken.{takes, never}
+use Rattle.ber_source.proofs.cursor.CursorSource.close.Goals as goal
+
+pub returns-clause-ok : goal.returns-clause-ok
+returns-clause-ok c =
+    takes c.one_answer.ensures.takes c.close.result (state_of c.self.inside.place) c.args.self.now (state_of c.close.new.place) (closes) c.self.view_is c.close.ensures.ok
+
+pub returns-clause-err : goal.returns-clause-err
+returns-clause-err c = never c.close.result (state_of c.self.inside.place) c.args.self.now (closes) c.self.view_is c.close.ensures.err

@@ -1,0 +1,11 @@
+use Rattle.codec_source.specs.Events.{skips}
+use Rattle.ber_source.specs.Seen.{state_of}
+use Rattle.ber_source.proofs.Taken.{takes, never}
+use Rattle.ber_source.proofs.cursor.CursorSource.skip.Goals as goal
+
+pub returns-clause-ok : goal.returns-clause-ok
+returns-clause-ok c =
+    takes c.one_answer.ensures.takes c.skip.result (state_of c.self.inside.place) c.args.self.now (state_of c.skip.new.place) (skips) c.self.view_is c.skip.ensures.ok
+
+pub returns-clause-err : goal.returns-clause-err
+returns-clause-err c = never c.skip.result (state_of c.self.inside.place) c.args.self.now (skips) c.self.view_is c.skip.ensures.err

@@ -1,0 +1,192 @@
+//! Answers about what stands next: components, elements and alternatives.
+
+ghost use Rattle.asn_base.specs.declared.schema.TypeId.{TypeId as TypeId'};
+ghost use Rattle.ber_source.specs.Seen.{IsWithin, state_of, token_of};
+ghost use Rattle.codec_source.specs.declared.fault.ReadFault.TheVariants.{Memory};
+ghost use Rattle.codec_source.specs.proving.Frames.{IfRefused};
+ghost use Rattle.octet_answers.specs.Answers.{AmongNext, Chooses, MoreNext, Skips, StandsNext};
+ghost use Rattle.octet_answers.specs.States.{State, marked, telling};
+ghost use Rattle.std.specs.Prelude.{◌≡◌, ◌++◌, ◌∷◌, [], Bool, IfErr, IfNone, IfOk, IfSome, OnOk, Option as Option', drop, length, List};
+
+use crate::moves::{push_token, told_header};
+use crate::passing::pass;
+use crate::place::Place;
+use crate::token::Token;
+use asn_base::schema::TypeId;
+use codec_code::{Coding, Field, Step};
+use codec_source::ReadFault;
+use next_tags::{
+    are_read, can_begin, choose, is_extensible, is_in, last_steps, may_be_absent, next_unit,
+};
+use octet_answers::law::one_unit;
+
+/// Tells one token more.
+fn tell<'c, 'a>(place: &mut Place<'c, 'a>, token: Token<'a>) -> Result<(), ReadFault>
+    requires { IsWithin (state_of place.old) }
+    ensures within { IsWithin (state_of place.new) }
+    ensures ok { OnOk result (state_of place.new ≡ telling (state_of place.old) (token_of token.entry)) }
+    ensures err { IfErr result (λ e. e ≡ Memory) }
+{
+    push_token(&mut place.told, token)?;
+    Ok(())
+}
+
+/// Whether an encoding stands next.
+pub(crate) fn has_more<'c, 'a>(place: &Place<'c, 'a>) -> bool
+    ensures { MoreNext (state_of place.now) result (state_of place.now) }
+{
+    !place.here.octets.is_empty()
+}
+
+/// Whether the component of a SEQUENCE stands next.
+pub(crate) fn stands_next<'c, 'a>(
+    place: &mut Place<'c, 'a>,
+    field: Field,
+) -> Result<bool, ReadFault>
+    requires { IsWithin (state_of place.old) }
+    ensures within { IsWithin (state_of place.new) }
+    ensures ok { IfOk result (λ yes. StandsNext (state_of place.old) field yes (state_of place.new)) }
+    ensures err { IfRefused result ((yes : Bool) (b : State) → StandsNext (state_of place.old) field yes b → ⊥) }
+{
+    one_unit();
+    if place.here.octets.is_empty() {
+        if may_be_absent(field.need) {
+            return Ok(false);
+        }
+        return Err(ReadFault::Missing);
+    }
+    let unit = match next_unit(place.here.octets) {
+        Ok(unit) => unit,
+        Err(fault) => return Err(told_header(fault)),
+    };
+    if can_begin(place.code, field.ty, unit.tag) {
+        tell(place, Token::Component(field.place))?;
+        return Ok(true);
+    }
+    if may_be_absent(field.need) {
+        return Ok(false);
+    }
+    Err(ReadFault::UnexpectedTag)
+}
+
+/// The alternative that stands next.
+pub(crate) fn choose_next<'c, 'a>(
+    place: &mut Place<'c, 'a>,
+    calls: &[Step],
+) -> Result<TypeId, ReadFault>
+    requires { IsWithin (state_of place.old) }
+    ensures within { IsWithin (state_of place.new) }
+    ensures ok { IfOk result (λ id. Chooses (state_of place.old) calls.now id (state_of place.new)) }
+    ensures err { IfRefused result ((id : TypeId') (b : State) → Chooses (state_of place.old) calls.now id b → ⊥) }
+{
+    one_unit();
+    let unit = match next_unit(place.here.octets) {
+        Ok(unit) => unit,
+        Err(fault) => return Err(told_header(fault)),
+    };
+    match choose(place.code, calls, unit.tag) {
+        Some((index, id)) => {
+            tell(place, Token::Chosen(index))?;
+            Ok(id)
+        }
+        None => Err(ReadFault::UnexpectedTag),
+    }
+}
+
+/// Skips additions behind the last component that must stand, to the end of the contents.
+pub(crate) fn skip<'c, 'a>(place: &mut Place<'c, 'a>) -> Result<(), ReadFault>
+    requires { IsWithin (state_of place.old) }
+    ensures within { IsWithin (state_of place.new) }
+    ensures ok { OnOk result (Skips (state_of place.old) (state_of place.new)) }
+    ensures err { IfRefused result ((b : State) → Skips (state_of place.old) b → ⊥) }
+{
+    let id = match innermost(place.values.as_slice()) {
+        Some(id) => id,
+        None => return Err(ReadFault::UnexpectedTag),
+    };
+    let code = place.code;
+    let steps = last_steps(code.steps(id, Coding::Tagged));
+    match pass(place, steps, true) {
+        Ok(None) => Ok(()),
+        Ok(Some(_)) => Err(ReadFault::UnexpectedTag),
+        Err(fault) => Err(fault),
+    }
+}
+
+/// The last of the types.
+fn innermost(values: &[TypeId]) -> Option<TypeId>
+    ensures some { IfSome result (λ id. (others : List TypeId') × (values.now ≡ others ++ id ∷ [])) }
+    ensures none { IfNone result (values.now ≡ []) }
+{
+    match values.split_last() {
+        Some((id, _)) => Some(*id),
+        None => None,
+    }
+}
+
+/// The marks behind so many.
+fn marks_from(marks: &[usize], from: usize) -> &[usize]
+    ensures { result.now ≡ drop from marks.now }
+{
+    if from < marks.len() {
+        &marks[from..]
+    } else {
+        &[]
+    }
+}
+
+/// The component of a SET that stands next behind additions, of those that the steps begin with, or None where none does
+/// and all that must were read.
+pub(crate) fn among_next<'c, 'a>(
+    place: &mut Place<'c, 'a>,
+    steps: &[Step],
+) -> Result<Option<TypeId>, ReadFault>
+    requires { IsWithin (state_of place.old) }
+    ensures within { IsWithin (state_of place.new) }
+    ensures ok { IfOk result (λ id. AmongNext (state_of place.old) steps.now id (state_of place.new)) }
+    ensures err { IfRefused result ((id : Option' TypeId') (b : State)
+        → AmongNext (state_of place.old) steps.now id b → ⊥) }
+{
+    let found = match pass(place, steps, is_extensible(steps)) {
+        Ok(found) => found,
+        Err(fault) => return Err(fault),
+    };
+    match found {
+        Some(field) => {
+            if is_in(
+                field.place,
+                marks_from(place.marks.as_slice(), place.here.from),
+            ) {
+                return Err(ReadFault::UnexpectedTag);
+            }
+            mark(place, field.place)?;
+            Ok(Some(field.ty))
+        }
+        None => {
+            if !are_read(marks_from(place.marks.as_slice(), place.here.from), steps) {
+                return Err(ReadFault::Missing);
+            }
+            Ok(None)
+        }
+    }
+}
+
+/// The component at a place of a SET was read.
+fn mark<'c, 'a>(place: &mut Place<'c, 'a>, at: usize) -> Result<(), ReadFault>
+    requires { IsWithin (state_of place.old) }
+    ensures within { IsWithin (state_of place.new) }
+    ensures ok { OnOk result (state_of place.new ≡ marked (state_of place.old) at) }
+    ensures err { IfErr result (λ e. e ≡ Memory) }
+{
+    push_mark(&mut place.marks, at)?;
+    push_token(&mut place.told, Token::Component(at))?;
+    Ok(())
+}
+
+fn push_mark(list: &mut Vec<usize>, one: usize) -> Result<(), ReadFault>
+    ensures ok { OnOk result (list.new.items ≡ list.old.items ++ one ∷ []) }
+    ensures err { IfErr result (λ e. e ≡ Memory) }
+{
+    list.push(one)?;
+    Ok(())
+}

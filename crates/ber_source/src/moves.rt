@@ -1,0 +1,272 @@
+//! Answers that lead on: values begin and end, headers open and close, and contents are read.
+
+ghost use Rattle.asn_base.specs.Abstract.{AbstractValue};
+ghost use Rattle.ber_source.specs.Seen.{IsWithin, state_of, token_of};
+ghost use Rattle.codec_source.specs.declared.fault.ReadFault.TheVariants.{Memory};
+ghost use Rattle.codec_source.specs.proving.Frames.{IfRefused};
+ghost use Rattle.octet_answers.specs.Answers.{AreContents, Begins, Closes, Ends, Holds, Opens};
+ghost use Rattle.octet_answers.specs.States.{State, held_at, opened_at};
+ghost use Rattle.octet_answers.specs.Units.{UnitAt};
+ghost use Rattle.octets.specs.Forms.{is_constructed};
+ghost use Rattle.segmented_strings.specs.declared.fault.SegmentsFault.TheVariants.{Memory as NoMemory};
+ghost use Rattle.std.specs.Prelude.{◌≡◌, ◌++◌, ◌∷◌, ◌<◌, ◌≤◌, [], IfErr, OnErr, OnOk, length};
+
+use crate::place::Place;
+use crate::token::Token;
+use crate::window::Window;
+use asn_base::schema::TypeId;
+use codec_code::{Head, LeafKind};
+use codec_source::ReadFault;
+use leaf_readings::{LeafFault, read_leaf};
+use next_tags::{Unit, next_unit, same_tag};
+use octet_answers::law::one_unit;
+use octets::{Form, HeaderFault};
+use segmented_strings::{SegmentsFault, Why, read_segments};
+use std::alloc::Global;
+
+/// How many levels of headers may be open.
+pub(crate) const LEVELS: usize = 400;
+
+/// How many values may be open.
+const VALUES: usize = 64;
+
+/// The fault of a header, as that of a reader.
+pub(crate) fn told_header(fault: HeaderFault) -> ReadFault
+    ensures { result ≡ Memory → ⊥ }
+{
+    match fault {
+        HeaderFault::Truncated => ReadFault::Truncated,
+        HeaderFault::Indefinite => ReadFault::Indefinite,
+        HeaderFault::BadLength => ReadFault::BadLength,
+        HeaderFault::BadTag => ReadFault::BadTag,
+    }
+}
+
+/// The fault of primitive contents, as that of a reader.
+fn told_leaf(fault: LeafFault) -> ReadFault {
+    match fault {
+        LeafFault::BadContents => ReadFault::BadContents,
+        LeafFault::IntegerLimit => ReadFault::IntegerLimit,
+        LeafFault::OidLimit => ReadFault::OidLimit,
+    }
+}
+
+/// The fault of segments, as that of a reader.
+fn told_segments(fault: SegmentsFault) -> ReadFault
+    ensures { fault ≡ NoMemory → result ≡ Memory }
+{
+    match fault {
+        SegmentsFault::Memory => ReadFault::Memory,
+        SegmentsFault::At(_, why) => match why {
+            Why::Header(header) => told_header(header),
+            Why::UnexpectedTag => ReadFault::UnexpectedTag,
+            Why::BadContents => ReadFault::BadContents,
+            Why::EmptySegments => ReadFault::EmptySegments,
+            Why::TooDeep => ReadFault::TooDeep,
+        },
+    }
+}
+
+fn push_value(list: &mut Vec<TypeId>, one: TypeId) -> Result<(), ReadFault>
+    ensures ok { OnOk result (list.new.items ≡ list.old.items ++ one ∷ []) }
+    ensures err { IfErr result (λ e. e ≡ Memory) }
+{
+    list.push(one)?;
+    Ok(())
+}
+
+fn push_window<'a>(list: &mut Vec<Window<'a>>, one: Window<'a>) -> Result<(), ReadFault>
+    ensures ok { OnOk result (list.new.items ≡ list.old.items ++ one.entry ∷ []) }
+    ensures err { IfErr result (λ e. e ≡ Memory) }
+    ensures same { OnErr result (list.new.items ≡ list.old.items) }
+{
+    list.push(one)?;
+    Ok(())
+}
+
+/// Tells one token more.
+pub(crate) fn push_token<'a>(list: &mut Vec<Token<'a>>, one: Token<'a>) -> Result<(), ReadFault>
+    ensures ok { OnOk result (list.new.items ≡ list.old.items ++ one.entry ∷ []) }
+    ensures err { IfErr result (λ e. e ≡ Memory) }
+{
+    list.push(one)?;
+    Ok(())
+}
+
+/// A value of the type begins.
+pub(crate) fn begin<'c, 'a>(place: &mut Place<'c, 'a>, id: TypeId) -> Result<(), ReadFault>
+    requires { IsWithin (state_of place.old) }
+    ensures within { IsWithin (state_of place.new) }
+    ensures ok { OnOk result (Begins (state_of place.old) id (state_of place.new)) }
+    ensures err { IfRefused result ((b : State) → Begins (state_of place.old) id b → ⊥) }
+{
+    if place.room == 0 {
+        return Err(ReadFault::MessageLimit);
+    }
+    if place.values.len() >= VALUES {
+        return Err(ReadFault::TooDeep);
+    }
+    push_value(&mut place.values, id)?;
+    push_token(&mut place.told, Token::Begun(id))?;
+    place.room -= 1;
+    Ok(())
+}
+
+/// The value that began last ends.
+pub(crate) fn end<'c, 'a>(place: &mut Place<'c, 'a>) -> Result<(), ReadFault>
+    requires { IsWithin (state_of place.old) }
+    ensures within { IsWithin (state_of place.new) }
+    ensures ok { OnOk result (Ends (state_of place.old) (state_of place.new)) }
+    ensures err { IfRefused result ((b : State) → Ends (state_of place.old) b → ⊥) }
+{
+    match place.values.pop() {
+        Some(_) => {
+            push_token(&mut place.told, Token::Ended)?;
+            Ok(())
+        }
+        None => Err(ReadFault::UnexpectedTag),
+    }
+}
+
+/// Opens the header that stands next, which has this tag, and is constructed where it must be.
+pub(crate) fn open<'c, 'a>(place: &mut Place<'c, 'a>, head: Head) -> Result<(), ReadFault>
+    requires { IsWithin (state_of place.old) }
+    ensures within { IsWithin (state_of place.new) }
+    ensures ok { OnOk result (Opens (state_of place.old) head (state_of place.new)) }
+    ensures err { IfRefused result ((b : State) → Opens (state_of place.old) head b → ⊥) }
+{
+    one_unit();
+    let unit = match next_unit(place.here.octets) {
+        Ok(unit) => unit,
+        Err(fault) => return Err(told_header(fault)),
+    };
+    if place.outer.len() >= LEVELS {
+        return Err(ReadFault::TooDeep);
+    }
+    if !same_tag(unit.tag, head.tag) {
+        return Err(ReadFault::UnexpectedTag);
+    }
+    if head.constructed && unit.form == Form::Primitive {
+        return Err(ReadFault::UnexpectedTag);
+    }
+    enter(place, unit)?;
+    Ok(())
+}
+
+/// Goes into the contents of the encoding that stands next.
+fn enter<'c, 'a>(place: &mut Place<'c, 'a>, unit: Unit<'a>) -> Result<(), ReadFault>
+    requires within { IsWithin (state_of place.old) }
+    requires unit { UnitAt unit.tag (is_constructed unit.form) unit.count unit.contents.now unit.rest.now
+        place.old.here.octets.now }
+    ensures within { IsWithin (state_of place.new) }
+    ensures ok { OnOk result (state_of place.new ≡ opened_at (state_of place.old) (is_constructed unit.entry.form)
+        unit.entry.count unit.entry.contents.now unit.entry.rest.now) }
+    ensures err { IfErr result (λ e. e ≡ Memory) }
+{
+    let at = place.here.at + unit.count;
+    push_window(
+        &mut place.outer,
+        Window {
+            form: place.here.form,
+            octets: unit.rest,
+            at: at + unit.contents.len(),
+            from: place.here.from,
+        },
+    )?;
+    place.here = Window {
+        form: unit.form,
+        octets: unit.contents,
+        at,
+        from: place.marks.len(),
+    };
+    Ok(())
+}
+
+/// Closes the nearest open header, whose contents were read to their end.
+pub(crate) fn close<'c, 'a>(place: &mut Place<'c, 'a>) -> Result<(), ReadFault>
+    requires { IsWithin (state_of place.old) }
+    ensures within { IsWithin (state_of place.new) }
+    ensures ok { OnOk result (Closes (state_of place.old) (state_of place.new)) }
+    ensures err { IfRefused result ((b : State) → Closes (state_of place.old) b → ⊥) }
+{
+    if !place.here.octets.is_empty() {
+        return Err(ReadFault::UnexpectedTag);
+    }
+    match place.outer.pop() {
+        Some(window) => {
+            place.marks.truncate(place.here.from);
+            place.here = window;
+            Ok(())
+        }
+        None => Err(ReadFault::UnexpectedTag),
+    }
+}
+
+/// Reads the contents octets of a value that holds no others.
+pub(crate) fn hold<'c, 'a>(place: &mut Place<'c, 'a>, kind: LeafKind) -> Result<(), ReadFault>
+    requires { IsWithin (state_of place.old) }
+    ensures within { IsWithin (state_of place.new) }
+    ensures ok { OnOk result (Holds (state_of place.old) kind (state_of place.new)) }
+    ensures err { IfRefused result ((b : State) → Holds (state_of place.old) kind b → ⊥) }
+{
+    if place.outer.len() > LEVELS {
+        return Err(ReadFault::TooDeep);
+    }
+    let room = LEVELS - place.outer.len();
+    match judge(place.alloc, kind, place.here.form, place.here.octets, room) {
+        Ok(()) => {}
+        Err(fault) => return Err(fault),
+    }
+    pass_contents(place, kind)?;
+    Ok(())
+}
+
+/// Whether the octets are contents of this kind, where so many levels of headers may stand in them.
+fn judge(
+    alloc: Global,
+    kind: LeafKind,
+    form: Form,
+    octets: &[u8],
+    room: usize,
+) -> Result<(), ReadFault>
+    requires { length octets.now ≤ 16777216 }
+    ensures ok { OnOk result ((v : AbstractValue) × AreContents (is_constructed form) kind v room octets.now) }
+    ensures err { IfRefused result ((v : AbstractValue) → AreContents (is_constructed form) kind v room octets.now → ⊥) }
+{
+    match form {
+        Form::Primitive => match read_leaf(kind, octets) {
+            Ok(_) => Ok(()),
+            Err(fault) => Err(told_leaf(fault)),
+        },
+        Form::Constructed => match read_segments(alloc, kind, octets, room) {
+            Ok(_) => Ok(()),
+            Err(fault) => Err(told_segments(fault)),
+        },
+    }
+}
+
+/// Goes behind the contents, and tells them.
+fn pass_contents<'c, 'a>(place: &mut Place<'c, 'a>, kind: LeafKind) -> Result<(), ReadFault>
+    requires { IsWithin (state_of place.old) }
+    ensures within { IsWithin (state_of place.new) }
+    ensures ok { OnOk result (state_of place.new ≡ held_at (state_of place.old) kind) }
+    ensures err { IfErr result (λ e. e ≡ Memory) }
+{
+    let here = place.here;
+    push_token(
+        &mut place.told,
+        Token::Held {
+            kind,
+            form: here.form,
+            octets: here.octets,
+            at: here.at,
+        },
+    )?;
+    place.here = Window {
+        form: here.form,
+        octets: &[],
+        at: here.at + here.octets.len(),
+        from: here.from,
+    };
+    Ok(())
+}

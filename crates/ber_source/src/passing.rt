@@ -1,0 +1,117 @@
+//! Additions that the type lacks are passed.
+
+ghost use Rattle.ber_source.specs.Seen.{IsWithin, state_of};
+ghost use Rattle.codec_code.specs.declared.step.Field.{Field as Field'};
+ghost use Rattle.codec_source.specs.declared.fault.ReadFault.TheVariants.{Memory};
+ghost use Rattle.codec_source.specs.proving.Frames.{IfRefused};
+ghost use Rattle.octet_answers.specs.Found.{Passes};
+ghost use Rattle.octet_answers.specs.States.{State, passing};
+ghost use Rattle.octet_answers.specs.Units.{UnitAt};
+ghost use Rattle.octets.specs.Forms.{is_constructed};
+ghost use Rattle.std.specs.Prelude.{◌≡◌, ◌<◌, Bool, IfErr, IfNone, IfOk, IfSome, OnOk, Option as Option', length};
+
+use crate::moves::{LEVELS, push_token, told_header};
+use crate::place::Place;
+use crate::token::Token;
+use crate::window::Window;
+use codec_code::{Field, Step};
+use codec_source::ReadFault;
+use next_tags::{Unit, find, next_unit};
+use octet_answers::law::one_unit;
+
+/// Passes additions that the type lacks, where it is extensible, and answers the component that stands behind them, or
+/// None at the end of the contents.
+pub(crate) fn pass<'c, 'a>(
+    place: &mut Place<'c, 'a>,
+    steps: &[Step],
+    extensible: bool,
+) -> Result<Option<Field>, ReadFault>
+    requires { IsWithin (state_of place.old) }
+    ensures within { IsWithin (state_of place.new) }
+    ensures ok { IfOk result (λ f.
+        Passes place.old.code.now steps.now extensible (state_of place.old) f (state_of place.new)) }
+    ensures only { IfOk result (λ f. (g : Option' Field') (b : State)
+        → Passes place.old.code.now steps.now extensible (state_of place.old) g b
+        → (g ≡ f) × (b ≡ state_of place.new)) }
+    ensures err { IfRefused result ((f : Option' Field') (b : State)
+        → Passes place.old.code.now steps.now extensible (state_of place.old) f b → ⊥) }
+    ensures code { place.new.code.now ≡ place.old.code.now }
+{
+    loop {
+        match pass_one(place, steps, extensible) {
+            Ok(Some(found)) => return Ok(found),
+            Ok(None) => {}
+            Err(fault) => return Err(fault),
+        }
+    }
+}
+
+/// Answers what stands next, if it is a component or the end of the contents; else passes one addition.
+fn pass_one<'c, 'a>(
+    place: &mut Place<'c, 'a>,
+    steps: &[Step],
+    extensible: bool,
+) -> Result<Option<Option<Field>>, ReadFault>
+    requires { IsWithin (state_of place.old) }
+    ensures within { IsWithin (state_of place.new) }
+    ensures code { place.new.code.now ≡ place.old.code.now }
+    ensures ended { IfOk result (λ r. IfSome r (λ f.
+        (state_of place.new ≡ state_of place.old)
+        × Passes place.old.code.now steps.now extensible (state_of place.old) f (state_of place.old))) }
+    ensures only { IfOk result (λ r. IfSome r (λ f. (g : Option' Field') (b : State)
+        → Passes place.old.code.now steps.now extensible (state_of place.old) g b
+        → (g ≡ f) × (b ≡ state_of place.old))) }
+    ensures passed { IfOk result (λ r. IfNone r ((f : Option' Field') (b : State)
+        → Passes place.old.code.now steps.now extensible (state_of place.new) f b
+        → Passes place.old.code.now steps.now extensible (state_of place.old) f b)) }
+    ensures back { IfOk result (λ r. IfNone r ((f : Option' Field') (b : State)
+        → Passes place.old.code.now steps.now extensible (state_of place.old) f b
+        → Passes place.old.code.now steps.now extensible (state_of place.new) f b)) }
+    ensures less { IfOk result (λ r. IfNone r
+        (length place.new.here.octets.now < length place.old.here.octets.now)) }
+    ensures err { IfRefused result ((f : Option' Field') (b : State)
+        → Passes place.old.code.now steps.now extensible (state_of place.old) f b → ⊥) }
+{
+    one_unit();
+    if place.here.octets.is_empty() {
+        return Ok(Some(None));
+    }
+    let unit = match next_unit(place.here.octets) {
+        Ok(unit) => unit,
+        Err(fault) => return Err(told_header(fault)),
+    };
+    match find(place.code, steps, unit.tag) {
+        Some(field) => return Ok(Some(Some(field))),
+        None => {}
+    }
+    if place.outer.len() >= LEVELS {
+        return Err(ReadFault::TooDeep);
+    }
+    if !extensible {
+        return Err(ReadFault::UnexpectedTag);
+    }
+    step_over(place, unit)?;
+    Ok(None)
+}
+
+/// Goes behind the encoding that stands next.
+fn step_over<'c, 'a>(place: &mut Place<'c, 'a>, unit: Unit<'a>) -> Result<(), ReadFault>
+    requires within { IsWithin (state_of place.old) }
+    requires unit { UnitAt unit.tag (is_constructed unit.form) unit.count unit.contents.now unit.rest.now
+        place.old.here.octets.now }
+    ensures within { IsWithin (state_of place.new) }
+    ensures code { place.new.code.now ≡ place.old.code.now }
+    ensures ok { OnOk result (state_of place.new
+        ≡ passing (state_of place.old) unit.entry.count unit.entry.contents.now unit.entry.rest.now) }
+    ensures less { OnOk result (length place.new.here.octets.now < length place.old.here.octets.now) }
+    ensures err { IfErr result (λ e. e ≡ Memory) }
+{
+    push_token(&mut place.told, Token::Passed)?;
+    place.here = Window {
+        form: place.here.form,
+        octets: unit.rest,
+        at: place.here.at + (unit.count + unit.contents.len()),
+        from: place.here.from,
+    };
+    Ok(())
+}

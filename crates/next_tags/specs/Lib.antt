@@ -1,0 +1,2 @@
+-- First tags, as routines begin with them.
+pub mod Firsts

@@ -1,0 +1,51 @@
+//! An encoding at the front of octets.
+
+ghost use Rattle.asn_base.specs.declared.tag.Tag.{Tag as Tag'};
+ghost use Rattle.octet_answers.specs.Units.{UnitAt};
+ghost use Rattle.octets.specs.Forms.{is_constructed};
+ghost use Rattle.octets.specs.Fronts.{HeaderAt, Stands};
+ghost use Rattle.std.specs.Prelude.{◌≡◌, Bool, IfErr, IfOk, List, ℕ};
+
+use asn_base::tag::Tag;
+use octets::law::one_front;
+use octets::{Form, Header, HeaderFault, read_header};
+
+/// A header, of so many octets, its contents, and what follows them.
+#[derive(Clone, Copy)]
+pub struct Unit<'a> {
+    pub tag: Tag,
+    pub form: Form,
+    pub count: usize,
+    pub contents: &'a [u8],
+    pub rest: &'a [u8],
+}
+
+/// The encoding at the front of octets (X.690, 8.1.1), or why none stands there: as `read_header`, which it takes the header
+/// by. It takes no memory.
+pub fn next_unit(octets: &[u8]) -> Result<Unit<'_>, HeaderFault>
+    ensures ok { IfOk result (λ u. UnitAt u.tag (is_constructed u.form) u.count u.contents.now u.rest.now octets.now) }
+    ensures none { IfErr result (λ e. (g : Tag') (c : Bool) (k : ℕ) (x r : List ℕ) → UnitAt g c k x r octets.now → ⊥) }
+    ensures err { IfErr result (λ e. Stands e octets.now) }
+{
+    one_front();
+    match read_header(octets) {
+        Ok(header) => Ok(parted(octets, header)),
+        Err(fault) => Err(fault),
+    }
+}
+
+/// The contents that a header tells, and what follows them.
+fn parted(octets: &[u8], header: Header) -> Unit<'_>
+    requires { HeaderAt header.tag (is_constructed header.form) header.contents header.octets octets.now }
+    ensures { UnitAt result.tag (is_constructed result.form) result.count result.contents.now result.rest.now octets.now }
+{
+    let (_, behind) = octets.split_at(header.octets);
+    let (contents, rest) = behind.split_at(header.contents);
+    Unit {
+        tag: header.tag,
+        form: header.form,
+        count: header.octets,
+        contents,
+        rest,
+    }
+}

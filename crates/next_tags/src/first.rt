@@ -1,0 +1,132 @@
+//! First tags, as routines begin with them.
+
+ghost use Rattle.asn_base.specs.Tags.{First};
+ghost use Rattle.next_tags.specs.Firsts.{AnyBegins, Begins, BeginsBy, BeginsWith, head_tag, tag_in as tag_in'};
+ghost use Rattle.codec_code.specs.Routines.{tags_at};
+ghost use Rattle.std.specs.Prelude.{◌≡◌, ◌↔◌, IsTrue, Some};
+
+use asn_base::schema::TypeId;
+use asn_base::tag::Tag;
+use codec_code::{Code, Coding, Step};
+
+/// Whether the tags are equal.
+#[tactic(auto, using(crate::proofs::Tags::tag_same))]
+pub fn same_tag(left: Tag, right: Tag) -> bool
+    ensures { IsTrue result ↔ (left ≡ right) }
+{
+    left.class == right.class && left.number == right.number
+}
+
+/// The tag of the header that the step is.
+fn tag_in(step: Step) -> Option<Tag>
+    ensures { result ≡ tag_in' step }
+{
+    match step {
+        Step::Head(head) => Some(head.tag),
+        Step::Field(_) => None,
+        Step::Ranked(_, _) => None,
+        Step::Leaf(_) => None,
+        Step::Each(_) => None,
+        Step::EachSorted(_) => None,
+        Step::Pick(_) => None,
+        Step::Call(_) => None,
+        Step::Rest => None,
+        Step::End => None,
+    }
+}
+
+/// The tag of the header that steps begin with.
+fn head_of(steps: &[Step]) -> Option<Tag>
+    ensures { result ≡ head_tag steps.now }
+{
+    match steps.split_first() {
+        Some((step, _)) => tag_in(*step),
+        None => None,
+    }
+}
+
+/// The outermost tag of the type.
+#[tactic(auto, using(crate::proofs::Firsts::head_outermost))]
+fn outermost(code: &Code, id: TypeId) -> Option<Tag>
+    ensures { result ≡ tags_at code.now id.index }
+{
+    head_of(code.steps(id, Coding::Tagged))
+}
+
+/// Whether it is the outermost tag of the type.
+fn is_outermost(code: &Code, id: TypeId, tag: Tag) -> bool
+    ensures { IsTrue result ↔ (tags_at code.now id.index ≡ Some tag) }
+{
+    match outermost(code, id) {
+        Some(one) => same_tag(one, tag),
+        None => false,
+    }
+}
+
+/// Whether one of the calls is of a type with this outermost tag.
+fn any_begins(code: &Code, calls: &[Step], tag: Tag) -> bool
+    ensures { IsTrue result ↔ AnyBegins code.now tag calls.now }
+{
+    let Some((step, behind)) = calls.split_first() else {
+        return false;
+    };
+    if begins_call(code, *step, tag) {
+        return true;
+    }
+    any_begins(code, behind, tag)
+}
+
+/// Whether it is the call of a type with this outermost tag.
+fn begins_call(code: &Code, step: Step, tag: Tag) -> bool
+    ensures { IsTrue result ↔ Begins code.now tag step }
+{
+    match step {
+        Step::Call(id) => is_outermost(code, id, tag),
+        Step::Field(_) => false,
+        Step::Ranked(_, _) => false,
+        Step::Leaf(_) => false,
+        Step::Each(_) => false,
+        Step::EachSorted(_) => false,
+        Step::Head(_) => false,
+        Step::Pick(_) => false,
+        Step::Rest => false,
+        Step::End => false,
+    }
+}
+
+/// Whether a step, before others, begins with the tag: the header, or one of the calls of a CHOICE.
+fn begins_step(code: &Code, step: Step, behind: &[Step], tag: Tag) -> bool
+    ensures { IsTrue result ↔ BeginsBy code.now tag step behind.now }
+{
+    match step {
+        Step::Head(head) => same_tag(head.tag, tag),
+        Step::Pick(_) => any_begins(code, behind, tag),
+        Step::Field(_) => false,
+        Step::Ranked(_, _) => false,
+        Step::Leaf(_) => false,
+        Step::Each(_) => false,
+        Step::EachSorted(_) => false,
+        Step::Call(_) => false,
+        Step::Rest => false,
+        Step::End => false,
+    }
+}
+
+/// Whether steps begin with the tag.
+fn begins_with(code: &Code, steps: &[Step], tag: Tag) -> bool
+    ensures { IsTrue result ↔ BeginsWith code.now tag steps.now }
+{
+    match steps.split_first() {
+        Some((step, behind)) => begins_step(code, *step, behind, tag),
+        None => false,
+    }
+}
+
+/// Whether the tag can stand first before a value of the type: its outermost one, or of an untagged CHOICE that of an
+/// alternative.
+pub fn can_begin(code: &Code, id: TypeId, tag: Tag) -> bool
+    ensures { IsTrue result ↔ First code.now id.index tag }
+{
+    code.accepted();
+    begins_with(code, code.steps(id, Coding::Tagged), tag)
+}

@@ -1,0 +1,11 @@
+//! What stands next in octets: an encoding at their front, and which component or alternative its tag tells (X.680, 25.6.1,
+//! 27.3 and 29.3; X.690, 8.1.1).
+#![tactic(auto)]
+
+mod encoding;
+mod first;
+mod search;
+
+pub use encoding::{Unit, next_unit};
+pub use first::{can_begin, same_tag};
+pub use search::{are_read, choose, find, is_extensible, is_in, last_steps, may_be_absent};

@@ -1,0 +1,188 @@
+//! Components and alternatives by the next tag.
+
+ghost use Rattle.asn_base.specs.Names.{IsMember};
+ghost use Rattle.octet_answers.specs.Found.{AreRead, IsChosen, IsFound, field_in as field_in', is_extensible as is_extensible', is_rest as is_rest', last_from as last_from', last_steps as last_steps', must_stand as must_stand'};
+ghost use Rattle.codec_code.specs.declared.step.Field.{Field as Field'};
+ghost use Rattle.asn_base.specs.declared.schema.TypeId.{TypeId as TypeId'};
+ghost use Rattle.codec_code.specs.Steps.{may_be_absent as may_be_absent'};
+ghost use Rattle.std.specs.Prelude.{◌≡◌, ◌<◌, ◌↔◌, IfNone, IfSome, IsTrue, Some as Some', false as false', length, ℕ};
+
+use crate::first::can_begin;
+use asn_base::schema::TypeId;
+use asn_base::tag::Tag;
+use codec_code::{Code, Field, Need, Step};
+
+/// Whether a component with this need may be absent.
+pub fn may_be_absent(need: Need) -> bool
+    ensures { result ≡ may_be_absent' need }
+{
+    match need {
+        Need::Mandatory => false,
+        Need::Optional => true,
+        Need::Default => true,
+        Need::Addition => true,
+    }
+}
+
+/// The component that the step reads.
+fn field_in(step: Step) -> Option<Field>
+    ensures { result ≡ field_in' step }
+{
+    match step {
+        Step::Field(field) => Some(field),
+        Step::Ranked(field, _) => Some(field),
+        Step::Head(_) => None,
+        Step::Leaf(_) => None,
+        Step::Each(_) => None,
+        Step::EachSorted(_) => None,
+        Step::Pick(_) => None,
+        Step::Call(_) => None,
+        Step::Rest => None,
+        Step::End => None,
+    }
+}
+
+/// Whether the step reads a component that must stand.
+fn must_stand(step: Step) -> bool
+    ensures { result ≡ must_stand' step }
+{
+    match step {
+        Step::Field(field) => !may_be_absent(field.need),
+        Step::Ranked(field, _) => !may_be_absent(field.need),
+        Step::Head(_) => false,
+        Step::Leaf(_) => false,
+        Step::Each(_) => false,
+        Step::EachSorted(_) => false,
+        Step::Pick(_) => false,
+        Step::Call(_) => false,
+        Step::Rest => false,
+        Step::End => false,
+    }
+}
+
+/// Whether the step skips additions that the type lacks.
+fn is_rest(step: Step) -> bool
+    ensures { result ≡ is_rest' step }
+{
+    match step {
+        Step::Rest => true,
+        Step::Field(_) => false,
+        Step::Ranked(_, _) => false,
+        Step::Head(_) => false,
+        Step::Leaf(_) => false,
+        Step::Each(_) => false,
+        Step::EachSorted(_) => false,
+        Step::Pick(_) => false,
+        Step::Call(_) => false,
+        Step::End => false,
+    }
+}
+
+/// Whether one of the steps skips additions that the type lacks.
+pub fn is_extensible(steps: &[Step]) -> bool
+    ensures { result ≡ is_extensible' steps.now }
+{
+    let Some((step, behind)) = steps.split_first() else {
+        return false;
+    };
+    if is_rest(*step) {
+        return true;
+    }
+    is_extensible(behind)
+}
+
+/// The steps behind the last one that reads a component that must stand, or else the others.
+fn last_from<'s>(others: &'s [Step], steps: &'s [Step]) -> &'s [Step]
+    ensures { result.now ≡ last_from' others.now steps.now }
+{
+    let Some((step, behind)) = steps.split_first() else {
+        return others;
+    };
+    if must_stand(*step) {
+        last_from(behind, behind)
+    } else {
+        last_from(others, behind)
+    }
+}
+
+/// The steps behind the last component that must stand, or all where none must.
+pub fn last_steps(steps: &[Step]) -> &[Step]
+    ensures { result.now ≡ last_steps' steps.now }
+{
+    last_from(steps, steps)
+}
+
+/// The component, of those that the steps read, of which the tag can be the first one.
+pub fn find(code: &Code, steps: &[Step], tag: Tag) -> Option<Field>
+    ensures some { IfSome result (λ f. IsFound code.now tag steps.now f) }
+    ensures none { IfNone result ((f : Field') → IsFound code.now tag steps.now f → ⊥) }
+{
+    let Some((step, behind)) = steps.split_first() else {
+        return None;
+    };
+    match field_in(*step) {
+        Some(field) => {
+            if can_begin(code, field.ty, tag) {
+                return Some(field);
+            }
+            find(code, behind, tag)
+        }
+        None => find(code, behind, tag),
+    }
+}
+
+/// The alternative, of those that the steps call, of which the tag can be the first one, and its number.
+pub fn choose(code: &Code, calls: &[Step], tag: Tag) -> Option<(usize, TypeId)>
+    ensures some { IfSome result (λ r. IsChosen code.now tag calls.now r.0 r.1) }
+    ensures below { IfSome result (λ r. r.0 < length calls.now) }
+    ensures none { IfNone result ((i : ℕ) (t : TypeId') → IsChosen code.now tag calls.now i t → ⊥) }
+{
+    let Some((step, behind)) = calls.split_first() else {
+        return None;
+    };
+    if let Step::Call(id) = *step {
+        if can_begin(code, id, tag) {
+            return Some((0, id));
+        }
+    }
+    match choose(code, behind, tag) {
+        Some((index, id)) => Some((index + 1, id)),
+        None => None,
+    }
+}
+
+/// Whether the place stands in the list.
+pub fn is_in(place: usize, marks: &[usize]) -> bool
+    ensures { IsTrue result ↔ IsMember place marks.now }
+{
+    let Some((mark, behind)) = marks.split_first() else {
+        return false;
+    };
+    if *mark == place {
+        return true;
+    }
+    is_in(place, behind)
+}
+
+/// Whether each component that must stand was read.
+pub fn are_read(marks: &[usize], steps: &[Step]) -> bool
+    ensures { IsTrue result ↔ AreRead marks.now steps.now }
+{
+    let Some((step, behind)) = steps.split_first() else {
+        return true;
+    };
+    if !is_read(marks, *step) {
+        return false;
+    }
+    are_read(marks, behind)
+}
+
+/// Whether the component that the step reads was read, if it must stand.
+fn is_read(marks: &[usize], step: Step) -> bool
+    ensures { IsTrue result ↔ ((f : Field') → field_in' step ≡ Some' f → may_be_absent' f.need ≡ false' → IsMember f.place marks.now) }
+{
+    match field_in(step) {
+        Some(field) => may_be_absent(field.need) || is_in(field.place, marks),
+        None => true,
+    }
+}
