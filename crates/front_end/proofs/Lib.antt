@@ -1,0 +1,5 @@
+mod Lists
+mod Texts
+mod Excluding
+mod Standing
+mod Notations

@@ -1,0 +1,74 @@
+-- A fault of names, or of what is linked, stands in the texts; where what it tells of a value stands.
+use Rattle.std.proofs.Common.{◌≡◌, ℕ, zero, suc, ◌<◌, List, [], ◌∷◌, length, Some, subst, arith}
+use Rattle.std.specs.Prelude.{slice_get}
+use Rattle.std.specs.List.{All, AllZip}
+use Rattle.trees.specs.Modules.{ModuleTree}
+use Rattle.trees.specs.Values.{Name, Tree}
+use Rattle.type_table.specs.Table.{Is, IsLinked, Part, members}
+use Rattle.resolve.specs.Links.{Links}
+use Rattle.resolve.specs.Program.{IsWhole, Program}
+use Rattle.typed_values.specs.declared.fault.Cause.TheVariants as causes
+use Rattle.typed_values.specs.declared.fault.ValueFault.{ValueFault}
+use Rattle.typed_values.specs.Faults as typed
+use Rattle.extensions.specs.Faults.{IsFirstDefault}
+use Rattle.front_end.specs.Accepted.{IsModule}
+use Rattle.front_end.specs.Faults.{IsLinkedFault, Stands}
+use Rattle.front_end.specs.declared.fault.FrontFault.{FrontFault}
+use Rattle.front_end.specs.declared.fault.FrontFault.TheVariants as faults
+use Rattle.front_end.specs.proving.Steps.{IsNamesFault}
+
+pub names_stand : (xs : List (List ℕ)) (ms : List ModuleTree) (e : FrontFault) → AllZip IsModule xs ms →
+    IsNamesFault ms e → Stands xs e
+names_stand xs ms faults.Memory z h = tt
+names_stand xs ms (faults.Name f) z h = record { modules = ms; are = z; stands = h }
+names_stand xs ms (faults.Text k f) z h = absurd h
+names_stand xs ms (faults.Tree k f) z h = absurd h
+names_stand xs ms (faults.Tag f) z h = absurd h
+names_stand xs ms (faults.Bound f) z h = absurd h
+names_stand xs ms (faults.Additions f) z h = absurd h
+names_stand xs ms (faults.Default t) z h = absurd h
+names_stand xs ms (faults.Assigned t) z h = absurd h
+
+pub linked_stand : (xs : List (List ℕ)) (ms : List ModuleTree) (p : Program) (e : FrontFault) → AllZip IsModule xs ms →
+    Links ms p → IsLinkedFault p e → Stands xs e
+linked_stand xs ms p faults.Memory z l h = tt
+linked_stand xs ms p (faults.Tag f) z l h =
+    record { modules = ms; are = z; stands = record { program = p; links = l; such = h } }
+linked_stand xs ms p (faults.Bound f) z l h =
+    record { modules = ms; are = z; stands = record { program = p; links = l; such = h } }
+linked_stand xs ms p (faults.Additions f) z l h =
+    record { modules = ms; are = z; stands = record { program = p; links = l; such = h } }
+linked_stand xs ms p (faults.Default t) z l h =
+    record { modules = ms; are = z; stands = record { program = p; links = l; such = h } }
+linked_stand xs ms p (faults.Assigned t) z l h =
+    record { modules = ms; are = z; stands = record { program = p; links = l; such = h } }
+linked_stand xs ms p (faults.Text k f) z l h = absurd h
+linked_stand xs ms p (faults.Tree k f) z l h = absurd h
+linked_stand xs ms p (faults.Name f) z l h = absurd h
+
+-- ---- the type at which a value is wrong is there
+
+abbrev pub AreThere : Type 0
+AreThere = (p : Program) (levels left i : ℕ) (os : List ℕ) (M : Name) (n : Tree) (f : ValueFault)
+    → IsLinked p.types
+    → i < length p.types
+    → typed.Stands p levels left os M i n f
+    → (f.cause ≡ causes.Memory → ⊥)
+    → f.at.ty.index < length p.types
+
+one_below : (n : ℕ) (cs : List Part) (j : ℕ) (c : Part) → All (λ x. x.ty < n) cs → slice_get cs j ≡ Some c → c.ty < n
+one_below n [] j c a e = absurd cc
+one_below n (x ∷ cs) zero c a e = let s : x ≡ c = cc in subst (λ z. z.ty < n) s (a zero x (omega arith))
+one_below n (x ∷ cs) (suc j) c a e = one_below n cs j c (λ m d l. a (suc m) d (omega arith)) e
+
+pub default_there : AreThere → (p : Program) (f : ValueFault) → IsWhole p → IsFirstDefault p f →
+    f.at.ty.index < length p.types
+default_there law p f w d =
+    let l = d.list in
+    let i : Is p.types d.number (members l.list l.marked d.parts) l.type.default l.type.place =
+    subst (λ k. Is p.types d.number k l.type.default l.type.place) l.is
+    (record { constraints = l.type.constraints; assignment = l.type.assignment; found = l.there }) in
+    let a = w.linked.parts d.number l.list l.marked d.parts l.type.default l.type.place i in
+    let b = one_below (length p.types) d.parts d.first.number d.first.part a d.first.there in
+    let h = d.first.wrong in
+    law p 64 16777216 d.first.part.ty [] d.within h.0 f w.linked b h.2.stands h.2.caused

@@ -1,0 +1,107 @@
+-- Why texts are not accepted: which fault stands, the first one in reading order. Each text is read in turn, its octets
+-- and then its tokens; behind all texts come names, tags, constraints, and last what stands behind markers, DEFAULTs and
+-- value assignments.
+use Rattle.std.specs.Prelude.{◌≡◌, ◌<◌, ℕ, List, Some, slice_get}
+use Rattle.std.specs.List.{AllZip}
+use Rattle.text.specs.declared.fault.LexFault.{LexFault}
+use Rattle.text.specs.declared.fault.LexFault.TheVariants as lexing
+use Rattle.text.specs.declared.token.Token.{Token}
+use Rattle.text.specs.Text as texts
+use Rattle.grammar.specs.Lexeme.{lexemes}
+use Rattle.grammar.specs.Places.{bounded}
+use Rattle.kernel.specs.Given.{IsLexed}
+use Rattle.notation.specs.Answer as answers
+use Rattle.notation.specs.declared.fault.SyntaxFault.{SyntaxFault}
+use Rattle.notation.specs.declared.fault.SyntaxFault.TheVariants as parsing
+use Rattle.trees.specs.Modules.{ModuleTree}
+use Rattle.syntax.specs.Syntax.{module_text}
+use Rattle.names.specs.declared.fault.NameFault.TheVariants as linking
+use Rattle.resolve.specs.Links.{Links, IsLinkFault}
+use Rattle.resolve.specs.Program.{Program}
+use Rattle.tagging.specs.Faults as tagging
+use Rattle.tagging.specs.Tagged.{IsTagged}
+use Rattle.tagging.specs.declared.fault.TagFault.TheVariants as tags
+use Rattle.constraints.specs.Bounded.{AreBounded}
+use Rattle.constraints.specs.Faults as bounding
+use Rattle.constraints.specs.declared.fault.BoundFault.TheVariants as bounds
+use Rattle.typed_values.specs.declared.fault.ValueFault.{ValueFault}
+use Rattle.extensions.specs.Faults as settling
+use Rattle.extensions.specs.declared.fault.ExtFault.TheVariants as settled
+use Rattle.told_values.specs.Told.{IsTold}
+use Rattle.told_values.specs.declared.telling.ValueTold.{ValueTold}
+use Rattle.front_end.specs.Accepted.{IsModule}
+use Rattle.front_end.specs.declared.fault.FrontFault.{FrontFault}
+use Rattle.front_end.specs.declared.fault.FrontFault.TheVariants as faults
+
+-- ---- texts
+
+-- the text has no tokens, as the fault tells
+pub record HasNoTokens (x : List ℕ) (f : LexFault) : Type 0 where
+  pub no_memory : f ≡ lexing.Memory → ⊥
+  pub stands : texts.Stands x f
+
+-- the text has tokens, and they are no module, as the fault tells
+pub record IsNoModule (x : List ℕ) (f : SyntaxFault) : Type 0 where
+  pub no_memory : f ≡ parsing.Memory → ⊥
+  pub tokens : List Token
+  pub lexed : IsLexed x tokens
+  pub stands : answers.Stands module_text (lexemes x tokens) 0 (bounded 128) f
+
+-- P holds of text k, and the texts before it are modules
+pub record IsFirstRefused (xs : List (List ℕ)) (k : ℕ) (P : List ℕ → Type 0) : Type 0 where
+  pub text : List ℕ
+  pub there : slice_get xs k ≡ Some text
+  pub stands : P text
+  pub before : (i : ℕ) (y : List ℕ) → i < k → slice_get xs i ≡ Some y → (m : ModuleTree) × IsModule y m
+
+-- ---- linked modules
+
+-- what is told of a fault of a value, of which P holds
+pub record Tells (p : Program) (P : ValueFault → Type 0) (t : ValueTold) : Type 0 where
+  pub fault : ValueFault
+  pub stands : P fault
+  pub told : IsTold p fault t
+
+-- The fault stands in linked modules: in their tags; else in their constraints; else behind a marker, in a DEFAULT, or in
+-- a value assignment. Memory says nothing.
+abbrev pub IsLinkedFault : Program → FrontFault → Type 0
+IsLinkedFault p faults.Memory = Unit {0}
+IsLinkedFault p (faults.Tag f) = (f ≡ tags.Memory → ⊥) × tagging.Stands p f
+IsLinkedFault p (faults.Bound f) = IsTagged p.types × (f ≡ bounds.Memory → ⊥) × bounding.Stands p f
+IsLinkedFault p (faults.Additions f) = IsTagged p.types × AreBounded p × settling.Stands p (settled.Additions f)
+IsLinkedFault p (faults.Default t) =
+    IsTagged p.types × AreBounded p × Tells p (λ f. settling.Stands p (settled.Default f)) t
+IsLinkedFault p (faults.Assigned t) =
+    IsTagged p.types × AreBounded p × Tells p (λ f. settling.Stands p (settled.Assigned f)) t
+IsLinkedFault p fault = ⊥
+
+-- ---- modules
+
+-- the modules are linked, and P holds of their program
+pub record HaveProgram (ms : List ModuleTree) (P : Program → Type 0) : Type 0 where
+  pub program : Program
+  pub links : Links ms program
+  pub such : P program
+
+-- the fault stands in modules: in their names, or else in what is linked
+abbrev pub IsModulesFault : List ModuleTree → FrontFault → Type 0
+IsModulesFault ms faults.Memory = Unit {0}
+IsModulesFault ms (faults.Text k f) = ⊥
+IsModulesFault ms (faults.Tree k f) = ⊥
+IsModulesFault ms (faults.Name f) = (f ≡ linking.Memory → ⊥) × IsLinkFault ms f
+IsModulesFault ms fault = HaveProgram ms (λ p. IsLinkedFault p fault)
+
+-- each text is a module, and the fault stands in the modules
+pub record AreNoProgram (xs : List (List ℕ)) (fault : FrontFault) : Type 0 where
+  pub modules : List ModuleTree
+  pub are : AllZip IsModule xs modules
+  pub stands : IsModulesFault modules fault
+
+-- ---- all together
+
+-- The fault stands: in the first text that is none, or else in the modules. Memory says nothing of texts.
+abbrev pub Stands : List (List ℕ) → FrontFault → Type 0
+Stands xs faults.Memory = Unit {0}
+Stands xs (faults.Text k f) = IsFirstRefused xs k (λ x. HasNoTokens x f)
+Stands xs (faults.Tree k f) = IsFirstRefused xs k (λ x. IsNoModule x f)
+Stands xs fault = AreNoProgram xs fault

@@ -1,0 +1,2 @@
+-- What only contracts inside the crate and proofs speak of.
+pub mod Steps

@@ -1,0 +1,90 @@
+//! What follows for texts. A caller calls a law to know it; it takes no memory and no time.
+
+ghost use Rattle.std.specs.Prelude.{◌≡◌, ℕ, List};
+ghost use Rattle.std.specs.List.{AllZip};
+ghost use Rattle.asn_base.specs.Abstract.{AbstractValue};
+ghost use Rattle.asn_base.specs.Typed.{IsValue};
+ghost use Rattle.asn_base.specs.Types.{Resolved};
+ghost use Rattle.trees.specs.Modules.{ModuleTree};
+ghost use Rattle.trees.specs.Values.{Name, Tree};
+ghost use Rattle.resolve.specs.Links.{Links};
+ghost use Rattle.resolve.specs.Program.{Program};
+ghost use Rattle.extensions.specs.Settles.{IsRead};
+ghost use Rattle.front_end.specs.Accepted.{AreAccepted, HasTypes, IsModule, Keeps};
+ghost use Rattle.front_end.specs.Faults.{Stands};
+ghost use Rattle.front_end.specs.Untyped.{StandsFor};
+ghost use Rattle.front_end.specs.declared.fault.FrontFault.{FrontFault as FrontFault'};
+ghost use Rattle.front_end.specs.declared.fault.FrontFault.TheVariants.{Memory};
+
+/// Texts in which a fault stands, other than want of memory, are not accepted: so [`crate::open`] succeeds, memory apart, just
+/// where they are.
+pub fn faults_exclude()
+    ensures { (xs : List (List ℕ)) (p : Program) (e : FrontFault') →
+        (e ≡ Memory → ⊥) →
+        Stands xs e →
+        AreAccepted xs p →
+        ⊥ }
+{
+    one_list();
+    text::law::one_list_of_tokens();
+    text::law::tokens_or_fault();
+    modules_are_read();
+    resolve::law::link_faults_exclude();
+    resolve::law::one_program();
+    tagging::law::no_other();
+    constraints::law::no_other();
+    extensions::law::no_other();
+}
+
+/// Texts are one list of modules at most.
+pub fn one_list()
+    ensures { (xs : List (List ℕ)) (ms ns : List ModuleTree) → AllZip IsModule xs ms → AllZip IsModule xs ns → ms ≡ ns }
+{
+    text::law::one_list_of_tokens();
+    syntax::one_module();
+}
+
+/// Texts are accepted as one program at most.
+pub fn one_program()
+    ensures { (xs : List (List ℕ)) (p q : Program) → AreAccepted xs p → AreAccepted xs q → p ≡ q }
+{
+    one_list();
+    resolve::law::one_program();
+}
+
+/// Modules that texts are, once they are linked, are what settling takes.
+pub fn modules_are_read()
+    ensures { (xs : List (List ℕ)) (ms : List ModuleTree) (p : Program) → AllZip IsModule xs ms → Links ms p → IsRead p }
+{
+    spelled::law::modules_are_spelled();
+    extensions::law::linked_are_read();
+}
+
+/// The program of accepted texts keeps what [`crate::Modules`] asks.
+pub fn accepted_keep()
+    ensures { (xs : List (List ℕ)) (p : Program) → AreAccepted xs p → Keeps p }
+{
+    modules_are_read();
+}
+
+/// What a notation in accepted texts stands for is a value of the type in the texts' schema.
+pub fn values_of_schema()
+    ensures { (p : Program) (s : List Resolved) (M : Name) (i : ℕ) (n : Tree) (v : AbstractValue) →
+        Keeps p →
+        HasTypes p s →
+        StandsFor p M i n v →
+        IsValue s i v }
+{
+    schema_of::law::same_values();
+}
+
+/// A notation in accepted texts stands for one value of a type at most.
+pub fn one_value()
+    ensures { (p : Program) (M : Name) (i : ℕ) (n : Tree) (v w : AbstractValue) →
+        Keeps p →
+        StandsFor p M i n v →
+        StandsFor p M i n w →
+        v ≡ w }
+{
+    value_notations::law::one_value();
+}

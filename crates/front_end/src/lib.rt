@@ -1,0 +1,13 @@
+//! The front end behind one door: from the texts of modules to their program and their types, or the first fault.
+#![tactic(auto)]
+
+mod building;
+mod fault;
+mod front;
+pub mod law;
+mod modules;
+mod reading;
+
+pub use fault::FrontFault;
+pub use front::{Front, open};
+pub use modules::{Modules, Untyped};

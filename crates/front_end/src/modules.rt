@@ -1,0 +1,173 @@
+//! The modules of accepted texts, and the values of notations in them.
+
+ghost use Rattle.std.specs.Prelude.{◌≡◌, ◌<◌, IfOk, IfErr, length};
+ghost use Rattle.asn_base.specs.Abstract.{abstract};
+ghost use Rattle.trees.specs.Values.{tree_of};
+ghost use Rattle.tagging.specs.Tagged.{IsTagged};
+ghost use Rattle.constraints.specs.Bounded.{AreBounded};
+ghost use Rattle.extensions.specs.Faults.{IsWrong};
+ghost use Rattle.front_end.specs.Accepted.{Keeps};
+ghost use Rattle.front_end.specs.Untyped.{IsUntyped, StandsFor};
+
+use asn_base::schema::TypeId;
+use asn_base::value::Value;
+use constraints::{BoundFault, Bounded, bound};
+use resolve::Linked;
+use std::alloc::{AllocError, Global};
+use std::marker::Model;
+use tagging::{TagFault, Tagged, tag};
+use told_values::{ValueTold, told};
+use trees::ValueSyntax;
+use typed_values::{Cause, ValueFault, typed};
+
+/// Why a notation has no value.
+#[derive(Debug, Drop)]
+pub enum Untyped {
+    /// There was not enough memory.
+    Memory,
+    /// It stands for no value of the type; what is told of it.
+    Told(ValueTold),
+}
+
+/// The modules of accepted texts, whose names have their meanings, and whose types, DEFAULTs and values are as they have to be.
+#[derive(Drop)]
+pub struct Modules {
+    linked: Linked,
+}
+
+impl Model for Modules {
+    ghost use Rattle.std.specs.Coded.{codes};
+    ghost use Rattle.resolve.specs.Codes.{tree_code};
+    ghost use Rattle.resolve.specs.Program.{Program};
+
+    ghost coded = { Prim.hlevel (codes, tree_code) };
+
+    ghost Value = { Program };
+
+    ghost view = { λ m. m.linked };
+
+    ghost use Rattle.front_end.specs.Accepted.{Keeps};
+
+    ghost invariant = { λ m. Keeps m.linked };
+}
+
+/// The types of modules with their tags, which they are known to have.
+fn with_tags(alloc: Global, linked: &Linked) -> Result<Tagged<'_>, AllocError>
+    requires { IsTagged linked.now.types }
+    ensures { IfOk result (λ t. t ≡ linked.now) }
+{
+    tagging::law::no_other();
+    match tag(alloc, linked) {
+        Ok(tagged) => Ok(tagged),
+        Err(TagFault::Memory) => Err(AllocError),
+        Err(_) => unreachable!(),
+    }
+}
+
+/// The constraints of modules with their meanings, which they are known to have.
+fn with_bounds<'a>(alloc: Global, tagged: &'a Tagged<'a>) -> Result<Bounded<'a>, AllocError>
+    requires { AreBounded tagged.now }
+    ensures { IfOk result (λ b. b ≡ tagged.now) }
+{
+    constraints::law::no_other();
+    match bound(alloc, tagged) {
+        Ok(bounded) => Ok(bounded),
+        Err(BoundFault::Memory) => Err(AllocError),
+        Err(_) => unreachable!(),
+    }
+}
+
+/// What is told of a notation that stands for no value of a type.
+fn told_of<'a>(
+    alloc: Global,
+    bounded: &Bounded<'a>,
+    ty: TypeId,
+    within: &'a str,
+    notation: &'a ValueSyntax,
+    fault: ValueFault<'a>,
+) -> Untyped
+    requires kept { Keeps bounded.now }
+    requires there { ty.index < length bounded.now.types }
+    requires stands { IsWrong bounded.now within.now ty.index (tree_of notation.now) fault }
+    ensures { IsUntyped bounded.now within.now ty.index (tree_of notation.now) result }
+{
+    typed_values::law::faults_exclude();
+    value_notations::law::one_value();
+    told_values::law::types_are_there();
+    let linked = bounded.linked();
+    linked.whole();
+    match told(alloc, bounded, fault) {
+        Ok(told) => Untyped::Told(told),
+        Err(_) => Untyped::Memory,
+    }
+}
+
+/// The value that a notation in bounded modules stands for under a type.
+fn value_in<'a>(
+    alloc: Global,
+    bounded: &Bounded<'a>,
+    ty: TypeId,
+    within: &'a str,
+    notation: &'a ValueSyntax,
+) -> Result<Value, Untyped>
+    requires kept { Keeps bounded.now }
+    requires there { ty.index < length bounded.now.types }
+    ensures value { IfOk result (λ v. StandsFor bounded.now within.now ty.index (tree_of notation.now) (abstract v)) }
+    ensures fault { IfErr result (IsUntyped bounded.now within.now ty.index (tree_of notation.now)) }
+{
+    match typed(alloc, bounded, ty, within, notation) {
+        Ok(value) => Ok(value),
+        Err(fault) => match fault.cause {
+            Cause::Memory => Err(Untyped::Memory),
+            _ => Err(told_of(alloc, bounded, ty, within, notation, fault)),
+        },
+    }
+}
+
+impl Modules {
+    /// The modules of accepted texts.
+    pub fn of(linked: Linked) -> Modules
+        requires { Keeps linked }
+        ensures { result ≡ linked }
+    {
+        Modules { linked }
+    }
+
+    /// The linked modules.
+    pub fn linked(&self) -> &Linked
+        ensures { result.now ≡ self.now }
+    {
+        &self.linked
+    }
+
+    /// What the modules of accepted texts keep.
+    pub fn kept(&self)
+        ensures { Keeps self.now }
+    {
+        let _linked = &self.linked;
+    }
+
+    /// The value that a notation, read in the module `within`, stands for under a type (X.680, clause 17). Where it stands for
+    /// none, what is told of it: the reason, the module, the name and the place, and what was expected there. `Memory` where
+    /// there was not enough of it.
+    pub fn typed(
+        &self,
+        alloc: Global,
+        ty: TypeId,
+        within: &str,
+        notation: &ValueSyntax,
+    ) -> Result<Value, Untyped>
+        requires { ty.index < length self.now.types }
+        ensures value { IfOk result (λ v. StandsFor self.now within.now ty.index (tree_of notation.now) (abstract v)) }
+        ensures fault { IfErr result (IsUntyped self.now within.now ty.index (tree_of notation.now)) }
+    {
+        self.kept();
+        let Ok(tagged) = with_tags(alloc, &self.linked) else {
+            return Err(Untyped::Memory);
+        };
+        let Ok(bounded) = with_bounds(alloc, &tagged) else {
+            return Err(Untyped::Memory);
+        };
+        value_in(alloc, &bounded, ty, within, notation)
+    }
+}
