@@ -1,8 +1,9 @@
 //! A cursor over a message.
 
 ghost use Rattle.codec_source.specs.declared.fault.ReadFault.TheVariants.{MessageLimit};
+ghost use Rattle.ber_source.specs.Seen.{token_of};
 ghost use Rattle.octet_answers.specs.States.{front};
-ghost use Rattle.std.specs.Prelude.{◌≡◌, ◌<◌, ◌≤◌, IfErr, IfOk, IsTrue, [], ◌↔◌, length};
+ghost use Rattle.std.specs.Prelude.{◌≡◌, ◌<◌, ◌≤◌, IfErr, IfOk, IsTrue, [], ◌↔◌, length, map};
 
 use crate::asking::{among_next, choose_next, has_more, skip, stands_next};
 use crate::moves::{begin, close, end, hold, open};
@@ -80,6 +81,13 @@ impl<'c, 'a> Cursor<'c, 'a> {
         ensures { IsTrue result ↔ (self.now.here.octets ≡ []) }
     {
         self.place.here.octets.is_empty()
+    }
+
+    /// What was read.
+    pub fn into_tokens(self) -> Vec<Token<'a>>
+        ensures { map token_of result.items ≡ self.entry.told }
+    {
+        self.place.told
     }
 }
 

@@ -101,7 +101,7 @@ pub(crate) fn begin<'c, 'a>(place: &mut Place<'c, 'a>, id: TypeId) -> Result<(),
     ensures err { IfRefused result ((b : State) → Begins (state_of place.old) id b → ⊥) }
 {
     if place.room == 0 {
-        return Err(ReadFault::MessageLimit);
+        return Err(ReadFault::TooDeep);
     }
     if place.values.len() >= VALUES {
         return Err(ReadFault::TooDeep);

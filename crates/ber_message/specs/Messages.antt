@@ -1,0 +1,45 @@
+-- What a message says, and what was told of it.
+use Rattle.std.specs.Prelude.{◌≡◌, ℕ, ◌+◌, ◌*◌, ◌≤◌, List, [], ◌++◌, length}
+use Rattle.asn_base.specs.declared.schema.TypeId.{TypeId}
+use Rattle.asn_base.specs.Abstract.{AbstractValue}
+use Rattle.asn_base.specs.Types.{TypeNumber, Resolved}
+use Rattle.encodings.specs.Header.{Octets}
+use Rattle.encodings.specs.Rules.{Basic}
+use Rattle.encodings.specs.Encoding.{Says}
+use Rattle.encodings.specs.Levels.{levels}
+use Rattle.codec_code.specs.Routines.{routine_at}
+use Rattle.codec_source.specs.Reading.{Reads}
+use Rattle.octet_answers.specs.Answers.{Takes}
+use Rattle.octet_answers.specs.States.{State, Token, front}
+use Rattle.reading_law.specs.Shows.{Shows, passed_in}
+
+-- octets say a value of the type as it stands, with so many unknown additions, by the basic rules; they are at most as many
+-- as a message has, with at most 400 levels of headers. The tokens show the value, and as many skipped additions.
+pub record IsMessage (s : List Resolved) (t : TypeNumber) (o : Octets) (told : List Token) : Type 0 where
+  pub value : AbstractValue
+  pub count : ℕ
+  pub is_said : Says s Basic t value count o
+  pub few : levels is_said ≤ 400
+  pub short : length o ≤ 16777216
+  pub shown : Shows s t value told
+  pub counted : passed_in told ≡ count
+
+-- a proper front of the octets says a value
+pub record HasMessageFirst (s : List Resolved) (t : TypeNumber) (o : Octets) : Type 0 where
+  pub value : AbstractValue
+  pub count : ℕ
+  pub octets : Octets
+  pub rest : Octets
+  pub is_said : Says s Basic t value count octets
+  pub whole : o ≡ octets ++ rest
+  pub some : 1 ≤ length rest
+
+-- as many values begin at most: each octet but the last begins a header at most, and 64 values stand one in another
+abbrev pub room_of : ℕ → ℕ
+room_of n = n * 64 + 64
+
+-- the type's routine reads the octets to their end
+pub record IsRead (s : List Resolved) (t : TypeId) (o : Octets) : Type 0 where
+  pub last : State
+  pub reads : Reads (λ u. routine_at s u) Takes t (front s o (room_of (length o))) last
+  pub at_end : last.here.octets ≡ []

@@ -1,0 +1,106 @@
+//! Whole messages.
+
+ghost use Rattle.asn_base.specs.Abstract.{AbstractValue};
+ghost use Rattle.ber_message.specs.Messages.{HasMessageFirst, IsMessage, IsRead};
+ghost use Rattle.ber_source.specs.Seen.{token_of};
+ghost use Rattle.codec_source.specs.declared.fault.ReadFault.TheVariants.{Memory, MessageLimit, Trailing};
+ghost use Rattle.encodings.specs.Encoding.{Says};
+ghost use Rattle.encodings.specs.Rules.{Basic};
+ghost use Rattle.std.specs.Int.Digits.{AllBelowBase};
+ghost use Rattle.std.specs.Prelude.{◌≡◌, ◌<◌, Err, IfErr, IfOk, length, map, ℕ};
+
+use asn_base::schema::TypeId;
+use ber_source::{Cursor, Token};
+use codec_code::Code;
+use codec_source::{ReadFault, read};
+use encodings::schema_laws;
+use reading_law::law::read_is_said;
+use std::alloc::Global;
+
+/// The most octets of a message.
+const MOST: usize = 16_777_216;
+
+/// How many values may stand one in another.
+const VALUES: usize = 64;
+
+/// The tokens of a message of the type, read by the basic rules (X.690, 8.1 to 8.14) from the front; its strings are slices
+/// of it. Constraints are not judged.
+///
+/// `MessageLimit`: it has more than 16,777,216 octets. `Trailing`: a value ends before the octets do. The first fault met
+/// is told. A type that the code lacks is `UnexpectedTag`.
+pub fn read_message<'a>(
+    alloc: Global,
+    code: &Code,
+    id: TypeId,
+    octets: &'a [u8],
+) -> Result<Vec<Token<'a>>, ReadFault>
+    ensures ok { IfOk result (λ ts. IsMessage code.now id.index octets.now (map token_of ts.items)) }
+    // It is the only value that they say, with the only number of additions.
+    ensures only { IfOk result (λ ts. (m : IsMessage code.now id.index octets.now (map token_of ts.items))
+        → (w : AbstractValue) (k : ℕ)
+        → Says code.now Basic id.index w k octets.now
+        → (w ≡ m.value) × (k ≡ m.count)) }
+    ensures limit { 16777216 < length octets.now → result ≡ Err MessageLimit }
+    ensures long { result ≡ Err MessageLimit → 16777216 < length octets.now }
+    ensures trailing { result ≡ Err Trailing → HasMessageFirst code.now id.index octets.now }
+    // A refusal but for want of memory or length says that the routine of the type reads nothing to the end.
+    ensures err { IfErr result (λ e. (e ≡ Memory → ⊥)
+        → (e ≡ MessageLimit → ⊥)
+        → id.index < length code.now
+        → IsRead code.now id octets.now
+        → ⊥) }
+{
+    code.accepted();
+    schema_laws();
+    read_is_said();
+    are_octets(octets);
+    if octets.len() > MOST {
+        return Err(ReadFault::MessageLimit);
+    }
+    if !code.has(id) {
+        return Err(ReadFault::UnexpectedTag);
+    }
+    let mut cursor = match Cursor::new(alloc, code, octets, octets.len() * VALUES + VALUES) {
+        Ok(cursor) => cursor,
+        Err(fault) => return Err(fault),
+    };
+    match read(alloc, code, id, &mut cursor) {
+        Ok(()) => {}
+        Err(fault) => return Err(within(fault)),
+    }
+    if !cursor.is_at_end() {
+        return Err(ReadFault::Trailing);
+    }
+    Ok(cursor.into_tokens())
+}
+
+/// They are octets.
+fn are_octets(octets: &[u8])
+    ensures { AllBelowBase 256 octets.now }
+{}
+
+/// A fault within a message: none of its length, and none behind it.
+fn within(fault: ReadFault) -> ReadFault
+    ensures limit { result ≡ MessageLimit → ⊥ }
+    ensures trailing { result ≡ Trailing → ⊥ }
+    ensures memory { fault ≡ Memory → result ≡ Memory }
+{
+    match fault {
+        ReadFault::MessageLimit => ReadFault::TooDeep,
+        ReadFault::Trailing => ReadFault::UnexpectedTag,
+        ReadFault::Memory => ReadFault::Memory,
+        ReadFault::IntegerLimit => ReadFault::IntegerLimit,
+        ReadFault::OidLimit => ReadFault::OidLimit,
+        ReadFault::Truncated => ReadFault::Truncated,
+        ReadFault::Indefinite => ReadFault::Indefinite,
+        ReadFault::BadLength => ReadFault::BadLength,
+        ReadFault::BadTag => ReadFault::BadTag,
+        ReadFault::UnexpectedTag => ReadFault::UnexpectedTag,
+        ReadFault::Missing => ReadFault::Missing,
+        ReadFault::BadContents => ReadFault::BadContents,
+        ReadFault::EmptySegments => ReadFault::EmptySegments,
+        ReadFault::OutsideConstraint => ReadFault::OutsideConstraint,
+        ReadFault::TooDeep => ReadFault::TooDeep,
+        ReadFault::NotDer => ReadFault::NotDer,
+    }
+}
