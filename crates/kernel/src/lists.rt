@@ -53,7 +53,8 @@ fn one_or_more<'t, P: Part<'t>>(
     ensures rest { IfOk result (λ x. AreTokens text.now x.1.now) }
 {
     let (first, rest) = part.read(alloc, text, tokens)?;
-    let mut items = Vec::new(alloc);
+    // Most lists hold one part alone, and lists within lists are what takes most room.
+    let mut items = Vec::with_capacity(alloc, 1)?;
     items.push(first)?;
     behind_commas(alloc, text, part, items, rest)
 }
