@@ -1,4 +1,1 @@
 mod Dots
-mod Lists
-mod Onlies
-mod Openings
