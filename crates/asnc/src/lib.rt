@@ -6,7 +6,7 @@ pub mod law;
 mod meaning;
 mod naming;
 
-pub use der_writer::{Counted, InMemory, Sink, Stops};
 pub use kit::Kit;
 pub use messages::{Fault, number, status};
 pub use octet_account::account::Account;
+pub use sinks::{Counted, InMemory, Sink, Stops, send_all};

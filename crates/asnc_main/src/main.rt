@@ -1,8 +1,10 @@
 //! The program `asnc`: reads its words and files, and writes what they ask for.
 #![tactic(auto)]
 
-use asnc::{Fault, Job, Kit, job, report, status};
-use std::io::{Read, Write};
+use asnc::{Counted, Fault, Kit, send_all, status};
+use command_line::{Job, Verb, job};
+use reports::report;
+use std::io::Read;
 use std::process::ExitCode;
 use std::{env, fs, io};
 
@@ -51,21 +53,39 @@ fn end_in(rt: &HostRuntime, job: &Job, texts: &[Vec<u8>], fault: &Fault) -> Exit
     }
 }
 
-/// The octets that a job asks for.
-fn work(rt: &HostRuntime, job: &Job, texts: &[Vec<u8>]) -> Result<Vec<u8>, Fault> {
-    let kit = Kit::open(rt.alloc(), texts)?;
-    kit.der(rt.alloc(), job.ty.as_str(), job.value.as_str())
+/// Writes octets to standard output.
+fn write(rt: &HostRuntime, octets: &[u8]) -> Result<(), Fault> {
+    let mut out = Counted::of(io::writer(rt));
+    match send_all(&mut out, octets) {
+        Ok(()) => Ok(()),
+        Err(count) => Err(Fault::Device(count)),
+    }
 }
 
-/// Writes octets, themselves or in hexadecimal.
-fn write(rt: &HostRuntime, job: &Job, octets: &[u8]) -> Result<(), Fault> {
-    let mut out = io::writer(rt);
-    if job.raw {
-        return out.write_all(octets).map_err(|_| Fault::Device);
-    }
-    let hex = hex::encode_upper(rt.alloc(), octets)?;
+/// Writes the octets of an encoding as they are.
+fn write_raw(rt: &HostRuntime, job: &Job, kit: &Kit) -> Result<(), Fault> {
+    let mut out = Counted::of(io::writer(rt));
+    let (ty, value) = (job.ty.as_str(), job.value.as_str());
+    kit.der_to(rt.alloc(), ty, value, &mut out)?;
+    Ok(())
+}
+
+/// Writes the octets of an encoding in hexadecimal, on one line.
+fn write_hex(rt: &HostRuntime, job: &Job, kit: &Kit) -> Result<(), Fault> {
+    let (octets, _account) = kit.der(rt.alloc(), job.ty.as_str(), job.value.as_str())?;
+    let hex = hex::encode_upper(rt.alloc(), octets.as_slice())?;
     let line = format!(in rt.alloc(); "{hex}\n")?;
-    out.write_all(line.as_bytes()).map_err(|_| Fault::Device)
+    write(rt, line.as_bytes())
+}
+
+/// Writes what a job asks for.
+fn work(rt: &HostRuntime, job: &Job, texts: &[Vec<u8>]) -> Result<(), Fault> {
+    let kit = Kit::open(rt.alloc(), texts)?;
+    match job.verb {
+        Verb::List => write(rt, kit.list(rt.alloc())?.as_bytes()),
+        Verb::Der if job.raw => write_raw(rt, job, &kit),
+        Verb::Der => write_hex(rt, job, &kit),
+    }
 }
 
 /// Why a file could not be read.
@@ -124,10 +144,7 @@ fn run(rt: &HostRuntime, job: &Job) -> ExitCode {
         Err(fault) => return end_in(rt, job, &[], &fault),
     };
     match work(rt, job, texts.as_slice()) {
-        Ok(octets) => match write(rt, job, octets.as_slice()) {
-            Ok(()) => ExitCode::SUCCESS,
-            Err(fault) => end(rt, &fault),
-        },
+        Ok(()) => ExitCode::SUCCESS,
         Err(fault) => end_in(rt, job, texts.as_slice(), &fault),
     }
 }
