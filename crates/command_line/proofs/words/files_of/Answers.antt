@@ -2,7 +2,7 @@ use Rattle.std.proofs.Common.{◌≡◌, [], map, sym, ap, ◌∙◌, subst, opt
 use Rattle.std.specs.Prelude.{IfOk}
 use Rattle.clap.specs.Words.{found_of}
 use Rattle.clap.proofs.WalkLemmas.{raw_values-rows}
-use Rattle.messages.proofs.words.files_of.Goals as goal
+use Rattle.command_line.proofs.words.files_of.Goals as goal
 
 pub returns-in-Some : goal.returns-in-Some
 returns-in-Some c =

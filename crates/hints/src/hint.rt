@@ -1,7 +1,7 @@
 //! What a name that means nothing may have been meant for.
 
 use crate::near::is_near;
-use crate::place::{is_kind, spelling, tokens_in};
+use shown_texts::{is_kind, shown, spelled_at, tokens_in};
 use std::alloc::{AllocError, Global};
 use text::reserved::Word;
 use text::{Mark, Token, TokenKind};
@@ -70,10 +70,11 @@ fn name_near(alloc: Global, text: &[u8], name: &str) -> Result<Option<String>, A
     let value = is_small(name);
     let tokens = tokens_in(alloc, text)?;
     for place in 0..tokens.len() {
-        let spelled = spelling(text, tokens[place]);
-        if is_name_at(tokens.as_slice(), place, value) && is_near(name.as_bytes(), spelled) {
-            let told = std::str::from_utf8(spelled).unwrap_or("?");
-            return Ok(Some(String::from_str(alloc, told)?));
+        if is_name_at(tokens.as_slice(), place, value) {
+            let spelled = spelled_at(text, tokens.as_slice(), place);
+            if is_near(name.as_bytes(), spelled.as_bytes()) {
+                return Ok(Some(shown(alloc, spelled)?));
+            }
         }
     }
     Ok(None)
@@ -94,8 +95,33 @@ fn name_near_in(
     Ok(None)
 }
 
-/// What a name that means nothing may have been meant for, in words; nothing where no name and no word is near.
-pub fn did_you_mean(alloc: Global, texts: &[Vec<u8>], name: &str) -> Result<String, AllocError> {
+/// Whether a character is none of those that names and words are made of.
+fn parts_words(c: char) -> bool {
+    !(c.is_ascii_alphanumeric() || c == '-')
+}
+
+/// The first name among those that were expected which another one is near to.
+fn expected_near<'a>(expected: &'a str, name: &str) -> Option<&'a str> {
+    for word in expected.split(parts_words) {
+        if is_near(name.as_bytes(), word.as_bytes()) {
+            return Some(word);
+        }
+    }
+    None
+}
+
+/// What a name that means nothing may have been meant for, in words: a name among those that were expected, a word of the
+/// notation, or a name of the texts; nothing where none of them is near.
+pub fn did_you_mean(
+    alloc: Global,
+    texts: &[Vec<u8>],
+    expected: &str,
+    name: &str,
+) -> Result<String, AllocError> {
+    if let Some(near) = expected_near(expected, name) {
+        let near = shown(alloc, near)?;
+        return format!(in alloc; "; did you mean {near}?");
+    }
     if let Some(word) = word_near(name) {
         return format!(in alloc; "; did you mean {word}?");
     }

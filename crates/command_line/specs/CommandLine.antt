@@ -6,9 +6,9 @@ use Rattle.clap.specs.declared.error.kind.ErrorKind.{ErrorKind}
 use Rattle.clap.specs.declared.error.kind.ErrorKind.TheVariants as kinds
 use Rattle.messages.specs.declared.fault.Fault.{Fault}
 use Rattle.messages.specs.declared.fault.Fault.TheVariants as faults
-use Rattle.messages.specs.declared.request.Job.{Job}
-use Rattle.messages.specs.declared.request.Verb.TheVariants as verbs
-use Rattle.messages.specs.declared.request.Given.TheVariants as given
+use Rattle.command_line.specs.declared.request.Job.{Job}
+use Rattle.command_line.specs.declared.request.Verb.TheVariants as verbs
+use Rattle.command_line.specs.declared.request.Given.TheVariants as given
 
 -- `--ID TEXT`, which has to be there
 abbrev pub text_rule : Text → Rule
@@ -39,15 +39,23 @@ der_flags_app = with_rule (with_rule der_names_app (flag_rule (codes "raw"))) (f
 abbrev pub der_app : App
 der_app = with_rule der_flags_app files_rule
 
+-- `list [--context] FILE..`
+abbrev pub list_app : App
+list_app = with_rule (with_rule (new_app (codes "list")) (flag_rule (codes "context"))) files_rule
+
 -- a command is wanted, and `help` is none; it has a version
-abbrev pub asnc_app : App
-asnc_app = with_subcommand (record (new_app (codes "asnc")) {
+abbrev pub bare_app : App
+bare_app = record (new_app (codes "asnc")) {
   top = record (new_app (codes "asnc")).top {
     subcommand_required = true;
     disable_help_subcommand = true;
     has_version = true;
   };
-}) der_app.top
+}
+
+-- the commands `der` and `list`
+abbrev pub asnc_app : App
+asnc_app = with_subcommand (with_subcommand bare_app der_app.top) list_app.top
 
 -- the text that was given for an argument, empty where there is none
 abbrev pub text_in : List Row → Text → Text
@@ -71,12 +79,32 @@ pub record IsDerOf (rows : List Row) (job : Job) : Type 0 where
   pub no_octets : job.octets ≡ given.Nothing
   pub not_strict : job.strict ≡ false
 
+-- The job holds what was found for the arguments of `list`; what it doesn't take is empty.
+pub record IsListOf (rows : List Row) (job : Job) : Type 0 where
+  pub verb : job.verb ≡ verbs.List
+  pub no_type : string_bytes job.ty ≡ []
+  pub no_value : string_bytes job.value ≡ []
+  pub not_raw : job.raw ≡ false
+  pub context : (one_of (codes "context") rows ≡ Some (codes "true")) → job.context ≡ true
+  pub no_context : (one_of (codes "context") rows ≡ Some (codes "false")) → job.context ≡ false
+  pub files : map string_bytes job.files.items ≡ texts_in rows (codes "FILE")
+  pub no_account : string_bytes job.account ≡ []
+  pub no_octets : job.octets ≡ given.Nothing
+  pub not_strict : job.strict ≡ false
+
+-- the job is that of the command of this name, `list` or else `der`
+pub record IsJobOf (command : Text) (rows : List Row) (job : Job) : Type 0 where
+  pub list : command ≡ codes "list" → IsListOf rows job
+  pub der : (command ≡ codes "list" → ⊥) → IsDerOf rows job
+
 -- nothing is wrong with the words, and the job holds what they name for their command
 pub record IsAsked (words : List Text) (job : Job) : Type 0 where
   pub taken : fault_of asnc_app words ≡ []
+  pub command : Text
+  pub called : option_map (λ p. p.0) (subcommand_of asnc_app words) ≡ Some command
   pub rows : List Row
-  pub command : option_map (λ p. p.1) (subcommand_of asnc_app words) ≡ Some rows
-  pub holds : IsDerOf rows job
+  pub found : option_map (λ p. p.1) (subcommand_of asnc_app words) ≡ Some rows
+  pub holds : IsJobOf command rows job
 
 -- the fault that tells of a failure of this kind to read the words
 abbrev pub IsFaultOf : ErrorKind → Fault → Type 0

@@ -3,19 +3,20 @@
 ghost use Rattle.std.specs.Prelude.{◌≡◌, IfOk, IfErr, Some, codes, false, true, map, string_bytes, unwrap_or, if◌then◌else◌};
 ghost use Rattle.clap.specs.Words.{app_of, first_of, kind_of, found_of, one_of, rows_of, rule_of};
 ghost use Rattle.clap.specs.declared.builder.command.Command.TheViews.{out-Command};
-ghost use Rattle.messages.specs.CommandLine.{asnc_app, der_app, der_flags_app, der_names_app, files_rule, flag_rule, text_in, text_rule, texts_in, IsAsked, IsFaultOf, IsRefused, IsDerOf};
+ghost use Rattle.command_line.specs.CommandLine.{asnc_app, der_app, der_flags_app, der_names_app, files_rule, flag_rule, list_app, text_in, text_rule, texts_in, IsAsked, IsFaultOf, IsRefused, IsDerOf, IsJobOf, IsListOf};
 
-use crate::fault::Fault;
-use crate::line::on_one_line;
 use crate::request::{Given, Job, Verb};
 use clap::error::ErrorKind;
 use clap::{Arg, ArgAction, ArgMatches, Command};
+use messages::Fault;
+use shown_texts::on_one_line;
 use std::alloc::{AllocError, Global};
 
 /// What the help shows at its end.
 const AFTER_HELP: &str = "\
-Example:
+Examples:
   asnc der --type M.T --value M.v m.asn
+  asnc list m.asn
 
 Exit status: 0 done, 1 the texts, names or values are refused, 2 a bad command line,
 3 memory, a file or a device was wanting. A refusal is one line, with its number and
@@ -27,6 +28,12 @@ Examples:
   asnc der --type M.T --value M.v m.asn
   asnc der --raw --type M.T --value M.v m.asn > v.der
   cat m.asn | asnc der --context --type M.T --value M.v -";
+
+/// What the help of `list` shows at its end.
+const LIST_EXAMPLES: &str = "\
+Examples:
+  asnc list m.asn
+  asnc list --context fleet.asn telemetry.asn";
 
 /// `--ID <SHOWN>`, which has to be there.
 fn text_arg<'a>(alloc: Global, id: &'a str, shown: &'a str, help: &'a str) -> Arg<'a>
@@ -63,6 +70,18 @@ fn files_arg<'a>(alloc: Global) -> Arg<'a>
         .help("The modules' texts; - is standard input, once")
 }
 
+/// `--context`, which may be there.
+fn context_arg<'a>(alloc: Global) -> Arg<'a>
+    ensures rule { rule_of result ≡ flag_rule (codes "context") }
+    ensures local { result.global ≡ false }
+{
+    flag_arg(
+        alloc,
+        "context",
+        "Show the line in which a fault stands, too",
+    )
+}
+
 /// `der` with the names of a type and of a value.
 fn der_names<'a>(alloc: Global) -> Result<Command<'a>, AllocError>
     ensures shape { IfOk result (λ c. app_of c ≡ der_names_app) }
@@ -81,12 +100,7 @@ fn der_flags<'a>(alloc: Global) -> Result<Command<'a>, AllocError>
     ensures local { IfOk result (λ c. (out-Command c).has_globals ≡ false) }
 {
     let raw = flag_arg(alloc, "raw", "Write the octets themselves, not hexadecimal");
-    let context = flag_arg(
-        alloc,
-        "context",
-        "Show the line in which a fault stands, too",
-    );
-    der_names(alloc)?.arg(raw)?.arg(context)
+    der_names(alloc)?.arg(raw)?.arg(context_arg(alloc))
 }
 
 fn der_command<'a>(alloc: Global) -> Result<Command<'a>, AllocError>
@@ -94,6 +108,17 @@ fn der_command<'a>(alloc: Global) -> Result<Command<'a>, AllocError>
     ensures local { IfOk result (λ c. (out-Command c).has_globals ≡ false) }
 {
     der_flags(alloc)?.arg(files_arg(alloc))
+}
+
+fn list_command<'a>(alloc: Global) -> Result<Command<'a>, AllocError>
+    ensures shape { IfOk result (λ c. app_of c ≡ list_app) }
+    ensures local { IfOk result (λ c. (out-Command c).has_globals ≡ false) }
+{
+    Command::new(alloc, "list")
+        .about("List the types of modules, and the steps that write each")
+        .after_help(LIST_EXAMPLES)
+        .arg(context_arg(alloc))?
+        .arg(files_arg(alloc))
 }
 
 fn asnc_command<'a>(alloc: Global) -> Result<Command<'a>, AllocError>
@@ -107,7 +132,8 @@ fn asnc_command<'a>(alloc: Global) -> Result<Command<'a>, AllocError>
         .after_help(AFTER_HELP)
         .subcommand_required(true)
         .disable_help_subcommand(true)
-        .subcommand(der_command(alloc)?)
+        .subcommand(der_command(alloc)?)?
+        .subcommand(list_command(alloc)?)
 }
 
 /// The lines of a message up to an empty one, joined by spaces.
@@ -190,6 +216,34 @@ fn der_job(alloc: Global, found: &ArgMatches<'_>) -> Result<Job, AllocError>
     })
 }
 
+fn list_job(alloc: Global, found: &ArgMatches<'_>) -> Result<Job, AllocError>
+    ensures { IfOk result (IsListOf (rows_of (found_of found.now))) }
+{
+    let context = found.get_flag("context");
+    Ok(Job {
+        verb: Verb::List,
+        ty: String::new(alloc),
+        value: String::new(alloc),
+        account: String::new(alloc),
+        octets: Given::Nothing,
+        raw: false,
+        strict: false,
+        context,
+        files: files_of(alloc, found)?,
+    })
+}
+
+/// The job of a command, of which this was found.
+fn job_of(alloc: Global, command: &str, found: &ArgMatches<'_>) -> Result<Job, AllocError>
+    ensures { IfOk result (IsJobOf command.now (rows_of (found_of found.now))) }
+{
+    if command == "list" {
+        list_job(alloc, found)
+    } else {
+        der_job(alloc, found)
+    }
+}
+
 /// The job that the words ask for. The first word is the program's name.
 ///
 /// `BadWords` where the words ask for nothing that the program does, and `Help` where they ask for help or for the version.
@@ -197,10 +251,10 @@ pub fn job(alloc: Global, words: &[String]) -> Result<Job, Fault>
     ensures asked { IfOk result (IsAsked (map string_bytes words.now)) }
     ensures refused { IfErr result (IsRefused (map string_bytes words.now)) }
 {
-    let command = asnc_command(alloc)?;
-    match command.try_get_matches_from(words) {
+    let program = asnc_command(alloc)?;
+    match program.try_get_matches_from(words) {
         Ok(matches) => match matches.subcommand() {
-            Some((_, found)) => Ok(der_job(alloc, found)?),
+            Some((command, found)) => Ok(job_of(alloc, command, found)?),
             None => unreachable!(),
         },
         Err(error) => Err(fault_of_clap(alloc, &error)?),

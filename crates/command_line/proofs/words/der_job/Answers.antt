@@ -1,6 +1,6 @@
 use Rattle.std.proofs.Common.{rules, arith, refl}
 use Rattle.clap.proofs.WalkLemmas.{one_text-rows}
-use Rattle.messages.proofs.words.der_job.Goals as goal
+use Rattle.command_line.proofs.words.der_job.Goals as goal
 
 pub returns : goal.returns
 returns c = record {

@@ -16,6 +16,8 @@ pub enum Given {
 pub enum Verb {
     /// To write a value by the distinguished encoding rules.
     Der,
+    /// To list the types, with what is written of each.
+    List,
 }
 
 /// A command line's request. What its verb doesn't take is empty, `Nothing` or false.

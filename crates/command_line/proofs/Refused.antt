@@ -5,7 +5,7 @@ use Rattle.clap.specs.declared.error.kind.ErrorKind.{ErrorKind}
 use Rattle.clap.specs.declared.error.kind.ErrorKind.TheVariants as kinds
 use Rattle.messages.specs.declared.fault.Fault.{Fault}
 use Rattle.messages.specs.declared.fault.Fault.TheVariants as faults
-use Rattle.messages.specs.CommandLine.{asnc_app, IsFaultOf, IsRefused}
+use Rattle.command_line.specs.CommandLine.{asnc_app, IsFaultOf, IsRefused}
 
 pub refused_by : (words : List Text) (k : ErrorKind) (fault : Fault) → (k ≡ kinds.OutOfMemory) ⊎ IsAmong k (fault_of asnc_app words)
     → IsFaultOf k fault → IsRefused words fault
@@ -19,15 +19,12 @@ refused_by words k (faults.BadWords t) (inr a) f = (k, a, f.1, f.2)
 refused_by words k (faults.File n) h f = absurd f
 refused_by words k (faults.NoFile n) h f = absurd f
 refused_by words k (faults.Folder n) h f = absurd f
-refused_by words k (faults.Text n e) h f = absurd f
-refused_by words k (faults.Tree n e) h f = absurd f
-refused_by words k (faults.Name e) h f = absurd f
-refused_by words k (faults.OutOfProfile e s) h f = absurd f
+refused_by words k (faults.Front e) h f = absurd f
 refused_by words k (faults.Value e) h f = absurd f
 refused_by words k (faults.NoType n) h f = absurd f
 refused_by words k (faults.NoValue n) h f = absurd f
 refused_by words k faults.TooLong h f = absurd f
-refused_by words k faults.Device h f = absurd f
+refused_by words k (faults.Device n) h f = absurd f
 
 pub refused_as : (a : App) (words : List Text) (k : ErrorKind) (fault : Fault) → a ≡ asnc_app → (k ≡ kinds.OutOfMemory) ⊎ IsAmong k (fault_of a words)
     → IsFaultOf k fault → IsRefused words fault
