@@ -1,1 +1,2 @@
 mod Dots
+mod Opening

@@ -13,7 +13,7 @@ use Rattle.front_end.specs.Untyped.{StandsFor}
 use Rattle.asnc.specs.Named.{AreNamed}
 
 -- For these texts of modules, the name of a type and the name of a value, the octets and the account are as they have to be.
-pub record IsRight (texts : List (List ℕ)) (ty named o : List ℕ) (a : Account) : Type 0 where
+pub record IsRight (texts : List (List ℕ)) (first second o : List ℕ) (a : Account) : Type 0 where
   -- the texts are accepted, as this program with these types
   pub program : Program
   pub types : List Resolved
@@ -22,7 +22,7 @@ pub record IsRight (texts : List (List ℕ)) (ty named o : List ℕ) (a : Accoun
   pub type : ℕ
   pub within : Name
   pub notation : Tree
-  pub named : AreNamed program ty named type within notation
+  pub named : AreNamed program first second type within notation
   -- the notation stands for this value under the type, and it is one of the type
   pub value : AbstractValue
   pub stands : StandsFor program within type notation value

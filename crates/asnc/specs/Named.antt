@@ -26,8 +26,8 @@ abbrev pub ValueNamed : Program → List ℕ → ℕ → Type 0
 ValueNamed p text i = IsNamed p text (assigned.Value i)
 
 -- the first text names type t, the second a value, which has notation n, read in module M
-pub record AreNamed (p : Program) (ty named : List ℕ) (t : ℕ) (M : Name) (n : Tree) : Type 0 where
-  pub typed : TypeNamed p ty t
+pub record AreNamed (p : Program) (first second : List ℕ) (t : ℕ) (M : Name) (n : Tree) : Type 0 where
+  pub typed : TypeNamed p first t
   pub number : ℕ
-  pub valued : ValueNamed p named number
+  pub valued : ValueNamed p second number
   pub at : IsValueAt p number M n

@@ -1,24 +1,27 @@
 //! Modules that are ready for use.
 
-ghost use Rattle.std.specs.Prelude.{◌≡◌, ◌<◌, ℕ, map, IfOk, IfErr, MatchResult};
+ghost use Rattle.std.specs.Prelude.{◌≡◌, ◌<◌, ℕ, List, map, IfOk, IfErr, MatchResult};
 ghost use Rattle.asn_base.specs.Abstract.{abstract};
 ghost use Rattle.asn_base.specs.Typed.{IsValue};
 ghost use Rattle.resolve.specs.Program.{Program};
-ghost use Rattle.front_end.specs.Accepted.{Accepted, AreAccepted, octets_of};
+ghost use Rattle.front_end.specs.Accepted.{Accepted, AreAccepted, HasTypes, Keeps, octets_of};
+ghost use Rattle.front_end.specs.Faults.{Stands};
+ghost use Rattle.front_end.specs.declared.fault.FrontFault.TheVariants.{Memory as no_memory};
 ghost use Rattle.sinks.specs.Sent.{state};
 ghost use Rattle.messages.specs.declared.fault.Fault.TheVariants.{Device, Memory};
 ghost use Rattle.asnc.specs.Kits.{IsNotOpened};
 ghost use Rattle.asnc.specs.Writing.{IsEncoded, IsMeant, IsNotEncoded, IsNotMeant, IsSent, IsSentInPart};
 
 use crate::meaning::meant;
-use asn_base::schema::TypeId;
+use asn_base::schema::{Schema, TypeId};
 use asn_base::value::Value;
 use codec_code::{Code, compile};
 use der_writer::{WriteFault, write_der, write_der_to};
 use front_end::law::{accepted_keep, values_of_schema};
-use front_end::{Front, FrontFault, Modules};
+use front_end::{FrontFault, Modules};
 use messages::Fault;
 use octet_account::account::Account;
+use resolve::Linked;
 use sinks::Sink;
 use std::alloc::Global;
 use std::marker::Model;
@@ -48,6 +51,34 @@ impl Model for Kit {
     ghost invariant = { λ k. HasTypes k.modules k.code };
 }
 
+/// What a fault of texts is to a user.
+fn refusal(fault: FrontFault) -> Fault
+    ensures stands { (xs : List (List ℕ)) → Stands xs fault → IsNotOpened xs result }
+    ensures memory { fault ≡ no_memory → result ≡ Memory }
+{
+    match fault {
+        FrontFault::Memory => Fault::Memory,
+        fault => Fault::Front(fault),
+    }
+}
+
+/// The kit of modules that were accepted, with these types.
+fn kit_of(alloc: Global, linked: Linked, schema: &Schema) -> Result<Kit, Fault>
+    requires kept { Keeps linked }
+    requires types { HasTypes linked schema.now }
+    ensures program { IfOk result (λ k. k.program ≡ linked) }
+    ensures types { IfOk result (λ k. k.types ≡ schema.now) }
+    ensures memory { IfErr result (λ e. e ≡ Memory) }
+{
+    match compile(alloc, schema) {
+        Ok(code) => Ok(Kit {
+            modules: Modules::of(linked),
+            code,
+        }),
+        Err(codec_code::Fault::Memory) => Err(Fault::Memory),
+    }
+}
+
 impl Kit {
     /// Reads the texts of modules, links them, and compiles their types. No texts at all are accepted too, and name nothing.
     ///
@@ -65,17 +96,9 @@ impl Kit {
         ensures fault { IfErr result (IsNotOpened (map octets_of texts.now)) }
     {
         accepted_keep();
-        let Front { linked, schema } = match front_end::open(alloc, texts) {
-            Ok(front) => front,
-            Err(FrontFault::Memory) => return Err(Fault::Memory),
-            Err(fault) => return Err(Fault::Front(fault)),
-        };
-        match compile(alloc, &schema) {
-            Ok(code) => Ok(Kit {
-                modules: Modules::of(linked),
-                code,
-            }),
-            Err(codec_code::Fault::Memory) => Err(Fault::Memory),
+        match front_end::open(alloc, texts) {
+            Ok(front) => kit_of(alloc, front.linked, &front.schema),
+            Err(fault) => Err(refusal(fault)),
         }
     }
 
@@ -96,12 +119,7 @@ impl Kit {
     ///
     /// `NoType` where the first name is no type's, else `NoValue` where the second is no value's; `Value` where the value's
     /// notation stands for no value of the type; `TooLong` where the encoding has more than 16,777,216 octets; `Memory`.
-    pub fn der(
-        &self,
-        alloc: Global,
-        ty: &str,
-        value: &str,
-    ) -> Result<(Vec<u8>, Account), Fault>
+    pub fn der(&self, alloc: Global, ty: &str, value: &str) -> Result<(Vec<u8>, Account), Fault>
         // The octets are the one encoding of what the value's notation stands for under the type; the account is theirs.
         ensures encoded { IfOk result (λ r.
             IsEncoded self.now.program self.now.types ty.now value.now r.0.items r.1) }
@@ -140,9 +158,9 @@ impl Kit {
         ensures device { IfErr result (λ e. (n : ℕ) →
             e ≡ Device n →
             IsSentInPart self.now.program self.now.types ty.now value.now
-                (state (S.taken sink.old) (S.failed sink.old))
-                (state (S.taken sink.new) (S.failed sink.new))
-                n) }
+            (state (S.taken sink.old) (S.failed sink.old))
+            (state (S.taken sink.new) (S.failed sink.new))
+            n) }
         // Any other refusal stands as that of `der`, and nothing went out.
         ensures refused { IfErr result (λ e.
             ((n : ℕ) → e ≡ Device n → ⊥) →

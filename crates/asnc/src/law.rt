@@ -10,8 +10,8 @@ ghost use Rattle.asnc.specs.Writing.{IsEncoded};
 
 /// What [`crate::Kit::der`] answers of texts that [`crate::Kit::open`] took is right, from the texts to the octets.
 pub fn headline()
-    ensures { (xs : List (List ℕ)) (p : Program) (s : List Resolved) (ty named o : List ℕ) (a : Account) →
+    ensures { (xs : List (List ℕ)) (p : Program) (s : List Resolved) (first second o : List ℕ) (a : Account) →
         Accepted xs p s →
-        IsEncoded p s ty named o a →
-        IsRight xs ty named o a }
+        IsEncoded p s first second o a →
+        IsRight xs first second o a }
 {}

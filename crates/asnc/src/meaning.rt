@@ -48,10 +48,10 @@ pub(crate) fn meant(
     ensures meant { IfOk result (λ r. IsMeant modules.now ty.now value.now r.0.index (abstract r.1)) }
     ensures refused { IfErr result (IsNotMeant modules.now ty.now value.now) }
 {
-    let Some(id) = type_number(modules.linked(), ty) else {
+    let Some(id) = type_number(modules, ty) else {
         return Err(Fault::NoType(String::from_str(alloc, ty)?));
     };
-    let Some(number) = value_number(modules.linked(), value) else {
+    let Some(number) = value_number(modules, value) else {
         return Err(Fault::NoValue(String::from_str(alloc, value)?));
     };
     match typed(alloc, modules, ty, id, value, number) {

@@ -1,14 +1,16 @@
 //! What texts of the form `Module.Name` name.
 
-ghost use Rattle.std.specs.Prelude.{◌≡◌, ◌<◌, ◌↔◌, ℕ, Some, IfSome, MatchOption, length};
+ghost use Rattle.std.specs.Prelude.{◌≡◌, ◌<◌, ◌↔◌, ℕ, Some, IfSome, MatchOption, length, slice_get};
 ghost use Rattle.trees.specs.Values.{Name, tree_of};
 ghost use Rattle.names.specs.declared.scope.Assigned.{Assigned as Assigned'};
+ghost use Rattle.names.specs.Sources.{value_of};
 ghost use Rattle.range_ends.specs.Ends.{IsValueAt};
 ghost use Rattle.resolve.specs.Program.{IsThere};
 ghost use Rattle.asnc.specs.Named.{IsNamed, IsQualified, TypeNamed, ValueNamed};
 
 use asn_base::schema::TypeId;
-use names::Assigned;
+use front_end::Modules;
+use names::{Assigned, ValueAt};
 use resolve::Linked;
 use trees::ValueSyntax;
 
@@ -35,13 +37,13 @@ fn named(linked: &Linked, text: &str) -> Option<Assigned>
 }
 
 /// The number of the type that a text names as `Module.Type`.
-pub(crate) fn type_number(linked: &Linked, name: &str) -> Option<TypeId>
-    ensures within { IfSome result (λ id. id.index < length linked.now.types) }
+pub(crate) fn type_number(modules: &Modules, name: &str) -> Option<TypeId>
+    ensures within { IfSome result (λ id. id.index < length modules.now.types) }
     ensures named { MatchOption result
-        ((t : ℕ) → TypeNamed linked.now name.now t → ⊥)
-        (λ id. TypeNamed linked.now name.now id.index) }
+        ((t : ℕ) → TypeNamed modules.now name.now t → ⊥)
+        (λ id. TypeNamed modules.now name.now id.index) }
 {
-    match named(linked, name) {
+    match named(modules.linked(), name) {
         Some(Assigned::Type(index)) => Some(TypeId { index }),
         Some(Assigned::Value(_)) => None,
         None => None,
@@ -49,17 +51,25 @@ pub(crate) fn type_number(linked: &Linked, name: &str) -> Option<TypeId>
 }
 
 /// The number of the value that a text names as `Module.value`.
-pub(crate) fn value_number(linked: &Linked, name: &str) -> Option<usize>
-    ensures within { IfSome result (λ i. i < length linked.now.values) }
+pub(crate) fn value_number(modules: &Modules, name: &str) -> Option<usize>
+    ensures within { IfSome result (λ i. i < length modules.now.values) }
     ensures named { MatchOption result
-        ((i : ℕ) → ValueNamed linked.now name.now i → ⊥)
-        (λ i. ValueNamed linked.now name.now i) }
+        ((i : ℕ) → ValueNamed modules.now name.now i → ⊥)
+        (λ i. ValueNamed modules.now name.now i) }
 {
-    match named(linked, name) {
+    match named(modules.linked(), name) {
         Some(Assigned::Value(number)) => Some(number),
         Some(Assigned::Type(_)) => None,
         None => None,
     }
+}
+
+/// A value by its number.
+fn value_at(linked: &Linked, number: usize) -> &ValueAt
+    requires { number < length linked.now.values }
+    ensures { slice_get linked.now.values number ≡ Some (value_of result.now) }
+{
+    &linked.values()[number]
 }
 
 /// The module in which a value's notation is read, and the notation.
@@ -68,7 +78,7 @@ pub(crate) fn notation_at(linked: &Linked, number: usize) -> (&str, &ValueSyntax
     ensures { IsValueAt linked.now number result.0.now (tree_of result.1.now) }
 {
     linked.whole();
-    let value = &linked.values()[number];
+    let value = value_at(linked, number);
     let home = linked.assigned(value.assignment);
     (home.module, &value.syntax)
 }
