@@ -27,7 +27,7 @@ fn is(number: u8, name: &'static str) -> Class
 }
 
 /// The class of a fault.
-pub(crate) fn class(fault: &Fault) -> Class
+pub(crate) fn told_class(fault: &Fault) -> Class
     ensures { IsClass result (class_of fault.now) }
 {
     match fault {

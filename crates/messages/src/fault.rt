@@ -5,7 +5,7 @@ ghost use Rattle.messages.specs.Classes.{class_of, number_of, name_of};
 ghost use Rattle.messages.specs.Status.{status_of};
 ghost use Rattle.messages.specs.declared.fault.Fault.TheVariants.{Memory};
 
-use crate::classes::class;
+use crate::classes::told_class;
 use front_end::FrontFault;
 use std::alloc::{AllocError, AllocFailed};
 use thiserror::Error;
@@ -72,14 +72,14 @@ impl From<AllocError> for Fault {
 pub fn number(fault: &Fault) -> u8
     ensures { result ≡ number_of fault.now }
 {
-    class(fault).number
+    told_class(fault).number
 }
 
 /// The name of a fault's class, which its text names behind the number; that of a limit in parentheses.
 pub fn name(fault: &Fault) -> &'static str
     ensures { result.now ≡ name_of fault.now }
 {
-    class(fault).name
+    told_class(fault).name
 }
 
 /// The exit status of a program that ends with this fault: 0 where help was asked for, 2 for a bad command line,
