@@ -35,10 +35,7 @@ fn other_module(
     for text in texts {
         let tokens = tokens_in(alloc, text.as_slice())?;
         if assigns(text.as_slice(), tokens.as_slice(), name, value) {
-            let module = shown(
-                alloc,
-                spelled_at(text.as_slice(), tokens.as_slice(), 0),
-            )?;
+            let module = shown(alloc, spelled_at(text.as_slice(), tokens.as_slice(), 0))?;
             return format!(in alloc; "; the module {module} assigns one");
         }
     }

@@ -17,7 +17,11 @@ fn of_character(alloc: Global, text: &[u8], place: usize) -> Result<String, Allo
 }
 
 /// A fault of the octets of a text.
-pub(crate) fn of_octets(alloc: Global, text: &[u8], fault: &LexFault) -> Result<String, AllocError> {
+pub(crate) fn of_octets(
+    alloc: Global,
+    text: &[u8],
+    fault: &LexFault,
+) -> Result<String, AllocError> {
     let words = match fault {
         LexFault::Memory => "out of memory",
         LexFault::Limit(Limit::Text, _) => "the text has more than 16777216 octets",

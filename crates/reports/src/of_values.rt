@@ -33,12 +33,7 @@ fn begins_component(tokens: &[Token], place: usize) -> bool {
 
 /// What the value is of whose notation begins with a token, as far as the tokens before it tell: a component, an
 /// alternative, or a DEFAULT.
-fn whose(
-    alloc: Global,
-    text: &[u8],
-    tokens: &[Token],
-    place: usize,
-) -> Result<String, AllocError> {
+fn whose(alloc: Global, text: &[u8], tokens: &[Token], place: usize) -> Result<String, AllocError> {
     let one = place.saturating_sub(1);
     let two = place.saturating_sub(2);
     if place < 2 {
@@ -77,7 +72,9 @@ fn of_reason(
     match reason {
         Reason::Depth => String::from_str(alloc, "found a value at level 65"),
         Reason::Nodes => format!(in alloc; "{found}{whose}, which is one part too many"),
-        Reason::Oid => format!(in alloc; "{found}{whose}, which is too long or has too great a number"),
+        Reason::Oid => format!(in alloc;
+            "{found}{whose}, which is too long or has too great a number"
+        ),
         Reason::LostName => format!(in alloc; "found {name}{whose}, which means no value there"),
         Reason::LostItem => format!(in alloc; "found {name}{whose}, which means no value"),
         Reason::Circular => format!(in alloc; "found {name}, which leads back to itself"),

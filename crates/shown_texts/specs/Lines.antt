@@ -10,12 +10,12 @@ abbrev pub begins_character : List ℕ → ℕ → Bool
 begins_character x i = nat_lt (get_or x i 0) 128 || not (nat_lt (get_or x i 0) 192)
 
 -- the line of octet n: one more than the lines that end before it
-pub line_of : List ℕ → ℕ → ℕ
+unfoldable pub line_of : List ℕ → ℕ → ℕ
 line_of x zero = 1
 line_of x (suc n) = if ends_line x n then line_of x n + 1 else line_of x n
 
 -- the column of octet n: one more than the characters that begin before it on its line
-pub column_of : List ℕ → ℕ → ℕ
+unfoldable pub column_of : List ℕ → ℕ → ℕ
 column_of x zero = 1
 column_of x (suc n) =
     if ends_line x n then 1 else (if begins_character x n then column_of x n + 1 else column_of x n)
