@@ -10,7 +10,10 @@ use std::alloc::{AllocError, Global};
 pub(crate) fn heading(alloc: Global, fault: &Fault) -> Result<String, AllocError>
     ensures { IfOk result (λ s. string_bytes s ≡ heading_of fault.now) }
 {
-    let number = number(fault);
-    let name = name(fault);
-    format!(in alloc; "error {number} {name}")
+    let digits = number(fault).to_string(alloc)?;
+    let mut told = String::from_str(alloc, "error ")?;
+    told.push_str(digits.as_str())?;
+    told.push_str(" ")?;
+    told.push_str(name(fault))?;
+    Ok(told)
 }
