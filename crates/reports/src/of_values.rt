@@ -98,12 +98,13 @@ fn meant<'a>(reason: Reason, name: &'a str, spelled: &'a str) -> &'a str {
     }
 }
 
-/// A fault of a notation in words.
+/// A fault of a notation in words; `under` tells of the type that the notation is read under.
 pub(crate) fn of_value(
     alloc: Global,
     texts: &[Vec<u8>],
     text: &[u8],
     told: &ValueTold,
+    under: &str,
 ) -> Result<String, AllocError> {
     let all = tokens_in(alloc, text)?;
     let tokens = all.as_slice();
@@ -120,6 +121,7 @@ pub(crate) fn of_value(
     )?;
     words.push_str(", expected ")?;
     words.push_str(told.expected.as_str())?;
+    words.push_str(under)?;
     let meant = meant(
         told.reason,
         told.spot.name.as_str(),

@@ -43,8 +43,8 @@ fn of_front(
         FrontFault::Tag(inner) => of_tags(alloc, text, inner),
         FrontFault::Bound(inner) => of_bounds(alloc, text, inner),
         FrontFault::Additions(inner) => of_additions(alloc, text, inner),
-        FrontFault::Default(told) => of_value(alloc, texts, text, told),
-        FrontFault::Assigned(told) => of_value(alloc, texts, text, told),
+        FrontFault::Default(told) => of_value(alloc, texts, text, told, ""),
+        FrontFault::Assigned(told) => of_value(alloc, texts, text, told, ""),
     }
 }
 
@@ -58,8 +58,8 @@ fn sentence(
     match fault {
         Fault::Front(inner) => of_front(alloc, texts, text, inner),
         Fault::Value(told) => {
-            let words = of_value(alloc, texts, text, told)?;
-            format!(in alloc; "{words}, under the type that was asked for")
+            let under = ", under the type that was asked for";
+            of_value(alloc, texts, text, told, under)
         }
         Fault::NoType(name) => of_no_name(alloc, texts, name.as_str(), false),
         Fault::NoValue(name) => of_no_name(alloc, texts, name.as_str(), true),
