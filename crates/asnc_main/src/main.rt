@@ -53,38 +53,34 @@ fn end_in(rt: &HostRuntime, job: &Job, texts: &[Vec<u8>], fault: &Fault) -> Exit
     }
 }
 
-/// Writes octets to standard output.
-fn write(rt: &HostRuntime, octets: &[u8]) -> Result<(), Fault> {
+/// Writes a text to standard output.
+fn write(rt: &HostRuntime, text: &str) -> Result<(), Fault> {
     let mut out = Counted::of(io::writer(rt));
-    match send_all(&mut out, octets) {
-        Ok(()) => Ok(()),
-        Err(count) => Err(Fault::Device(count)),
-    }
+    send_all(&mut out, text.as_bytes()).map_err(|sent| Fault::Device(sent))
 }
 
-/// Writes the octets of an encoding as they are.
+/// Writes the octets that a job asks for, as they are.
 fn write_raw(rt: &HostRuntime, job: &Job, kit: &Kit) -> Result<(), Fault> {
     let mut out = Counted::of(io::writer(rt));
-    let (ty, value) = (job.ty.as_str(), job.value.as_str());
-    kit.der_to(rt.alloc(), ty, value, &mut out)?;
+    let _account = kit.der_to(rt.alloc(), job.ty.as_str(), job.value.as_str(), &mut out)?;
     Ok(())
 }
 
-/// Writes the octets of an encoding in hexadecimal, on one line.
+/// Writes the octets that a job asks for in hexadecimal, with a line end.
 fn write_hex(rt: &HostRuntime, job: &Job, kit: &Kit) -> Result<(), Fault> {
     let (octets, _account) = kit.der(rt.alloc(), job.ty.as_str(), job.value.as_str())?;
-    let hex = hex::encode_upper(rt.alloc(), octets.as_slice())?;
-    let line = format!(in rt.alloc(); "{hex}\n")?;
-    write(rt, line.as_bytes())
+    let mut line = hex::encode_upper(rt.alloc(), octets.as_slice())?;
+    line.push('\n')?;
+    write(rt, line.as_str())
 }
 
-/// Writes what a job asks for.
+/// Does a job on the texts of its files.
 fn work(rt: &HostRuntime, job: &Job, texts: &[Vec<u8>]) -> Result<(), Fault> {
     let kit = Kit::open(rt.alloc(), texts)?;
     match job.verb {
-        Verb::List => write(rt, kit.list(rt.alloc())?.as_bytes()),
         Verb::Der if job.raw => write_raw(rt, job, &kit),
         Verb::Der => write_hex(rt, job, &kit),
+        Verb::List => write(rt, kit.list(rt.alloc())?.as_str()),
     }
 }
 
@@ -137,7 +133,7 @@ fn texts_of(rt: &HostRuntime, files: &[String]) -> Result<Vec<Vec<u8>>, Fault> {
     Ok(texts)
 }
 
-/// Does a job on the texts of its files.
+/// Reads the files of a job and does it.
 fn run(rt: &HostRuntime, job: &Job) -> ExitCode {
     let texts = match texts_of(rt, job.files.as_slice()) {
         Ok(texts) => texts,

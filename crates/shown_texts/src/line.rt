@@ -17,7 +17,11 @@ fn is_hidden(c: char) -> bool {
 pub fn on_one_line(alloc: Global, text: &str) -> Result<String, AllocError> {
     let mut line = String::new(alloc);
     for c in text.chars() {
-        line.push(if c.is_control() || is_hidden(c) { ' ' } else { c })?;
+        line.push(if c.is_control() || is_hidden(c) {
+            ' '
+        } else {
+            c
+        })?;
     }
     Ok(line)
 }

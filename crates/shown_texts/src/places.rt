@@ -1,5 +1,8 @@
 //! Places in texts.
 
+ghost use Rattle.std.specs.Prelude.{◌≡◌, ◌<◌, ◌^◌, ◌-◌, length, min};
+ghost use Rattle.shown_texts.specs.Lines.{begins_character, column_of, ends_line, line_of};
+
 use std::alloc::{AllocError, Global};
 use text::{LexFault, Token, TokenKind};
 
@@ -52,26 +55,43 @@ pub fn word_at(text: &[u8], octet: usize) -> &str {
 }
 
 /// Whether a line ends with the octet at a place: LF, or CR with no LF behind it.
-fn ends_line(text: &[u8], place: usize) -> bool {
-    match text.get(place) {
-        Some(b'\n') => true,
-        Some(b'\r') => text.get(place.saturating_add(1)) != Some(&b'\n'),
+fn ends_line_at(text: &[u8], place: usize) -> bool
+    requires { place < length text.now }
+    ensures { result ≡ ends_line text.now place }
+{
+    match text[place] {
+        b'\n' => true,
+        b'\r' => {
+            let next = place + 1;
+            next >= text.len() || text[next] != b'\n'
+        }
         _ => false,
     }
 }
 
-/// The line and the column of an octet, both from 1, the column in characters.
-pub fn line_and_column(text: &[u8], octet: usize) -> (usize, usize) {
+/// Whether a character begins with the octet at a place.
+fn is_begin(text: &[u8], place: usize) -> bool
+    requires { place < length text.now }
+    ensures { result ≡ begins_character text.now place }
+{
+    text[place] < 128 || text[place] >= 192
+}
+
+/// The line and the column of an octet, both from 1, the column in characters; those of the end of the text where the octet
+/// stands behind it.
+#[tactic(auto, unfolding(crate::specs::Lines::line_of, crate::specs::Lines::column_of))]
+pub fn line_and_column(text: &[u8], octet: usize) -> (usize, usize)
+    ensures line { result.0 ≡ min (line_of text.now (min octet (length text.now))) (2 ^ 64 - 1) }
+    ensures column { result.1 ≡ min (column_of text.now (min octet (length text.now))) (2 ^ 64 - 1) }
+{
     let mut line: usize = 1;
     let mut column: usize = 1;
-    for place in 0..text.len() {
-        if place >= octet {
-            return (line, column);
-        }
-        if ends_line(text, place) {
+    let end = octet.min(text.len());
+    for place in 0..end {
+        if ends_line_at(text, place) {
             line = line.saturating_add(1);
             column = 1;
-        } else if text[place] < 128 || text[place] >= 192 {
+        } else if is_begin(text, place) {
             column = column.saturating_add(1);
         }
     }

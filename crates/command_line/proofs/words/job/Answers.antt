@@ -1,8 +1,9 @@
-use Rattle.std.proofs.Common.{◌≡◌, arith, ap, refl, sym, ◌∙◌, true, map, string_bytes}
+use Rattle.std.proofs.Common.{◌≡◌, arith, ap, refl, sym, ◌∙◌, true, map, option_map, string_bytes}
 use Rattle.clap.specs.Words.{is_simple, fault_of, subcommand_of}
 use Rattle.clap.specs.Faults.{is_simple_and_free}
 use Rattle.clap.proofs.OnLiterals.{clap_on_literals}
 use Rattle.command_line.specs.CommandLine.{asnc_app}
+use Rattle.command_line.proofs.Found.{named_by}
 use Rattle.command_line.proofs.Refused.{refused_as}
 use Rattle.command_line.proofs.words.job.Goals as goal
 
@@ -23,7 +24,8 @@ returns-in_ok-job_of-in-Some-clause-asked c =
     record {
       taken = ap (λ a. fault_of a words) (sym c.in_ok-program.ensures.shape) ∙ c.in-Ok.ensures.kinds free;
       command = _;
-      called = grind (arith, there, named_by m.subcommand, c.subcommand.ensures.name, c.in-Some.is);
+      called = ap (option_map (λ p. p.0)) (sym there) ∙ sym (named_by _) ∙ sym c.subcommand.ensures.name
+          ∙ ap (option_map (λ p. p.0.now)) c.in-Some.is;
       rows = _;
       found = grind (arith, there, c.subcommand.ensures.rows, c.in-Some.is);
       holds = c.in_ok-job_of-in-Some.ensures;
