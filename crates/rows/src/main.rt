@@ -82,7 +82,10 @@ fn main(rt: HostRuntime) -> io::Result<ExitCode> {
     for file in env::args(&rt)?.skip(1) {
         answer_file(&rt, file.as_str(), &mut count)?;
     }
-    let Count { compared, different } = count;
+    let Count {
+        compared,
+        different,
+    } = count;
     println!(rt; "{compared} rows want an answer, {different} have another")?;
     Ok(if different == 0 {
         ExitCode::SUCCESS
