@@ -1,11 +1,9 @@
 //! The program `asnc`: reads its words and files, and writes what they ask for.
 #![tactic(auto)]
 
-use asnc::Kit;
+use asnc::{Counted, Fault, Kit, send_all, status};
 use command_line::{Job, Verb, job};
-use messages::{Fault, status};
 use reports::report;
-use sinks::{Counted, send_all};
 use std::io::Read;
 use std::process::ExitCode;
 use std::{env, fs, io};

@@ -7,7 +7,7 @@ use Rattle.encodings.specs.Encoding.{Says}
 use Rattle.encodings.specs.Levels.{levels}
 use Rattle.octet_answers.specs.States.{State, Token}
 use Rattle.reading_law.specs.Saying.{IsSaid}
-use Rattle.reading_law.specs.Shows.{Shows, passed_in}
+use Rattle.reading_law.specs.Shows.{Shows, passed_in, StandIn}
 use Rattle.ber_message.specs.Messages.{IsMessage, HasMessageFirst}
 
 record SaidWithin (s : List Resolved) (t : ℕ) (w : AbstractValue) (k : ℕ) (o : List ℕ) : Type 0 where
@@ -31,6 +31,7 @@ whole_message {s} {t} {o} {z} ts i e l f =
       short = l;
       shown = subst (Shows s t i.value) (sym f) i.shown;
       counted = ap passed_in f ∙ i.counted;
+      stand = subst (StandIn o) (sym f) i.stand;
     }
 
 some_left : (o : List ℕ) → (o ≡ [] → ⊥) → 1 ≤ length o

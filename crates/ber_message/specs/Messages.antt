@@ -11,10 +11,11 @@ use Rattle.codec_code.specs.Routines.{routine_at}
 use Rattle.codec_source.specs.Reading.{Reads}
 use Rattle.octet_answers.specs.Answers.{Takes}
 use Rattle.octet_answers.specs.States.{State, Token, front}
-use Rattle.reading_law.specs.Shows.{Shows, passed_in}
+use Rattle.reading_law.specs.Shows.{Shows, passed_in, StandIn}
 
 -- octets say a value of the type as it stands, with so many unknown additions, by the basic rules; they are at most as many
--- as a message has, with at most 400 levels of headers. The tokens show the value, and as many skipped additions.
+-- as a message has, with at most 400 levels of headers. The tokens show the value, and as many skipped additions; contents
+-- octets stand in the message where they are told to.
 pub record IsMessage (s : List Resolved) (t : TypeNumber) (o : Octets) (told : List Token) : Type 0 where
   pub value : AbstractValue
   pub count : ℕ
@@ -23,6 +24,7 @@ pub record IsMessage (s : List Resolved) (t : TypeNumber) (o : Octets) (told : L
   pub short : length o ≤ 16777216
   pub shown : Shows s t value told
   pub counted : passed_in told ≡ count
+  pub stand : StandIn o told
 
 -- a proper front of the octets says a value
 pub record HasMessageFirst (s : List Resolved) (t : TypeNumber) (o : Octets) : Type 0 where

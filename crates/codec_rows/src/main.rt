@@ -2,12 +2,13 @@
 //! words.
 //!
 //! The files that its words name are files of rows. A row's first word is a command and its second the row's own name:
-//! `front`, `bits`, `print`, `value`, `same`, `default` and `listing`, each described where it is answered and at the
-//! head of the file that uses it. The answers that the stored run compares are written by hand, not taken from this program.
+//! `front`, `header`, `octets`, `bits`, `print`, `value`, `same`, `default` and `listing`, each described where it is answered
+//! and at the head of the file that uses it. The answers that the stored run compares are written by hand, not taken from this program.
 #![tactic(auto)]
 
 mod buffer;
 mod front;
+mod headers;
 mod refusal;
 mod typed;
 mod value;
@@ -33,6 +34,8 @@ pub fn asked(alloc: Global, row: &Row) -> Result<Vec<&str>, AllocError> {
 fn answer_of(alloc: Global, schema: &Schema, row: &Row) -> Result<String, Refusal> {
     match row.command() {
         "front" => front::answer(alloc, row),
+        "header" => headers::header(alloc, row),
+        "octets" => headers::octets(alloc, row),
         "bits" => buffer::answer(alloc, row),
         "print" => typed::print(alloc, schema, row),
         "value" => typed::value(alloc, schema, row),

@@ -5,4 +5,5 @@ pub mod Skipped
 pub mod Values
 pub mod Partly
 pub mod Sets
+pub mod Places
 pub mod Saids

@@ -29,6 +29,7 @@ use Rattle.codec_source.specs.Reading.{Does, Reads, element as element', no_elem
 use Rattle.octet_answers.specs.States.{State, Token, component, chosen, begun, ended, held, passed, at_end, behind, front}
 use Rattle.octet_answers.specs.Found.{IsChosen, chosen as chosen', later, last_steps, Passes}
 use Rattle.octet_answers.specs.Answers.{Takes, Begins, Ends, Opens, Holds as Holds', Skips, IsNext, IsAbsent, Chooses}
+use Rattle.reading_law.proofs.Places.{places_told}
 use Rattle.reading_law.specs.Shows.{passed_in, Shows, shows, ShowsOf, shows_leaf, shows_sequence, shows_set, shows_sequence_of, shows_set_of, shows_choice, ShowsFields, no_field, absent_field, present_field, ShowsElements, no_element_shown, element_shown}
 use Rattle.reading_law.specs.Saying.{IsSaid}
 use Rattle.reading_law.proofs.Along.{told_both, told_closed, told_value, passed_both, passed_times, Along, stays, both, along_as, last_same, below_behind, below_contents, Framed as Framed', framed, marks_closed, along_value}
@@ -279,7 +280,7 @@ leaf_body {s} lk k steps move tail {x = x} d =
         };
         tokens = held lk x.here.constructed x.here.octets x.here.at ∷ [];
         told = ap (λ q. q.told) h.is;
-        shown = shows_leaf h.levels steps h.contents;
+        shown = shows_leaf h.levels (omega arith) steps h.contents;
         counted = refl;
         more = [];
         marks = ap (λ q. q.marks) h.is ∙ sym (append-nil x.marks);
@@ -704,4 +705,4 @@ pub said : (s : List Resolved) (t : TypeId) (o : List ℕ) (room : ℕ) (z : Sta
 said s t o room z schema l below r =
     let v = sound schema t.index (front s o room) z l (record { schema = refl; below = below; deep = omega arith }) r in
     let f = v.few in
-    record { value = v.value; count = v.count; octets = v.octets; is_said = v.is_said; few = omega arith; whole = v.along.octets; shown = subst (λ q. Shows s t.index v.value q) (sym v.told) v.shown; counted = ap passed_in v.told ∙ v.counted }
+    record { value = v.value; count = v.count; octets = v.octets; is_said = v.is_said; few = omega arith; whole = v.along.octets; shown = subst (λ q. Shows s t.index v.value q) (sym v.told) v.shown; counted = ap passed_in v.told ∙ v.counted; stand = places_told s t o room z r }

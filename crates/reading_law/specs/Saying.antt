@@ -7,11 +7,11 @@ use Rattle.encodings.specs.Rules.{Basic}
 use Rattle.encodings.specs.Encoding.{Says}
 use Rattle.encodings.specs.Levels.{levels}
 use Rattle.octet_answers.specs.States.{State}
-use Rattle.reading_law.specs.Shows.{Shows, passed_in}
+use Rattle.reading_law.specs.Shows.{Shows, passed_in, StandIn}
 
 -- A front of the octets says a value of the type as it stands, with so many unknown additions, by the basic rules; it has
 -- at most 400 levels of headers, and what is left stands behind it. What was told shows the value, and as many skipped
--- additions.
+-- additions; contents octets were told with their places.
 pub record IsSaid (s : List Resolved) (t : TypeNumber) (o : Octets) (z : State) : Type 0 where
   pub value : AbstractValue
   pub count : ℕ
@@ -21,3 +21,4 @@ pub record IsSaid (s : List Resolved) (t : TypeNumber) (o : Octets) (z : State) 
   pub whole : o ≡ octets ++ z.here.octets
   pub shown : Shows s t value z.told
   pub counted : passed_in z.told ≡ count
+  pub stand : StandIn o z.told

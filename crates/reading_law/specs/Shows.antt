@@ -1,5 +1,5 @@
 -- What tokens show: values, as they were read.
-use Rattle.std.specs.Prelude.{◌≡◌, ℕ, zero, suc, ◌+◌, Bool, List, [], ◌∷◌, ◌++◌, replicate, Some, slice_get}
+use Rattle.std.specs.Prelude.{◌≡◌, ℕ, zero, suc, ◌+◌, ◌≤◌, Bool, List, [], ◌∷◌, ◌++◌, length, replicate, Some, slice_get}
 use Rattle.asn_base.specs.declared.tag.Tag.{Tag}
 use Rattle.asn_base.specs.Abstract.{AbstractValue, fields, list, alternative, Row, end, absent, present}
 use Rattle.asn_base.specs.Types.{TypeNumber, Constraint, Alternative, Kind, a_sequence, a_set, a_sequence_of, a_set_of, a_choice, Component, Resolved, Is}
@@ -52,6 +52,7 @@ mutual
   -- what stands between its begin and its end
   pub data ShowsOf (s : List Resolved) : Kind → AbstractValue → List Token → Type 0 where
     shows_leaf : {k : Kind} {lk : LeafKind} {w : AbstractValue} {c : Bool} {at : ℕ} {x : Octets} (levels : ℕ)
+        → levels ≤ 400
         → body s k ≡ Leaf lk ∷ []
         → AreContents c lk w levels x
         → ShowsOf s k w (held lk c x at ∷ [])
@@ -111,3 +112,20 @@ mutual
         → ShowsElements s u ws ts
         → all ≡ xs ++ ts
         → ShowsElements s u (present w ws) all
+
+-- octets that stand in a message, the first of them at a place
+pub record StandsIn (message : Octets) (at : ℕ) (x : Octets) : Type 0 where
+  pub before : Octets
+  pub behind : Octets
+  pub whole : message ≡ before ++ (x ++ behind)
+  pub place : length before ≡ at
+
+-- all contents octets stand at their places
+abbrev pub StandIn : Octets → List Token → Type 0
+StandIn message [] = Unit {0}
+StandIn message (held k c x at ∷ ts) = StandsIn message at x × StandIn message ts
+StandIn message (component i ∷ ts) = StandIn message ts
+StandIn message (chosen i ∷ ts) = StandIn message ts
+StandIn message (begun t ∷ ts) = StandIn message ts
+StandIn message (ended ∷ ts) = StandIn message ts
+StandIn message (passed ∷ ts) = StandIn message ts

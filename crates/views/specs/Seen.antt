@@ -10,6 +10,7 @@ use Rattle.views.specs.declared.builder.Builder.{Builder}
 use Rattle.views.specs.declared.view.View.{View}
 use Rattle.views.specs.declared.part.Part.{Part}
 use Rattle.views.specs.declared.part.Parts.{Parts}
+use Rattle.views.specs.Halves.{number_of}
 use Rattle.views.specs.Tree.{boolean, integer, enumerated, bits, octets, text, null, oid, relative_oid, Leaf, Tree, leaf, fields, list, alternative}
 use Rattle.views.specs.Tree.{Members, member}
 use Rattle.views.specs.Nodes.{Told, a_leaf, some_fields, some_elements, an_alternative, Node, node, nodes, member_nodes}
@@ -27,8 +28,8 @@ beside_of l = record { octets = l.octets.items; texts = map string_bytes l.texts
 -- what a node tells, with its string or numbers
 abbrev pub told_of : Beside → Told' → Told
 told_of b (told.Bool t) = a_leaf (boolean t)
-told_of b (told.Int z) = a_leaf (integer z)
-told_of b (told.Enum z) = a_leaf (enumerated z)
+told_of b (told.Int z) = a_leaf (integer (number_of z))
+told_of b (told.Enum z) = a_leaf (enumerated (number_of z))
 told_of b (told.Bits unused at os) = a_leaf (bits unused os.now (Some at))
 told_of b (told.JoinedBits unused from to) = a_leaf (bits unused (slice_range b.octets from to) None)
 told_of b (told.Octets at os) = a_leaf (octets os.now (Some at))

@@ -6,6 +6,7 @@ ghost use Rattle.views.specs.Nodes.{node, nodes};
 ghost use Rattle.views.specs.Seen.{Holds, IsToldWithin, IsView, beside_of, told_of};
 ghost use Rattle.views.specs.Tree.{Tree, bits, boolean, enumerated, integer, member, no_member, null, octets, oid, relative_oid, text};
 
+use crate::halves::Halves;
 use crate::node::{Lists, Node, Told};
 use crate::view::View;
 use std::alloc::{AllocError, Global};
@@ -64,7 +65,7 @@ impl<'a> Builder<'a> {
             → Holds self.old b
             → OnOk result (Holds self.new (with_leaf number (integer value) b)) }
     {
-        self.add(number, Told::Int(value))?;
+        self.add(number, Told::Int(Halves::of(value)))?;
         Ok(())
     }
 
@@ -74,7 +75,7 @@ impl<'a> Builder<'a> {
             → Holds self.old b
             → OnOk result (Holds self.new (with_leaf number (enumerated item) b)) }
     {
-        self.add(number, Told::Enum(item))?;
+        self.add(number, Told::Enum(Halves::of(item)))?;
         Ok(())
     }
 

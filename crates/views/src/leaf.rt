@@ -21,8 +21,8 @@ pub(crate) fn leaf_value(alloc: Global, lists: &Lists, told: Told<'_>) -> Result
     abstract_values();
     match told {
         Told::Bool(truth) => Ok(Value::Bool(truth)),
-        Told::Int(number) => Ok(Value::Int(number)),
-        Told::Enum(number) => Ok(Value::Enum(number)),
+        Told::Int(number) => Ok(Value::Int(number.number())),
+        Told::Enum(number) => Ok(Value::Enum(number.number())),
         Told::Bits {
             unused,
             at: _,

@@ -3,6 +3,7 @@
 
 mod builder;
 mod front;
+mod halves;
 pub mod law;
 mod leaf;
 mod node;

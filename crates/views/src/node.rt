@@ -5,6 +5,7 @@ ghost use Rattle.views.specs.Nodes.{extent as extent', with_extent};
 ghost use Rattle.views.specs.Seen.{Beside, IsToldWithin, IsWithin, told_of};
 ghost use Rattle.std.specs.List.{slice_range};
 
+use crate::halves::Halves;
 use std::alloc::AllocError;
 
 /// What a node tells. Strings are slices of the message with their place in it, or stand in the lists beside the nodes,
@@ -13,8 +14,8 @@ use std::alloc::AllocError;
 #[derive(Clone, Copy)]
 pub(crate) enum Told<'a> {
     Bool(bool),
-    Int(i128),
-    Enum(i128),
+    Int(Halves),
+    Enum(Halves),
     Bits {
         unused: u8,
         at: u32,
@@ -66,6 +67,9 @@ pub(crate) struct Node<'a> {
     pub number: u32,
     pub told: Told<'a>,
 }
+
+/// A node takes 32 octets.
+const _: () = prove!(size_of::<Node<'static>>() == 32);
 
 /// What stands beside the nodes: octets and texts joined from segments, and the numbers of object identifiers.
 #[derive(Drop)]

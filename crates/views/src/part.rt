@@ -40,7 +40,7 @@ impl<'v, 'a> Part<'v, 'a> {
         ensures { (t : Tree) → IsPart self.now t → result ≡ integer_in t }
     {
         match first_of(self.lists, self.nodes) {
-            Told::Int(number) => Some(number),
+            Told::Int(number) => Some(number.number()),
             _ => None,
         }
     }
@@ -51,7 +51,7 @@ impl<'v, 'a> Part<'v, 'a> {
         ensures { (t : Tree) → IsPart self.now t → result ≡ enumerated_in t }
     {
         match first_of(self.lists, self.nodes) {
-            Told::Enum(item) => Some(item),
+            Told::Enum(item) => Some(item.number()),
             _ => None,
         }
     }

@@ -1,0 +1,75 @@
+//! What is read of messages.
+
+use crate::refusal::{Refusal, told};
+use crate::words::{octets_of, type_of};
+use ber_message::read_message;
+use ber_source::Token;
+use codec_code::Code;
+use octets::Form;
+use row_files::Row;
+use std::alloc::{AllocError, Global};
+
+/// Of more tokens than these the first ones are shown, and how many there are.
+const MOST_TOKENS: usize = 60;
+
+/// Of more contents octets than these the first eight are shown, and how many there are.
+const MOST_OCTETS: usize = 64;
+
+/// The digits of contents octets, a tilde before those of segments, and the place in the message of the first of them.
+fn push_held(
+    text: &mut String,
+    alloc: Global,
+    form: Form,
+    octets: &[u8],
+    at: usize,
+) -> Result<(), AllocError> {
+    if form == Form::Constructed {
+        text.push('~')?;
+    }
+    let count = octets.len();
+    if count <= MOST_OCTETS {
+        let digits = hex::encode_upper(alloc, octets)?;
+        return write!(text, "'{digits}'@{at}");
+    }
+    let digits = hex::encode_upper(alloc, &octets[..8])?;
+    write!(text, "'{digits}..'@{at} {count} octets")
+}
+
+fn push_token(text: &mut String, alloc: Global, token: &Token) -> Result<(), AllocError> {
+    match token {
+        Token::Component(place) => write!(text, " {place}:"),
+        Token::Chosen(index) => write!(text, "alternative {index} "),
+        Token::Begun(_) => text.push('('),
+        Token::Ended => text.push(')'),
+        Token::Held {
+            kind: _,
+            form,
+            octets,
+            at,
+        } => push_held(text, alloc, *form, *octets, *at),
+        Token::Passed => text.push_str(" skipped"),
+    }
+}
+
+/// The tokens in order: a value in parentheses, a component's number before its value, contents octets with their place.
+fn text_of(alloc: Global, tokens: &[Token]) -> Result<String, AllocError> {
+    let mut text = String::new(alloc);
+    for i in 0..tokens.len().min(MOST_TOKENS) {
+        push_token(&mut text, alloc, &tokens[i])?;
+    }
+    if tokens.len() > MOST_TOKENS {
+        let count = tokens.len();
+        write!(text, ".. {count} tokens")?;
+    }
+    Ok(text)
+}
+
+/// `read NAME TYPE HEX..`: what is read of the message, or the fault.
+pub fn answer(alloc: Global, code: &Code, row: &Row) -> Result<String, Refusal> {
+    let id = type_of(alloc, row)?;
+    let octets = octets_of(alloc, row)?;
+    match read_message(alloc, code, id, octets.as_slice()) {
+        Ok(tokens) => Ok(text_of(alloc, tokens.as_slice())?),
+        Err(fault) => Err(told(alloc, &fault)),
+    }
+}

@@ -1,0 +1,93 @@
+//! Header octets, and the octets of numbers.
+
+use crate::asked;
+use crate::refusal::{Refusal, told};
+use asn_base::tag::{Class, Tag};
+use octets::{Form, header_len, octets_of, write_header};
+use row_files::Row;
+use std::alloc::{AllocError, Global};
+
+/// A word by its place, empty where there is none.
+fn word<'a>(words: &[&'a str], place: usize) -> &'a str {
+    match words.get(place) {
+        Some(word) => word,
+        None => "",
+    }
+}
+
+fn class(word: &str) -> Option<Class> {
+    match word {
+        "universal" => Some(Class::Universal),
+        "application" => Some(Class::Application),
+        "context" => Some(Class::Context),
+        "private" => Some(Class::Private),
+        _ => None,
+    }
+}
+
+fn form(word: &str) -> Option<Form> {
+    match word {
+        "primitive" => Some(Form::Primitive),
+        "constructed" => Some(Form::Constructed),
+        _ => None,
+    }
+}
+
+/// The tag of a class and a number, if there is one.
+fn tag(class: Class, number: u32) -> Option<Tag> {
+    if number >= 2147483648 {
+        return None;
+    }
+    match class {
+        Class::Universal if number == 0 => None,
+        _ => Some(Tag::of(class, number)),
+    }
+}
+
+/// The header that words ask for: its tag, its form and the length that it tells.
+fn header_in(words: &[&str]) -> Option<(Tag, Form, u64)> {
+    let class = class(word(words, 0))?;
+    let number = word(words, 1).parse::<u32>().ok()?;
+    let form = form(word(words, 2))?;
+    let contents = word(words, 3).parse::<u64>().ok()?;
+    Some((tag(class, number)?, form, contents))
+}
+
+/// The octets of a word, in hexadecimal.
+fn octets_in(alloc: Global, word: &str) -> Result<Vec<u8>, Refusal> {
+    match hex::decode(alloc, word) {
+        Ok(octets) => Ok(octets),
+        Err(fault) => Err(told(alloc, &fault)),
+    }
+}
+
+fn written(alloc: Global, octets: &[u8], count: usize) -> Result<String, AllocError> {
+    let hex = hex::encode_upper(alloc, octets)?;
+    format!(in alloc; "{hex}, of {count} octets")
+}
+
+/// `header NAME CLASS NUMBER FORM LENGTH [BEFORE]`: the octets before and those of the header, and how many those are.
+pub fn header(alloc: Global, row: &Row) -> Result<String, Refusal> {
+    let words = asked(alloc, row)?;
+    let Some((tag, form, contents)) = header_in(words.as_slice()) else {
+        return Err(told(alloc, &"no class, number, form and length"));
+    };
+    let mut out = octets_in(alloc, word(words.as_slice(), 4))?;
+    match write_header(alloc, tag, form, contents, &mut out) {
+        Ok(()) => Ok(written(alloc, out.as_slice(), header_len(tag, contents))?),
+        Err(fault) => Err(told(alloc, &fault)),
+    }
+}
+
+/// `octets NAME NUMBER`: the fewest octets of a number.
+pub fn octets(alloc: Global, row: &Row) -> Result<String, Refusal> {
+    let words = asked(alloc, row)?;
+    let Ok(number) = word(words.as_slice(), 0).parse::<u128>() else {
+        return Err(told(alloc, &"no number"));
+    };
+    let octets = match octets_of(alloc, number) {
+        Ok(octets) => octets,
+        Err(fault) => return Err(told(alloc, &fault)),
+    };
+    Ok(written(alloc, octets.as_slice(), octets.len())?)
+}

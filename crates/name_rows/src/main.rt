@@ -1,0 +1,47 @@
+//! Answers rows of data by the public calls of the crates that link and tag modules, and prints each answer below its row's words.
+//!
+//! The files that its words name are files of rows. A row's first word is a command and its second the row's own name: `link` or
+//! `tags`, described where it is answered and at the head of the files that use it. The answers that the stored run compares are
+//! written by hand, not taken from this program. A row with `numbered` among its words has each `#` of its texts counted, from 0.
+#![tactic(auto)]
+
+mod links;
+mod paths;
+mod printed;
+
+use row_files::{Row, rows};
+use row_texts::{Refusal, entry, told};
+use std::alloc::Global;
+use std::process::ExitCode;
+use std::{env, fs, io};
+
+/// What a row's command answers.
+fn answer_of(alloc: Global, row: &Row) -> Result<String, Refusal> {
+    match row.command() {
+        "link" => links::answer(alloc, row),
+        "tags" => paths::answer(alloc, row),
+        _ => Err(told(alloc, &"no such command")),
+    }
+}
+
+/// Prints the answers to the rows of a file.
+fn answer_file(rt: &HostRuntime, file: &str) -> io::Result<()> {
+    println!(rt; "{file}")?;
+    let octets = fs::read(rt, file)?;
+    let rows = match rows(rt.alloc(), octets.as_slice()) {
+        Ok(rows) => rows,
+        Err(fault) => return println!(rt; "{fault}"),
+    };
+    for row in &rows {
+        let text = entry(rt.alloc(), row, answer_of(rt.alloc(), row))?;
+        println!(rt; "{text}")?;
+    }
+    Ok(())
+}
+
+fn main(rt: HostRuntime) -> io::Result<ExitCode> {
+    for file in env::args(&rt)?.skip(1) {
+        answer_file(&rt, file.as_str())?;
+    }
+    Ok(ExitCode::SUCCESS)
+}
