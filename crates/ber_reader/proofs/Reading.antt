@@ -1,0 +1,33 @@
+-- What is answered of a message that was read.
+use Rattle.std.proofs.Common.{◌≡◌, ℕ, ◌≤◌, Bool, true, List, IsTrue, ◌↔◌, sym, subst}
+use Rattle.asn_base.specs.Abstract.{AbstractValue}
+use Rattle.asn_base.specs.Types.{Resolved}
+use Rattle.asn_base.specs.Typed.{IsValueWithoutNodes}
+use Rattle.encodings.specs.Rules.{Basic}
+use Rattle.encodings.specs.Encoding.{Says}
+use Rattle.encodings.specs.Levels.{levels}
+use Rattle.octet_answers.specs.States.{Token}
+use Rattle.ber_message.specs.Messages.{IsMessage}
+use Rattle.views.specs.Tree.{Tree, value_of, IsBorrowed}
+use Rattle.views.specs.Seen.{IsView}
+use Rattle.ber_reader.specs.declared.read.Read.{Read}
+use Rattle.ber_reader.specs.Readings.{IsReading}
+
+record SaidWithin (s : List Resolved) (t : ℕ) (w : AbstractValue) (k : ℕ) (o : List ℕ) : Type 0 where
+  is_said : Says s Basic t w k o
+  few : levels is_said ≤ 400
+
+pub reading_of : {s : List Resolved} {t : ℕ} {o : List ℕ} {ts : List Token} (r : Read) (m : IsMessage s t o ts) (tree : Tree)
+    → IsView r.view tree
+    → IsBorrowed o tree
+    → value_of tree ≡ m.value
+    → r.skipped ≡ m.count
+    → IsValueWithoutNodes s t (value_of tree)
+    → IsReading s t o r
+reading_of {s} {t} {o} r m tree v b e k w =
+    let d : SaidWithin s t (value_of tree) r.skipped o = subst (λ q. SaidWithin s t (value_of tree) q o) (sym k) (subst (λ q. SaidWithin s t q m.count o) (sym e) (record { is_said = m.is_said; few = m.few })) in
+    record { tree = tree; view = v; encodes = record { value = w; says_it = d.is_said }; few = d.few; short = m.short; borrowed = b }
+
+-- a test that holds
+pub holds : {P : Type 0} (b : Bool) → b ≡ true → IsTrue b ↔ P → P
+holds b e h = h.0 e

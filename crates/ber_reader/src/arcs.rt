@@ -1,0 +1,86 @@
+//! The numbers of OBJECT IDENTIFIER and RELATIVE-OID (X.690, 8.19 and 8.20).
+
+ghost use Rattle.asn_base.specs.Typed.{IsObjectIdentifier, IsRelativeOid};
+ghost use Rattle.encodings.specs.Contents.{joined};
+ghost use Rattle.encodings.specs.Header.{septets};
+ghost use Rattle.std.specs.List.{AllByRecursion};
+ghost use Rattle.std.specs.Prelude.{◌≡◌, ◌+◌, ◌*◌, ◌++◌, ◌^◌, ◌<◌, ◌≤◌, IfOk, List, OnOk, flat_map, ℕ};
+
+use leaf_readings::read_arc;
+use std::alloc::{AllocError, Global};
+
+/// Adds numbers, each below 2^64.
+fn push_arcs(arcs: &mut Vec<u64>, octets: &[u8]) -> Result<(), AllocError>
+    requires { (ns : List ℕ) × AllByRecursion (λ n. n < 2 ^ 64) ns × (octets.now ≡ flat_map septets ns) }
+    ensures { (ns : List ℕ)
+        → AllByRecursion (λ n. n < 2 ^ 64) ns
+        → octets.now ≡ flat_map septets ns
+        → OnOk result (arcs.new.items ≡ arcs.old.items ++ ns) }
+{
+    let mut rest = octets;
+    while !rest.is_empty() {
+        match read_arc(rest) {
+            Some((Some(number), behind)) => {
+                arcs.push(number as u64)?;
+                rest = behind;
+            }
+            Some((None, _)) => return Ok(()),
+            None => return Ok(()),
+        }
+    }
+    Ok(())
+}
+
+/// The numbers of a RELATIVE-OID with these contents octets.
+pub(crate) fn relative_arcs(alloc: Global, octets: &[u8]) -> Result<Vec<u64>, AllocError>
+    requires { (ns : List ℕ) × IsRelativeOid ns × (octets.now ≡ flat_map septets ns) }
+    ensures { (ns : List ℕ)
+        → IsRelativeOid ns
+        → octets.now ≡ flat_map septets ns
+        → IfOk result (λ v. v.items ≡ ns) }
+{
+    let mut arcs = Vec::new(alloc);
+    push_arcs(&mut arcs, octets)?;
+    Ok(arcs)
+}
+
+/// The numbers of an OBJECT IDENTIFIER with these contents octets, whose first two are one number there.
+pub(crate) fn object_arcs(alloc: Global, octets: &[u8]) -> Result<Vec<u64>, AllocError>
+    requires { (ns : List ℕ) × IsObjectIdentifier ns × (octets.now ≡ flat_map septets (joined ns)) }
+    ensures { (ns : List ℕ)
+        → IsObjectIdentifier ns
+        → octets.now ≡ flat_map septets (joined ns)
+        → IfOk result (λ v. v.items ≡ ns) }
+{
+    let mut arcs = Vec::new(alloc);
+    match read_arc(octets) {
+        Some((Some(number), behind)) => {
+            let (first, second) = parted(number);
+            arcs.push(first)?;
+            arcs.push(second)?;
+            push_arcs(&mut arcs, behind)?;
+            Ok(arcs)
+        }
+        Some((None, _)) => Ok(arcs),
+        None => Ok(arcs),
+    }
+}
+
+/// The two numbers that one stands for (8.19.4).
+fn parted(number: u128) -> (u64, u64)
+    requires { number < 2 ^ 64 + 80 }
+    ensures { (x y : ℕ)
+        → x ≤ 2
+        → (x < 2 → y < 40)
+        → y < 2 ^ 64
+        → number ≡ 40 * x + y
+        → (result.0 ≡ x) × (result.1 ≡ y) }
+{
+    if number < 40 {
+        return (0, number as u64);
+    }
+    if number < 80 {
+        return (1, (number - 40) as u64);
+    }
+    (2, (number - 80) as u64)
+}

@@ -1,0 +1,10 @@
+//! Messages by the basic rules, read as views of their values (X.690, 8.1 to 8.14).
+#![tactic(auto)]
+
+mod arcs;
+mod build;
+mod leaf;
+mod read;
+mod shape;
+
+pub use read::{Read, read_ber};

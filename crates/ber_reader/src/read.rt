@@ -1,0 +1,104 @@
+//! Messages read as views.
+
+ghost use Rattle.asn_base.specs.Abstract.{AbstractValue};
+ghost use Rattle.ber_message.specs.Messages.{HasMessageFirst};
+ghost use Rattle.ber_reader.specs.Readings.{IsReading};
+ghost use Rattle.ber_source.specs.Seen.{token_of};
+ghost use Rattle.codec_source.specs.declared.fault.ReadFault.TheVariants.{MessageLimit, Trailing};
+ghost use Rattle.encodings.specs.Reading.{Encodes};
+ghost use Rattle.encodings.specs.Rules.{Basic};
+ghost use Rattle.reading_law.specs.Shows.{passed_in};
+ghost use Rattle.std.specs.Prelude.{◌≡◌, ◌∷◌, ◌<◌, ◌≤◌, [], Err, IfOk, length, map, ℕ};
+ghost use Rattle.views.specs.Seen.{IsView};
+ghost use Rattle.views.specs.Tree.{Tree, value_of};
+
+use crate::build::view_of;
+use asn_base::schema::TypeId;
+use ber_message::read_message;
+use ber_source::Token;
+use codec_code::Code;
+use codec_source::ReadFault;
+use std::alloc::Global;
+use views::View;
+
+/// A value that was read, and how many additions that its type lacks were skipped.
+#[derive(Drop)]
+pub struct Read<'a> {
+    pub view: View<'a>,
+    pub skipped: usize,
+}
+
+/// The value of the type that the octets encode by the basic rules (X.690, 8.1 to 8.14), as it stands there. Its
+/// strings are slices of the octets where they were primitive, and joined copies where they were in segments.
+///
+/// `MessageLimit`: there are more than 16,777,216 octets. `Trailing`: a value ends before the octets do.
+/// `OutsideConstraint`: they say what is no value of the type. Else the first fault met from the front is told. A type
+/// that the code lacks is `UnexpectedTag`.
+pub fn read_ber<'a>(
+    alloc: Global,
+    code: &Code,
+    id: TypeId,
+    octets: &'a [u8],
+) -> Result<Read<'a>, ReadFault>
+    ensures ok { IfOk result (λ r. IsReading code.now id.index octets.now r) }
+    // It is the only value that they encode, with the only number of additions.
+    ensures only { IfOk result (λ r. (t : Tree) (w : AbstractValue) (k : ℕ)
+        → IsView r.view t
+        → Encodes code.now Basic id.index w k octets.now
+        → (w ≡ value_of t) × (k ≡ r.skipped)) }
+    ensures limit { 16777216 < length octets.now → result ≡ Err MessageLimit }
+    ensures long { result ≡ Err MessageLimit → 16777216 < length octets.now }
+    ensures trailing { result ≡ Err Trailing → HasMessageFirst code.now id.index octets.now }
+{
+    code.accepted();
+    let tokens = match read_message(alloc, code, id, octets) {
+        Ok(tokens) => tokens,
+        Err(fault) => return Err(fault),
+    };
+    let view = match view_of(alloc, code, tokens.as_slice()) {
+        Ok(view) => view,
+        Err(_) => return Err(ReadFault::Memory),
+    };
+    let value = match view.to_value(alloc) {
+        Ok(value) => value,
+        Err(_) => return Err(ReadFault::Memory),
+    };
+    if !code.is_value(id, &value) {
+        return Err(ReadFault::OutsideConstraint);
+    }
+    Ok(Read {
+        view,
+        skipped: skipped_in(tokens.as_slice()),
+    })
+}
+
+/// 1 of an addition that was skipped, 0 of any other token.
+fn one_skipped(token: Token<'_>) -> usize
+    ensures few { result ≤ 1 }
+    ensures is { result ≡ passed_in (token_of token.entry ∷ []) }
+{
+    match token {
+        Token::Passed => 1,
+        Token::Component(_) => 0,
+        Token::Chosen(_) => 0,
+        Token::Begun(_) => 0,
+        Token::Ended => 0,
+        Token::Held {
+            kind: _,
+            form: _,
+            octets: _,
+            at: _,
+        } => 0,
+    }
+}
+
+/// How many additions were skipped.
+fn skipped_in(tokens: &[Token<'_>]) -> usize
+    ensures { result ≡ passed_in (map token_of tokens.now) }
+{
+    let mut skipped = 0;
+    for i in 0..tokens.len() {
+        skipped += one_skipped(tokens[i]);
+    }
+    skipped
+}
