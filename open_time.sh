@@ -98,6 +98,27 @@ defaulted_chain() {
     for (i = 1; i < n; i++) print "A" i " ::= SEQUENCE {a A" i - 1 " DEFAULT {}}" }' | in_module
 }
 
+# referred_items N: an enumeration of 1,000 items, and N components of its type, 250 in a list.
+referred_items() {
+  awk -v m="$1" 'BEGIN {
+    printf "E ::= ENUMERATED {"
+    for (i = 0; i < 1000; i++) printf "%si%d", (i ? ", " : ""), i
+    print "}"
+    for (i = 0; i < m; i++) {
+      if (i % 250 == 0) printf "%sL%d ::= SEQUENCE {", (i ? "}\n" : ""), i / 250; else printf ", "
+      printf "c%d E", i % 250
+    }
+    print "}" }' | in_module
+}
+
+# record_values N: N values of a SEQUENCE of three, one of them constrained.
+record_values() {
+  awk -v n="$1" 'BEGIN {
+    print "Record1 ::= SEQUENCE { number INTEGER (0..1000000), name OCTET STRING, flag BOOLEAN DEFAULT FALSE }"
+    print "v Record1 ::= { number 1, name \x27" "01\x27H }"
+    for (i = 1; i < n; i++) print "v" i " Record1 ::= { number " i ", name \x27" "0102\x27H, flag TRUE }" }' | in_module
+}
+
 # endless N: N thousand assignments of types, and no END.
 endless() {
   printf '%s\n' "M DEFINITIONS ::= BEGIN"
@@ -132,6 +153,8 @@ measure referred_values 15000 30000 60000
 measure referred_members 7000 14000 28000
 measure alike_numbers 16000 32000 64000
 measure defaulted_chain 1000 2000 4000
+measure referred_items 1000 2000 4000
+measure record_values 10000 20000 40000
 measure endless 180 360 720
 measure long_name 1 2 4
 
@@ -147,7 +170,7 @@ notations() {
     $5 ~ /^printed/ { tell("printed", $5) }'
 }
 
-# Constraints are bounded, and long notations read, by a program of their own, since asnc doesn't ask for them yet.
+# Constraints and long notations alone, by a program of their own.
 bounds=$here/crates/bound_bench/out/bound_bench
 if [[ -x $bounds ]]; then
   { "$bounds" >/dev/null; } 2>&1 | notations
