@@ -2,7 +2,9 @@
 # Says how long the program takes to open modules of growing size, ordinary ones and those that cost a careless front end
 # more than their length: the least of five runs each, in milliseconds. The time grows as the text does. Where the program
 # bound_bench is built, it says too how long constraints take, one of 60,000 numbers among them, in microseconds, and how long
-# the notation of a long value takes to be typed, and its value to be printed: one run each, in milliseconds.
+# the notation of a long value takes to be typed, and its value to be printed: one run each, in milliseconds. Where
+# settle_rows is built, it says how long modules full of types, values and DEFAULTs take to be opened and to be settled, and
+# how long two of their types take to be compared: one run each, in milliseconds.
 set -euo pipefail
 
 if [[ $# -eq 1 && ($1 == --help || $1 == -h) ]]; then
@@ -174,4 +176,23 @@ if [[ -x $bounds ]]; then
   { "$bounds" >/dev/null; } 2>&1 | notations
 else
   printf '%s\n' "bounds: bound_bench is not built (rt run in crates/bound_bench)"
+fi
+
+# settlings: lays out what settle_rows says of modules that were opened and settled, and of types that were compared.
+settlings() {
+  awk -F '[:,] ' '
+    function tell(call, what, words,   took) {
+      split(words, took, " ")
+      printf "%-21s %19s %6.1f ms\n", call, what, took[2] / 1000
+    }
+    $3 ~ /^compared/ { tell("compared", $2, $3); next }
+    { tell("opened " $1, $2, $3); tell("settled " $1, $2, $4) }'
+}
+
+# Types are settled and compared by a program of their own too: modules of 2,048 and of 4,096 types, and all that fit in.
+rows=$here/crates/settle_rows
+if [[ -x $rows/out/settle_rows ]]; then
+  { "$rows/out/settle_rows" "$rows/data/speed.rows" >/dev/null; } 2>&1 | settlings
+else
+  printf '%s\n' "settlings: settle_rows is not built (rt run in crates/settle_rows)"
 fi
