@@ -1,4 +1,4 @@
-# bash completion of asnc: its subcommand, its words, and the names of files. It asks nothing of the program.
+# bash completion of asnc: its subcommands, its words, and the names of files. It asks nothing of the program.
 
 # _asnc: what can stand at the place of the cursor.
 _asnc() {
@@ -6,14 +6,20 @@ _asnc() {
   local before=${COMP_WORDS[COMP_CWORD - 1]}
   COMPREPLY=()
   if [[ $COMP_CWORD -eq 1 ]]; then
-    mapfile -t COMPREPLY < <(compgen -W 'der --help -h --version -V' -- "$current")
+    mapfile -t COMPREPLY < <(compgen -W 'der list --help -h --version -V' -- "$current")
     return
   fi
-  if [[ ${COMP_WORDS[1]} != der || $before == --type || $before == --value ]]; then
+  local words
+  case ${COMP_WORDS[1]} in
+    der) words='--type --value --raw --context --help -h' ;;
+    list) words='--context --help -h' ;;
+    *) return ;;
+  esac
+  if [[ $before == --type || $before == --value ]]; then
     return
   fi
   if [[ $current == -* ]]; then
-    mapfile -t COMPREPLY < <(compgen -W '--type --value --raw --context --help -h' -- "$current")
+    mapfile -t COMPREPLY < <(compgen -W "$words" -- "$current")
     return
   fi
   compopt -o filenames 2>/dev/null

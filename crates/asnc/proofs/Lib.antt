@@ -1,4 +1,2 @@
 mod Dots
-mod Lists
-mod Onlies
-mod Openings
+mod Opening

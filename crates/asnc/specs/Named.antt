@@ -1,9 +1,10 @@
 -- What a text of the form Module.Name names in a program (X.680, 14.1).
 use Rattle.std.specs.Prelude.{◌≡◌, ℕ, ◌<◌, List, ◌++◌, ◌∷◌, length, get_or}
-use Rattle.trees.specs.Values.{Name}
+use Rattle.trees.specs.Values.{Name, Tree}
 use Rattle.names.specs.declared.scope.Assigned.{Assigned}
 use Rattle.names.specs.declared.scope.Assigned.TheVariants as assigned
 use Rattle.names.specs.Names.{Meaning}
+use Rattle.range_ends.specs.Ends.{IsValueAt}
 use Rattle.resolve.specs.Program.{Program}
 
 -- a module's name, in which no dot stands, a dot, and a name
@@ -23,3 +24,10 @@ TypeNamed p text t = IsNamed p text (assigned.Type t)
 
 abbrev pub ValueNamed : Program → List ℕ → ℕ → Type 0
 ValueNamed p text i = IsNamed p text (assigned.Value i)
+
+-- the first text names type t, the second a value, which has notation n, read in module M
+pub record AreNamed (p : Program) (first second : List ℕ) (t : ℕ) (M : Name) (n : Tree) : Type 0 where
+  pub typed : TypeNamed p first t
+  pub number : ℕ
+  pub valued : ValueNamed p second number
+  pub at : IsValueAt p number M n

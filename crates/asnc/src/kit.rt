@@ -1,227 +1,189 @@
 //! Modules that are ready for use.
 
-ghost use Rattle.std.specs.Prelude.{◌≡◌, ◌<◌, ◌↔◌, ℕ, List, length, map, Some, IfSome, IfOk, IfErr, MatchOption, MatchResult};
-ghost use Rattle.asn_base.specs.Accepted.{IsAccepted};
-ghost use Rattle.asn_base.specs.Types.{Resolved};
-ghost use Rattle.trees.specs.Modules.{ModuleTree, module_tree_of};
-ghost use Rattle.text.specs.declared.fault.LexFault.{LexFault};
-ghost use Rattle.text.specs.declared.fault.LexFault.TheVariants.{Memory as no_memory};
-ghost use Rattle.text.specs.Text.{Stands};
-ghost use Rattle.trees.specs.Values.{Name};
-ghost use Rattle.names.specs.declared.scope.Assigned.{Assigned as Assigned'};
-ghost use Rattle.resolve.specs.Program.{IsThere, Program};
-ghost use Rattle.type_table.specs.Lists.{AreSound};
-ghost use Rattle.messages.specs.declared.fault.Fault.{Fault as Fault'};
-ghost use Rattle.first_path.specs.FirstPath.{IsFirstPath};
-ghost use Rattle.first_path.specs.LeftOut.{IsOutside};
-ghost use Rattle.first_path.specs.declared.fault.Construct.{Construct as Construct'};
-ghost use Rattle.asnc.specs.Named.{IsNamed, IsQualified, TypeNamed, ValueNamed};
-ghost use Rattle.asnc.specs.Opening.{IsKitOf, IsModule, IsNoKit, IsOpened, IsOutsideFault, SaysMemory, IsOpeningFault, octets_of};
-ghost use Rattle.first_path.specs.Resolving.{AreTypes};
-ghost use Rattle.asnc.specs.Writing.{IsEncoded, IsNotEncoded};
+ghost use Rattle.std.specs.Prelude.{◌≡◌, ◌<◌, ℕ, List, map, IfOk, IfErr, MatchResult};
+ghost use Rattle.asn_base.specs.Abstract.{abstract};
+ghost use Rattle.asn_base.specs.Typed.{IsValue};
+ghost use Rattle.resolve.specs.Program.{Program};
+ghost use Rattle.front_end.specs.Accepted.{Accepted, AreAccepted, HasTypes, Keeps, octets_of};
+ghost use Rattle.front_end.specs.Faults.{Stands};
+ghost use Rattle.front_end.specs.declared.fault.FrontFault.TheVariants.{Memory as no_memory};
+ghost use Rattle.sinks.specs.Sent.{state};
+ghost use Rattle.messages.specs.declared.fault.Fault.TheVariants.{Device, Memory};
+ghost use Rattle.asnc.specs.Kits.{IsNotOpened};
+ghost use Rattle.asnc.specs.Writing.{IsEncoded, IsMeant, IsNotEncoded, IsNotMeant, IsSent, IsSentInPart};
 
-use crate::opening::modules_of;
-use asn_base::law::accepted_are_schemas;
+use crate::meaning::meant;
 use asn_base::schema::{Schema, TypeId};
-use first_path::{
-    FirstSchema, ProgramFault, Scope, ValueFault, check_program, notation_at, table_types, typed,
-};
-use first_writer::{WriteFault, write_der};
+use asn_base::value::Value;
+use codec_code::{Code, compile};
+use der_writer::{WriteFault, write_der, write_der_to};
+use front_end::law::{accepted_keep, values_of_schema};
+use front_end::{FrontFault, Modules};
 use messages::Fault;
-use names::Assigned;
-use names::fault::spot;
-use resolve::{Linked, link};
+use octet_account::account::Account;
+use resolve::Linked;
+use sinks::Sink;
 use std::alloc::Global;
-use syntax::Module;
+use std::marker::Model;
+use type_listing::list;
 
-/// Modules whose names have their meanings, with their types.
+/// Accepted modules: their names with their meanings, and the codec programs of their types.
 #[derive(Drop)]
 pub struct Kit {
-    scope: Scope,
-    schema: FirstSchema,
-    ghost sized: { length schema ≡ length scope.types },
-    ghost resolved: { ∥ AreTypes scope.types schema ∥₁ },
+    modules: Modules,
+    code: Code,
 }
 
-/// The parts of a text before and behind its first dot.
-fn qualified(text: &str) -> Option<(&str, &str)>
-    ensures parts { MatchOption result
-        ((M x : Name) → IsQualified text.now M x → ⊥)
-        (λ p. IsQualified text.now p.0.now p.1.now) }
-    ensures only { IfSome result (λ p. (M x : Name) → IsQualified text.now M x → (M ≡ p.0.now) × (x ≡ p.1.now)) }
-{
-    text.split_once('.')
+impl Model for Kit {
+    ghost use Rattle.std.specs.Coded.{codes};
+    ghost use Rattle.asn_base.specs.Codes.{abstract_value_code};
+    ghost use Rattle.resolve.specs.Codes.{tree_code};
+    ghost use Rattle.asnc.specs.Kits.{Opened};
+
+    ghost Value = { Opened };
+
+    ghost coded = { Prim.hlevel (codes, tree_code, abstract_value_code) };
+
+    ghost view = { λ k. record { program = k.modules; types = k.code } };
+
+    ghost use Rattle.front_end.specs.Accepted.{HasTypes};
+
+    ghost invariant = { λ k. HasTypes k.modules k.code };
 }
 
-/// What a text of the form `Module.Name` names.
-fn named(linked: &Linked, text: &str) -> Option<Assigned>
-    ensures is { (a : Assigned') → (result ≡ Some a ↔ IsNamed linked.now text.now a) }
-    ensures there { IfSome result (IsThere linked.now) }
+/// What a fault of texts is to a user.
+fn refusal(fault: FrontFault) -> Fault
+    ensures stands { (xs : List (List ℕ)) → Stands xs fault → IsNotOpened xs result }
+    ensures memory { fault ≡ no_memory → result ≡ Memory }
 {
-    linked.whole();
-    match qualified(text) {
-        None => None,
-        Some((within, name)) => linked.meaning(within, name),
+    match fault {
+        FrontFault::Memory => Fault::Memory,
+        fault => Fault::Front(fault),
     }
 }
 
-/// The kit of linked modules. The first construct that is left out is answered.
-fn kit_of_program(alloc: Global, linked: Linked) -> Result<Kit, Fault>
-    requires sound { AreSound linked.types }
-    ensures same { IfOk result (λ k. k.scope ≡ linked) }
-    ensures first { IfOk result (λ k. IsFirstPath linked) }
-    ensures types { IfOk result (λ k. AreTypes linked.types k.schema) }
-    ensures fault { IfErr result (IsOutsideFault linked) }
+/// The kit of modules that were accepted, with these types.
+fn kit_of(alloc: Global, linked: Linked, schema: &Schema) -> Result<Kit, Fault>
+    requires kept { Keeps linked }
+    requires types { HasTypes linked schema.now }
+    ensures program { IfOk result (λ k. k.program ≡ linked) }
+    ensures types { IfOk result (λ k. k.types ≡ schema.now) }
+    ensures memory { IfErr result (λ e. e ≡ Memory) }
 {
-    match check_program(alloc, &linked) {
-        Ok(()) => {}
-        Err(ProgramFault::Memory) => return Err(Fault::Memory),
-        Err(ProgramFault::OutOfProfile(construct, spot)) => {
-            return Err(Fault::OutOfProfile(construct, spot));
-        }
-    }
-    let types = table_types(alloc, &linked)?;
-    accepted_are_schemas();
-    let schema = FirstSchema::of(Schema::of(types));
-    let scope = Scope::of(alloc, linked)?;
-    Ok(Kit { scope, schema })
-}
-
-/// The kit of modules. The first fault of their names is answered, else the first construct that is left out.
-fn kit_of(alloc: Global, modules: Vec<Module>) -> Result<Kit, Fault>
-    ensures kit { IfOk result (λ k. IsKitOf (map module_tree_of modules.items) k.scope k.schema) }
-    ensures only { (p : Program) (s : List Resolved) →
-        IsKitOf (map module_tree_of modules.items) p s →
-        MatchResult result (λ k. k.scope ≡ p) SaysMemory }
-    ensures fault { IfErr result (IsNoKit (map module_tree_of modules.items)) }
-{
-    resolve::law::link_faults_exclude();
-    resolve::law::one_program();
-    first_path::law::outside_excludes();
-    match link(alloc, modules) {
-        Ok(linked) => kit_of_program(alloc, linked),
-        Err(fault) => Err(Fault::Name(fault)),
-    }
-}
-
-/// Faults that stand exclude acceptance: a fault of a text's octets, that the text is a module; a construct that is left out, that a
-/// program is one that this compiler takes. So a linked program has a kit just where nothing is left out.
-pub fn faults_exclude()
-    ensures texts { (x : List ℕ) (m : ModuleTree) (f : LexFault) → (f ≡ no_memory → ⊥) → Stands x f → IsModule x m → ⊥ }
-    ensures programs { (p : Program) (c : Construct') (M x : Name) → IsOutside p c M x → IsFirstPath p → ⊥ }
-{
-    text::law::tokens_or_fault();
-    first_path::law::outside_excludes();
-}
-
-/// The octets that encode a value of a type by the distinguished rules, both found by their names.
-fn encoded(
-    alloc: Global,
-    scope: &Scope,
-    schema: &Schema,
-    ty: &str,
-    id: TypeId,
-    value: &str,
-    number: usize,
-) -> Result<Vec<u8>, Fault>
-    requires there { id.index < length schema.now }
-    requires accepted { IsAccepted schema.now }
-    requires named { TypeNamed scope.now ty.now id.index }
-    requires within { number < length scope.now.values }
-    requires valued { ValueNamed scope.now value.now number }
-    ensures encoded { IfOk result (λ o. IsEncoded scope.now schema.now ty.now value.now o.items) }
-    ensures refused { IfErr result (IsNotEncoded scope.now schema.now ty.now value.now) }
-{
-    let (within, notation) = notation_at(scope.program(), number);
-    let typed = match typed(alloc, scope, schema, id, within, notation) {
-        Ok(typed) => typed,
-        Err(fault) => return Err(Fault::Value(fault)),
-    };
-    match write_der(alloc, schema, id, &typed) {
-        Ok(octets) => Ok(octets),
-        Err(WriteFault::Memory) => Err(Fault::Memory),
-        Err(WriteFault::TooLong) => Err(Fault::TooLong),
-        Err(WriteFault::NotOfType) => {
-            let told = spot(alloc, within, "", notation.at)?;
-            Err(Fault::Value(ValueFault::NotOfType(told)))
-        }
+    match compile(alloc, schema) {
+        Ok(code) => Ok(Kit {
+            modules: Modules::of(linked),
+            code,
+        }),
+        Err(codec_code::Fault::Memory) => Err(Fault::Memory),
     }
 }
 
 impl Kit {
-    /// Reads the texts of modules, and links them.
+    /// Reads the texts of modules, links them, and compiles their types. No texts at all are accepted too, and name nothing.
     ///
-    /// The first fault is answered, in this order: of the octets and then of the tokens of each text in turn, of the names of all
-    /// modules, of constructs that are left out.
+    /// The first fault is answered, in this order: of the octets and then of the tokens of each text in turn; of the names of
+    /// all modules; of tags; of constraints; of what stands behind markers, of DEFAULTs and of value assignments. `Memory`
+    /// where there was not enough of it.
     pub fn open(alloc: Global, texts: &[Vec<u8>]) -> Result<Kit, Fault>
-        // Each text has tokens and is its module, the modules link to the kit's program, which holds nothing that is left out, and the schema has its types.
-        ensures opened { IfOk result (λ k. IsOpened (map octets_of texts.now) k.scope k.schema) }
-        // Texts that are a kit's are opened, as that kit's program, unless memory runs out.
-        ensures only { (p : Program) (s : List Resolved) →
-            IsOpened (map octets_of texts.now) p s →
-            MatchResult result (λ k. k.scope ≡ p) SaysMemory }
-        // A fault stands.
-        ensures fault { IfErr result (IsOpeningFault (map octets_of texts.now)) }
+        // The texts are accepted, as this program with these types.
+        ensures opened { IfOk result (λ k. Accepted (map octets_of texts.now) k.program k.types) }
+        // Texts that are accepted are opened, as the program that they are, unless memory runs out.
+        ensures only { (p : Program) →
+            AreAccepted (map octets_of texts.now) p →
+            MatchResult result (λ k. k.program ≡ p) (λ e. e ≡ Memory) }
+        // A fault stands, the first one in reading order.
+        ensures fault { IfErr result (IsNotOpened (map octets_of texts.now)) }
     {
-        match modules_of(alloc, texts) {
-            Ok(modules) => kit_of(alloc, modules),
-            Err(fault) => Err(fault),
+        accepted_keep();
+        match front_end::open(alloc, texts) {
+            Ok(front) => kit_of(alloc, front.linked, &front.schema),
+            Err(fault) => Err(refusal(fault)),
         }
     }
 
-    /// The number of the type that a text names as `Module.Type`.
-    fn type_number(&self, name: &str) -> Option<TypeId>
-        ensures within { IfSome result (λ id. id.index < length self.now.schema) }
-        ensures named { MatchOption result
-            ((t : ℕ) → TypeNamed self.now.scope name.now t → ⊥)
-            (λ id. TypeNamed self.now.scope name.now id.index) }
+    /// The type that the first text names, and the value that the second one means under it.
+    fn value_of(&self, alloc: Global, ty: &str, value: &str) -> Result<(TypeId, Value), Fault>
+        ensures meant { IfOk result (λ r. IsMeant self.now.program ty.now value.now r.0.index (abstract r.1)) }
+        ensures is { IfOk result (λ r. IsValue self.now.types r.0.index (abstract r.1)) }
+        ensures refused { IfErr result (IsNotMeant self.now.program ty.now value.now) }
     {
-        match named(self.scope.program(), name) {
-            Some(Assigned::Type(index)) => Some(TypeId { index }),
-            Some(Assigned::Value(_)) => None,
-            None => None,
-        }
+        values_of_schema();
+        self.modules.kept();
+        meant(alloc, &self.modules, ty, value)
     }
 
-    /// The number of the value that a text names as `Module.value`.
-    fn value_number(&self, name: &str) -> Option<usize>
-        ensures within { IfSome result (λ i. i < length self.now.scope.values) }
-        ensures named { MatchOption result
-            ((i : ℕ) → ValueNamed self.now.scope name.now i → ⊥)
-            (λ i. ValueNamed self.now.scope name.now i) }
-    {
-        match named(self.scope.program(), name) {
-            Some(Assigned::Value(number)) => Some(number),
-            Some(Assigned::Type(_)) => None,
-            None => None,
-        }
-    }
-
-    /// The octets that encode a value of a type by the distinguished rules, both named as `Module.Name`, where they are assigned
-    /// or where they are imported.
+    /// The octets that encode a value of a type by the distinguished rules, and the account of them; both are named as
+    /// `Module.Name`, where they are assigned or where they are imported. The value's notation is read under this type,
+    /// whichever it is assigned with.
     ///
     /// `NoType` where the first name is no type's, else `NoValue` where the second is no value's; `Value` where the value's
     /// notation stands for no value of the type; `TooLong` where the encoding has more than 16,777,216 octets; `Memory`.
-    pub fn der(&self, alloc: Global, ty: &str, value: &str) -> Result<Vec<u8>, Fault>
-        // The octets are the one encoding of a value that a notation stands for in its module.
-        ensures encoded { IfOk result (λ o. IsEncoded self.now.scope self.now.schema ty.now value.now o.items) }
+    pub fn der(&self, alloc: Global, ty: &str, value: &str) -> Result<(Vec<u8>, Account), Fault>
+        // The octets are the one encoding of what the value's notation stands for under the type; the account is theirs.
+        ensures encoded { IfOk result (λ r.
+            IsEncoded self.now.program self.now.types ty.now value.now r.0.items r.1) }
         // A refusal stands.
-        ensures refused { IfErr result (IsNotEncoded self.now.scope self.now.schema ty.now value.now) }
+        ensures refused { IfErr result (IsNotEncoded self.now.program self.now.types ty.now value.now) }
     {
-        let Some(id) = self.type_number(ty) else {
-            return Err(Fault::NoType(String::from_str(alloc, ty)?));
+        let (id, typed) = match self.value_of(alloc, ty, value) {
+            Ok(found) => found,
+            Err(fault) => return Err(fault),
         };
-        let Some(number) = self.value_number(value) else {
-            return Err(Fault::NoValue(String::from_str(alloc, value)?));
+        match write_der(alloc, &self.code, id, &typed) {
+            Ok(written) => Ok(written),
+            Err(WriteFault::Memory) => Err(Fault::Memory),
+            Err(WriteFault::TooLong) => Err(Fault::TooLong),
+            Err(_) => unreachable!(),
+        }
+    }
+
+    /// Writes what [`Kit::der`] answers to a sink, one octet behind the other, and answers the account of it.
+    ///
+    /// `NoType`, `NoValue`, `Value`, `TooLong` and `Memory` as there, before the first octet; `Device` where one call of the
+    /// sink failed, which isn't tried again, with how many octets went out before it.
+    pub fn der_to<S: Sink>(
+        &self,
+        alloc: Global,
+        ty: &str,
+        value: &str,
+        sink: &mut S,
+    ) -> Result<Account, Fault>
+        requires room { S.failed sink.old < u64.MAX }
+        // The sink has taken just the one encoding, and no call failed; the account is that of the encoding.
+        ensures sent { IfOk result (IsSent self.now.program self.now.types ty.now value.now
+            (state (S.taken sink.old) (S.failed sink.old))
+            (state (S.taken sink.new) (S.failed sink.new))) }
+        // It has taken just the first n octets of the encoding, fewer than there are, and one call failed.
+        ensures device { IfErr result (λ e. (n : ℕ) →
+            e ≡ Device n →
+            IsSentInPart self.now.program self.now.types ty.now value.now
+            (state (S.taken sink.old) (S.failed sink.old))
+            (state (S.taken sink.new) (S.failed sink.new))
+            n) }
+        // Any other refusal stands as that of `der`, and nothing went out.
+        ensures refused { IfErr result (λ e.
+            ((n : ℕ) → e ≡ Device n → ⊥) →
+            IsNotEncoded self.now.program self.now.types ty.now value.now e × (sink.new ≡ sink.old)) }
+    {
+        let (id, typed) = match self.value_of(alloc, ty, value) {
+            Ok(found) => found,
+            Err(fault) => return Err(fault),
         };
-        encoded(
-            alloc,
-            &self.scope,
-            self.schema.schema(),
-            ty,
-            id,
-            value,
-            number,
-        )
+        match write_der_to(alloc, &self.code, id, &typed, sink) {
+            Ok(account) => Ok(account),
+            Err(WriteFault::Memory) => Err(Fault::Memory),
+            Err(WriteFault::TooLong) => Err(Fault::TooLong),
+            Err(WriteFault::Device(count)) => Err(Fault::Device(count)),
+            Err(WriteFault::NotOfType) => unreachable!(),
+        }
+    }
+
+    /// All types in the order of their numbers, to be read by people: of each its number, where it is written, its tags, and
+    /// the steps of its routine. Refused for want of memory alone.
+    pub fn list(&self, alloc: Global) -> Result<String, Fault>
+        ensures { IfErr result (λ e. e ≡ Memory) }
+    {
+        Ok(list(alloc, self.modules.linked(), &self.code)?)
     }
 }

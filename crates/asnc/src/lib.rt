@@ -2,8 +2,11 @@
 #![tactic(auto)]
 
 mod kit;
-mod opening;
+pub mod law;
+mod meaning;
+mod naming;
 
-pub use first_path::{Construct, ValueFault};
-pub use kit::{Kit, faults_exclude};
-pub use messages::{Fault, Given, Job, Verb, job, number, report, status};
+pub use kit::Kit;
+pub use messages::{Fault, number, status};
+pub use octet_account::account::Account;
+pub use sinks::{Counted, InMemory, Sink, Stops, send_all};

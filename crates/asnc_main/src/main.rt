@@ -1,8 +1,10 @@
 //! The program `asnc`: reads its words and files, and writes what they ask for.
 #![tactic(auto)]
 
-use asnc::{Fault, Job, Kit, job, report, status};
-use std::io::{Read, Write};
+use asnc::{Counted, Fault, Kit, send_all, status};
+use command_line::{Job, Verb, job};
+use reports::report;
+use std::io::Read;
 use std::process::ExitCode;
 use std::{env, fs, io};
 
@@ -51,21 +53,35 @@ fn end_in(rt: &HostRuntime, job: &Job, texts: &[Vec<u8>], fault: &Fault) -> Exit
     }
 }
 
-/// The octets that a job asks for.
-fn work(rt: &HostRuntime, job: &Job, texts: &[Vec<u8>]) -> Result<Vec<u8>, Fault> {
-    let kit = Kit::open(rt.alloc(), texts)?;
-    kit.der(rt.alloc(), job.ty.as_str(), job.value.as_str())
+/// Writes a text to standard output.
+fn write(rt: &HostRuntime, text: &str) -> Result<(), Fault> {
+    let mut out = Counted::of(io::writer(rt));
+    send_all(&mut out, text.as_bytes()).map_err(|sent| Fault::Device(sent))
 }
 
-/// Writes octets, themselves or in hexadecimal.
-fn write(rt: &HostRuntime, job: &Job, octets: &[u8]) -> Result<(), Fault> {
-    let mut out = io::writer(rt);
-    if job.raw {
-        return out.write_all(octets).map_err(|_| Fault::Device);
+/// Writes the octets that a job asks for, as they are.
+fn write_raw(rt: &HostRuntime, job: &Job, kit: &Kit) -> Result<(), Fault> {
+    let mut out = Counted::of(io::writer(rt));
+    let _account = kit.der_to(rt.alloc(), job.ty.as_str(), job.value.as_str(), &mut out)?;
+    Ok(())
+}
+
+/// Writes the octets that a job asks for in hexadecimal, with a line end.
+fn write_hex(rt: &HostRuntime, job: &Job, kit: &Kit) -> Result<(), Fault> {
+    let (octets, _account) = kit.der(rt.alloc(), job.ty.as_str(), job.value.as_str())?;
+    let mut line = hex::encode_upper(rt.alloc(), octets.as_slice())?;
+    line.push('\n')?;
+    write(rt, line.as_str())
+}
+
+/// Does a job on the texts of its files.
+fn work(rt: &HostRuntime, job: &Job, texts: &[Vec<u8>]) -> Result<(), Fault> {
+    let kit = Kit::open(rt.alloc(), texts)?;
+    match job.verb {
+        Verb::Der if job.raw => write_raw(rt, job, &kit),
+        Verb::Der => write_hex(rt, job, &kit),
+        Verb::List => write(rt, kit.list(rt.alloc())?.as_str()),
     }
-    let hex = hex::encode_upper(rt.alloc(), octets)?;
-    let line = format!(in rt.alloc(); "{hex}\n")?;
-    out.write_all(line.as_bytes()).map_err(|_| Fault::Device)
 }
 
 /// Why a file could not be read.
@@ -117,17 +133,14 @@ fn texts_of(rt: &HostRuntime, files: &[String]) -> Result<Vec<Vec<u8>>, Fault> {
     Ok(texts)
 }
 
-/// Does a job on the texts of its files.
+/// Reads the files of a job and does it.
 fn run(rt: &HostRuntime, job: &Job) -> ExitCode {
     let texts = match texts_of(rt, job.files.as_slice()) {
         Ok(texts) => texts,
         Err(fault) => return end_in(rt, job, &[], &fault),
     };
     match work(rt, job, texts.as_slice()) {
-        Ok(octets) => match write(rt, job, octets.as_slice()) {
-            Ok(()) => ExitCode::SUCCESS,
-            Err(fault) => end(rt, &fault),
-        },
+        Ok(()) => ExitCode::SUCCESS,
         Err(fault) => end_in(rt, job, texts.as_slice(), &fault),
     }
 }

@@ -1,5 +1,6 @@
 -- What one step does, and what one turn does.
-use Rattle.std.proofs.Common.{Bor, ◌≡◌, ℕ, suc, ◌<◌, ◌≤◌, List, [], ◌∷◌, ◌++◌, length, map, refl, sym, ap, subst, ◌∙◌, arith, append_assoc, append-nil}
+use Rattle.std.proofs.Common.{Bor, ◌≡◌, ℕ, suc, ◌<◌, ◌≤◌, List, [], ◌∷◌, ◌++◌, map, refl, sym, ap, subst, arith, append_assoc, append-nil}
+use Rattle.std.specs.Prelude.{Option, Some, None}
 use Rattle.asn_base.specs.declared.schema.TypeId.{TypeId}
 use Rattle.asn_base.specs.declared.value.Value.{Value}
 use Rattle.asn_base.specs.Abstract.{AbstractValue, abstract, row_of_list}
@@ -16,7 +17,7 @@ use Rattle.codec_machine.specs.declared.fault.RunFault.TheVariants.{NotOfType}
 use Rattle.codec_machine.specs.declared.frame.Frame.{Frame}
 use Rattle.codec_machine.specs.declared.frame.Frame.TheVariants.{Routine, Elements as ElementsLeft, Parts as PartsLeft, Part as PartEnd}
 use Rattle.codec_machine.specs.Weights.{weights, total}
-use Rattle.codec_machine.specs.Frames.{ActedBy, AddsLeaf, HasNoContents, Told, Left, Tellable, IsToldNothing, frame_weight, Replaced, Turned, Reached, Ran, steps_weight}
+use Rattle.codec_machine.specs.Frames.{and_next, ActedBy, AddsLeaf, AddsWhole, HasNoContents, Told, Left, Tellable, IsToldNothing, frame_weight, Replaced, Turned, Reached, Ran, steps_weight}
 use Rattle.codec_machine.proofs.Left.{one_left, tell_none, tell_more, turned_by, untold_by}
 use Rattle.codec_machine.proofs.Inversion.{behind_head, behind_end, behind_rest, behind_leaf, nothing_told, contents_of_leaf, no_call}
 use Rattle.codec_machine.proofs.Weigh.{room}
@@ -101,6 +102,21 @@ module _ {S : Type 0} (s : List Resolved) (adds : S → List Event → S → Typ
       (λ ys t. nothing_told (subst (λ q. Steps s id.index q (abstract v.now) ys) d (subst (λ q. Told s q ys) e t)))
       (let k = same_weight f (Routine id ss v) e in omega arith)
       (record { events = []; added = ad; replaced = nothing_pushed (λ ys. ys ≡ []) 1 [] olds refl (omega arith) })
+
+  -- a header, contents and the end of the header at once
+  pub whole_turned : (f : Frame) (id : TypeId) (ss : Bor (List Step)) (v : Bor Value) (h : Head') (k : LeafKind)
+      (olds : List Frame) (a b : S)
+      → f ≡ Routine id ss v
+      → ss.now ≡ Head h ∷ Leaf k ∷ End ∷ []
+      → AddsWhole adds h k (abstract v.now) a b
+      → Turned s adds (olds ++ f ∷ []) a olds b
+  whole_turned f id ss v h k olds a b e d ad =
+      let es = opens h.tag h.constructed h.row ∷ puts ad.0 ∷ closes ∷ [] in
+      turned_by s adds (Steps s id.index (Head h ∷ Leaf k ∷ End ∷ []) (abstract v.now)) 1 olds olds f a b
+      (λ ys t. subst (λ q. Told s q ys) (sym e) (subst (λ q. Steps s id.index q (abstract v.now) ys) (sym d) t))
+      (λ ys t. subst (λ q. Steps s id.index q (abstract v.now) ys) d (subst (λ q. Told s q ys) e t))
+      (let k' = same_weight f (Routine id ss v) e in omega arith)
+      (record { events = es; added = ad.2; replaced = nothing_pushed (Steps s id.index (Head h ∷ Leaf k ∷ End ∷ []) (abstract v.now)) 1 es olds (head (leaf ad.1 (ending finished))) (omega arith) })
 
   pub elements_turned : (f : Frame) (id : TypeId) (vs : Bor (List Value)) (olds news : List Frame) (a : S)
       → f ≡ ElementsLeft id vs
@@ -199,6 +215,17 @@ untold_leaf s t ss v x kind fault e n k es d =
     let p = contents_of_leaf (subst (λ q. Steps s t (q ∷ ss) v es) e d) in
     n k p.0 p.1
 
+pub untold_whole : (s : List Resolved) (f : Frame) (id : TypeId) (ss : Bor (List Step)) (v : Bor Value) (h : Head')
+    (kind : LeafKind) (olds : List Frame) (fault : RunFault)
+    → f ≡ Routine id ss v
+    → ss.now ≡ Head h ∷ Leaf kind ∷ End ∷ []
+    → (fault ≡ NotOfType → HasNoContents kind (abstract v.now))
+    → IsToldNothing (Left s (olds ++ f ∷ [])) fault
+untold_whole s f id ss v h kind olds fault e d n =
+    untold_by s (Steps s id.index (Head h ∷ Leaf kind ∷ End ∷ []) (abstract v.now)) olds f fault
+    (λ ys t. subst (λ q. Steps s id.index q (abstract v.now) ys) d (subst (λ q. Told s q ys) e t))
+    (λ k es t. let p = behind_head t in let q = contents_of_leaf p.told in n k q.0 q.1)
+
 pub untold_routine : (s : List Resolved) (f : Frame) (id : TypeId) (ss others : Bor (List Step)) (v : Bor Value)
     (x : Step) (olds : List Frame) (fault : RunFault)
     → f ≡ Routine id ss v
@@ -209,9 +236,10 @@ untold_routine s f id ss others v x olds fault e d n =
     untold_by s (Steps s id.index (x ∷ others.now) (abstract v.now)) olds f fault
     (λ ys t. subst (λ q. Steps s id.index q (abstract v.now) ys) d (subst (λ q. Told s q ys) e t)) n
 
-pub one_pushed : (news olds : List Frame) (f : Frame) → news ≡ olds ++ f ∷ [] → olds ≡ [] → news ≡ f ∷ []
-one_pushed news olds f e n = e ∙ ap (λ q. q ++ f ∷ []) n
-
-pub no_items : (xs : List Frame) → length xs ≡ 0 → xs ≡ []
-no_items [] h = refl
-no_items (x ∷ xs) h = absurd (omega arith)
+-- none goes on, and none is left
+pub none_next : (fs : List Frame) (o : Option Frame)
+    → ((f : Frame) → o ≡ Some f → ⊥)
+    → (o ≡ None → fs ≡ [])
+    → and_next fs o ≡ []
+none_next fs None n e = e refl
+none_next fs (Some f) n e = absurd (n f refl)

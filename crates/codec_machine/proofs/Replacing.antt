@@ -5,18 +5,22 @@ use Rattle.asn_base.specs.declared.schema.TypeId.{TypeId}
 use Rattle.asn_base.specs.declared.value.Value.{Value}
 use Rattle.asn_base.specs.Abstract.{AbstractValue, abstract, fields, list, alternative, row_of_list}
 use Rattle.asn_base.specs.Types.{Resolved}
+use Rattle.codec_code.specs.declared.step.Head.{Head as Head'}
+use Rattle.codec_code.specs.declared.step.LeafKind.{LeafKind}
 use Rattle.codec_code.specs.declared.step.Field.{Field as Field'}
 use Rattle.codec_code.specs.declared.step.Step.{Step}
-use Rattle.codec_code.specs.declared.step.Step.TheVariants.{Field, Ranked, Each, EachSorted, Pick, Call}
-use Rattle.codec_code.specs.Events.{Event, leaves_out, parts}
+use Rattle.codec_code.specs.declared.step.Step.TheVariants.{Head, Leaf, End, Field, Ranked, Each, EachSorted, Pick, Call}
+use Rattle.codec_code.specs.Events.{Event, opens, puts, closes, leaves_out, parts}
 use Rattle.codec_code.specs.Routines.{routine_at}
-use Rattle.codec_code.specs.Steps.{Steps, left_out, written, ranked_left_out, ranked_written, each, each_sorted, pick, Elements, element, Parts, part, has_default}
+use Rattle.codec_code.specs.Steps.{Steps, HasContents, finished, head, leaf, ending, left_out, written, ranked_left_out, ranked_written, each, each_sorted, pick, Elements, element, Parts, part, has_default}
+use Rattle.codec_machine.specs.declared.fault.RunFault.{RunFault}
+use Rattle.codec_machine.specs.declared.fault.RunFault.TheVariants.{NotOfType}
 use Rattle.codec_machine.specs.declared.frame.Frame.{Frame}
 use Rattle.codec_machine.specs.declared.frame.Frame.TheVariants.{Routine, Elements as ElementsLeft, Parts as PartsLeft, Part as PartEnd}
 use Rattle.codec_machine.specs.Weights.{weight, weights, inner, total}
-use Rattle.codec_machine.specs.Frames.{Replaced, ReplacedBy, LeavesOut, WritesIt, steps_weight}
+use Rattle.codec_machine.specs.Frames.{Replaced, ReplacedBy, HasNoContents, IsUntold, LeavesOut, WritesIt, steps_weight}
 use Rattle.codec_machine.proofs.Left.{one_left, two_left, three_left, tell_none, tell_more}
-use Rattle.codec_machine.proofs.Inversion.{behind_field, held_field, of_field, of_ranked, of_each, of_sorted, same_list, of_element, of_part, of_pick, called_type}
+use Rattle.codec_machine.proofs.Inversion.{behind_field, behind_head, contents_of_leaf, held_field, of_field, of_ranked, of_each, of_sorted, same_list, of_element, of_part, of_pick, called_type}
 use Rattle.codec_machine.proofs.Weigh.{routine_weight, component_weight, room, room_fewer}
 
 two_pushed : (olds mids news : List Frame) (f g : Frame)
@@ -93,6 +97,39 @@ module _ (s : List Resolved) (id : TypeId) (olds : List Frame) where
           let h = room (total s) (Field f) rest.now (abstract v.now) (steps_weight (total s) ss.now (abstract w.now))
           (let a = held_weight s f.ty ss.now (abstract w.now) e in let b = component_weight (total s) o.row f.place (abstract w.now) o.written.stands in let c = inner_at (total s) (abstract v.now) (fields o.row) o.is in omega arith) in omega arith;
     }
+
+    -- a component that holds no others, told at once
+    pub field_whole : (f : Field') (news : List Frame) (ss : Bor (List Step)) (w : Bor Value) (h : Head') (k : LeafKind)
+        (x : List ℕ)
+        → WritesIt s id.index f (abstract v.now) (abstract w.now)
+        → ss.now ≡ routine_at s f.ty.index
+        → ss.now ≡ Head h ∷ Leaf k ∷ End ∷ []
+        → HasContents k (abstract w.now) x
+        → news ≡ olds ++ Routine id rest v ∷ []
+        → ReplacedBy s id.index (Field f ∷ rest.now) (abstract v.now)
+        (opens h.tag h.constructed h.row ∷ puts x ∷ closes ∷ []) olds news
+    field_whole f news ss w h k x o e d has is = record {
+      pushed = Routine id rest v ∷ [];
+      is = is;
+      left = λ es l.
+          let told = opens h.tag h.constructed h.row ∷ puts x ∷ closes ∷ [] in
+          subst (λ q. Steps s id.index (Field f ∷ rest.now) q (told ++ es)) (sym o.is)
+          (written o.written (subst (λ q. Steps s f.ty.index q (abstract w.now) told) (sym d ∙ e) (head (leaf has (ending finished)))) (subst (λ q. Steps s id.index rest.now q es) o.is (one_left s (Routine id rest v) es l)) refl);
+      stays = λ es t. let p = behind_field (of_field t) in tell_more s (Routine id rest v) [] p.events p.told (tell_none s);
+      less = (let h' = room (total s) (Field f) rest.now (abstract v.now) 0 (omega arith) in omega arith);
+    }
+
+    -- where it has no contents
+    pub field_untold : (f : Field') (ss : Bor (List Step)) (w : Bor Value) (h : Head') (k : LeafKind) (fault : RunFault)
+        → WritesIt s id.index f (abstract v.now) (abstract w.now)
+        → ss.now ≡ routine_at s f.ty.index
+        → ss.now ≡ Head h ∷ Leaf k ∷ End ∷ []
+        → (fault ≡ NotOfType → HasNoContents k (abstract w.now))
+        → IsUntold s id.index (Field f ∷ rest.now) (abstract v.now) fault
+    field_untold f ss w h k fault o e d none = λ n es t.
+        let held' = held_field (abstract w.now) o (of_field t) in
+        let p = behind_head (subst (λ q. Steps s f.ty.index q (abstract w.now) held'.events) (sym e ∙ d) held'.told) in
+        let q = contents_of_leaf p.told in none n q.0 q.1
 
     pub ranked_in : (f : Field') (r : ℕ) (mids lates news : List Frame) (ss : Bor (List Step)) (w : Bor Value)
         → WritesIt s id.index f (abstract v.now) (abstract w.now)

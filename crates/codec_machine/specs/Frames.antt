@@ -1,11 +1,12 @@
 -- What frames stand for, and how many steps they can take.
-use Rattle.std.specs.Prelude.{◌≡◌, ℕ, suc, ◌+◌, ◌*◌, ◌<◌, List, [], ◌∷◌, ◌++◌, length, map}
+use Rattle.std.specs.Prelude.{◌≡◌, ℕ, suc, ◌+◌, ◌*◌, ◌<◌, List, [], ◌∷◌, ◌++◌, length, map, Option, Some, None}
 use Rattle.asn_base.specs.Abstract.{AbstractValue, abstract, fields, Row, row_of_list}
 use Rattle.asn_base.specs.Types.{TypeNumber, Resolved}
 use Rattle.codec_code.specs.declared.step.Field.{Field as Field'}
+use Rattle.codec_code.specs.declared.step.Head.{Head as Head'}
 use Rattle.codec_code.specs.declared.step.LeafKind.{LeafKind}
 use Rattle.codec_code.specs.declared.step.Step.{Step}
-use Rattle.codec_code.specs.Events.{Event, puts, parts}
+use Rattle.codec_code.specs.Events.{Event, opens, puts, closes, parts}
 use Rattle.codec_code.specs.Routines.{routine_at}
 use Rattle.codec_code.specs.Steps.{Steps, Elements, Parts, HasContents, IsLeftOut, IsWritten}
 use Rattle.codec_machine.specs.declared.fault.RunFault.{RunFault}
@@ -18,6 +19,11 @@ use Rattle.codec_machine.specs.Weights.{inner, weights, total}
 -- contents octets of the value were added
 abbrev pub AddsLeaf : {S : Type 0} → (S → List Event → S → Type 0) → LeafKind → AbstractValue → S → S → Type 0
 AddsLeaf adds k v a b = (x : List ℕ) × HasContents k v x × adds a (puts x ∷ []) b
+
+-- a header with contents octets of the value was added
+abbrev pub AddsWhole : {S : Type 0} → (S → List Event → S → Type 0) → Head' → LeafKind → AbstractValue → S → S → Type 0
+AddsWhole adds h k v a b =
+    (x : List ℕ) × HasContents k v x × adds a (opens h.tag h.constructed h.row ∷ puts x ∷ closes ∷ []) b
 
 -- no octets are contents of the value
 abbrev pub HasNoContents : LeafKind → AbstractValue → Type 0
@@ -43,6 +49,11 @@ Left s (f ∷ fs) es = (xs : List Event) × (ys : List Event) × Left s fs xs ×
 pub record Tellable (T : List Event → Type 0) : Type 0 where
   pub events : List Event
   pub told : T events
+
+-- the frames with the one that goes on, where one does
+abbrev pub and_next : List Frame → Option Frame → List Frame
+and_next fs None = fs
+and_next fs (Some f) = fs ++ f ∷ []
 
 abbrev pub frame_weight : ℕ → Frame → ℕ
 frame_weight l (Routine t steps v) = suc (length steps.now * (2 + inner l (abstract v.now)))

@@ -2,7 +2,8 @@
 
 ghost use Rattle.asn_base.specs.Abstract.{abstract};
 ghost use Rattle.codec_code.specs.Events.{Event, opens, closes, leaves_out, parts};
-ghost use Rattle.codec_machine.specs.Frames.{AddsLeaf, HasNoContents};
+ghost use Rattle.codec_code.specs.declared.step.RowKind.TheVariants.{Leaf as LeafRow};
+ghost use Rattle.codec_machine.specs.Frames.{AddsLeaf, AddsWhole, HasNoContents};
 ghost use Rattle.codec_machine.specs.declared.fault.RunFault.TheVariants.{NotOfType};
 ghost use Rattle.std.specs.Prelude.{◌≡◌, List, [], ◌∷◌, ◌++◌, IfErr, OnOk};
 
@@ -24,6 +25,13 @@ pub trait Backend<'a> {
     /// The contents of a value that holds no others. `NotOfType`: the value has no such contents.
     fn leaf(&mut self, kind: LeafKind, value: &'a Value) -> Result<(), RunFault>
         ensures ok { OnOk result (AddsLeaf adds kind (abstract value.now) self.old self.new) }
+        ensures not_of_type { IfErr result (λ e. e ≡ NotOfType → HasNoContents kind (abstract value.now)) };
+
+    /// A header, the contents of a value that holds no others, and the end of the header. `NotOfType`: the value has no
+    /// such contents.
+    fn whole(&mut self, head: Head, kind: LeafKind, value: &'a Value) -> Result<(), RunFault>
+        requires { head.row ≡ LeafRow }
+        ensures ok { OnOk result (AddsWhole adds head kind (abstract value.now) self.old self.new) }
         ensures not_of_type { IfErr result (λ e. e ≡ NotOfType → HasNoContents kind (abstract value.now)) };
 
     /// The nearest open header ends here.

@@ -10,7 +10,7 @@ use crate::act::turn;
 use crate::backend::Backend;
 use crate::fault::RunFault;
 use crate::frame::Frame;
-use crate::push::add;
+use crate::push::next_of;
 use asn_base::schema::TypeId;
 use asn_base::value::Value;
 use codec_code::{Code, Coding};
@@ -29,13 +29,11 @@ pub fn run<'a, B: Backend<'a>>(
         (abstract value.now))) }
 {
     let mut frames = Vec::new(alloc);
-    add(
-        &mut frames,
-        Frame::Routine(id, code.steps(id, Coding::Tagged), value),
-    )?;
-    while let Some(frame) = frames.pop() {
+    let steps = code.steps(id, Coding::Tagged);
+    let mut next = Some(Frame::Routine(id, steps, value));
+    while let Some(frame) = next {
         match turn(code, frame, &mut frames, backend) {
-            Ok(()) => {}
+            Ok(after) => next = next_of(&mut frames, after),
             Err(fault) => return Err(fault),
         }
     }

@@ -3,16 +3,17 @@
 ghost use Rattle.asn_base.specs.Abstract.{AbstractValue, abstract, alternative, fields, list, row_of_list, row_of_options, Row};
 ghost use Rattle.codec_code.specs.Steps.{component_at, IsDefaultAt};
 ghost use Rattle.codec_code.specs.Steps as steps;
-ghost use Rattle.codec_code.specs.declared.step.Step.TheVariants.{Call};
+ghost use Rattle.codec_code.specs.declared.step.RowKind.TheVariants.{Leaf as LeafRow};
+ghost use Rattle.codec_code.specs.declared.step.Step.TheVariants.{Call, End, Head as HeadStep, Leaf};
 ghost use Rattle.asn_base.specs.declared.schema.TypeId.{TypeId as TypeId'};
 ghost use Rattle.codec_machine.specs.Frames.{HasNoField, LeavesOut, WritesIt};
-ghost use Rattle.std.specs.Prelude.{◌≡◌, ◌<◌, ◌≤◌, ◌∷◌, [], ℕ, IfOk, OnErr, MatchBool, MatchOption, None, Some, drop, length, true, map, option_map, slice_get};
+ghost use Rattle.std.specs.Prelude.{◌≡◌, ◌<◌, ◌≤◌, ◌∷◌, [], ℕ, IfOk, IfSome, OnErr, MatchBool, MatchOption, None, Some, drop, length, true, map, option_map, slice_get};
 
 use crate::fault::RunFault;
 use asn_base::law::abstract_values;
 use asn_base::schema::TypeId;
 use asn_base::value::Value;
-use codec_code::{Code, Field, Need, Step};
+use codec_code::{Code, Field, Head, LeafKind, Need, RowKind, Step};
 
 fn may_be_absent(need: Need) -> bool
     ensures { result ≡ steps.may_be_absent need }
@@ -212,5 +213,30 @@ pub(crate) fn first_step(steps: &[Step]) -> Option<(Step, &[Step])>
         None
     } else {
         Some((steps[0], &steps[1..]))
+    }
+}
+
+/// The header and the kind of contents, where the steps are a header of a value that holds no others, its contents and the
+/// end: those of a type with one tag.
+pub(crate) fn leaf_routine(steps: &[Step]) -> Option<(Head, LeafKind)>
+    ensures steps { IfSome result (λ p. steps.now ≡ HeadStep p.0 ∷ Leaf p.1 ∷ End ∷ []) }
+    ensures row { IfSome result (λ p. p.0.row ≡ LeafRow) }
+{
+    if steps.len() != 3 {
+        return None;
+    }
+    match steps[0] {
+        Step::Head(head) => match steps[1] {
+            Step::Leaf(kind) => match steps[2] {
+                Step::End => if head.row == RowKind::Leaf {
+                    Some((head, kind))
+                } else {
+                    None
+                },
+                _ => None,
+            },
+            _ => None,
+        },
+        _ => None,
     }
 }

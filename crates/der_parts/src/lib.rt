@@ -5,8 +5,10 @@
 mod header;
 mod part;
 mod send;
+mod small;
 mod write;
 
 pub use header::push_header;
 pub use part::Part;
+pub use small::{Small, small_part};
 pub use write::write_parts;

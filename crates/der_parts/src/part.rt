@@ -1,5 +1,6 @@
 //! Parts of an encoding.
 
+use crate::small::Small;
 use asn_base::tag::Tag;
 use asn_base::value::Value;
 use codec_code::LeafKind;
@@ -11,4 +12,6 @@ pub enum Part<'a> {
     Header(Tag, bool, usize),
     /// The contents octets of a value that holds no others, and how many they are.
     Contents(LeafKind, &'a Value, usize),
+    /// A header and its contents, in few octets.
+    Small(Small),
 }

@@ -1,5 +1,6 @@
 //! Octets sent behind those that have gone out.
 
+ghost use Rattle.der_parts.specs.Parts.{held};
 ghost use Rattle.der_parts.specs.Sends.{Sends};
 ghost use Rattle.encodings.specs.Fewest.{shortest_header};
 ghost use Rattle.encodings.specs.Header.{septets};
@@ -8,6 +9,7 @@ ghost use Rattle.sinks.specs.Sent.{state};
 ghost use Rattle.std.specs.Prelude.{◌≡◌, ◌+◌, ◌++◌, ◌<◌, ◌^◌, ◌∷◌, flat_map, length};
 
 use crate::header::{header_octets, short_header};
+use crate::small::Small;
 use arrayvec::ArrayVec;
 use asn_base::tag::Tag;
 use leaf_contents::{LeafOctets, push_septets};
@@ -49,6 +51,22 @@ pub(crate) fn send_header<S: Sink>(
             let few = header_octets(tag, constructed, contents);
             send_more(sink, done, few.as_slice())
         }
+    }
+}
+
+/// Sends octets that are held in place.
+pub(crate) fn send_small<S: Sink>(sink: &mut S, done: u64, small: Small) -> Result<u64, u64>
+    requires room { S.failed sink.old < u64.MAX }
+    requires few { done + length (held small) < 2 ^ 64 }
+    ensures { Sends
+        (state (S.taken sink.old) (S.failed sink.old))
+        (state (S.taken sink.new) (S.failed sink.new))
+        (held small) done result }
+{
+    if (small.len as usize) < small.octets.len() {
+        send_more(sink, done, &small.octets[..small.len as usize])
+    } else {
+        send_more(sink, done, &small.octets)
     }
 }
 

@@ -6,7 +6,7 @@ ghost use Rattle.sinks.specs.Sent.{SentAll, SentFront, state};
 ghost use Rattle.std.specs.Prelude.{◌+◌, ◌<◌, ◌^◌, IfErr, List, OnOk, length, ℕ};
 
 use crate::part::Part;
-use crate::send::{send_header, send_pieces};
+use crate::send::{send_header, send_pieces, send_small};
 use leaf_contents::law::one_contents;
 use leaf_contents::leaf_octets;
 use sinks::Sink;
@@ -76,6 +76,7 @@ fn write_part<S: Sink>(sink: &mut S, done: u64, part: Part) -> Result<u64, u64>
             constructed,
             contents as u64,
         ),
+        Part::Small(small) => send_small(sink, done, small),
         Part::Contents(kind, value, _) => {
             one_contents();
             match leaf_octets(kind, value) {

@@ -1,10 +1,10 @@
 -- The first row of an account tells how many octets the encoding has.
-use Rattle.std.proofs.Common.{arith, ◌≡◌, ℕ, ◌+◌, List, [], ◌∷◌, ◌++◌, Bool, length, refl, sym, ap, subst, ◌∙◌, length-append}
+use Rattle.std.proofs.Common.{arith, ◌≡◌, ℕ, ◌+◌, List, ◌++◌, Bool, length, refl, sym, ap, subst, length-append}
 use Rattle.asn_base.specs.declared.tag.Tag.{Tag}
 use Rattle.asn_base.specs.Abstract.{AbstractValue}
 use Rattle.asn_base.specs.Types.{Kind, Resolved}
 use Rattle.encodings.specs.Header.{Octets}
-use Rattle.encodings.specs.Account.{Numbers, Account, header, Inside, leaf_row, wrap_row, seq_row, seqof_row, set_row, setof_row, HeaderTold, Headed, headed_bare, headed_innermost, headed_outer, Tells, tells, TellsInside, leaf_told, sequence_told, set_told, sequence_of_told, set_of_told, choice_told}
+use Rattle.encodings.specs.Account.{Numbers, Account, Inside, leaf_row, wrap_row, seq_row, seqof_row, set_row, setof_row, HeaderTold, Headed, headed_bare, headed_innermost, headed_outer, Tells, tells, TellsInside, leaf_told, sequence_told, set_told, sequence_of_told, set_of_told, choice_told}
 use Rattle.der_writer.specs.Encoded.{octets_told}
 
 header_and_contents : {g : Tag} {c : Bool} {z : Numbers} (h x : Octets) → HeaderTold g c (length x) h z

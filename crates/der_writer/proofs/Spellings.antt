@@ -5,7 +5,7 @@ use Rattle.codec_code.specs.Steps.{HasContents}
 use Rattle.codec_code.specs.declared.step.LeafKind.{LeafKind}
 use Rattle.encodings.specs.Header.{Octets}
 use Rattle.der_parts.specs.declared.part.Part.{Part}
-use Rattle.der_parts.specs.declared.part.Part.TheVariants.{Header, Contents}
+use Rattle.der_parts.specs.declared.part.Part.TheVariants.{Header, Contents, Small}
 use Rattle.der_parts.specs.Parts.{IsPart, Spell}
 
 -- a value has one contents of a kind at most
@@ -15,6 +15,7 @@ OneContents = (k : LeafKind) (v : AbstractValue) (x y : Octets) → HasContents 
 one_part : OneContents → (p : Part) (x y : Octets) → IsPart p x → IsPart p y → x ≡ y
 one_part one (Header g c n) x y a b = a ∙ sym b
 one_part one (Contents k v n) x y a b = one k (abstract v.now) x y a.0 b.0
+one_part one (Small s) x y a b = a ∙ sym b
 
 pub one_spelling : OneContents → (ps : List Part) (x y : Octets) → Spell ps x → Spell ps y → x ≡ y
 one_spelling one [] x y a b = a ∙ sym b

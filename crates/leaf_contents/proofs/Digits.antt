@@ -60,3 +60,10 @@ septets_from (n ∷ ns) (suc i) h =
     let e : i + 1 ≡ suc i = omega arith in
     let f : suc i + 1 ≡ suc (i + 1) = omega arith in
     septets_from ns i (omega arith) ∙ ap (λ k. length (septets (get_or ns i 0)) + length (flat_map septets (drop k (n ∷ ns)))) (sym f)
+
+-- a number below 128 is one septet
+pub one_septet : (n : ℕ) → n < 128 → septets n ≡ n ∷ []
+one_septet n h =
+    let e : n / 128 ≡ 0 = omega arith in
+    let f : n % 128 ≡ n = omega arith in
+    ap (λ k. map (λ d. 128 + d) (digits_of 128 k) ++ ((n % 128) ∷ [])) e ∙ ap (λ k. k ∷ []) f

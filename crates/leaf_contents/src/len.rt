@@ -24,8 +24,8 @@ pub fn leaf_len(kind: LeafKind, value: &Value) -> Option<u64>
     }
 }
 
-/// How many octets the pieces have.
-fn octet_count(octets: &LeafOctets) -> u64
+/// How many octets the pieces have. It takes no memory.
+pub fn octet_count(octets: &LeafOctets) -> u64
     ensures { length (joined_pieces octets.now) ≡ result }
 {
     match octets {
@@ -39,11 +39,15 @@ fn octet_count(octets: &LeafOctets) -> u64
 }
 
 /// How many septets a number takes.
+#[tactic(auto, using(crate::proofs::Digits::one_septet))]
 fn septet_count(number: u128) -> u64
     ensures count { length (septets number) ≡ result }
     ensures most { result ≤ 19 }
     ensures few { number < 2 ^ 64 → result ≤ 10 }
 {
+    if number < 128 {
+        return 1;
+    }
     let mut out = ArrayVec::new();
     push_septets(&mut out, number);
     out.len() as u64

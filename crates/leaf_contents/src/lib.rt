@@ -13,5 +13,5 @@ mod push;
 
 pub use buffer::{Buffer, push_digits, push_septets};
 pub use leaf::{LeafOctets, leaf_octets};
-pub use len::leaf_len;
+pub use len::{leaf_len, octet_count};
 pub use push::push_leaf;

@@ -3,10 +3,8 @@
 
 mod front;
 mod headers;
-mod kit;
 mod lexer;
 mod parser;
-mod writer;
 
 use crate::hog::Hog;
 use std::alloc::Global;

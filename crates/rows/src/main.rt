@@ -1,22 +1,21 @@
-//! Answers rows of data by the public calls of the compiler's crates, and prints each answer below its row's words.
+//! Answers rows of data by the calls that the program `asnc` makes, prints each answer below its row's words, and says where it
+//! is another one than the row wants.
 //!
-//! The files that its words name are files of rows. A row's first word is a command and its second the row's own name:
-//! `link`, `tags`, `header`, `octets`, `line`, `asnc` and `job`, each described where it is answered and at the head of the
-//! files that use it. The answers that the stored run compares are written by hand, not taken from this program, but for those of
+//! The files that its words name are files of rows. A row's first word is a command and its second the row's own name: `line`,
+//! `asnc` and `job`, each described where it is answered and at the head of the files that use it. A text of a row that is named
+//! `wanted` is the answer that it has to have, as `wanted` says; nothing of it is known here. The answers that the stored run
+//! compares, and what rows want, are written by hand or made by other tools, not taken from this program, but for those of
 //! `hints.rows` and lists of expected tokens, which were compared by hand with the grammar. A row with `caret` among its words is
-//! told with the line of its fault, and a row
-//! with `numbered` among its words has each `#` of its texts counted, from 0.
+//! told with the line of its fault, and a row with `numbered` among its words has each `#` of its texts counted, from 0.
 #![tactic(auto)]
 
-mod headers;
-mod links;
-mod paths;
-mod printed;
 mod programs;
 mod refusal;
 mod requests;
+mod wanted;
 
 use crate::refusal::{Refusal, told};
+use crate::wanted::{Count, differs, shown};
 use row_files::{Row, rows};
 use std::alloc::{AllocError, Global};
 use std::process::ExitCode;
@@ -25,10 +24,6 @@ use std::{env, fs, io};
 /// What a row's command answers.
 fn answer_of(alloc: Global, row: &Row) -> Result<String, Refusal> {
     match row.command() {
-        "link" => links::answer(alloc, row),
-        "tags" => paths::answer(alloc, row),
-        "header" => headers::header(alloc, row),
-        "octets" => headers::octets(alloc, row),
         "line" => programs::line(alloc, row),
         "asnc" => programs::asnc(alloc, row),
         "job" => programs::job_of(alloc, row),
@@ -36,8 +31,8 @@ fn answer_of(alloc: Global, row: &Row) -> Result<String, Refusal> {
     }
 }
 
-/// A row's words, and below them the lines of its answer, each behind two blanks.
-fn entry(alloc: Global, row: &Row) -> Result<String, AllocError> {
+/// A row's words, and below them the lines of its answer, each behind two blanks, and what is wanted where that is another.
+fn entry(alloc: Global, row: &Row, count: &mut Count) -> Result<String, AllocError> {
     let mut text = String::from_str(alloc, row.command())?;
     for word in row.words.iter().skip(1) {
         text.push(' ')?;
@@ -48,20 +43,26 @@ fn entry(alloc: Global, row: &Row) -> Result<String, AllocError> {
         Err(Refusal::Told(words)) => words,
         Err(Refusal::Memory) => return Err(AllocError),
     };
-    indent(text, answer.as_str())
-}
-
-/// A text, and behind it the lines of an answer.
-fn indent(mut text: String, answer: &str) -> Result<String, AllocError> {
-    for line in answer.lines() {
-        text.push_str(if line.is_empty() { "\n" } else { "\n  " })?;
-        text.push_str(line)?;
+    indent(alloc, &mut text, answer.as_str())?;
+    if let Some(wanted) = differs(alloc, row, answer.as_str(), count)? {
+        indent(alloc, &mut text, "but wanted:")?;
+        indent(alloc, &mut text, wanted)?;
     }
     Ok(text)
 }
 
+/// Puts the lines of an answer behind a text, long ones by their fronts.
+fn indent(alloc: Global, text: &mut String, answer: &str) -> Result<(), AllocError> {
+    for line in answer.lines() {
+        let line = shown(alloc, line)?;
+        text.push_str(if line.is_empty() { "\n" } else { "\n  " })?;
+        text.push_str(line.as_str())?;
+    }
+    Ok(())
+}
+
 /// Prints the answers to the rows of a file.
-fn answer_file(rt: &HostRuntime, file: &str) -> io::Result<()> {
+fn answer_file(rt: &HostRuntime, file: &str, count: &mut Count) -> io::Result<()> {
     println!(rt; "{file}")?;
     let octets = fs::read(rt, file)?;
     let rows = match rows(rt.alloc(), octets.as_slice()) {
@@ -69,15 +70,26 @@ fn answer_file(rt: &HostRuntime, file: &str) -> io::Result<()> {
         Err(fault) => return println!(rt; "{fault}"),
     };
     for row in &rows {
-        let text = entry(rt.alloc(), row)?;
+        let text = entry(rt.alloc(), row, count)?;
         println!(rt; "{text}")?;
     }
     Ok(())
 }
 
+/// Status 1 where an answer is another than its row wants.
 fn main(rt: HostRuntime) -> io::Result<ExitCode> {
+    let mut count = Count::default();
     for file in env::args(&rt)?.skip(1) {
-        answer_file(&rt, file.as_str())?;
+        answer_file(&rt, file.as_str(), &mut count)?;
     }
-    Ok(ExitCode::SUCCESS)
+    let Count {
+        compared,
+        different,
+    } = count;
+    println!(rt; "{compared} rows want an answer, {different} have another")?;
+    Ok(if different == 0 {
+        ExitCode::SUCCESS
+    } else {
+        ExitCode::from(1)
+    })
 }

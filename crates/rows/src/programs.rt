@@ -1,8 +1,11 @@
 //! What the program asnc answers to its words and to texts.
 
-use crate::refusal::{Refusal, told};
+use crate::refusal::Refusal;
 use crate::requests::{asked, texts_of, word};
-use asnc::{Fault, Given, Job, Kit, Verb, job, report, status};
+use crate::wanted::is_wanted;
+use asnc::{Fault, Kit, status};
+use command_line::{Given, Job, Verb, job};
+use reports::report;
 use row_files::{Row, RowText};
 use std::alloc::{AllocError, Global};
 
@@ -19,11 +22,16 @@ fn octets_in(alloc: Global, row: &Row, files: &[String]) -> Result<Vec<Vec<u8>>,
     Ok(all)
 }
 
-/// The octets that a job asks for, in hexadecimal.
+/// What a job asks for: octets, in hexadecimal, or the listing.
 fn work(alloc: Global, job: &Job, texts: &[Vec<u8>]) -> Result<String, Fault> {
     let kit = Kit::open(alloc, texts)?;
-    let octets = kit.der(alloc, job.ty.as_str(), job.value.as_str())?;
-    Ok(hex::encode_upper(alloc, octets.as_slice())?)
+    match job.verb {
+        Verb::Der => {
+            let (octets, _account) = kit.der(alloc, job.ty.as_str(), job.value.as_str())?;
+            Ok(hex::encode_upper(alloc, octets.as_slice())?)
+        }
+        Verb::List => kit.list(alloc),
+    }
 }
 
 /// What is told of a job: its octets, or the line of its fault.
@@ -55,11 +63,13 @@ fn word_or<'a>(words: &[&'a str], place: usize, other: &'a str) -> &'a str {
     }
 }
 
-/// The names of texts.
+/// The names of texts that are files.
 fn names_of(alloc: Global, texts: &[RowText]) -> Result<Vec<String>, AllocError> {
     let mut names = Vec::new(alloc);
     for text in texts {
-        names.push(text.name.clone()?)?;
+        if !is_wanted(text) {
+            names.push(text.name.clone()?)?;
+        }
     }
     Ok(names)
 }
@@ -116,6 +126,7 @@ pub fn job_of(alloc: Global, row: &Row) -> Result<String, Refusal> {
     let job = job_in(alloc, row)?;
     let verb = match job.verb {
         Verb::Der => "der",
+        Verb::List => "list",
     };
     let octets = match job.octets {
         Given::Nothing => "nothing",

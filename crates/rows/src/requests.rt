@@ -1,5 +1,6 @@
 //! The parts of a row.
 
+use crate::wanted::is_wanted;
 use row_files::Row;
 use std::alloc::{AllocError, Global};
 
@@ -43,10 +44,13 @@ fn numbered(alloc: Global, text: &[u8]) -> Result<Vec<u8>, AllocError> {
     Ok(out)
 }
 
-/// The octets of a row's texts. In a row with the word `numbered` each `#` stands for how many stand before it.
+/// The octets of a row's files. In a row with the word `numbered` each `#` stands for how many stand before it.
 pub fn texts_of(alloc: Global, row: &Row) -> Result<Vec<Vec<u8>>, AllocError> {
     let mut all = Vec::new(alloc);
     for text in &row.texts {
+        if is_wanted(text) {
+            continue;
+        }
         if row.has("numbered") {
             all.push(numbered(alloc, text.octets.as_slice())?)?;
         } else {

@@ -3,46 +3,48 @@
 ghost use Rattle.std.specs.Prelude.{◌<◌, length};
 
 use crate::naming::field_at;
-use asn_base::constraint::Bounds;
+use asn_base::constraint::Range;
 use asn_base::schema::TypeId;
 use asn_base::strings::StringKind;
-use constraints::{Bounded, range, size};
+use constraints::{Bounded, alphabet, constraint, range};
 use std::alloc::{AllocError, Global};
 use trees::{EnumeratedSyntax, ListKind, NamedBit, Simple, ValueSyntax};
 use type_table::{Component, Shape};
 use typed_values::{Cause, ValueFault};
 
-/// How many characters names in a list take up at most.
+/// How many characters words in a row take up at most.
 const SHOWN: usize = 60;
 
-/// Names in a row, cut off where they get long.
+/// Words in a row, cut off where they get long.
 #[derive(Drop)]
 struct List {
     text: String,
+    between: &'static str,
     full: bool,
 }
 
 impl List {
-    fn new(alloc: Global) -> List {
+    fn new(alloc: Global, between: &'static str) -> List {
         List {
             text: String::new(alloc),
+            between,
             full: false,
         }
     }
 
-    /// Adds a name, or two dots where there is no more room.
-    fn add(&mut self, name: &str) -> Result<(), AllocError> {
+    /// Adds a word, or two dots where there is no more room.
+    fn add(&mut self, word: &str) -> Result<(), AllocError> {
         if self.full {
             return Ok(());
         }
         if !self.text.is_empty() {
-            self.text.push_str(", ")?;
+            self.text.push_str(self.between)?;
         }
-        if self.text.len().saturating_add(name.len()) > SHOWN {
+        if self.text.len().saturating_add(word.len()) > SHOWN {
             self.full = true;
             return self.text.push_str("..");
         }
-        self.text.push_str(name)
+        self.text.push_str(word)
     }
 }
 
@@ -55,7 +57,7 @@ fn shown(alloc: Global, name: &str) -> Result<String, AllocError> {
 }
 
 fn component_names(alloc: Global, components: &[Component]) -> Result<String, AllocError> {
-    let mut list = List::new(alloc);
+    let mut list = List::new(alloc, ", ");
     for component in components {
         list.add(component.name.it.as_str())?;
     }
@@ -63,7 +65,7 @@ fn component_names(alloc: Global, components: &[Component]) -> Result<String, Al
 }
 
 fn bit_names(alloc: Global, bits: &[NamedBit]) -> Result<String, AllocError> {
-    let mut list = List::new(alloc);
+    let mut list = List::new(alloc, ", ");
     for bit in bits {
         list.add(bit.name.it.as_str())?;
     }
@@ -71,7 +73,7 @@ fn bit_names(alloc: Global, bits: &[NamedBit]) -> Result<String, AllocError> {
 }
 
 fn item_names(alloc: Global, given: &EnumeratedSyntax) -> Result<String, AllocError> {
-    let mut list = List::new(alloc);
+    let mut list = List::new(alloc, ", ");
     for item in &given.root {
         list.add(item.name.it.as_str())?;
     }
@@ -130,6 +132,9 @@ fn of_shape(alloc: Global, shape: &Shape) -> Result<String, AllocError> {
             let names = component_names(alloc, components)?;
             format!(in alloc; "an alternative and its value, as a : b, of {names}")
         }
+        Shape::Members(_, _, components) if components.is_empty() => {
+            String::from_str(alloc, "braces with nothing in them")
+        }
         Shape::Members(_, _, components) => {
             let names = component_names(alloc, components)?;
             format!(in alloc; "components in braces, of {names}")
@@ -138,26 +143,42 @@ fn of_shape(alloc: Global, shape: &Shape) -> Result<String, AllocError> {
     }
 }
 
-/// What bounds leave, in words.
-fn of_bounds(alloc: Global, what: &str, bounds: Bounds) -> Result<String, AllocError> {
-    match (bounds.least, bounds.greatest) {
-        (Some(least), Some(greatest)) => format!(in alloc; "{what} from {least} to {greatest}"),
-        (Some(least), None) => format!(in alloc; "{what} from {least} on"),
-        (None, Some(greatest)) => format!(in alloc; "{what} up to {greatest}"),
-        (None, None) => String::from_str(alloc, "a value that the type's constraints allow"),
+/// A range of numbers, as a constraint has it.
+fn of_range(alloc: Global, range: &Range) -> Result<String, AllocError> {
+    match (range.least, range.greatest) {
+        (Some(least), Some(greatest)) if least == greatest => format!(in alloc; "{least}"),
+        (Some(least), Some(greatest)) => format!(in alloc; "{least}..{greatest}"),
+        (Some(least), None) => format!(in alloc; "{least}..MAX"),
+        (None, Some(greatest)) => format!(in alloc; "MIN..{greatest}"),
+        (None, None) => String::from_str(alloc, "MIN..MAX"),
     }
 }
 
-/// What the constraints of a type leave, in words.
+/// What is allowed, as a constraint has it.
+fn of_ranges(alloc: Global, ranges: &[Range]) -> Result<String, AllocError> {
+    let mut list = List::new(alloc, " | ");
+    for range in ranges {
+        let range = of_range(alloc, range)?;
+        list.add(range.as_str())?;
+    }
+    Ok(list.text)
+}
+
+/// What the constraints of a type leave, in words: its numbers or its sizes, and that it may leave out characters.
 fn of_constraints(alloc: Global, bounded: &Bounded<'_>, ty: TypeId) -> Result<String, AllocError>
     requires { ty.index < length bounded.now.types }
 {
-    if let Some(bounds) = range(bounded, ty) {
-        return of_bounds(alloc, "a number", bounds);
+    let kept = constraint(alloc, bounded, ty)?;
+    let Some(allowed) = &kept.allowed else {
+        return String::from_str(alloc, "a value that the type's constraints allow");
+    };
+    let allowed = of_ranges(alloc, allowed)?;
+    if range(bounded, ty).is_some() {
+        return format!(in alloc; "a number of ({allowed})");
     }
-    match size(bounded, ty) {
-        Some(bounds) if bounds.greatest.is_some() => of_bounds(alloc, "a size", bounds),
-        _ => String::from_str(alloc, "a value that the type's constraints allow"),
+    match alphabet(bounded, ty) {
+        Some(_) => format!(in alloc; "a size of ({allowed}), and only characters that are allowed"),
+        None => format!(in alloc; "a size of ({allowed})"),
     }
 }
 

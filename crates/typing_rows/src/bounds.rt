@@ -63,7 +63,7 @@ fn ranges(alloc: Global, ranges: &[Range]) -> Result<String, AllocError> {
 }
 
 /// What a type's constraints leave: what the packed encoding sees, and what is allowed.
-pub fn left(alloc: Global, bounded: &Bounded<'_>, ty: TypeId) -> Result<String, AllocError>
+fn left(alloc: Global, bounded: &Bounded<'_>, ty: TypeId) -> Result<String, AllocError>
     requires { ty.index < length bounded.now.types }
 {
     let mut text = seen(alloc, "range", range(bounded, ty))?;

@@ -6,7 +6,6 @@
 #![tactic(auto)]
 
 mod bounds;
-mod expected;
 mod notations;
 mod places;
 mod shown;

@@ -3,7 +3,6 @@
 ghost use Rattle.std.specs.Prelude.{◌<◌, length};
 ghost use Rattle.type_table.specs.Lists.{AreSound};
 
-use crate::expected::{expected, field_name, member_name};
 use crate::places::place;
 use crate::shown::put;
 use asn_base::schema::TypeId;
@@ -15,19 +14,12 @@ use row_files::Row;
 use row_texts::{Refusal, asked, linked, texts_of, told, type_at};
 use std::alloc::{AllocError, Global};
 use tagging::{Tagged, tag};
-use trees::{ValueForm, ValueSyntax};
-use typed_values::{Cause, Defaults, Place, ValueFault, typed, typed_with};
+use told_values::number;
+use trees::ValueSyntax;
+use typed_values::{Cause, Defaults, ValueFault, typed, typed_with};
 
 /// More levels than a value has.
 const LEVELS: u8 = 80;
-
-/// The name that a notation is, and whether a module's name stands before it.
-fn name_of(notation: &ValueSyntax) -> (&str, bool) {
-    match &notation.form {
-        ValueForm::Reference(reference) => (reference.name.as_str(), reference.module.is_some()),
-        _ => ("?", false),
-    }
-}
 
 /// The name of a value by its number.
 fn value_name(linked: &Linked, number: usize) -> &str {
@@ -43,87 +35,58 @@ fn value_name(linked: &Linked, number: usize) -> &str {
     }
 }
 
-/// What is wrong, with its number.
-fn cause(
-    alloc: Global,
-    linked: &Linked,
-    at: Place<'_>,
-    cause: Cause<'_>,
-) -> Result<String, AllocError>
-    requires { at.ty.index < length linked.now.types }
-{
+/// What tells more of a fault than a user is told: which value comes back, and the places in lists.
+fn detail(alloc: Global, linked: &Linked, cause: Cause<'_>) -> Result<String, AllocError> {
     match cause {
-        Cause::Memory => String::from_str(alloc, "1 Memory"),
-        Cause::Depth => String::from_str(alloc, "2 Limit(Depth)"),
-        Cause::Nodes => String::from_str(alloc, "2 Limit(Nodes)"),
-        Cause::Oid => String::from_str(alloc, "2 Limit(Oid)"),
-        Cause::Lost(within, notation) => match name_of(notation) {
-            (name, true) => format!(in alloc; "31 UnknownName {name} read in {within}"),
-            (name, false) => format!(in alloc; "62 UnknownItem {name} read in {within}"),
-        },
-        Cause::Circular(number, within, notation) => {
-            let (name, _) = name_of(notation);
-            let value = value_name(linked, number);
-            format!(in alloc; "33 Circular {name} read in {within} is {value}")
+        Cause::Circular(number, _, _) => {
+            let name = value_name(linked, number);
+            format!(in alloc; ", which is {name}")
         }
-        Cause::NotOfType => String::from_str(alloc, "60 NotOfType"),
-        Cause::Outside => String::from_str(alloc, "61 OutsideConstraint"),
-        Cause::UnknownBit(_, bit) => {
-            let (name, _) = name_of(bit);
-            let place = bit.at;
-            format!(in alloc; "62 UnknownItem bit {name} at {place}")
-        }
-        Cause::UnknownAlternative => String::from_str(alloc, "62 UnknownItem alternative"),
-        Cause::UnknownField(field, _, notation) => {
-            let name = field_name(notation, field);
-            format!(in alloc; "62 UnknownItem field {field} {name}")
-        }
-        Cause::Missing(component, _, _) => {
-            let name = member_name(linked, at.ty, component);
-            format!(in alloc; "63 Missing component {component} {name}")
-        }
-        Cause::Repeated(field, _, notation) => {
-            let name = field_name(notation, field);
-            format!(in alloc; "64 Repeated field {field} {name}")
-        }
-        Cause::Behind(field, _, notation) => {
-            let name = field_name(notation, field);
-            format!(in alloc; "60 NotOfType field {field} {name} is behind")
-        }
+        Cause::UnknownField(field, _, _)
+        | Cause::Repeated(field, _, _)
+        | Cause::Behind(field, _, _) => format!(in alloc; ", which is field {field}"),
+        Cause::Missing(component, _, _) => format!(in alloc; ", which is component {component}"),
+        _ => Ok(String::new(alloc)),
     }
 }
 
-/// A fault: what is wrong, with which notation, which is read in which module under which type, and what is expected there.
-fn refused(
+/// A fault: what a user is told of it, with the place of the name that is wrong, or of the notation, and its class; and the
+/// notation with its type.
+fn refused<'a>(
     alloc: Global,
     row: &Row,
-    bounded: &Bounded<'_>,
-    fault: ValueFault<'_>,
+    bounded: &Bounded<'a>,
+    fault: ValueFault<'a>,
 ) -> Result<String, AllocError> {
     let at = fault.at;
     let linked = bounded.linked();
     if at.ty.index >= linked.types().len() {
         return String::from_str(alloc, "no type");
     }
-    let mut text = cause(alloc, linked, at, fault.cause)?;
+    let words = told_values::told(alloc, bounded, fault)?;
+    let class = number(words.reason);
     let texts = texts_of(alloc, row)?;
-    let place = place(alloc, linked, texts.as_slice(), at.within, at.notation.at)?;
-    text.push_str(place.as_str())?;
+    let texts = texts.as_slice();
+    let named = place(
+        alloc,
+        linked,
+        texts,
+        words.spot.module.as_str(),
+        words.spot.at,
+    )?;
+    let detail = detail(alloc, linked, fault.cause)?;
     let home = linked.home(at.ty);
-    let within = at.within;
     let (module, name) = (home.module, home.name);
-    let expected = expected(alloc, bounded, at, fault.cause)?;
-    let part = format!(in alloc; " in {within} under {module}.{name}: expected {expected}")?;
-    text.push_str(part.as_str())?;
-    Ok(text)
+    let notation = place(alloc, linked, texts, at.within, at.notation.at)?;
+    format!(in alloc; "{words}{named}{detail}; {class}, notation{notation} under {module}.{name}")
 }
 
 /// A value, or a fault.
-fn told_of(
+fn told_of<'a>(
     alloc: Global,
     row: &Row,
-    bounded: &Bounded<'_>,
-    answer: Result<Value, ValueFault<'_>>,
+    bounded: &Bounded<'a>,
+    answer: Result<Value, ValueFault<'a>>,
 ) -> Result<String, AllocError> {
     match answer {
         Ok(value) => {

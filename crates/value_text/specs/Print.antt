@@ -1,12 +1,12 @@
 -- The text that a value is printed in: its value notation (X.680, 18 to 29, 32, 33 and 41).
 use Rattle.std.specs.Prelude.{◌≡◌, String, string_bytes}
-use Rattle.std.specs.Prelude.{ℕ, ◌+◌, nat_le, ◌/◌, ◌%◌, ◌&&◌, ◌==◌, ℤ, Bool, List, [], ◌∷◌, ◌++◌}
-use Rattle.std.specs.Prelude.{Option, Some, None, slice_get, codes, decimal, if◌then◌else◌}
+use Rattle.std.specs.Prelude.{ℕ, ◌+◌, ◌-◌, ◌*◌, nat_le, ◌/◌, ◌%◌, ◌&&◌, ◌==◌, ℤ, Bool, List, [], ◌∷◌, ◌++◌}
+use Rattle.std.specs.Prelude.{length, take, flat_map, Option, Some, None, slice_get, codes, decimal, if◌then◌else◌}
 use Rattle.std.specs.Fmt.{signed_decimal}
 use Rattle.std.specs.List.{list_any}
 use Rattle.std.specs.Ordering.{int_eq}
 use Rattle.asn_base.specs.Abstract.{AbstractValue, boolean, integer, enumerated, bits, octets, text, null, oid}
-use Rattle.asn_base.specs.Abstract.{relative_oid, fields, list, alternative, Row, end, absent, present}
+use Rattle.asn_base.specs.Abstract.{bits_of_octet, relative_oid, fields, list, alternative, Row, end, absent, present}
 use Rattle.asn_base.specs.Types.{Item, Alternative, Component, Kind, a_null, an_enumerated, a_sequence_of, a_set_of}
 use Rattle.asn_base.specs.Types.{a_choice, Resolved}
 use Rattle.asn_base.specs.Schemas.{components}
@@ -23,10 +23,17 @@ braced x = codes "{" ++ (x ++ codes "}")
 abbrev pub truth_text : Bool → List ℕ
 truth_text b = if b then codes "TRUE" else codes "FALSE"
 
+-- the bits of these octets but the last unused ones
+abbrev pub bits_in : (unused : ℕ) → List ℕ → List Bool
+bits_in unused os = take (8 * length os - unused) (flat_map bits_of_octet os)
+
 -- a digit a bit
 abbrev pub bit_digits : List Bool → List ℕ
 bit_digits [] = []
 bit_digits (b ∷ bs) = (if b then 49 else 48) ∷ bit_digits bs
+
+abbrev pub bit_text : List Bool → List ℕ
+bit_text bs = codes "'" ++ (bit_digits bs ++ codes "'B")
 
 -- 0 to 9, and the capitals from A on
 abbrev pub hex_digit : ℕ → ℕ
@@ -107,7 +114,7 @@ abbrev mutual
   print s t (boolean b) = truth_text b
   print s t (integer z) = signed_decimal z
   print s t (enumerated z) = name_in (name_with (items_in (kind_at s t)) z)
-  print s t (bits b) = codes "'" ++ (bit_digits b ++ codes "'B")
+  print s t (bits b) = bit_text b
   print s t (octets o) = hex_text o
   print s t (text o) = string_text o
   print s t null = codes "NULL"

@@ -1,12 +1,12 @@
-//! Values that hold no others.
+//! Values that hold no others, as text behind what stands in `out`. Each call is refused for want of memory alone; then
+//! what stands in `out` is of no more use.
 
-ghost use Rattle.asn_base.specs.Abstract.{bits_of, bits_of_octet};
+ghost use Rattle.asn_base.specs.Abstract.{bits_of_octet};
 ghost use Rattle.std.specs.Fmt.{signed_decimal};
 ghost use Rattle.std.specs.Prelude.{◌≡◌, ◌≤◌, ◌<◌, ◌++◌, [], IfOk, codes, take};
-ghost use Rattle.value_text.specs.Print.{Adds, bit_digits, braced, comma_behind, hex_digit};
+ghost use Rattle.value_text.specs.Print.{Adds, bit_digits, bit_text, bits_in, braced, comma_behind, hex_digit};
 ghost use Rattle.value_text.specs.Print.{hex_digits, hex_text, spaced, truth_text};
 
-use asn_base::value::BitString;
 use std::alloc::AllocError;
 
 /// The text is added.
@@ -71,25 +71,26 @@ fn append_octet_bits(out: &mut String, octet: u8, count: usize) -> Result<(), Al
     Ok(())
 }
 
-/// The bits in apostrophes.
-pub fn append_bit_string(out: &mut String, bits: &BitString) -> Result<(), AllocError>
-    ensures { IfOk result (λ _. Adds out.old out.new (codes "'" ++ (bit_digits (bits_of bits.now) ++ codes "'B"))) }
+/// The bits of these octets but the last `unused` ones, in apostrophes.
+pub fn append_bit_string(out: &mut String, octets: &[u8], unused: u8) -> Result<(), AllocError>
+    requires few_unused { unused < 8 }
+    ensures { IfOk result (λ _. Adds out.old out.new (bit_text (bits_in unused octets.now))) }
 {
     append(out, "'")?;
-    append_bits_of(out, bits)?;
+    append_bits_of(out, octets, unused)?;
     append(out, "'B")?;
     Ok(())
 }
 
 /// The bits, those of the last octet without the unused ones.
-fn append_bits_of(out: &mut String, bits: &BitString) -> Result<(), AllocError>
-    ensures { IfOk result (λ _. Adds out.old out.new (bit_digits (bits_of bits.now))) }
+fn append_bits_of(out: &mut String, octets: &[u8], unused: u8) -> Result<(), AllocError>
+    requires few_unused { unused < 8 }
+    ensures { IfOk result (λ _. Adds out.old out.new (bit_digits (bits_in unused octets.now))) }
 {
-    let octets = bits.octets.as_slice();
     for i in 0..octets.len() {
         let octet = octets[i];
         let count = if i + 1 == octets.len() {
-            8 - bits.unused as usize
+            8 - unused as usize
         } else {
             8
         };

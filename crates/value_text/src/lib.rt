@@ -2,9 +2,9 @@
 #![tactic(auto)]
 
 mod fault;
-mod leaf;
-mod names;
-mod string;
+pub mod leaf;
+pub mod names;
+pub mod string;
 mod value;
 
 pub use fault::Fault;

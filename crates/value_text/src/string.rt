@@ -1,4 +1,4 @@
-//! Texts (X.680, 12.14 and 41).
+//! Texts (X.680, 12.14 and 41), behind what stands in `out`.
 
 ghost use Rattle.std.specs.List.{list_any};
 ghost use Rattle.std.specs.Prelude.{◌≡◌, IfOk};

@@ -40,7 +40,7 @@ fn print_value(
             Some(name) => append(out, name),
             None => Ok(()),
         },
-        Value::Bits(bits) => append_bit_string(out, bits),
+        Value::Bits(bits) => append_bit_string(out, bits.octets.as_slice(), bits.unused),
         Value::Octets(octets) => append_octets(out, octets.as_slice()),
         Value::Text(text) => append_string(out, text.as_str()),
         Value::Null => append(out, "NULL"),

@@ -236,6 +236,17 @@ told_leaf s below w t l (tells_fields p) f = absurd (cc)
 told_leaf s below w t l (tells_list p) f = absurd (cc)
 told_leaf s below w t l (tells_alternative p) f = absurd (cc)
 
+-- a tree of which a leaf is told is that leaf
+pub leaf_is : (s : Beside) (below : List Node') (w : Told) (t : Tree) (l : Leaf) → TellsOf s below w t → w ≡ a_leaf l → t ≡ leaf l
+leaf_is s below w t l (tells_leaf {l = m}) f = ap leaf (ap leaf_or f)
+  where
+    leaf_or : Told → Leaf
+    leaf_or (a_leaf n) = n
+    leaf_or _ = l
+leaf_is s below w t l (tells_fields p) f = absurd (cc)
+leaf_is s below w t l (tells_list p) f = absurd (cc)
+leaf_is s below w t l (tells_alternative p) f = absurd (cc)
+
 -- what tells of no others is a leaf
 pub leaf_shown : {v : AbstractValue} (s : Beside) (below : List Node') (w : Told') (t : Tree)
     → TellsOf s below (told_of s w) t

@@ -3,7 +3,7 @@ use Rattle.std.proofs.Common.{arith, ◌≡◌, ℕ, zero, suc, ◌-◌, ◌<◌
 use Rattle.std.specs.Prelude.{slice_set}
 use Rattle.std.specs.List.{slice_range, AllByRecursion}
 use Rattle.std.proofs.Math.Seq.{drop-append_seam}
-use Rattle.std.proofs.lemmas.List.{drop-append-le, length-drop}
+use Rattle.std.proofs.lemmas.List.{drop-append-le, length-drop, length-take}
 
 pub take_kept : {A : Type 0} (n : ℕ) (xs ys : List A) → n ≤ length xs → take n (xs ++ ys) ≡ take n xs
 take_kept zero xs ys h = refl
@@ -28,6 +28,13 @@ range_added xs ys i j e f =
     ap (λ q. take (j - i) (drop q (xs ++ ys))) e
     ∙ ap (take (j - i)) (drop-append_seam xs ys)
     ∙ take_all (j - i) ys (let g = length-append xs ys in omega arith)
+
+-- a range without elements
+pub range_empty : {A : Type 0} (xs : List A) (i j : ℕ) → i ≤ j → j ≤ length xs → length (slice_range xs i j) ≡ 0 → i ≡ j
+range_empty xs i j h l e =
+    let f = length-take (j - i) (drop i xs) in
+    let g = length-drop i xs in
+    omega (arith, e, f, g, h, l)
 
 pub get_kept : {A : Type 0} (xs ys : List A) (i : ℕ) (d : A) → i < length xs → get_or (xs ++ ys) i d ≡ get_or xs i d
 get_kept [] ys i d h = absurd (omega arith)

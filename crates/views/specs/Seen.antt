@@ -1,5 +1,5 @@
 -- Nodes in memory, as the nodes that they are; a builder and a view, as the trees that they hold.
-use Rattle.std.specs.Prelude.{◌≡◌, ℕ, ◌<◌, ◌≤◌, List, length, map, drop, get_or, string_bytes, Some, None}
+use Rattle.std.specs.Prelude.{◌≡◌, ℕ, ◌-◌, ◌<◌, ◌≤◌, List, length, map, drop, get_or, string_bytes, Option, Some, None}
 use Rattle.std.specs.List.{slice_range, AllByRecursion}
 use Rattle.std.specs.Prelude.{[]}
 use Rattle.views.specs.declared.node.Told.{Told as Told'}
@@ -10,6 +10,8 @@ use Rattle.views.specs.declared.builder.Builder.{Builder}
 use Rattle.views.specs.declared.view.View.{View}
 use Rattle.views.specs.declared.part.Part.{Part}
 use Rattle.views.specs.declared.part.Parts.{Parts}
+use Rattle.views.specs.declared.shown.Shown.{Shown}
+use Rattle.views.specs.declared.shown.Shown.TheVariants as shown
 use Rattle.views.specs.Halves.{number_of}
 use Rattle.views.specs.Tree.{boolean, integer, enumerated, bits, octets, text, null, oid, relative_oid, Leaf, Tree, leaf, fields, list, alternative}
 use Rattle.views.specs.Tree.{Members, member}
@@ -127,6 +129,35 @@ pub record IsPart (p : Part) (t : Tree) : Type 0 where
 
 abbrev pub AreParts : Parts → Members → Type 0
 AreParts p ms = Left (beside_of p.lists.now) p.nodes.now p.at ms
+
+-- how many nodes a part has, and how many are left of parts
+abbrev pub nodes_in : Part → ℕ
+nodes_in p = length p.nodes.now
+
+abbrev pub nodes_left : Parts → ℕ
+nodes_left p = length p.nodes.now - p.at
+
+-- what a part shows that is this tree
+abbrev pub Shows : Tree → Shown → Type 0
+Shows t (shown.Bool b) = t ≡ leaf (boolean b)
+Shows t (shown.Int z) = t ≡ leaf (integer z)
+Shows t (shown.Enum z) = t ≡ leaf (enumerated z)
+Shows t (shown.Bits unused os) = (at : Option ℕ) × (t ≡ leaf (bits unused os.now at)) × (unused < 8) × (length os.now ≡ 0 → unused ≡ 0)
+Shows t (shown.Octets os) = (at : Option ℕ) × (t ≡ leaf (octets os.now at))
+Shows t (shown.Text s) = (at : Option ℕ) × (t ≡ leaf (text s.now at))
+Shows t shown.Null = t ≡ leaf null
+Shows t (shown.Oid ns) = t ≡ leaf (oid ns.now)
+Shows t (shown.RelativeOid ns) = t ≡ leaf (relative_oid ns.now)
+Shows t (shown.Fields size ps) = (ms : Members) × (t ≡ fields size ms) × AreParts ps ms
+Shows t (shown.List ps) = (ms : Members) × (t ≡ list ms) × AreParts ps ms
+Shows t (shown.Alternative i p) = (u : Tree) × (t ≡ alternative i u) × IsPart p u
+
+-- what is shown below it has fewer nodes than so many
+abbrev pub IsBelow : ℕ → Shown → Type 0
+IsBelow n (shown.Fields size ps) = nodes_left ps < n
+IsBelow n (shown.List ps) = nodes_left ps < n
+IsBelow n (shown.Alternative i p) = nodes_in p < n
+IsBelow n _ = Unit {0}
 
 -- the first of some members, and those behind it
 pub record IsMember (ms : Members) (number : ℕ) (p : Part) (behind : Parts) : Type 0 where

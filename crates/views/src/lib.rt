@@ -8,8 +8,10 @@ pub mod law;
 mod leaf;
 mod node;
 mod part;
+mod shown;
 mod view;
 
 pub use builder::Builder;
 pub use part::{Part, Parts};
+pub use shown::Shown;
 pub use view::View;

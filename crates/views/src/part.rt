@@ -1,7 +1,7 @@
 //! Parts of views: walking.
 
-ghost use Rattle.std.specs.Prelude.{◌≡◌, ℕ, None, MatchOption, Some};
-ghost use Rattle.views.specs.Seen.{AreParts, IsMember, IsPart, Left, beside_of};
+ghost use Rattle.std.specs.Prelude.{◌≡◌, ◌-◌, ◌<◌, ◌≤◌, ℕ, IfSome, None, MatchOption, Some};
+ghost use Rattle.views.specs.Seen.{AreParts, IsMember, IsPart, Left, beside_of, nodes_in, nodes_left};
 ghost use Rattle.views.specs.Tree.{Members, Tree, alternative_in, bit_string_in, boolean_in, component as component', count as count', enumerated_in, integer_in, members_in, no_member, null_in, octets_in, oid_in, relative_oid_in, text_in};
 
 use crate::front::{below, between, first_of, next_of};
@@ -176,8 +176,9 @@ impl<'v, 'a> Part<'v, 'a> {
     }
 
     /// The members of its nodes from a place on.
-    fn behind(&self, at: usize) -> Parts<'v, 'a>
-        ensures { (ms : Members)
+    pub(crate) fn behind(&self, at: usize) -> Parts<'v, 'a>
+        ensures at { nodes_left result ≡ nodes_in self.now - at }
+        ensures parts { (ms : Members)
             → Left (beside_of self.now.lists.now) self.now.nodes.now at ms
             → AreParts result ms }
     {
@@ -217,9 +218,12 @@ impl<'v, 'a> Parts<'v, 'a> {
     /// The next member with the number of the component that it is, and those behind it; None where none is left.
     pub fn split(&self) -> Option<(u32, Part<'v, 'a>, Parts<'v, 'a>)>
         requires { (ms : Members) × AreParts self.now ms }
-        ensures { (ms : Members)
+        ensures next { (ms : Members)
             → AreParts self.now ms
             → MatchOption result (ms ≡ no_member) (λ m. IsMember ms m.0 m.1 m.2) }
+        // The member and those behind it have no more nodes than are left, and these have fewer.
+        ensures member { IfSome result (λ m. nodes_in m.1 ≤ nodes_left self.now) }
+        ensures fewer { IfSome result (λ m. nodes_left m.2 < nodes_left self.now) }
     {
         if self.at >= self.nodes.len() {
             return None;
@@ -243,11 +247,12 @@ impl<'v, 'a> Parts<'v, 'a> {
     /// The first of these members with this number, None where none has it.
     pub fn find(&self, wanted: u32) -> Option<Part<'v, 'a>>
         requires { (ms : Members) × AreParts self.now ms }
-        ensures { (ms : Members)
+        ensures found { (ms : Members)
             → AreParts self.now ms
             → MatchOption result
             (component' ms wanted ≡ None)
             (λ p. (u : Tree) × (component' ms wanted ≡ Some u) × IsPart p u) }
+        ensures member { IfSome result (λ p. nodes_in p ≤ nodes_left self.now) }
     {
         let mut at = self.at;
         while at < self.nodes.len() {

@@ -1,3 +1,4 @@
+pub mod Leaf
 pub mod Lengths
 pub mod Lists
 pub mod Ordered

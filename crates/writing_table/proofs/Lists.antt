@@ -22,6 +22,21 @@ pub set_last : {A : Type 0} (xs ys : List A) (x y : A) → set ((xs ++ x ∷ [])
 set_last [] ys x y = refl
 set_last (z ∷ xs) ys x y = ap (λ k. z ∷ k) (set_last xs ys x y)
 
+pub set_end : {A : Type 0} (xs : List A) (x y : A) → set (xs ++ x ∷ []) (length xs) y ≡ xs ++ y ∷ []
+set_end [] x y = refl
+set_end (z ∷ xs) x y = ap (λ k. z ∷ k) (set_end xs x y)
+
+-- fronts of the same length, and what stands behind one more
+pub same_front : {A : Type 0} (xs ys us vs : List A) (x y : A) → (xs ++ x ∷ []) ++ us ≡ ys ++ (y ∷ vs) → length ys ≡ length xs → (xs ≡ ys) × (us ≡ vs)
+same_front [] [] us vs x y e h = (refl, cc)
+same_front [] (b ∷ ys) us vs x y e h = absurd (omega arith)
+same_front (a ∷ xs) [] us vs x y e h = absurd (omega arith)
+same_front (a ∷ xs) (b ∷ ys) us vs x y e h =
+    let f : a ≡ b = cc in
+    let t : (xs ++ x ∷ []) ++ us ≡ ys ++ (y ∷ vs) = cc in
+    let p = same_front xs ys us vs x y t (omega arith) in
+    (ap (λ q. q ∷ xs) f ∙ ap (λ q. b ∷ q) p.0, p.1)
+
 pub spell_both : (ps qs : List Part) (x y : List ℕ) → Spell ps x → Spell qs y → Spell (ps ++ qs) (x ++ y)
 spell_both [] qs x y h k = subst (λ q. Spell qs (q ++ y)) (sym h) k
 spell_both (p ∷ ps) qs x y h k = (h.0, h.1 ++ y, h.2, spell_both ps qs h.1 y h.3 k, ap (λ q. q ++ y) h.4 ∙ append_assoc h.0 h.1 y)

@@ -11,11 +11,11 @@ use Rattle.std.specs.List.Sorted.{IsSortedBy, IsNonDecreasingBy}
 use Rattle.encodings.specs.Orders.{Ascending, ascending_none, ascending_one, ascending_more, AtMost}
 use Rattle.codec_code.specs.Events.{encodings_of, RanksAscend}
 use Rattle.writing_table.specs.declared.table.Member.{Member}
-use Rattle.writing_table.specs.Tables.{placed_of}
+use Rattle.writing_table.specs.Tables.{octets_kept, placed_of}
 use Rattle.writing_table.specs.Octets.{first_differs, order}
 
 abbrev octets_in : Member → List ℕ
-octets_in m = m.octets.items
+octets_in m = octets_kept m.kept
 
 drop_none : (i : ℕ) → drop {A = ℕ} i [] ≡ []
 drop_none zero = refl

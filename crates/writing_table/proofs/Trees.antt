@@ -23,8 +23,8 @@ use Rattle.encodings.specs.Account.{Numbers, StandAt}
 use Rattle.octet_account.specs.Flat.{FlatRow, an_absent}
 use Rattle.account_rows.specs.Told.{header_numbers, header_row, left_row, rows_in, rows_among, Told, PartsTold}
 use Rattle.writing_table.specs.Rows.{told, all_told, told_numbers, told_row, numbers_in, places_by}
-use Rattle.writing_table.specs.Tables.{State, an_open, placed_of, parts_of, Sorted, HeaderOpens, MembersBegin, GroupBegins, ContentsAdded, LeftOut, MemberEnds, MembersEnd, NoneEnds, GroupEnds, taken, HeaderCloses, Closes, Stepped, Runs}
-use Rattle.writing_table.proofs.Lists.{last_same, no_last, set_last, spell_both, spell_none, only_second}
+use Rattle.writing_table.specs.Tables.{State, an_open, octets_kept, parts_kept, placed_of, parts_of, Sorted, HeaderOpens, MembersBegin, GroupBegins, ContentsAdded, LeftOut, MemberEnds, MembersEnd, NoneEnds, GroupEnds, taken, PartsClose, in_place, packed, HeaderCloses, Closes, Stepped, Runs}
+use Rattle.writing_table.proofs.Lists.{last_same, no_last, same_front, set_last, spell_both, spell_none, only_second}
 use Rattle.writing_table.proofs.Standing.{Numbered, standing}
 
 abbrev pub most : ℕ
@@ -108,8 +108,8 @@ pub record Counted (t : Tree) (es : List Event) (a c : State) : Type 0 where
 
 -- the octets of a member are those of its parts
 pub record Good (m : Member) (x : List ℕ) : Type 0 where
-  pub octets_are : m.octets.items ≡ x
-  pub spelled : Spell m.parts.items x
+  pub octets_are : octets_kept m.kept ≡ x
+  pub spelled : Spell (parts_kept m.kept) x
 
 -- members, and the octets that they have where they are few enough
 pub data AreMembers : List Member → List Placed → Type 0 where
@@ -149,7 +149,7 @@ abbrev placed_as : ℕ → List ℕ → Placed
 placed_as r x = record { rank = r; octets = x }
 
 abbrev Spelled : Member → Type 0
-Spelled m = Spell m.parts.items m.octets.items
+Spelled m = Spell (parts_kept m.kept) (octets_kept m.kept)
 
 placed_same : {ms : List Member} {ps : List Placed} → AreMembers ms ps → length (concat (encodings_of ps)) ≤ 16777216 → (map placed_of ms ≡ ps) × AllByRecursion Spelled ms
 placed_same no_more h = (refl, tt)
@@ -157,12 +157,12 @@ placed_same (one_more {m = m} {ms = ms} {p = p} {ps = ps} r g a) h =
     let l = length-append p.octets (concat (encodings_of ps)) in
     let o = g (omega (arith, l, h)) in
     let q = placed_same a (omega (arith, l, h)) in
-    let e : placed_of m ≡ p = ap (λ n. placed_as n m.octets.items) r ∙ ap (λ x. placed_as p.rank x) o.octets_are in
-    (ap (λ z. z ∷ map placed_of ms) e ∙ ap (λ z. p ∷ z) q.0, (subst (Spell m.parts.items) (sym o.octets_are) o.spelled, q.1))
+    let e : placed_of m ≡ p = ap (λ n. placed_as n (octets_kept m.kept)) r ∙ ap (λ x. placed_as p.rank x) o.octets_are in
+    (ap (λ z. z ∷ map placed_of ms) e ∙ ap (λ z. p ∷ z) q.0, (subst (Spell (parts_kept m.kept)) (sym o.octets_are) o.spelled, q.1))
 
 spelled_all : (ms : List Member) → AllByRecursion Spelled ms → Spell (parts_of ms) (concat (encodings_of (map placed_of ms)))
 spelled_all [] h = refl
-spelled_all (m ∷ ms) h = spell_both m.parts.items (parts_of ms) m.octets.items (concat (encodings_of (map placed_of ms))) h.0 (spelled_all ms h.1)
+spelled_all (m ∷ ms) h = spell_both (parts_kept m.kept) (parts_of ms) (octets_kept m.kept) (concat (encodings_of (map placed_of ms))) h.0 (spelled_all ms h.1)
 
 -- ---- where a header closes
 
@@ -184,22 +184,57 @@ row_told SequenceOf z m p q = refl
 row_told Set z m p q = refl
 row_told SetOf z m p q = refl
 
+-- the parts of a header that closed, and its state then
+record Closed (a e : State) (g : Tag) (b : Bool) (ps : List Part) (x : List ℕ) (rs : List FlatRow) : Type 0 where
+  packed : List Part
+  is : e ≡ added a packed (length (shortest_header g b (length x) ++ x)) rs 1
+  same : (o : List ℕ) → Spell (Header g b (told (0 + length x)) ∷ ps) o → Spell packed o
+
+-- the same of its parts alone
+record ClosedParts (a e : State) (g : Tag) (b : Bool) (ps : List Part) (n : ℕ) : Type 0 where
+  packed : List Part
+  is : e.parts ≡ a.parts ++ packed
+  same : (o : List ℕ) → Spell (Header g b n ∷ ps) o → Spell packed o
+
+closed_parts : (a w e : State) (g : Tag) (b : Bool) (k : RowKind) (ps : List Part) (n : ℕ)
+    → w.parts ≡ (a.parts ++ Header g b 0 ∷ []) ++ ps
+    → w.count ≡ n
+    → PartsClose (an_open g b k a) w e
+    → ClosedParts a e g b ps n
+closed_parts a w e g b k ps n i j (in_place z) = record {
+  packed = Header g b n ∷ ps;
+  is = z ∙ ap (λ y. set w.parts (length a.parts) (Header g b y)) j ∙ ap (λ y. set y (length a.parts) (Header g b n)) i ∙ set_last a.parts ps (Header g b 0) (Header g b n);
+  same = λ o s. s;
+}
+closed_parts a w e g b k ps n i j (packed z) =
+    let f = same_front a.parts z.front ps z.behind (Header g b 0) (Header g b 0) (sym i ∙ z.from) (sym z.place_is) in
+    record {
+      packed = z.packed;
+      is = z.parts_are ∙ ap (λ y. y ++ z.packed) (sym f.0);
+      same = λ o s. z.same o (subst (λ y. Spell (Header g b y ∷ z.behind) o) (sym j) (subst (λ y. Spell (Header g b n ∷ y) o) f.1 s));
+    }
+
 closed : (a w e : State) (g : Tag) (b : Bool) (k : RowKind) (ps : List Part) (x : List ℕ) (p q : List ℕ) (rs : List FlatRow) (m : ℕ)
     → w ≡ state ((a.parts ++ Header g b 0 ∷ []) ++ ps) a.opened a.groups (told (0 + length x)) ((a.rows ++ an_absent ∷ []) ++ rs) (told (0 + m))
     → HeaderCloses (an_open g b k a) p q w e
-    → e ≡ added a (Header g b (told (0 + length x)) ∷ ps) (length (shortest_header g b (length x) ++ x)) (row_at k g b (length x) m p q ∷ rs) 1
+    → Closed a e g b ps x (row_at k g b (length x) m p q ∷ rs)
 closed a w e g b k ps x p q rs m i z =
     let n = told (0 + length x) in
-    is_state e (a.parts ++ (Header g b n ∷ ps)) a.opened a.groups (told (a.count + length (shortest_header g b (length x) ++ x))) (a.rows ++ (row_at k g b (length x) m p q ∷ rs)) (told (a.members + 1))
-    (z.parts_are ∙ ap (λ y. set y.parts (length a.parts) (Header g b y.count)) i ∙ set_last a.parts ps (Header g b 0) (Header g b n))
-    (z.opened_are ∙ ap (λ y. y.opened) i)
-    (z.groups_are ∙ ap (λ y. y.groups) i)
-    (z.count_is ∙ ap (λ y. told (a.count + (length (shortest_header g b y.count) + y.count))) i
-    ∙ count_after a.count (length (shortest_header g b (length x))) n (length x) (λ m. length (shortest_header g b m)) refl refl
-    ∙ ap (λ m. told (a.count + m)) (sym (length-append (shortest_header g b (length x)) x)))
-    (z.rows_are ∙ ap (λ y. set y.rows (length a.rows) (header_row k (told_numbers g b y.count) (told y.members) p q)) i
-    ∙ set_last a.rows rs an_absent (row_at k g b (length x) m p q))
-    z.members_are
+    let c = closed_parts a w e g b k ps n (ap (λ y. y.parts) i) (ap (λ y. y.count) i) z.parts_are in
+    record {
+      packed = c.packed;
+      is = is_state e (a.parts ++ c.packed) a.opened a.groups (told (a.count + length (shortest_header g b (length x) ++ x))) (a.rows ++ (row_at k g b (length x) m p q ∷ rs)) (told (a.members + 1))
+          c.is
+          (z.opened_are ∙ ap (λ y. y.opened) i)
+          (z.groups_are ∙ ap (λ y. y.groups) i)
+          (z.count_is ∙ ap (λ y. told (a.count + (length (shortest_header g b y.count) + y.count))) i
+          ∙ count_after a.count (length (shortest_header g b (length x))) n (length x) (λ m. length (shortest_header g b m)) refl refl
+          ∙ ap (λ m. told (a.count + m)) (sym (length-append (shortest_header g b (length x)) x)))
+          (z.rows_are ∙ ap (λ y. set y.rows (length a.rows) (header_row k (told_numbers g b y.count) (told y.members) p q)) i
+          ∙ set_last a.rows rs an_absent (row_at k g b (length x) m p q))
+          z.members_are;
+      same = c.same;
+    }
 
 -- what stands within a header, where it is short enough
 record Framing (tree t : Tree) (g : Tag) (b : Bool) (k : RowKind) (ps : List Part) (x p q : List ℕ) (rs : List FlatRow) (m : ℕ) : Type 0 where
@@ -220,15 +255,16 @@ row_is k g b n m p q ps qs l e f =
     ∙ ap (λ y. header_row k (told_numbers g b n) (told m) (map told ps) y) f
     ∙ row_told k (header_numbers g b n) m ps qs
 
-framed : (tree t : Tree) (es : List Event) (a c : State) (g : Tag) (b : Bool) (k : RowKind) (ps : List Part) (x p q : List ℕ) (rs : List FlatRow) (m : ℕ)
+framed : (tree t : Tree) (es : List Event) (a c e : State) (g : Tag) (b : Bool) (k : RowKind) (ps : List Part) (x p q : List ℕ) (rs : List FlatRow) (m : ℕ)
+    → (v : Closed a e g b ps x (row_at k g b (length x) m p q ∷ rs))
     → octets_in tree ≡ length (shortest_header g b (length x)) + (length x + octets_in t)
     → rows_in tree ≡ 1 + rows_in t
     → (length x ≤ 16777216 → Framing tree t g b k ps x p q rs m)
-    → Counted t es (added a (Header g b (told (0 + length x)) ∷ ps) (length (shortest_header g b (length x) ++ x)) (row_at k g b (length x) m p q ∷ rs) 1) c
+    → Counted t es (added a v.packed (length (shortest_header g b (length x) ++ x)) (row_at k g b (length x) m p q ∷ rs) 1) c
     → Counted tree es a c
-framed tree t es a c g b k ps x p q rs m number rows framing r =
+framed tree t es a c e g b k ps x p q rs m v number rows framing r =
     let hd = shortest_header g b (length x) in
-    let u = Header g b (told (0 + length x)) ∷ ps in
+    let u = v.packed in
     let row = row_at k g b (length x) m p q in
     record {
       octets = hd ++ (x ++ r.octets);
@@ -244,7 +280,8 @@ framed tree t es a c g b k ps x p q rs m number rows framing r =
           record {
             exact = header_row k (header_numbers g b (length x)) m w.exact_places w.exact_inverse ∷ (w.exact ++ f.exact);
             stands = w.stands r.octets f.exact f.stands;
-            spelled = (hd, x ++ r.octets, ap (λ z. shortest_header g b z) (sym (told_short (length x) s)), spell_both ps r.written x r.octets w.spelled f.spelled, refl);
+            spelled = subst (Spell (u ++ r.written)) (append_assoc hd x r.octets) (spell_both u r.written (hd ++ x) r.octets
+                (v.same (hd ++ x) (hd, x, ap (λ z. shortest_header g b z) (sym (told_short (length x) s)), w.spelled, refl)) f.spelled);
             rows = ap (λ y. y ∷ (rs ++ r.rows)) (row_is k g b (length x) m p q w.exact_places w.exact_inverse s w.places w.inverse)
                 ∙ ap (λ y. told_row (header_row k (header_numbers g b (length x)) m w.exact_places w.exact_inverse) ∷ y)
                 (ap (λ y. y ++ r.rows) w.rows ∙ ap (λ y. map told_row w.exact ++ y) f.rows ∙ sym (map-append told_row w.exact f.exact));
@@ -305,8 +342,8 @@ plain g b k i t begins ends inner after es a c s h =
     let w : z.within_it ≡ state ((a.parts ++ Header g b 0 ∷ []) ++ p.written) a.opened a.groups (told (0 + length p.octets)) ((a.rows ++ an_absent ∷ []) ++ p.rows) (told (0 + rows_in i)) = sym n.2 in
     let v = closed a z.within_it p.more.0 g b k p.written p.octets z.places z.inverse p.rows (rows_in i) w z.header_closes in
     let r = row_at k g b (length p.octets) (rows_in i) z.places z.inverse in
-    let q = after es (added a (Header g b (told (0 + length p.octets)) ∷ p.written) (length (shortest_header g b (length p.octets) ++ p.octets)) (r ∷ p.rows) 1) c (bound_added a _ _ _ _) (subst (λ y. Runs (flat t ++ es) y c) v p.more.2) in
-    framed (within g b k i t) t es a c g b k p.written p.octets z.places z.inverse p.rows (rows_in i)
+    let q = after es (added a v.packed (length (shortest_header g b (length p.octets) ++ p.octets)) (r ∷ p.rows) 1) c (bound_added a _ _ _ _) (subst (λ y. Runs (flat t ++ es) y c) v.is p.more.2) in
+    framed (within g b k i t) t es a c p.more.0 g b k p.written p.octets z.places z.inverse p.rows (rows_in i) v
     (ap (λ n. length (shortest_header g b n) + (n + octets_in t)) (sym p.as_many)) (one_more_row (rows_in t))
     (λ l. let f = p.fine l in record {
       spelled = f.spelled;
@@ -382,8 +419,8 @@ grouped g b k o i t begins ends inner after es a c s h =
     y.is ∙ ap (λ q. state ((a.parts ++ Header g b 0 ∷ []) ++ (parts_of q ++ p.written)) a.opened a.groups n rs u) none in
     let v = closed a z.within_it p.more.0 g b k p.written p.octets z.places z.inverse p.rows (rows_in i) w z.header_closes in
     let r = row_at k g b (length p.octets) (rows_in i) z.places z.inverse in
-    let q = after es (added a (Header g b n ∷ p.written) (length (shortest_header g b (length p.octets) ++ p.octets)) (r ∷ p.rows) 1) c (bound_added a _ _ _ _) (subst (λ y. Runs (flat t ++ es) y c) v p.more.2) in
-    framed (within g b k i t) t es a c g b k p.written p.octets z.places z.inverse p.rows (rows_in i)
+    let q = after es (added a v.packed (length (shortest_header g b (length p.octets) ++ p.octets)) (r ∷ p.rows) 1) c (bound_added a _ _ _ _) (subst (λ y. Runs (flat t ++ es) y c) v.is p.more.2) in
+    framed (within g b k i t) t es a c p.more.0 g b k p.written p.octets z.places z.inverse p.rows (rows_in i) v
     (ap (λ n. length (shortest_header g b n) + (n + octets_in t)) (sym p.as_many)) (one_more_row (rows_in t))
     (λ l. let f = p.fine l in record {
       spelled = f.spelled;
@@ -466,8 +503,8 @@ in_their_order g o ms t begins ends inner after es a c s h =
     y.is ∙ ap (λ q. state ((a.parts ++ Header g true 0 ∷ []) ++ (parts_of y.sorted ++ [])) a.opened a.groups (told (0 + q)) rs u) (sym x.as_many) in
     let v = closed a z.within_it p.more.0 g true k (parts_of y.sorted ++ []) x.octets z.places z.inverse p.rows (rows_among ms) w z.header_closes in
     let r = row_at k g true (length x.octets) (rows_among ms) z.places z.inverse in
-    let q = after es (added a (Header g true (told (0 + length x.octets)) ∷ (parts_of y.sorted ++ [])) (length (shortest_header g true (length x.octets) ++ x.octets)) (r ∷ p.rows) 1) c (bound_added a _ _ _ _) (subst (λ y. Runs (flat t ++ es) y c) v p.more.2) in
-    framed (ordered g o ms t) t es a c g true k (parts_of y.sorted ++ []) x.octets z.places z.inverse p.rows (rows_among ms)
+    let q = after es (added a v.packed (length (shortest_header g true (length x.octets) ++ x.octets)) (r ∷ p.rows) 1) c (bound_added a _ _ _ _) (subst (λ y. Runs (flat t ++ es) y c) v.is p.more.2) in
+    framed (ordered g o ms t) t es a c p.more.0 g true k (parts_of y.sorted ++ []) x.octets z.places z.inverse p.rows (rows_among ms) v
     (ap (λ n. length (shortest_header g true n) + (n + octets_in t)) (sym (x.as_many ∙ p.as_many))) (one_more_row (rows_in t))
     (λ l. let f = x.stands l in record {
       spelled = x.spelled l;

@@ -3,11 +3,9 @@ use Rattle.std.proofs.Common.{◌≡◌, ℕ, ◌+◌, ◌<◌, ◌≤◌, List,
 use Rattle.asn_base.specs.Types.{Resolved}
 use Rattle.asn_base.specs.Abstract.{AbstractValue}
 use Rattle.encodings.specs.Encoding.{Der}
-use Rattle.codec_code.specs.Routines.{routine_at}
 use Rattle.encodings.specs.Account.{Account, Tells as TellsAccount}
 use Rattle.codec_code.specs.Events.{Event, Tree, flat, StandsFor}
 use Rattle.codec_code.specs.Meaning.{Tells}
-use Rattle.codec_code.specs.Steps.{Steps}
 use Rattle.der_parts.specs.Parts.{Spell}
 use Rattle.octet_account.specs.Flat.{FlatRow, IsWithin, AreRows}
 use Rattle.account_rows.specs.Told.{Told}

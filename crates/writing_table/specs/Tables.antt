@@ -5,18 +5,21 @@ use Rattle.std.proofs.Common.{subst, sym}
 use Rattle.asn_base.specs.declared.tag.Tag.{Tag}
 use Rattle.encodings.specs.Header.{Octets}
 use Rattle.encodings.specs.Fewest.{shortest_header}
+use Rattle.codec_code.specs.declared.step.Head.{Head as Head'}
 use Rattle.codec_code.specs.declared.step.RowKind.{RowKind}
 use Rattle.codec_code.specs.declared.step.RowKind.TheVariants.{Leaf, Wrap, Sequence, Set, SequenceOf, SetOf}
 use Rattle.codec_code.specs.Events.{Event, opens, puts, closes, leaves_out, parts, Order, by_octets, by_rank}
 use Rattle.codec_code.specs.Events.{Part as Placed, InOrder as StandInOrder}
 use Rattle.der_parts.specs.declared.part.Part.{Part}
-use Rattle.der_parts.specs.declared.part.Part.TheVariants.{Header}
+use Rattle.der_parts.specs.declared.part.Part.TheVariants.{Header, Small}
 use Rattle.writing_table.specs.declared.table.Open.{Open}
+use Rattle.writing_table.specs.declared.table.Kept.{Kept}
+use Rattle.writing_table.specs.declared.table.Kept.TheVariants.{Few, Many}
 use Rattle.writing_table.specs.declared.table.Member.{Member}
 use Rattle.writing_table.specs.declared.table.Group.{Group}
 use Rattle.writing_table.specs.declared.table.Table.{Table}
-use Rattle.der_parts.specs.Parts.{IsPart, Spell}
-use Rattle.octet_account.specs.Flat.{FlatRow, an_absent}
+use Rattle.der_parts.specs.Parts.{IsPart, Spell, held}
+use Rattle.octet_account.specs.Flat.{FlatRow, a_leaf, an_absent}
 use Rattle.octet_account.specs.Seen.{flat}
 use Rattle.account_rows.specs.Told.{header_row, left_row}
 use Rattle.writing_table.specs.Rows.{told, told_numbers, numbers_in, places_by}
@@ -51,14 +54,23 @@ an_open g c k a = record {
   members_before = a.members;
 }
 
+-- what a member keeps
+abbrev pub octets_kept : Kept → Octets
+octets_kept (Few s) = held s
+octets_kept (Many o ps) = o.items
+
+abbrev pub parts_kept : Kept → List Part
+parts_kept (Few s) = Small s ∷ []
+parts_kept (Many o ps) = ps.items
+
 -- a member with its encoding
 abbrev pub placed_of : Member → Placed
-placed_of m = record { rank = m.rank; octets = m.octets.items }
+placed_of m = record { rank = m.rank; octets = octets_kept m.kept }
 
 -- the parts of members, one behind the other
 abbrev pub parts_of : List Member → List Part
 parts_of [] = []
-parts_of (m ∷ ms) = m.parts.items ++ parts_of ms
+parts_of (m ∷ ms) = parts_kept m.kept ++ parts_of ms
 
 -- the same members in their order
 pub record Sorted (o : Order) (ms ns : List Member) : Type 0 where
@@ -131,8 +143,8 @@ pub record MemberEnds (rank : ℕ) (a b : State) : Type 0 where
   pub larger_are : larger.members.items ≡ group.members.items ++ member ∷ []
   pub rank_is : member.rank ≡ rank
   pub number_is : member.number ≡ length group.members.items
-  pub parts_of_member : member.parts.items ≡ a.parts
-  pub octets_of_member : (o : Octets) → Spell a.parts o → member.octets.items ≡ o
+  pub parts_of_member : parts_kept member.kept ≡ a.parts
+  pub octets_of_member : (o : Octets) → Spell a.parts o → octets_kept member.kept ≡ o
   pub parts_are : b.parts ≡ []
   pub opened_are : b.opened ≡ a.opened
   pub count_is : b.count ≡ a.count
@@ -179,9 +191,24 @@ taken a os = record {
   members = a.members;
 }
 
+-- a header and what stands behind it are told by other parts, of the same octets
+pub record Packed (one : Open) (a b : State) : Type 0 where
+  pub front : List Part
+  pub behind : List Part
+  pub packed : List Part
+  pub from : a.parts ≡ front ++ (Header one.head.tag one.head.constructed 0 ∷ behind)
+  pub place_is : one.place ≡ length front
+  pub parts_are : b.parts ≡ front ++ packed
+  pub same : (o : Octets) → Spell (Header one.head.tag one.head.constructed a.count ∷ behind) o → Spell packed o
+
+-- a header gets its number of octets
+pub data PartsClose (one : Open) (a b : State) : Type 0 where
+  in_place : b.parts ≡ set a.parts one.place (Header one.head.tag one.head.constructed a.count) → PartsClose one a b
+  packed : Packed one a b → PartsClose one a b
+
 -- the header gets its number of octets, and its row what it tells
 pub record HeaderCloses (one : Open) (p q : List ℕ) (a b : State) : Type 0 where
-  pub parts_are : b.parts ≡ set a.parts one.place (Header one.head.tag one.head.constructed a.count)
+  pub parts_are : PartsClose one a b
   pub opened_are : b.opened ≡ a.opened
   pub groups_are : b.groups ≡ a.groups
   pub count_is : b.count
@@ -200,6 +227,18 @@ pub record Closes (a d : State) : Type 0 where
   pub from : a.opened ≡ others ++ one ∷ []
   pub group_ends : GroupEnds one.head.row places inverse (taken a others) within
   pub header_closes : HeaderCloses one places inverse within d
+
+-- a header, contents octets and the end of the header at once
+pub record WholeAdded (h : Head') (x : Octets) (a b : State) : Type 0 where
+  pub written : List Part
+  pub spelled : Spell written (shortest_header h.tag h.constructed (told (0 + length x)) ++ x)
+  pub parts_are : b.parts ≡ a.parts ++ written
+  pub opened_are : b.opened ≡ a.opened
+  pub groups_are : b.groups ≡ a.groups
+  pub count_is : b.count ≡ told (a.count
+      + (length (shortest_header h.tag h.constructed (told (0 + length x))) + told (0 + length x)))
+  pub rows_are : b.rows ≡ a.rows ++ a_leaf (told_numbers h.tag h.constructed (told (0 + length x))) ∷ []
+  pub members_are : b.members ≡ told (a.members + 1)
 
 -- ---- all events
 

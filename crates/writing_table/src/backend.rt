@@ -1,12 +1,14 @@
 //! The table as a backend.
 
 use crate::steps::{
-    add_contents, add_left_out, begin_group, close_header, end_group, end_member, open_header,
+    add_contents, add_left_out, add_whole, begin_group, close_header, end_group, end_member,
+    open_header,
 };
 use crate::table::Table;
 use asn_base::value::Value;
 use codec_code::{Head, LeafKind};
 use codec_machine::{Backend, RunFault};
+use leaf_contents::law::one_contents;
 use std::alloc::AllocError;
 
 impl<'a> Backend<'a> for Table<'a> {
@@ -22,6 +24,14 @@ impl<'a> Backend<'a> for Table<'a> {
 
     fn leaf(&mut self, kind: LeafKind, value: &'a Value) -> Result<(), RunFault> {
         add_contents(self, kind, value)
+    }
+
+    fn whole(&mut self, head: Head, kind: LeafKind, value: &'a Value) -> Result<(), RunFault> {
+        one_contents();
+        match add_whole(self, head, kind, value) {
+            Ok(()) => Ok(()),
+            Err(fault) => Err(fault),
+        }
     }
 
     fn close(&mut self) -> Result<(), AllocError> {

@@ -2,6 +2,7 @@
 
 ghost use Rattle.std.specs.Prelude.{◌≡◌, ◌+◌, IfOk, List, Bool};
 ghost use Rattle.account_rows.specs.Told.{header_row as row_of};
+ghost use Rattle.octet_account.specs.Flat.{a_leaf};
 ghost use Rattle.octet_account.specs.Seen.{numbers_of, told_of};
 ghost use Rattle.writing_table.specs.Rows.{told, told_numbers};
 
@@ -47,6 +48,13 @@ fn numbers(tag: Tag, contents: usize) -> Numbers
         size: small(size),
         contents: small(contents),
     }
+}
+
+/// What the row of a value that holds no others tells, with so many octets of contents.
+pub(crate) fn leaf_row(tag: Tag, contents: usize) -> Told
+    ensures { (c : Bool) → told_of result ≡ a_leaf (told_numbers tag c contents) }
+{
+    Told::Leaf(numbers(tag, contents))
 }
 
 /// The members of a SET or SET OF at their places.

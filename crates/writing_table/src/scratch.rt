@@ -1,13 +1,16 @@
 //! The octets of parts in a list, where they are to be compared.
 
-ghost use Rattle.std.specs.Prelude.{◌≡◌, ◌++◌, IfOk, List, OnOk, ℕ};
+ghost use Rattle.std.specs.Prelude.{◌≡◌, ◌++◌, ◌∷◌, [], IfOk, IfSome, List, OnOk, ℕ};
 ghost use Rattle.asn_base.specs.Abstract.{abstract};
 ghost use Rattle.codec_code.specs.Steps.{HasContents};
-ghost use Rattle.der_parts.specs.Parts.{IsPart, Spell};
+ghost use Rattle.der_parts.specs.Parts.{IsPart, Spell, held};
+ghost use Rattle.der_parts.specs.declared.part.Part.TheVariants.{Small as SmallPart};
+ghost use Rattle.writing_table.specs.Tables.{octets_kept, parts_kept};
 
+use crate::table::Kept;
 use asn_base::value::Value;
 use codec_code::LeafKind;
-use der_parts::{Part, push_header};
+use der_parts::{Part, Small, push_header};
 use leaf_contents::{leaf_len, push_leaf};
 use std::alloc::{AllocError, Global};
 
@@ -26,6 +29,13 @@ fn push_contents(kind: LeafKind, value: &Value, out: &mut Vec<u8>) -> Result<(),
     }
 }
 
+/// Adds octets that are held in place.
+fn push_small(small: Small, out: &mut Vec<u8>) -> Result<(), AllocError>
+    ensures { OnOk result (out.new.items ≡ out.old.items ++ held small) }
+{
+    out.extend_from_slice(octets_held(&small))
+}
+
 /// Adds the octets of a part.
 fn push_part<'a>(part: Part<'a>, out: &mut Vec<u8>) -> Result<(), AllocError>
     ensures { (x : List ℕ) → IsPart part.entry x → OnOk result (out.new.items ≡ out.old.items ++ x) }
@@ -38,6 +48,7 @@ fn push_part<'a>(part: Part<'a>, out: &mut Vec<u8>) -> Result<(), AllocError>
             contents as u64,
         ),
         Part::Contents(kind, value, _) => push_contents(kind, value, out),
+        Part::Small(small) => push_small(small, out),
     }
 }
 
@@ -52,10 +63,79 @@ fn push_parts<'a>(parts: &[Part<'a>], out: &mut Vec<u8>) -> Result<(), AllocErro
 }
 
 /// The octets of parts, one behind the other, in a list that has room for a few of them from the start.
-pub(crate) fn octets_of<'a>(alloc: Global, parts: &[Part<'a>]) -> Result<Vec<u8>, AllocError>
+fn octets_of<'a>(alloc: Global, parts: &[Part<'a>]) -> Result<Vec<u8>, AllocError>
     ensures { (o : List ℕ) → Spell parts.now o → IfOk result (λ v. v.items ≡ o) }
 {
     let mut out = Vec::with_capacity(alloc, FEW_OCTETS)?;
     push_parts(parts, &mut out)?;
     Ok(out)
+}
+
+/// The octets that are held, where the parts are one with few of them.
+fn only_small<'a>(parts: &[Part<'a>]) -> Option<Small>
+    ensures { IfSome result (λ s. parts.now ≡ SmallPart s ∷ []) }
+{
+    if parts.len() != 1 {
+        return None;
+    }
+    match parts[0] {
+        Part::Small(small) => Some(small),
+        _ => None,
+    }
+}
+
+/// Takes the parts away, with the octets that they spell.
+pub(crate) fn kept_of<'a>(alloc: Global, parts: &mut Vec<Part<'a>>) -> Result<Kept<'a>, AllocError>
+    ensures parts { IfOk result (λ k. parts_kept k ≡ parts.old.items) }
+    ensures octets { (o : List ℕ) → Spell parts.old.items o → IfOk result (λ k. octets_kept k ≡ o) }
+    ensures taken { IfOk result (λ k. parts.new.items ≡ []) }
+{
+    match only_small(parts.as_slice()) {
+        Some(small) => {
+            parts.clear();
+            Ok(Kept::Few(small))
+        }
+        None => {
+            let octets = octets_of(alloc, parts.as_slice())?;
+            let taken = std::mem::replace(parts, Vec::new(alloc));
+            Ok(Kept::Many(octets, taken))
+        }
+    }
+}
+
+/// The octets that are kept.
+pub(crate) fn octets_in<'k, 'a>(kept: &'k Kept<'a>) -> &'k [u8]
+    ensures { result.now ≡ octets_kept kept.now }
+{
+    match kept {
+        Kept::Few(small) => octets_held(small),
+        Kept::Many(octets, _) => octets.as_slice(),
+    }
+}
+
+fn octets_held(small: &Small) -> &[u8]
+    ensures { result.now ≡ held small.now }
+{
+    if (small.len as usize) < small.octets.len() {
+        &small.octets[..small.len as usize]
+    } else {
+        &small.octets
+    }
+}
+
+/// Puts the parts that are kept behind those that stand.
+pub(crate) fn put_kept<'a>(parts: &mut Vec<Part<'a>>, kept: Kept<'a>) -> Result<(), AllocError>
+    ensures { OnOk result (parts.new.items ≡ parts.old.items ++ parts_kept kept.entry) }
+{
+    match kept {
+        Kept::Few(small) => {
+            parts.push(Part::Small(small))?;
+            Ok(())
+        }
+        Kept::Many(_, more) => {
+            let mut more = more;
+            parts.append(&mut more)?;
+            Ok(())
+        }
+    }
 }

@@ -5,6 +5,7 @@ ghost use Rattle.codec_code.specs.Events.{by_octets, by_rank};
 ghost use Rattle.writing_table.specs.Octets.{order};
 ghost use Rattle.writing_table.specs.Tables.{Sorted};
 
+use crate::scratch::octets_in;
 use crate::table::Member;
 use std::alloc::AllocError;
 use std::cmp::Ordering;
@@ -14,7 +15,7 @@ use std::cmp::Ordering;
 pub(crate) fn sort_by_octets<'a>(members: &mut Vec<Member<'a>>) -> Result<(), AllocError>
     ensures { OnOk result (Sorted by_octets members.old.items members.new.items) }
 {
-    members.sort_by(|a, b| compare(a.octets.as_slice(), b.octets.as_slice()))?;
+    members.sort_by(|a, b| compare(octets_in(&a.kept), octets_in(&b.kept)))?;
     Ok(())
 }
 

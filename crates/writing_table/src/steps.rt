@@ -1,6 +1,6 @@
 //! What each event does to the table.
 
-ghost use Rattle.std.specs.Prelude.{◌≡◌, ◌+◌, ◌++◌, ◌∷◌, [], ◌⊎◌, List, IfErr, IfOk, OnOk, set, ℕ};
+ghost use Rattle.std.specs.Prelude.{◌≡◌, ◌+◌, ◌++◌, ◌∷◌, [], ◌⊎◌, List, IfErr, IfOk, OnOk, length, set, ℕ};
 ghost use Rattle.asn_base.specs.Abstract.{abstract};
 ghost use Rattle.codec_code.specs.Steps.{HasContents};
 ghost use Rattle.codec_code.specs.Events.{by_octets, by_rank};
@@ -8,19 +8,23 @@ ghost use Rattle.codec_machine.specs.Frames.{HasNoContents};
 ghost use Rattle.codec_machine.specs.declared.fault.RunFault.TheVariants.{NotOfType};
 ghost use Rattle.octet_account.specs.Seen.{flat, told_of};
 ghost use Rattle.writing_table.specs.Tables.{ContentsAdded, GroupBegins, GroupEnds, HeaderCloses, HeaderOpens};
-ghost use Rattle.writing_table.specs.Tables.{LeftOut, MemberEnds, MembersBegin, MembersEndIfAny, parts_of, state_of};
+ghost use Rattle.writing_table.specs.Tables.{LeftOut, MemberEnds, MembersBegin, MembersEndIfAny, WholeAdded, parts_of, state_of};
+ghost use Rattle.der_parts.specs.Parts.{Spell};
+ghost use Rattle.der_parts.specs.declared.part.Part.{Part as Part'};
+ghost use Rattle.encodings.specs.Fewest.{shortest_header};
+ghost use Rattle.leaf_contents.specs.Pieces.{joined_pieces};
 ghost use Rattle.writing_table.specs.Rows.{told};
 
 use crate::places::{Arrangement, arrangement_of};
-use crate::rows::{header_row, sum};
-use crate::scratch::octets_of;
+use crate::rows::{header_row, leaf_row, sum};
+use crate::scratch::{kept_of, put_kept};
 use crate::sort::{sort_by_octets, sort_by_rank};
 use crate::table::{Group, Member, Open, Table};
 use asn_base::value::Value;
 use codec_code::{Head, LeafKind, RowKind};
 use codec_machine::RunFault;
-use der_parts::Part;
-use leaf_contents::leaf_len;
+use der_parts::{Part, small_part};
+use leaf_contents::{LeafOctets, leaf_len, leaf_octets, octet_count};
 use octet_account::row::{Row, Told};
 use octets::header_len;
 use std::alloc::AllocError;
@@ -149,6 +153,62 @@ pub(crate) fn add_contents<'a>(
     }
 }
 
+/// A header, contents of a value that holds no others, and the end of the header. `NotOfType`: it has none of this kind.
+pub(crate) fn add_whole<'a>(
+    table: &mut Table<'a>,
+    head: Head,
+    kind: LeafKind,
+    value: &'a Value,
+) -> Result<(), RunFault>
+    ensures adds { OnOk result ((x : List ℕ) × HasContents kind (abstract value.now) x
+        × WholeAdded head x (state_of table.old) (state_of table.new)) }
+    ensures not_of_type { IfErr result (λ e. e ≡ NotOfType → HasNoContents kind (abstract value.now)) }
+{
+    match leaf_octets(kind, value) {
+        Some(octets) => {
+            let contents = sum(0, octet_count(&octets) as usize);
+            add_leaf_parts(&mut table.parts, head, kind, value, &octets, contents)?;
+            add_row(&mut table.rows, leaf_row(head.tag, contents))?;
+            let header = header_len(head.tag, contents as u64);
+            table.count = sum(table.count, sum(header, contents));
+            table.members = sum(table.members, 1);
+            Ok(())
+        }
+        None => Err(RunFault::NotOfType),
+    }
+}
+
+/// The parts of a header that tells so many octets and of contents, in one where they are few.
+fn add_leaf_parts<'a>(
+    parts: &mut Vec<Part<'a>>,
+    head: Head,
+    kind: LeafKind,
+    value: &'a Value,
+    octets: &LeafOctets,
+    contents: usize,
+) -> Result<(), AllocError>
+    requires has { HasContents kind (abstract value.now) (joined_pieces octets.now) }
+    requires contents { contents ≡ told (0 + length (joined_pieces octets.now)) }
+    ensures { OnOk result ((ps : List Part')
+        × Spell ps (shortest_header head.tag head.constructed contents ++ joined_pieces octets.now)
+        × (parts.new.items ≡ parts.old.items ++ ps)) }
+{
+    match small_part(head.tag, head.constructed, octets) {
+        Some(small) => {
+            add_part(parts, Part::Small(small))?;
+            Ok(())
+        }
+        None => {
+            add_part(parts, Part::Header(head.tag, head.constructed, contents))?;
+            add_part(
+                parts,
+                Part::Contents(kind, value, octet_count(octets) as usize),
+            )?;
+            Ok(())
+        }
+    }
+}
+
 /// The parts since the last member are one more, where a SET or SET OF is open.
 pub(crate) fn end_member<'a>(table: &mut Table<'a>, rank: usize) -> Result<(), AllocError>
     ensures { OnOk result (((state_of table.old).groups ≡ []) × (state_of table.old ≡ state_of table.new)
@@ -156,19 +216,10 @@ pub(crate) fn end_member<'a>(table: &mut Table<'a>, rank: usize) -> Result<(), A
 {
     match table.groups.pop() {
         Some(group) => {
-            let octets = octets_of(table.alloc, table.parts.as_slice())?;
-            let parts = std::mem::replace(&mut table.parts, Vec::new(table.alloc));
+            let kept = kept_of(table.alloc, &mut table.parts)?;
             let mut members = group.members;
             let number = members.len();
-            add_member(
-                &mut members,
-                Member {
-                    rank,
-                    number,
-                    octets,
-                    parts,
-                },
-            )?;
+            add_member(&mut members, Member { rank, number, kept })?;
             add_group(
                 &mut table.groups,
                 Group {
@@ -187,8 +238,7 @@ fn append_members<'a>(parts: &mut Vec<Part<'a>>, members: Vec<Member<'a>>) -> Re
     ensures { OnOk result (parts.new.items ≡ parts.old.items ++ parts_of members.entry.items) }
 {
     for member in members {
-        let mut more = member.parts;
-        parts.append(&mut more)?;
+        put_kept(parts, member.kept)?;
     }
     Ok(())
 }

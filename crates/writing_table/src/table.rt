@@ -3,7 +3,7 @@
 ghost use Rattle.std.specs.Prelude.{◌≡◌, []};
 
 use codec_code::Head;
-use der_parts::Part;
+use der_parts::{Part, Small};
 use octet_account::row::Row;
 use std::alloc::Global;
 
@@ -18,14 +18,20 @@ pub(crate) struct Open {
     pub members_before: usize,
 }
 
+/// The octets and parts of a member: one part of few octets, in place, or octets and any parts.
+#[derive(Drop)]
+pub(crate) enum Kept<'a> {
+    Few(Small),
+    Many(Vec<u8>, Vec<Part<'a>>),
+}
+
 /// A member of a SET OF, or a component of a SET with its rank: its number among those that are written, its parts, and
 /// its octets, by which it is compared.
 #[derive(Drop)]
 pub(crate) struct Member<'a> {
     pub rank: usize,
     pub number: usize,
-    pub octets: Vec<u8>,
-    pub parts: Vec<Part<'a>>,
+    pub kept: Kept<'a>,
 }
 
 /// A SET or SET OF that is open: its members so far, and the parts before them.

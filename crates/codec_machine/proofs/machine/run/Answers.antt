@@ -1,24 +1,30 @@
-use Rattle.std.proofs.Common.{rules, ◌≡◌, []}
+use Rattle.std.proofs.Common.{rules, ap, subst, sym, ◌++◌, ◌∷◌, []}
+use Rattle.codec_machine.specs.Frames.{Reached, and_next}
 use Rattle.codec_machine.specs.declared.frame.Frame.TheVariants.{Routine}
 use Rattle.codec_machine.proofs.Acting as r
 use Rattle.codec_machine.proofs.machine.run.Goals as goal
 
-pub loop-frame-preserved : goal.loop-frame-preserved
-loop-frame-preserved g c =
-    r.reached_more c.args.code.now g.B.Backend.adds (search rules) c.add.new.frames.items _ c.loop-frame.frames.items
-    c.turn.new.frames.items c.args.backend.now c.loop-frame.backend c.turn.new.backend c.in-Some.ensures.items c.loop-frame.invariant
-    c.in-Ok.ensures.ok
+pub loop-next-preserved : goal.loop-next-preserved
+loop-next-preserved g c =
+    let s = c.args.code.now in
+    let start = c.new-frames.result.items ++ Routine c.args.id c.steps-steps.result c.args.value ∷ [] in
+    let more = r.reached_more s g.B.Backend.adds (search rules) start _ (and_next c.loop-next.frames.items c.loop-next.next)
+    (and_next c.turn.new.frames.items c.in-Ok.after) c.args.backend.now c.loop-next.backend c.turn.new.backend
+    (ap (and_next c.loop-next.frames.items) c.in-Some.is) c.loop-next.invariant.0 c.in-Ok.ensures.ok in (
+      subst (λ q. Reached s g.B.Backend.adds start c.args.backend.now q c.turn.new.backend) (sym c.next_of-next.ensures.same) more,
+      c.next_of-next.ensures.last,
+    )
 
 pub returns-clause-ok : goal.returns-clause-ok
 returns-clause-ok g c =
-    let empty : c.loop-frame.frames.items ≡ [] = (let b = c.in_default.ensures.cases.0 in let k = c.loop-frame.frames.ok in r.no_items c.loop-frame.frames.items (search rules)) in
-    r.reached_ran c.args.code.now g.B.Backend.adds c.args.id c.steps.result c.args.value c.add.new.frames.items c.loop-frame.frames.items
-    c.args.backend.now c.loop-frame.backend c.steps.ensures
-    (r.one_pushed c.add.new.frames.items _ (Routine c.args.id c.steps.result c.args.value) c.in_ok-add.ensures c.new-frames.ensures.items) empty c.loop-frame.invariant
+    r.reached_ran c.args.code.now g.B.Backend.adds c.args.id c.steps-steps.result c.args.value _
+    (and_next c.loop-next.frames.items c.loop-next.next) c.args.backend.now c.loop-next.backend c.steps-steps.ensures
+    (ap (λ q. q ++ Routine c.args.id c.steps-steps.result c.args.value ∷ []) c.new-frames.ensures.items)
+    (r.none_next c.loop-next.frames.items c.loop-next.next c.in_default.not-Some c.loop-next.invariant.1) c.loop-next.invariant.0
 
 pub returns-in-Err-clause-refused : goal.returns-in-Err-clause-refused
 returns-in-Err-clause-refused g c =
-    r.reached_untold c.args.code.now g.B.Backend.adds c.args.id c.steps.result c.args.value c.add.new.frames.items
-    c.loop-frame.frames.items _ c.args.backend.now c.loop-frame.backend c.in-Err.fault c.steps.ensures
-    (r.one_pushed c.add.new.frames.items _ (Routine c.args.id c.steps.result c.args.value) c.in_ok-add.ensures c.new-frames.ensures.items)
-    c.in-Some.ensures.items c.loop-frame.invariant c.in-Err.ensures.refused
+    r.reached_untold c.args.code.now g.B.Backend.adds c.args.id c.steps-steps.result c.args.value _
+    (and_next c.loop-next.frames.items c.loop-next.next) _ c.args.backend.now c.loop-next.backend c.in-Err.fault c.steps-steps.ensures
+    (ap (λ q. q ++ Routine c.args.id c.steps-steps.result c.args.value ∷ []) c.new-frames.ensures.items)
+    (ap (and_next c.loop-next.frames.items) c.in-Some.is) c.loop-next.invariant.0 c.in-Err.ensures.refused

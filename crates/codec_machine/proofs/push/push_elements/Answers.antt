@@ -1,4 +1,5 @@
-use Rattle.std.proofs.Common.{arith, subst, sym}
+use Rattle.std.proofs.Common.{arith, refl, subst, sym, ◌∷◌, ◌++◌}
+use Rattle.codec_machine.specs.declared.frame.Frame.TheVariants.{Routine}
 use Rattle.std.proofs.Common.{map, []}
 use Rattle.asn_base.specs.Abstract.{abstract, row_of_list}
 use Rattle.codec_code.specs.Steps.{Elements, no_element}
@@ -14,7 +15,7 @@ returns-in-None c =
     (suc (weights (total s) (row_of_list (map abstract c.args.values.now))))
     (subst (λ q. Elements s c.args.id.index (row_of_list (map abstract q)) []) (sym c.in-None.ensures) no_element) (omega arith)
 
-pub returns-in_ok-add-in-Some-2 : goal.returns-in_ok-add-in-Some-2
-returns-in_ok-add-in-Some-2 c =
-    r.element_in c.args.code.now c.args.id c.args.frames.now.items c.add.new.frames.items c.add-in-Some.new.frames.items c.steps.result
-    c.in-Some.first c.args.values c.in-Some.others c.in-Some.ensures c.steps.ensures c.in_ok-add-in-Some.ensures c.in_ok-add-in-Some-2.ensures
+pub returns-in_ok-add-in-Some : goal.returns-in_ok-add-in-Some
+returns-in_ok-add-in-Some c =
+    r.element_in c.args.code.now c.args.id c.args.frames.now.items c.add.new.frames.items (c.add.new.frames.items ++ Routine c.args.id c.steps-steps.result c.in-Some.first ∷ []) c.steps-steps.result
+    c.in-Some.first c.args.values c.in-Some.others c.in-Some.ensures c.steps-steps.ensures c.in_ok-add-in-Some.ensures refl

@@ -1,10 +1,8 @@
 use Rattle.std.proofs.Common.{◌≡◌, ◌++◌, drop, string_bytes}
-use Rattle.asn_base.specs.Abstract.{bits_of}
-use Rattle.value_text.specs.Print.{bit_digits}
-use Rattle.value_text.proofs.Bits.{bits_from}
+use Rattle.value_text.specs.Print.{bit_digits, bits_in}
 use Rattle.value_text.proofs.leaf.append_bits_of.Given as goal
 
 abbrev pub invariant-loop-i : goal.invariant-loop-i
 invariant-loop-i l =
-    string_bytes l.out ++ bit_digits (bits_from l.bits.unused (drop l.i l.bits.octets.items))
-    ≡ string_bytes l.fn.out ++ bit_digits (bits_of l.bits)
+    string_bytes l.out ++ bit_digits (bits_in l.unused (drop l.i l.octets))
+    ≡ string_bytes l.fn.out ++ bit_digits (bits_in l.unused l.octets)

@@ -1,9 +1,21 @@
-use Rattle.std.proofs.Common.{subst, sym}
-use Rattle.asnc.specs.Opening.{IsKitOf}
+use Rattle.std.proofs.Common.{map}
+use Rattle.front_end.specs.Accepted.{octets_of}
+use Rattle.asnc.specs.Kits.{Opened}
+use Rattle.asnc.proofs.Opening.{kit_answers}
 use Rattle.asnc.proofs.kit.Kit.open.Goals as goal
 
+pub kit_of-requires : goal.kit_of-requires
+kit_of-requires c = record {
+  kept = c.accepted_keep.ensures (map octets_of c.args.texts.now) c.in-Ok.front.linked c.in-Ok.ensures.accepted.accepted;
+  types = c.in-Ok.ensures.accepted.types;
+}
+
 pub returns-in-Ok-clause-only : goal.returns-in-Ok-clause-only
-returns-in-Ok-clause-only c = λ p s i. c.kit_of.ensures.only p s (subst (λ ms. IsKitOf ms p s) (sym (c.in-Ok.ensures.only i.modules i.are)) i.kit)
+returns-in-Ok-clause-only c = λ p a.
+    kit_answers (λ (k : Opened). k.program) c.in-Ok.front.linked p c.kit_of.result (c.in-Ok.ensures.only p a) c.kit_of.ensures.program c.kit_of.ensures.memory
 
 pub returns-in-Err-clause-only : goal.returns-in-Err-clause-only
-returns-in-Err-clause-only c = λ p s i. c.in-Err.ensures.only i.modules i.are
+returns-in-Err-clause-only c = λ p a. c.refusal.ensures.memory (c.in-Err.ensures.only p a)
+
+pub returns-in-Err-clause-fault : goal.returns-in-Err-clause-fault
+returns-in-Err-clause-fault c = c.refusal.ensures.stands (map octets_of c.args.texts.now) c.in-Err.ensures.fault

@@ -1,0 +1,9 @@
+use Rattle.std.proofs.Common.{subst}
+use Rattle.std.specs.Prelude.{IfErr}
+use Rattle.asnc.specs.Kits.{Opened}
+use Rattle.asnc.specs.Writing.{IsNotMeant}
+use Rattle.asnc.proofs.kit.Kit.value_of.Goals as goal
+
+pub returns-clause-refused : goal.returns-clause-refused
+returns-clause-refused c =
+    subst (λ (k : Opened). IfErr c.meant.result (IsNotMeant k.program c.args.ty.now c.args.value.now)) c.self.view_is c.meant.ensures.refused

@@ -1,0 +1,128 @@
+-- The command lines that the program takes, and what a job holds of one.
+use Rattle.std.specs.Prelude.{◌≡◌, ◌⊎◌, ⊤, List, [], true, false, Some, codes, map, option_map, string_bytes, unwrap_or}
+use Rattle.clap.specs.Words.{App, Rule, Row, Text, IsAmong, all_of, fault_of, first_of, one_of, new_app, new_rule, subcommand_of, with_rule, with_subcommand}
+use Rattle.clap.specs.declared.builder.ArgAction.TheVariants.{Append, Set, SetTrue}
+use Rattle.clap.specs.declared.error.kind.ErrorKind.{ErrorKind}
+use Rattle.clap.specs.declared.error.kind.ErrorKind.TheVariants as kinds
+use Rattle.messages.specs.declared.fault.Fault.{Fault}
+use Rattle.messages.specs.declared.fault.Fault.TheVariants as faults
+use Rattle.command_line.specs.declared.request.Job.{Job}
+use Rattle.command_line.specs.declared.request.Verb.TheVariants as verbs
+use Rattle.command_line.specs.declared.request.Given.TheVariants as given
+
+-- `--ID TEXT`, which has to be there
+abbrev pub text_rule : Text → Rule
+text_rule id = record (new_rule id) {
+  long = Some id;
+  value_names = 1;
+  required = true;
+  action = Some Set;
+}
+
+-- `--ID`, which may be there
+abbrev pub flag_rule : Text → Rule
+flag_rule id = record (new_rule id) { long = Some id; action = Some SetTrue }
+
+-- the words at the end, one at least
+abbrev pub files_rule : Rule
+files_rule = record (new_rule (codes "FILE")) { required = true; action = Some Append }
+
+-- `der --type TEXT --value TEXT`
+abbrev pub der_names_app : App
+der_names_app = with_rule (with_rule (new_app (codes "der")) (text_rule (codes "type"))) (text_rule (codes "value"))
+
+-- `der --type TEXT --value TEXT [--raw] [--context]`
+abbrev pub der_flags_app : App
+der_flags_app = with_rule (with_rule der_names_app (flag_rule (codes "raw"))) (flag_rule (codes "context"))
+
+-- `der --type TEXT --value TEXT [--raw] [--context] FILE..`
+abbrev pub der_app : App
+der_app = with_rule der_flags_app files_rule
+
+-- `list [--context] FILE..`
+abbrev pub list_app : App
+list_app = with_rule (with_rule (new_app (codes "list")) (flag_rule (codes "context"))) files_rule
+
+-- a command is wanted, and `help` is none; it has a version
+abbrev pub bare_app : App
+bare_app = record (new_app (codes "asnc")) {
+  top = record (new_app (codes "asnc")).top {
+    subcommand_required = true;
+    disable_help_subcommand = true;
+    has_version = true;
+  };
+}
+
+-- the commands `der` and `list`
+abbrev pub asnc_app : App
+asnc_app = with_subcommand (with_subcommand bare_app der_app.top) list_app.top
+
+-- the text that was given for an argument, empty where there is none
+abbrev pub text_in : List Row → Text → Text
+text_in rows id = unwrap_or (first_of id rows) []
+
+-- the texts that were given for an argument
+abbrev pub texts_in : List Row → Text → List Text
+texts_in rows id = unwrap_or (all_of id rows) []
+
+-- The job holds what was found for the arguments of `der`; what it doesn't take is empty.
+pub record IsDerOf (rows : List Row) (job : Job) : Type 0 where
+  pub verb : job.verb ≡ verbs.Der
+  pub type : string_bytes job.ty ≡ text_in rows (codes "type")
+  pub value : string_bytes job.value ≡ text_in rows (codes "value")
+  pub raw : (one_of (codes "raw") rows ≡ Some (codes "true")) → job.raw ≡ true
+  pub not_raw : (one_of (codes "raw") rows ≡ Some (codes "false")) → job.raw ≡ false
+  pub context : (one_of (codes "context") rows ≡ Some (codes "true")) → job.context ≡ true
+  pub no_context : (one_of (codes "context") rows ≡ Some (codes "false")) → job.context ≡ false
+  pub files : map string_bytes job.files.items ≡ texts_in rows (codes "FILE")
+  pub no_account : string_bytes job.account ≡ []
+  pub no_octets : job.octets ≡ given.Nothing
+  pub not_strict : job.strict ≡ false
+
+-- The job holds what was found for the arguments of `list`; what it doesn't take is empty.
+pub record IsListOf (rows : List Row) (job : Job) : Type 0 where
+  pub verb : job.verb ≡ verbs.List
+  pub no_type : string_bytes job.ty ≡ []
+  pub no_value : string_bytes job.value ≡ []
+  pub not_raw : job.raw ≡ false
+  pub context : (one_of (codes "context") rows ≡ Some (codes "true")) → job.context ≡ true
+  pub no_context : (one_of (codes "context") rows ≡ Some (codes "false")) → job.context ≡ false
+  pub files : map string_bytes job.files.items ≡ texts_in rows (codes "FILE")
+  pub no_account : string_bytes job.account ≡ []
+  pub no_octets : job.octets ≡ given.Nothing
+  pub not_strict : job.strict ≡ false
+
+-- the job is that of the command of this name, `list` or else `der`
+pub record IsJobOf (command : Text) (rows : List Row) (job : Job) : Type 0 where
+  pub list : command ≡ codes "list" → IsListOf rows job
+  pub der : (command ≡ codes "list" → ⊥) → IsDerOf rows job
+
+-- nothing is wrong with the words, and the job holds what they name for their command
+pub record IsAsked (words : List Text) (job : Job) : Type 0 where
+  pub taken : fault_of asnc_app words ≡ []
+  pub command : Text
+  pub called : option_map (λ p. p.0) (subcommand_of asnc_app words) ≡ Some command
+  pub rows : List Row
+  pub found : option_map (λ p. p.1) (subcommand_of asnc_app words) ≡ Some rows
+  pub holds : IsJobOf command rows job
+
+-- the fault that tells of a failure of this kind to read the words
+abbrev pub IsFaultOf : ErrorKind → Fault → Type 0
+IsFaultOf k faults.Memory = k ≡ kinds.OutOfMemory
+IsFaultOf k (faults.Help t) = (k ≡ kinds.DisplayHelp) ⊎ (k ≡ kinds.DisplayVersion)
+IsFaultOf k (faults.BadWords t) =
+    (k ≡ kinds.OutOfMemory → ⊥) × (k ≡ kinds.DisplayHelp → ⊥) × (k ≡ kinds.DisplayVersion → ⊥)
+IsFaultOf k fault = ⊥
+
+-- The words are refused: they ask for help or for the version, or something else is wrong with them. Memory speaks of no
+-- words.
+abbrev pub IsRefused : List Text → Fault → Type 0
+IsRefused words faults.Memory = ⊤
+IsRefused words (faults.Help t) =
+    IsAmong kinds.DisplayHelp (fault_of asnc_app words) ⊎ IsAmong kinds.DisplayVersion (fault_of asnc_app words)
+IsRefused words (faults.BadWords t) =
+    (k : ErrorKind)
+    × IsAmong k (fault_of asnc_app words)
+    × (k ≡ kinds.DisplayHelp → ⊥)
+    × (k ≡ kinds.DisplayVersion → ⊥)
+IsRefused words fault = ⊥

@@ -1,0 +1,8 @@
+//! The words of a command line: what they ask for, or what is wrong with them.
+#![tactic(auto)]
+
+mod request;
+mod words;
+
+pub use request::{Given, Job, Verb};
+pub use words::job;

@@ -1,5 +1,0 @@
-use Rattle.first_path.proofs.Leading.{AreFirst}
-use Rattle.first_path.proofs.scope.referred_by_all.Given as goal
-
-abbrev pub invariant-loop-number : goal.invariant-loop-number
-invariant-loop-number l = AreFirst l.linked l.behind.items l.number

@@ -1,0 +1,314 @@
+//! Faults apart from any text that has them.
+
+use additions::ExtFault;
+use command_line::{Given, Job, Verb};
+use constraints::BoundFault;
+use front_end::FrontFault;
+use messages::{Fault, number, status};
+use names::fault::spot;
+use names::{Limit, NameFault};
+use notation::SyntaxFault;
+use reports::report;
+use std::alloc::{AllocError, Global};
+use std::test::*;
+use tagging::TagFault;
+use text::LexFault;
+use told_values::{Reason, ValueTold};
+use trees::Spot;
+
+/// Of each fault its number, the exit status, the line that is told of it, and what it prints.
+const TOLD: &str = "\
+1 3 error 1 Memory: out of memory | error 1 Memory: out of memory
+3 3 error 3 File: w\\u{A}x could not be read | error 3 File: w
+x: the file can not be read
+3 3 error 3 File: w\\u{A}x is missing | error 3 File: w
+x: there is no such file
+3 3 error 3 File: w\\u{A}x is a folder | error 3 File: w
+x: this is a folder
+4 2 error 4 BadWords: w x | error 4 BadWords: w
+x
+5 0 error 5 Help: w x | w
+x
+31 1 error 31 UnknownName: w\\u{A}x names no module: a type is named as MODULE, a dot, and its name | error 31 UnknownName: w
+x
+31 1 error 31 UnknownName: w\\u{A}x names no module: a value is named as MODULE, a dot, and its name | error 31 UnknownName: w
+x
+71 1 error 71 TooLong: the encoding has more than 16777216 octets | error 71 TooLong: the encoding has more than 16777216 octets
+72 3 error 72 Device: the output took 7 octets and then no more | error 72 Device: the output took 7 octets and then no more
+1 3 error 1 Memory: out of memory | error 1 Memory: out of memory
+1 3 error 1 Memory: m.asn: out of memory | error 1 Memory
+2 1 error 2 Limit(Text): m.asn:1:39: the text has more than 16777216 octets | error 2 Limit(Text) at 38
+2 1 error 2 Limit(Integer): m.asn:1:39: this number is above 2 to the 127 | error 2 Limit(Integer) at 38
+10 1 error 10 NotUtf8: m.asn:1:39: the text is not UTF-8 here | error 10 NotUtf8 at 38
+11 1 error 11 BadCharacter: m.asn:1:39: found w, which stands in comments and quotes alone | error 11 BadCharacter at 38
+12 1 error 12 OpenComment: m.asn:1:39: this comment is not closed | error 12 OpenComment at 38
+13 1 error 13 OpenString: m.asn:1:39: this apostrophe is not closed on its line | error 13 OpenString at 38
+14 1 error 14 BadNumber: m.asn:1:39: this number begins with 0, or a letter follows it | error 14 BadNumber at 38
+15 1 error 15 BadName: m.asn:1:39: this name ends with a hyphen | error 15 BadName at 38
+1 3 error 1 Memory: m.asn: out of memory | error 1 Memory
+2 1 error 2 Limit(Nesting): m.asn:1:39: more than 128 braces are open here | error 2 Limit(Nesting) at token 7
+2 1 error 2 Limit(Integer): m.asn:1:39: numbers are at most 2 to the 127 minus 1 | error 2 Limit(Integer) at token 7
+2 1 error 2 Limit(TagNumber): m.asn:1:39: numbers of tags are at most 2 to the 31 minus 1 | error 2 Limit(TagNumber) at token 7
+20 1 error 20 Unexpected: m.asn:1:39: found 'w', expected a type reference or an identifier or '{' or '(' or END | error 20 Unexpected at token 7
+21 1 error 21 OutOfProfile w: m.asn:1:39: this compiler leaves out w | error 21 OutOfProfile at token 7
+1 3 error 1 Memory: out of memory | error 1 Memory
+2 1 error 2 Limit(Modules): m.asn:1:39: more than 256 modules are linked | error 2 Limit(Modules): M.w
+2 1 error 2 Limit(Types): m.asn:1:39: more than 4096 types are assigned, or more than 65536 are written | error 2 Limit(Types): M.w
+2 1 error 2 Limit(Values): m.asn:1:39: more than 65536 values are assigned | error 2 Limit(Values): M.w
+2 1 error 2 Limit(Members): m.asn:1:39: a list has at most 256 members and 64 additions | error 2 Limit(Members): M.w
+2 1 error 2 Limit(Items): m.asn:1:39: an enumeration has at most 1024 items and 64 additions | error 2 Limit(Items): M.w
+2 1 error 2 Limit(NamedBit): m.asn:1:39: a named bit here stands past place 65535 | error 2 Limit(NamedBit): M.w
+2 1 error 2 Limit(Integer): m.asn:1:39: numbers are from -2^127 to 2^127 - 1 | error 2 Limit(Integer): M.w
+30 1 error 30 Twice: m.asn:1:39: the name w, or its number, is given a second time here | error 30 Twice: M.w
+31 1 error 31 UnknownName: m.asn:1:39: w has no meaning in the module M that it needs here | error 31 UnknownName: M.w
+32 1 error 32 NotExported: m.asn:1:39: w is not exported by the module that it is imported from | error 32 NotExported: M.w
+33 1 error 33 Circular: m.asn:1:39: the reference to w in the type w leads round in a circle | error 33 Circular: M.w
+34 1 error 34 UnknownModule: m.asn:1:39: no text is the module w, from which names are imported | error 34 UnknownModule: M.w
+1 3 error 1 Memory: out of memory | error 1 Memory
+2 1 error 2 Limit(Tags): m.asn:1:39: found 'w' in w, a type with more than four tags, expected at most four, those behind its references with them | error 2 Limit(Tags): M.w
+2 1 error 2 Limit(TagNumber): m.asn:1:39: found 'w' in w, a type whose automatic tag is too great, expected a number below 2 to the 31 | error 2 Limit(TagNumber): M.w
+40 1 error 40 TagClash: m.asn:1:39: found 'w' in w, whose first tag one before it can have too, expected another tag, as [0], or AUTOMATIC TAGS | error 40 TagClash: M.w
+41 1 error 41 ImplicitChoice: m.asn:1:39: found 'w' in w, before an untagged CHOICE, expected EXPLICIT, or neither word | error 41 ImplicitChoice: M.w
+42 1 error 42 UntaggedChoice: m.asn:1:39: found 'w' in w, an untagged CHOICE, which this compiler leaves out there, expected a tag before it, as [0] | error 42 UntaggedChoice: M.w
+43 1 error 43 MixedAutomatic: m.asn:1:39: found 'w' in w, a tag among the additions of a list whose root has none, under AUTOMATIC TAGS, expected no tag, or one in the root too | error 43 MixedAutomatic: M.w
+1 3 error 1 Memory: out of memory | error 1 Memory
+33 1 error 33 Circular: m.asn:1:39: found 'w' in w, which leads back to itself and is the end of a range, expected a number | error 33 Circular: M.w
+50 1 error 50 Empty: m.asn:1:39: found 'w' in w, whose constraints leave nothing, expected at least one number, size or character | error 50 Empty: M.w
+51 1 error 51 WrongKind: m.asn:1:39: found 'w' in w, which the type does not take, expected a constraint of this kind of type: numbers, sizes from 0 on, or single characters | error 51 WrongKind: M.w
+52 1 error 52 Reconstrained: m.asn:1:39: found 'w' in w, behind a constraint with an extension marker, which this compiler leaves out, expected one constraint | error 52 Reconstrained: M.w
+53 1 error 53 LowerAboveUpper: m.asn:1:39: found 'w' in w, a lower end above the upper one, expected ends that ascend | error 53 LowerAboveUpper: M.w
+55 1 error 55 MarkerPlace: m.asn:1:39: found 'w' in w, with an extension marker that this compiler leaves out, expected the marker behind one value or range of an INTEGER, or behind one SIZE that is not a character string's | error 55 MarkerPlace: M.w
+1 3 error 1 Memory: out of memory | error 1 Memory
+55 1 error 55 MarkerPlace: m.asn:1:39: found 'w' in w, where the extension marker of its list does not let it stand, expected additions behind the marker, and the root before it | error 55 MarkerPlace: M.w
+56 1 error 56 AdditionOrder: m.asn:1:39: found 'w' in w, an addition that does not ascend, expected ascending numbers in an enumeration, ascending tags in a CHOICE | error 56 AdditionOrder: M.w
+57 1 error 57 DefaultAddition: m.asn:1:39: found 'w' in w, an addition with a DEFAULT, which this compiler leaves out, expected OPTIONAL, or neither | error 57 DefaultAddition: M.w
+2 1 error 2 Limit(Depth): m.asn:1:39: found a value at level 65, expected components in braces, of a, b, under the type that was asked for | error 2 Limit(Depth): M.w, expected components in braces, of a, b
+2 1 error 2 Limit(Nodes): m.asn:1:39: found 'w', which is one part too many, expected components in braces, of a, b, under the type that was asked for | error 2 Limit(Nodes): M.w, expected components in braces, of a, b
+2 1 error 2 Limit(Oid): m.asn:1:39: found 'w', which is too long or has too great a number, expected components in braces, of a, b, under the type that was asked for | error 2 Limit(Oid): M.w, expected components in braces, of a, b
+31 1 error 31 UnknownName: m.asn:1:39: found w, which means no value there, expected components in braces, of a, b, under the type that was asked for | error 31 UnknownName: M.w, expected components in braces, of a, b
+62 1 error 62 UnknownItem: m.asn:1:39: found w, which means no value, expected components in braces, of a, b, under the type that was asked for | error 62 UnknownItem: M.w, expected components in braces, of a, b
+33 1 error 33 Circular: m.asn:1:39: found w, which leads back to itself, expected components in braces, of a, b, under the type that was asked for | error 33 Circular: M.w, expected components in braces, of a, b
+60 1 error 60 NotOfType: m.asn:1:39: found 'w', expected components in braces, of a, b, under the type that was asked for | error 60 NotOfType: M.w, expected components in braces, of a, b
+62 1 error 62 UnknownItem: m.asn:1:39: found w, which is no bit of the type, expected components in braces, of a, b, under the type that was asked for | error 62 UnknownItem: M.w, expected components in braces, of a, b
+62 1 error 62 UnknownItem: m.asn:1:39: found 'w', which is no alternative, expected components in braces, of a, b, under the type that was asked for | error 62 UnknownItem: M.w, expected components in braces, of a, b
+62 1 error 62 UnknownItem: m.asn:1:39: found w, which is no component, expected components in braces, of a, b, under the type that was asked for | error 62 UnknownItem: M.w, expected components in braces, of a, b
+64 1 error 64 Repeated: m.asn:1:39: found the component w a second time, expected components in braces, of a, b, under the type that was asked for | error 64 Repeated: M.w, expected components in braces, of a, b
+63 1 error 63 Missing: m.asn:1:39: found no component w, expected components in braces, of a, b, under the type that was asked for | error 63 Missing: M.w, expected components in braces, of a, b
+60 1 error 60 NotOfType: m.asn:1:39: found the component w out of order, expected components in braces, of a, b, under the type that was asked for | error 60 NotOfType: M.w, expected components in braces, of a, b
+61 1 error 61 OutsideConstraint: m.asn:1:39: found 'w', expected components in braces, of a, b, under the type that was asked for | error 61 OutsideConstraint: M.w, expected components in braces, of a, b
+60 1 error 60 NotOfType: m.asn:1:39: found 'w', expected components in braces, of a, b | error 60 NotOfType: M.w, expected components in braces, of a, b
+60 1 error 60 NotOfType: m.asn:1:39: found 'w', expected components in braces, of a, b | error 60 NotOfType: M.w, expected components in braces, of a, b
+";
+
+/// The module in the file m.asn.
+const TEXT: &str = "M DEFINITIONS ::= BEGIN T ::= INTEGER w T ::= 7 END";
+
+/// The place of the name w in it.
+const PLACE: usize = 38;
+
+/// The faults of no text, by number.
+fn call_fault(number: usize, words: String) -> Option<Fault> {
+    match number {
+        0 => Some(Fault::Memory),
+        1 => Some(Fault::File(words)),
+        2 => Some(Fault::NoFile(words)),
+        3 => Some(Fault::Folder(words)),
+        4 => Some(Fault::BadWords(words)),
+        5 => Some(Fault::Help(words)),
+        6 => Some(Fault::NoType(words)),
+        7 => Some(Fault::NoValue(words)),
+        8 => Some(Fault::TooLong),
+        9 => Some(Fault::Device(7)),
+        10 => Some(Fault::Front(FrontFault::Memory)),
+        _ => None,
+    }
+}
+
+/// The faults of a text's octets, by number.
+fn text_fault(number: usize) -> Option<LexFault> {
+    match number {
+        11 => Some(LexFault::Memory),
+        12 => Some(LexFault::Limit(text::Limit::Text, PLACE)),
+        13 => Some(LexFault::Limit(text::Limit::Integer, PLACE)),
+        14 => Some(LexFault::NotUtf8(PLACE)),
+        15 => Some(LexFault::BadCharacter(PLACE)),
+        16 => Some(LexFault::OpenComment(PLACE)),
+        17 => Some(LexFault::OpenString(PLACE)),
+        18 => Some(LexFault::BadNumber(PLACE)),
+        19 => Some(LexFault::BadName(PLACE)),
+        _ => None,
+    }
+}
+
+/// The faults of a text's tokens, by number.
+fn tree_fault(number: usize) -> Option<SyntaxFault> {
+    match number {
+        20 => Some(SyntaxFault::Memory),
+        21 => Some(SyntaxFault::Limit(kernel::Limit::Nesting, 7)),
+        22 => Some(SyntaxFault::Limit(kernel::Limit::Integer, 7)),
+        23 => Some(SyntaxFault::Limit(kernel::Limit::TagNumber, 7)),
+        24 => Some(SyntaxFault::Unexpected(7)),
+        25 => Some(SyntaxFault::OutOfProfile(7)),
+        _ => None,
+    }
+}
+
+/// The faults of names, by number.
+fn name_fault(number: usize, spot: Spot) -> Option<NameFault> {
+    match number {
+        26 => Some(NameFault::Memory),
+        27 => Some(NameFault::Limit(Limit::Modules, spot)),
+        28 => Some(NameFault::Limit(Limit::Types, spot)),
+        29 => Some(NameFault::Limit(Limit::Values, spot)),
+        30 => Some(NameFault::Limit(Limit::Members, spot)),
+        31 => Some(NameFault::Limit(Limit::Items, spot)),
+        32 => Some(NameFault::Limit(Limit::NamedBit, spot)),
+        33 => Some(NameFault::Limit(Limit::Integer, spot)),
+        34 => Some(NameFault::Twice(spot)),
+        35 => Some(NameFault::UnknownName(spot)),
+        36 => Some(NameFault::NotExported(spot)),
+        37 => Some(NameFault::Circular(spot)),
+        38 => Some(NameFault::UnknownModule(spot)),
+        _ => None,
+    }
+}
+
+/// The faults of tags, by number.
+fn tag_fault(number: usize, spot: Spot) -> Option<TagFault> {
+    match number {
+        39 => Some(TagFault::Memory),
+        40 => Some(TagFault::Limit(tagging::Limit::Tags, spot)),
+        41 => Some(TagFault::Limit(tagging::Limit::TagNumber, spot)),
+        42 => Some(TagFault::TagClash(spot)),
+        43 => Some(TagFault::ImplicitChoice(spot)),
+        44 => Some(TagFault::UntaggedChoice(spot)),
+        45 => Some(TagFault::MixedAutomatic(spot)),
+        _ => None,
+    }
+}
+
+/// The faults of constraints, by number.
+fn bound_fault(number: usize, spot: Spot) -> Option<BoundFault> {
+    match number {
+        46 => Some(BoundFault::Memory),
+        47 => Some(BoundFault::Circular(spot)),
+        48 => Some(BoundFault::Empty(spot)),
+        49 => Some(BoundFault::WrongKind(spot)),
+        50 => Some(BoundFault::Reconstrained(spot)),
+        51 => Some(BoundFault::LowerAboveUpper(spot)),
+        52 => Some(BoundFault::MarkerPlace(spot)),
+        _ => None,
+    }
+}
+
+/// The faults of what stands behind markers, by number.
+fn addition_fault(number: usize, spot: Spot) -> Option<ExtFault> {
+    match number {
+        53 => Some(ExtFault::Memory),
+        54 => Some(ExtFault::MarkerPlace(spot)),
+        55 => Some(ExtFault::AdditionOrder(spot)),
+        56 => Some(ExtFault::DefaultAddition(spot)),
+        _ => None,
+    }
+}
+
+/// The reasons why a notation stands for no value, by number.
+fn reason(number: usize) -> Option<Reason> {
+    match number {
+        57 => Some(Reason::Depth),
+        58 => Some(Reason::Nodes),
+        59 => Some(Reason::Oid),
+        60 => Some(Reason::LostName),
+        61 => Some(Reason::LostItem),
+        62 => Some(Reason::Circular),
+        63 => Some(Reason::NotOfType),
+        64 => Some(Reason::UnknownBit),
+        65 => Some(Reason::UnknownAlternative),
+        66 => Some(Reason::UnknownField),
+        67 => Some(Reason::Repeated),
+        68 => Some(Reason::Missing),
+        69 => Some(Reason::Behind),
+        70 => Some(Reason::Outside),
+        _ => None,
+    }
+}
+
+/// A spot of the module.
+fn here(alloc: Global) -> Result<Spot, AllocError> {
+    spot(alloc, "M", "w", PLACE)
+}
+
+/// The faults of a text or of its names, by number.
+fn front_fault(alloc: Global, number: usize) -> Result<Option<FrontFault>, Fail> {
+    if let Some(fault) = text_fault(number) {
+        return Ok(Some(FrontFault::Text(0, fault)));
+    }
+    if let Some(fault) = tree_fault(number) {
+        return Ok(Some(FrontFault::Tree(0, fault)));
+    }
+    if let Some(fault) = name_fault(number, here(alloc)?) {
+        return Ok(Some(FrontFault::Name(fault)));
+    }
+    if let Some(fault) = tag_fault(number, here(alloc)?) {
+        return Ok(Some(FrontFault::Tag(fault)));
+    }
+    if let Some(fault) = bound_fault(number, here(alloc)?) {
+        return Ok(Some(FrontFault::Bound(fault)));
+    }
+    match addition_fault(number, here(alloc)?) {
+        Some(fault) => Ok(Some(FrontFault::Additions(fault))),
+        None => Ok(None),
+    }
+}
+
+/// The fault with a number below 73.
+fn fault_of(alloc: Global, number: usize) -> Result<Fault, Fail> {
+    if let Some(fault) = call_fault(number, String::from_str(alloc, "w\nx")?) {
+        return Ok(fault);
+    }
+    if let Some(fault) = front_fault(alloc, number)? {
+        return Ok(Fault::Front(fault));
+    }
+    let told = ValueTold {
+        reason: reason(number).unwrap_or(Reason::NotOfType),
+        spot: here(alloc)?,
+        expected: String::from_str(alloc, "components in braces, of a, b")?,
+    };
+    match number {
+        71 => Ok(Fault::Front(FrontFault::Default(told))),
+        72 => Ok(Fault::Front(FrontFault::Assigned(told))),
+        _ => Ok(Fault::Value(told)),
+    }
+}
+
+/// A job for the value w under the type T of the module M in the file m.asn.
+fn job(alloc: Global) -> Result<Job, AllocError> {
+    Ok(Job {
+        verb: Verb::Der,
+        ty: String::from_str(alloc, "M.T")?,
+        value: String::from_str(alloc, "M.w")?,
+        account: String::new(alloc),
+        octets: Given::Nothing,
+        raw: false,
+        strict: false,
+        context: false,
+        files: vec![in alloc; String::from_str(alloc, "m.asn")?]?,
+    })
+}
+
+#[test]
+fn told_of_faults(rt: HostRuntime) -> Result<(), Fail> {
+    let alloc = rt.alloc();
+    let job = job(alloc)?;
+    let texts = vec![in alloc; Vec::from_slice(alloc, TEXT.as_bytes())?]?;
+    let mut told = String::new(alloc);
+    for index in 0..73 {
+        let fault = fault_of(alloc, index)?;
+        let line = report(alloc, &job, texts.as_slice(), &fault)?;
+        let (number, status) = (number(&fault), status(&fault));
+        let part = format!(in alloc; "{number} {status} {line} | {fault}\n")?;
+        told.push_str(part.as_str())?;
+    }
+    assert_eq!(rt; told.as_str(), TOLD);
+    Ok(())
+}

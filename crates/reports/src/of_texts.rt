@@ -1,0 +1,95 @@
+//! Faults of the octets and of the tokens of a text, in words.
+
+use hints::wanted;
+use notation::SyntaxFault;
+use shown_texts::{character, open_string, shown, spelled_at, tokens_in};
+use std::alloc::{AllocError, Global};
+use text::{LexFault, Limit, Token};
+
+/// A character that can't stand where it does.
+fn of_character(alloc: Global, text: &[u8], place: usize) -> Result<String, AllocError> {
+    let character = character(alloc, text, place)?;
+    let hint = match text.get(place) {
+        Some(b'=') => "; did you mean ::=?",
+        _ => "",
+    };
+    format!(in alloc; "found {character}, which stands in comments and quotes alone{hint}")
+}
+
+/// A fault of the octets of a text.
+pub(crate) fn of_octets(
+    alloc: Global,
+    text: &[u8],
+    fault: &LexFault,
+) -> Result<String, AllocError> {
+    let words = match fault {
+        LexFault::Memory => "out of memory",
+        LexFault::Limit(Limit::Text, _) => "the text has more than 16777216 octets",
+        LexFault::Limit(Limit::Integer, _) => "this number is above 2 to the 127",
+        LexFault::NotUtf8(_) => "the text is not UTF-8 here",
+        LexFault::BadCharacter(place) => return of_character(alloc, text, *place),
+        LexFault::OpenComment(_) => "this comment is not closed",
+        LexFault::OpenString(place) => open_string(text, *place),
+        LexFault::BadNumber(_) => "this number begins with 0, or a letter follows it",
+        LexFault::BadName(_) => "this name ends with a hyphen",
+    };
+    String::from_str(alloc, words)
+}
+
+/// The token at a place, in quotes, or that the text ends.
+pub(crate) fn found(
+    alloc: Global,
+    text: &[u8],
+    tokens: &[Token],
+    place: usize,
+) -> Result<String, AllocError> {
+    if place >= tokens.len() {
+        return String::from_str(alloc, "found the end of the text");
+    }
+    let spelled = shown(alloc, spelled_at(text, tokens, place))?;
+    format!(in alloc; "found '{spelled}'")
+}
+
+/// The token with which a construct begins that is left out.
+pub(crate) fn left_out(
+    alloc: Global,
+    text: &[u8],
+    fault: &SyntaxFault,
+) -> Result<String, AllocError> {
+    match fault {
+        SyntaxFault::OutOfProfile(place) => {
+            let tokens = tokens_in(alloc, text)?;
+            shown(alloc, spelled_at(text, tokens.as_slice(), *place))
+        }
+        _ => Ok(String::new(alloc)),
+    }
+}
+
+/// A fault of the tokens of a text.
+pub(crate) fn of_tokens(
+    alloc: Global,
+    text: &[u8],
+    fault: &SyntaxFault,
+) -> Result<String, AllocError> {
+    let words = match fault {
+        SyntaxFault::Memory => "out of memory",
+        SyntaxFault::Limit(kernel::Limit::Nesting, _) => "more than 128 braces are open here",
+        SyntaxFault::Limit(kernel::Limit::Integer, _) => "numbers are at most 2 to the 127 minus 1",
+        SyntaxFault::Limit(kernel::Limit::TagNumber, _) => {
+            "numbers of tags are at most 2 to the 31 minus 1"
+        }
+        SyntaxFault::OutOfProfile(_) => {
+            let spelled = left_out(alloc, text, fault)?;
+            return format!(in alloc; "this compiler leaves out {spelled}");
+        }
+        SyntaxFault::Unexpected(place) => {
+            let tokens = tokens_in(alloc, text)?;
+            let mut words = found(alloc, text, tokens.as_slice(), *place)?;
+            let told = spelled_at(text, tokens.as_slice(), *place);
+            let wanted = wanted(alloc, tokens.as_slice(), *place, told)?;
+            words.push_str(wanted.as_str())?;
+            return Ok(words);
+        }
+    };
+    String::from_str(alloc, words)
+}

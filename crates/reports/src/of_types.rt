@@ -1,0 +1,129 @@
+//! Faults of tags, of constraints and of what stands behind extension markers, in words.
+
+use crate::of_values::found_at;
+use additions::ExtFault;
+use constraints::BoundFault;
+use shown_texts::shown;
+use std::alloc::{AllocError, Global};
+use tagging::{Limit, TagFault};
+use trees::Spot;
+
+/// What is found at a spot of a text, the assignment in which it is, and what was expected there.
+fn of_spot(
+    alloc: Global,
+    text: &[u8],
+    spot: &Spot,
+    which: &str,
+    expected: &str,
+) -> Result<String, AllocError> {
+    let name = shown(alloc, spot.name.as_str())?;
+    let found = found_at(alloc, text, spot.at)?;
+    format!(in alloc; "{found} in {name}, {which}, expected {expected}")
+}
+
+/// A fault of tags.
+pub(crate) fn of_tags(alloc: Global, text: &[u8], fault: &TagFault) -> Result<String, AllocError> {
+    let (spot, which, expected) = match fault {
+        TagFault::Memory => return String::from_str(alloc, "out of memory"),
+        TagFault::Limit(Limit::Tags, spot) => (
+            spot,
+            "a type with more than four tags",
+            "at most four, those behind its references with them",
+        ),
+        TagFault::Limit(Limit::TagNumber, spot) => (
+            spot,
+            "a type whose automatic tag is too great",
+            "a number below 2 to the 31",
+        ),
+        TagFault::TagClash(spot) => (
+            spot,
+            "whose first tag one before it can have too",
+            "another tag, as [0], or AUTOMATIC TAGS",
+        ),
+        TagFault::ImplicitChoice(spot) => (
+            spot,
+            "before an untagged CHOICE",
+            "EXPLICIT, or neither word",
+        ),
+        TagFault::UntaggedChoice(spot) => (
+            spot,
+            "an untagged CHOICE, which this compiler leaves out there",
+            "a tag before it, as [0]",
+        ),
+        TagFault::MixedAutomatic(spot) => (
+            spot,
+            "a tag among the additions of a list whose root has none, under AUTOMATIC TAGS",
+            "no tag, or one in the root too",
+        ),
+    };
+    of_spot(alloc, text, spot, which, expected)
+}
+
+/// A fault of constraints.
+pub(crate) fn of_bounds(
+    alloc: Global,
+    text: &[u8],
+    fault: &BoundFault,
+) -> Result<String, AllocError> {
+    let (spot, which, expected) = match fault {
+        BoundFault::Memory => return String::from_str(alloc, "out of memory"),
+        BoundFault::Circular(spot) => (
+            spot,
+            "which leads back to itself and is the end of a range",
+            "a number",
+        ),
+        BoundFault::Empty(spot) => (
+            spot,
+            "whose constraints leave nothing",
+            "at least one number, size or character",
+        ),
+        BoundFault::WrongKind(spot) => (
+            spot,
+            "which the type does not take",
+            "a constraint of this kind of type: numbers, sizes from 0 on, or single characters",
+        ),
+        BoundFault::Reconstrained(spot) => (
+            spot,
+            "behind a constraint with an extension marker, which this compiler leaves out",
+            "one constraint",
+        ),
+        BoundFault::LowerAboveUpper(spot) => (
+            spot,
+            "a lower end above the upper one",
+            "ends that ascend",
+        ),
+        BoundFault::MarkerPlace(spot) => (
+            spot,
+            "with an extension marker that this compiler leaves out",
+            "the marker behind one value or range of an INTEGER, or behind one SIZE that is not a character string's",
+        ),
+    };
+    of_spot(alloc, text, spot, which, expected)
+}
+
+/// A fault of what stands behind extension markers.
+pub(crate) fn of_additions(
+    alloc: Global,
+    text: &[u8],
+    fault: &ExtFault,
+) -> Result<String, AllocError> {
+    let (spot, which, expected) = match fault {
+        ExtFault::Memory => return String::from_str(alloc, "out of memory"),
+        ExtFault::MarkerPlace(spot) => (
+            spot,
+            "where the extension marker of its list does not let it stand",
+            "additions behind the marker, and the root before it",
+        ),
+        ExtFault::AdditionOrder(spot) => (
+            spot,
+            "an addition that does not ascend",
+            "ascending numbers in an enumeration, ascending tags in a CHOICE",
+        ),
+        ExtFault::DefaultAddition(spot) => (
+            spot,
+            "an addition with a DEFAULT, which this compiler leaves out",
+            "OPTIONAL, or neither",
+        ),
+    };
+    of_spot(alloc, text, spot, which, expected)
+}

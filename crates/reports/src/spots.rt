@@ -1,0 +1,137 @@
+//! Where a fault stands, as the fault tells it.
+
+ghost use Rattle.std.specs.Prelude.{◌≡◌, option_map};
+ghost use Rattle.reports.specs.Spots.{addition_spot, bound_spot, front_octet, front_spot, front_text, front_token, lex_octet, name_spot, octet_of, spot_of, tag_spot, text_of, token_of, tree_token};
+
+use additions::ExtFault;
+use constraints::BoundFault;
+use front_end::FrontFault;
+use messages::Fault;
+use names::NameFault;
+use notation::SyntaxFault;
+use tagging::TagFault;
+use text::LexFault;
+use trees::Spot;
+
+fn of_name(fault: &NameFault) -> Option<&Spot>
+    ensures { option_map (λ s. s.now) result ≡ name_spot fault.now }
+{
+    match fault {
+        NameFault::Memory => None,
+        NameFault::Limit(_, spot) | NameFault::Twice(spot) => Some(spot),
+        NameFault::UnknownName(spot) | NameFault::NotExported(spot) => Some(spot),
+        NameFault::Circular(spot) | NameFault::UnknownModule(spot) => Some(spot),
+    }
+}
+
+fn of_tag(fault: &TagFault) -> Option<&Spot>
+    ensures { option_map (λ s. s.now) result ≡ tag_spot fault.now }
+{
+    match fault {
+        TagFault::Memory => None,
+        TagFault::Limit(_, spot) | TagFault::TagClash(spot) => Some(spot),
+        TagFault::ImplicitChoice(spot) | TagFault::UntaggedChoice(spot) => Some(spot),
+        TagFault::MixedAutomatic(spot) => Some(spot),
+    }
+}
+
+fn of_bound(fault: &BoundFault) -> Option<&Spot>
+    ensures { option_map (λ s. s.now) result ≡ bound_spot fault.now }
+{
+    match fault {
+        BoundFault::Memory => None,
+        BoundFault::Circular(spot) | BoundFault::Empty(spot) => Some(spot),
+        BoundFault::WrongKind(spot) | BoundFault::Reconstrained(spot) => Some(spot),
+        BoundFault::LowerAboveUpper(spot) | BoundFault::MarkerPlace(spot) => Some(spot),
+    }
+}
+
+fn of_addition(fault: &ExtFault) -> Option<&Spot>
+    ensures { option_map (λ s. s.now) result ≡ addition_spot fault.now }
+{
+    match fault {
+        ExtFault::Memory => None,
+        ExtFault::MarkerPlace(spot) | ExtFault::AdditionOrder(spot) => Some(spot),
+        ExtFault::DefaultAddition(spot) => Some(spot),
+    }
+}
+
+fn of_front(fault: &FrontFault) -> Option<&Spot>
+    ensures { option_map (λ s. s.now) result ≡ front_spot fault.now }
+{
+    match fault {
+        FrontFault::Name(inner) => of_name(inner),
+        FrontFault::Tag(inner) => of_tag(inner),
+        FrontFault::Bound(inner) => of_bound(inner),
+        FrontFault::Additions(inner) => of_addition(inner),
+        FrontFault::Default(told) | FrontFault::Assigned(told) => Some(&told.spot),
+        FrontFault::Memory | FrontFault::Text(_, _) | FrontFault::Tree(_, _) => None,
+    }
+}
+
+/// The module, the name and the place that a fault tells, where it tells them.
+pub(crate) fn spot(fault: &Fault) -> Option<&Spot>
+    ensures { option_map (λ s. s.now) result ≡ spot_of fault.now }
+{
+    match fault {
+        Fault::Front(inner) => of_front(inner),
+        Fault::Value(told) => Some(&told.spot),
+        _ => None,
+    }
+}
+
+/// The number of the text whose octets or tokens are at fault.
+pub(crate) fn text_told(fault: &Fault) -> Option<usize>
+    ensures { result ≡ text_of fault.now }
+{
+    match fault {
+        Fault::Front(FrontFault::Text(number, _)) => Some(*number),
+        Fault::Front(FrontFault::Tree(number, _)) => Some(*number),
+        _ => None,
+    }
+}
+
+fn of_octets(fault: &LexFault) -> Option<usize>
+    ensures { result ≡ lex_octet fault.now }
+{
+    match fault {
+        LexFault::Memory => None,
+        LexFault::Limit(_, at) | LexFault::NotUtf8(at) => Some(*at),
+        LexFault::BadCharacter(at) | LexFault::OpenComment(at) => Some(*at),
+        LexFault::OpenString(at) | LexFault::BadNumber(at) => Some(*at),
+        LexFault::BadName(at) => Some(*at),
+    }
+}
+
+fn of_tokens(fault: &SyntaxFault) -> Option<usize>
+    ensures { result ≡ tree_token fault.now }
+{
+    match fault {
+        SyntaxFault::Memory => None,
+        SyntaxFault::Limit(_, place) | SyntaxFault::Unexpected(place) => Some(*place),
+        SyntaxFault::OutOfProfile(place) => Some(*place),
+    }
+}
+
+/// The octet of its text, counted from 0, at which a fault of the octets or of the names stands.
+pub(crate) fn octet_told(fault: &Fault) -> Option<usize>
+    ensures { result ≡ octet_of fault.now }
+{
+    match fault {
+        Fault::Front(FrontFault::Text(_, inner)) => of_octets(inner),
+        other => match spot(other) {
+            Some(spot) => Some(spot.at),
+            None => None,
+        },
+    }
+}
+
+/// The token of its text, counted from 0, at which a fault of the tokens stands.
+pub(crate) fn token_told(fault: &Fault) -> Option<usize>
+    ensures { result ≡ token_of fault.now }
+{
+    match fault {
+        Fault::Front(FrontFault::Tree(_, inner)) => of_tokens(inner),
+        _ => None,
+    }
+}

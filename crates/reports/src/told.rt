@@ -1,0 +1,133 @@
+//! What a user is told of a fault.
+
+ghost use Rattle.std.specs.Prelude.{IfOk, string_bytes};
+ghost use Rattle.reports.specs.Heading.{heading_of, Begins};
+
+use crate::asked::{of_file, of_no_name};
+use crate::finding::{octet_in, text_number};
+use crate::heading::heading;
+use crate::of_names::of_names;
+use crate::of_texts::{left_out, of_octets, of_tokens};
+use crate::of_types::{of_additions, of_bounds, of_tags};
+use crate::of_values::of_value;
+use command_line::Job;
+use front_end::FrontFault;
+use messages::Fault;
+use shown_texts::{context, escaped, line_and_column, on_one_line};
+use std::alloc::{AllocError, Global};
+
+/// What stands behind the name of a fault: the construct that is left out.
+fn construct(alloc: Global, text: &[u8], fault: &Fault) -> Result<String, AllocError> {
+    let Fault::Front(FrontFault::Tree(_, inner)) = fault else {
+        return Ok(String::new(alloc));
+    };
+    let spelled = left_out(alloc, text, inner)?;
+    if spelled.is_empty() {
+        return Ok(spelled);
+    }
+    format!(in alloc; " {spelled}")
+}
+
+/// The words of a fault of the front end.
+fn of_front(
+    alloc: Global,
+    texts: &[Vec<u8>],
+    text: &[u8],
+    fault: &FrontFault,
+) -> Result<String, AllocError> {
+    match fault {
+        FrontFault::Memory => String::from_str(alloc, "out of memory"),
+        FrontFault::Text(_, inner) => of_octets(alloc, text, inner),
+        FrontFault::Tree(_, inner) => of_tokens(alloc, text, inner),
+        FrontFault::Name(inner) => of_names(alloc, texts, text, inner),
+        FrontFault::Tag(inner) => of_tags(alloc, text, inner),
+        FrontFault::Bound(inner) => of_bounds(alloc, text, inner),
+        FrontFault::Additions(inner) => of_additions(alloc, text, inner),
+        FrontFault::Default(told) => of_value(alloc, texts, text, told, ""),
+        FrontFault::Assigned(told) => of_value(alloc, texts, text, told, ""),
+    }
+}
+
+/// The words of a fault.
+fn sentence(
+    alloc: Global,
+    texts: &[Vec<u8>],
+    text: &[u8],
+    fault: &Fault,
+) -> Result<String, AllocError> {
+    match fault {
+        Fault::Front(inner) => of_front(alloc, texts, text, inner),
+        Fault::Value(told) => {
+            let under = ", under the type that was asked for";
+            of_value(alloc, texts, text, told, under)
+        }
+        Fault::NoType(name) => of_no_name(alloc, texts, name.as_str(), false),
+        Fault::NoValue(name) => of_no_name(alloc, texts, name.as_str(), true),
+        Fault::TooLong => String::from_str(alloc, "the encoding has more than 16777216 octets"),
+        Fault::Memory => String::from_str(alloc, "out of memory"),
+        Fault::Device(sent) => format!(in alloc; "the output took {sent} octets and then no more"),
+        Fault::File(name) => of_file(alloc, name.as_str(), "could not be read"),
+        Fault::NoFile(name) => of_file(alloc, name.as_str(), "is missing"),
+        Fault::Folder(name) => of_file(alloc, name.as_str(), "is a folder"),
+        Fault::BadWords(words) | Fault::Help(words) => words.clone(),
+    }
+}
+
+/// The name of the file that holds a text, as a message shows it.
+fn file_of(alloc: Global, job: &Job, number: usize) -> Result<String, AllocError> {
+    match job.files.get(number) {
+        Some(file) => escaped(alloc, file.as_str()),
+        None => String::from_str(alloc, "a text"),
+    }
+}
+
+/// What is told behind the number and the name of a fault.
+fn told_behind(
+    alloc: Global,
+    job: &Job,
+    texts: &[Vec<u8>],
+    fault: &Fault,
+) -> Result<String, AllocError> {
+    let Some(number) = text_number(alloc, texts, fault)? else {
+        let words = sentence(alloc, texts, &[], fault)?;
+        let line = format!(in alloc; ": {words}")?;
+        return on_one_line(alloc, line.as_str());
+    };
+    let text = match texts.get(number) {
+        Some(text) => text.as_slice(),
+        None => &[],
+    };
+    let words = sentence(alloc, texts, text, fault)?;
+    let what = construct(alloc, text, fault)?;
+    let file = file_of(alloc, job, number)?;
+    let Some(octet) = octet_in(alloc, text, fault)? else {
+        let line = format!(in alloc; "{what}: {file}: {words}")?;
+        return on_one_line(alloc, line.as_str());
+    };
+    let (line, column) = line_and_column(text, octet);
+    let told = format!(in alloc; "{what}: {file}:{line}:{column}: {words}")?;
+    let mut told = on_one_line(alloc, told.as_str())?;
+    if job.context {
+        told.push_str(context(alloc, text, octet)?.as_str())?;
+    }
+    Ok(told)
+}
+
+/// One line that tells a user of a fault that a job met in the texts of its files, as
+/// `error 20 Unexpected: m.asn:3:14: found '}', expected a type`: the number and the name of the fault, the file, the line and
+/// the column of the place, both counted from 1, the column in characters, and what was found and expected there. Where the
+/// job asks for the context and the fault stands at an octet of a text, its line and a line with a caret follow. Of the texts
+/// and of names at most 60 characters are shown at once.
+pub fn report(
+    alloc: Global,
+    job: &Job,
+    texts: &[Vec<u8>],
+    fault: &Fault,
+) -> Result<String, AllocError>
+    ensures { IfOk result (λ s. Begins (heading_of fault.now) (string_bytes s)) }
+{
+    let mut told = heading(alloc, fault)?;
+    let behind = told_behind(alloc, job, texts, fault)?;
+    told.push_str(behind.as_str())?;
+    Ok(told)
+}

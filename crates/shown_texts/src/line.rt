@@ -1,0 +1,69 @@
+//! Texts that stand on one line.
+
+use std::alloc::{AllocError, Global};
+
+/// Whether a character turns the direction of writing, or takes up no place: nobody sees where it stands.
+fn is_hidden(c: char) -> bool {
+    let code = c as u32;
+    (code >= 0x200B && code <= 0x200F)
+        || (code >= 0x2028 && code <= 0x202E)
+        || (code >= 0x2060 && code <= 0x206F)
+        || (code >= 0xFFF9 && code <= 0xFFFB)
+        || code == 0x061C
+        || code == 0xFEFF
+}
+
+/// The text with a space in place of each control character, line ends too, and of each that nobody sees.
+pub fn on_one_line(alloc: Global, text: &str) -> Result<String, AllocError> {
+    let mut line = String::new(alloc);
+    for c in text.chars() {
+        line.push(if c.is_control() || is_hidden(c) {
+            ' '
+        } else {
+            c
+        })?;
+    }
+    Ok(line)
+}
+
+/// How many characters of a token or of a name a message shows.
+const SHOWN: usize = 60;
+
+/// A character by its code point, as `\u{A0}`.
+fn by_code(alloc: Global, c: char) -> Result<String, AllocError> {
+    let code = c as u32;
+    format!(in alloc; "\\u{{{code:X}}}")
+}
+
+/// A token or a name as a message shows it: its first 60 characters, with two dots behind them where it has more; control
+/// characters and those past ASCII by their code points.
+pub fn shown(alloc: Global, text: &str) -> Result<String, AllocError> {
+    let mut line = String::new(alloc);
+    let mut left = SHOWN;
+    for c in text.chars() {
+        if left == 0 {
+            line.push_str("..")?;
+            return Ok(line);
+        }
+        left = left.saturating_sub(1);
+        if c.is_ascii() && !c.is_control() {
+            line.push(c)?;
+        } else {
+            line.push_str(by_code(alloc, c)?.as_str())?;
+        }
+    }
+    Ok(line)
+}
+
+/// The name of a file as a message shows it: control characters, and those that nobody sees, by their code points.
+pub fn escaped(alloc: Global, name: &str) -> Result<String, AllocError> {
+    let mut line = String::new(alloc);
+    for c in name.chars() {
+        if c.is_control() || is_hidden(c) {
+            line.push_str(by_code(alloc, c)?.as_str())?;
+        } else {
+            line.push(c)?;
+        }
+    }
+    Ok(line)
+}

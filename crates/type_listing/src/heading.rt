@@ -1,0 +1,72 @@
+//! Where a type is written.
+
+use asn_base::schema::TypeId;
+use names::Place;
+use resolve::{Home, Linked};
+use std::alloc::AllocError;
+use type_table::Shape;
+
+/// The identifier of a list's member.
+fn member_name(linked: &Linked, place: Place) -> Option<&str> {
+    let list = linked.types().get(place.list)?;
+    match &list.shape {
+        Shape::Members(_, _, members) => members.get(place.number).map(|it| it.name.it.as_str()),
+        _ => None,
+    }
+}
+
+/// Whether a name is that of a value: those of types begin with a capital letter (X.680, clauses 12.2 and 12.4).
+fn is_of_value(name: &str) -> bool {
+    match name.as_bytes().first() {
+        Some(first) => first.is_ascii_lowercase(),
+        None => false,
+    }
+}
+
+/// A type that an assignment gives a name, or the type of a value that has one.
+fn push_assigned(out: &mut String, index: usize, home: Home<'_>) -> Result<(), AllocError> {
+    let (module, name) = (home.module, home.name);
+    if is_of_value(name) {
+        write!(out, "type {index}: the type of {module}.{name}\n")
+    } else {
+        write!(out, "type {index}: {module}.{name}\n")
+    }
+}
+
+/// A type within another one: the member that it is, if it is one, and the assignment that it stands in.
+fn push_part(
+    out: &mut String,
+    index: usize,
+    home: Home<'_>,
+    member: Option<&str>,
+    list: usize,
+) -> Result<(), AllocError> {
+    let (module, name) = (home.module, home.name);
+    match member {
+        Some(member) => write!(
+            out,
+            "type {index}: {member} of type {list}, in {module}.{name}\n"
+        ),
+        None => write!(out, "type {index}: in {module}.{name}\n"),
+    }
+}
+
+/// The line of a type: its number, and its name, or where it stands in a type that has one.
+pub(crate) fn push_heading(
+    out: &mut String,
+    linked: &Linked,
+    id: TypeId,
+) -> Result<(), AllocError> {
+    let index = id.index;
+    if index >= linked.types().len() {
+        return Ok(());
+    }
+    let home = linked.home(id);
+    if index < linked.assignments().len() {
+        return push_assigned(out, index, home);
+    }
+    match linked.types()[index].place {
+        Some(place) => push_part(out, index, home, member_name(linked, place), place.list),
+        None => push_part(out, index, home, None, 0),
+    }
+}

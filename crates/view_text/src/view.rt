@@ -1,0 +1,82 @@
+//! The text of a view.
+
+ghost use Rattle.asn_base.specs.Typed.{IsValue};
+ghost use Rattle.std.specs.Prelude.{◌≡◌, ◌<◌, ◌↔◌, IfOk, IsErrOf, IsTrue, length, string_bytes};
+ghost use Rattle.value_text.specs.Print.{print};
+ghost use Rattle.views.specs.Seen.{IsView};
+ghost use Rattle.views.specs.Tree.{Tree, value_of};
+
+use crate::part::print_part;
+use asn_base::decide::is_value;
+use asn_base::schema::{Schema, TypeId};
+use std::alloc::{AllocError, Global};
+use value_text::Fault;
+use views::View;
+
+/// The text of the value that a view shows, straight from its nodes; whether it is a value of the type is not asked: for
+/// a view that was read as one of the type. Where it is none, names that the type lacks are left out. It takes no memory
+/// but for the text, and is refused for memory alone.
+pub fn print_shown(
+    alloc: Global,
+    schema: &Schema,
+    id: TypeId,
+    view: &View<'_>,
+) -> Result<String, AllocError>
+    requires there { id.index < length schema.now }
+    requires tree { (t : Tree) × IsView view.now t }
+    ensures { (t : Tree)
+        → IsView view.now t
+        → IfOk result (λ s. string_bytes s ≡ print schema.now id.index (value_of t)) }
+{
+    let mut out = String::new(alloc);
+    print_part(schema, id, &view.top(), &mut out)?;
+    Ok(out)
+}
+
+/// The text of the value that a view shows, a value of type `id`: just what `value_text::print` answers for that value.
+///
+/// - `NotOfType`: only where it is no value of the type.
+/// - `Memory`: more memory was asked for and refused. Whether the value is one of the type is asked of a copy, which is
+///   let go before the text is made.
+pub fn print_view(
+    alloc: Global,
+    schema: &Schema,
+    id: TypeId,
+    view: &View<'_>,
+) -> Result<String, Fault>
+    requires tree { (t : Tree) × IsView view.now t }
+    // What is printed is a value of the type.
+    ensures value { (t : Tree)
+        → IsView view.now t
+        → IfOk result (λ s. IsValue schema.now id.index (value_of t)) }
+    ensures text { (t : Tree)
+        → IsView view.now t
+        → IfOk result (λ s. string_bytes s ≡ print schema.now id.index (value_of t)) }
+    // It is refused as no value only where it is none.
+    ensures not_of_type { (t : Tree)
+        → IsView view.now t
+        → IsErrOf result Fault.NotOfType
+        → IsValue schema.now id.index (value_of t)
+        → ⊥ }
+{
+    if !is_shown_value(alloc, schema, id, view)? {
+        return Err(Fault::NotOfType);
+    }
+    Ok(print_shown(alloc, schema, id, view)?)
+}
+
+/// Whether the value that a view shows is one of the type.
+fn is_shown_value(
+    alloc: Global,
+    schema: &Schema,
+    id: TypeId,
+    view: &View<'_>,
+) -> Result<bool, AllocError>
+    requires tree { (t : Tree) × IsView view.now t }
+    ensures { (t : Tree)
+        → IsView view.now t
+        → IfOk result (λ b. IsTrue b ↔ IsValue schema.now id.index (value_of t)) }
+{
+    let value = view.to_value(alloc)?;
+    Ok(is_value(&value, schema, id))
+}

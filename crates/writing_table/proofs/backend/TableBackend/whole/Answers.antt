@@ -1,0 +1,12 @@
+use Rattle.writing_table.specs.Tables.{state_of}
+use Rattle.writing_table.proofs.Leaf.{whole_runs}
+use Rattle.writing_table.proofs.backend.TableBackend.whole.Goals as goal
+
+pub returns-in-Ok-clause-ok : goal.returns-in-Ok-clause-ok
+returns-in-Ok-clause-ok c =
+    let h = c.in-Ok.ensures.adds in (
+      h.0,
+      h.1,
+      whole_runs c.args.head c.args.kind c.args.value h.0 (state_of c.args.self.now) (state_of c.add_whole.new.table) c.requires
+          c.one_contents.ensures h.1 h.2,
+    )
