@@ -1,7 +1,7 @@
 #!/usr/bin/env bash
 # Says how long the program takes to open modules of growing size, ordinary ones and those that cost a careless front end
-# more than their length: the least of five runs each, in milliseconds. The time grows as the text does. Where the program
-# bound_bench is built, it says too how long constraints take, one of 60,000 numbers among them, in microseconds, and how long
+# more than their length: the least processor time of five runs each, in milliseconds. The time grows as the text does. Where
+# the program bound_bench is built, it says too how long constraints take, one of 60,000 numbers among them, in microseconds, and how long
 # the notation of a long value takes to be typed, and its value to be printed: one run each, in milliseconds. Where
 # settle_rows is built, it says how long modules full of types, values and DEFAULTs take to be opened and to be settled, and
 # how long two of their types take to be compared: one run each, in milliseconds.
@@ -132,15 +132,14 @@ long_name() {
 
 # measure SHAPE SIZE..: the least times of a shape at these sizes, a line each.
 measure() {
-  local shape=$1 size took least began
+  local shape=$1 size took least TIMEFORMAT='%3U %3S'
   shift
   for size in "$@"; do
     "$shape" "$size" >"$file"
     least=
     for _ in 1 2 3 4 5; do
-      began=${EPOCHREALTIME/./}
-      "$program" der --type M.Record1 --value M.v "$file" >/dev/null 2>&1 || true
-      took=$((${EPOCHREALTIME/./} - began))
+      took=$({ time "$program" der --type M.Record1 --value M.v "$file" >/dev/null 2>&1 || true; } 2>&1)
+      took=$(awk '{ printf "%d", ($1 + $2) * 1000000 }' <<<"$took")
       [[ -n $least && $least -le $took ]] || least=$took
     done
     printf '%-16s %6d %9d octets %6d.%d ms\n' "$shape" "$size" "$(stat -c %s "$file")" $((least / 1000)) $((least % 1000 / 100))
