@@ -1,8 +1,10 @@
 #!/usr/bin/env bash
 # Says how long the program takes to open modules of growing size, ordinary ones and those that cost a careless front end
-# more than their length: the least of five runs each, in milliseconds. The time grows as the text does. Where the program
-# bound_bench is built, it says too how long constraints take, one of 60,000 numbers among them, in microseconds, and how long
-# the notation of a long value takes to be typed, and its value to be printed: one run each, in milliseconds.
+# more than their length: the least processor time of five runs each, in milliseconds. The time grows as the text does. Where
+# the program bound_bench is built, it says too how long constraints take, one of 60,000 numbers among them, in microseconds, and how long
+# the notation of a long value takes to be typed, and its value to be printed: one run each, in milliseconds. Where
+# settle_rows is built, it says how long modules full of types, values and DEFAULTs take to be opened and to be settled, and
+# how long two of their types take to be compared: one run each, in milliseconds.
 set -euo pipefail
 
 if [[ $# -eq 1 && ($1 == --help || $1 == -h) ]]; then
@@ -96,6 +98,27 @@ defaulted_chain() {
     for (i = 1; i < n; i++) print "A" i " ::= SEQUENCE {a A" i - 1 " DEFAULT {}}" }' | in_module
 }
 
+# referred_items N: an enumeration of 1,000 items, and N components of its type, 250 in a list.
+referred_items() {
+  awk -v m="$1" 'BEGIN {
+    printf "E ::= ENUMERATED {"
+    for (i = 0; i < 1000; i++) printf "%si%d", (i ? ", " : ""), i
+    print "}"
+    for (i = 0; i < m; i++) {
+      if (i % 250 == 0) printf "%sL%d ::= SEQUENCE {", (i ? "}\n" : ""), i / 250; else printf ", "
+      printf "c%d E", i % 250
+    }
+    print "}" }' | in_module
+}
+
+# record_values N: N values of a SEQUENCE of three, one of them constrained.
+record_values() {
+  awk -v n="$1" 'BEGIN {
+    print "Record1 ::= SEQUENCE { number INTEGER (0..1000000), name OCTET STRING, flag BOOLEAN DEFAULT FALSE }"
+    print "v Record1 ::= { number 1, name \x27" "01\x27H }"
+    for (i = 1; i < n; i++) print "v" i " Record1 ::= { number " i ", name \x27" "0102\x27H, flag TRUE }" }' | in_module
+}
+
 # endless N: N thousand assignments of types, and no END.
 endless() {
   printf '%s\n' "M DEFINITIONS ::= BEGIN"
@@ -109,15 +132,14 @@ long_name() {
 
 # measure SHAPE SIZE..: the least times of a shape at these sizes, a line each.
 measure() {
-  local shape=$1 size took least began
+  local shape=$1 size took least TIMEFORMAT='%3U %3S'
   shift
   for size in "$@"; do
     "$shape" "$size" >"$file"
     least=
     for _ in 1 2 3 4 5; do
-      began=${EPOCHREALTIME/./}
-      "$program" der --type M.Record1 --value M.v "$file" >/dev/null 2>&1 || true
-      took=$((${EPOCHREALTIME/./} - began))
+      took=$({ time "$program" der --type M.Record1 --value M.v "$file" >/dev/null 2>&1 || true; } 2>&1)
+      took=$(awk '{ printf "%d", ($1 + $2) * 1000000 }' <<<"$took")
       [[ -n $least && $least -le $took ]] || least=$took
     done
     printf '%-16s %6d %9d octets %6d.%d ms\n' "$shape" "$size" "$(stat -c %s "$file")" $((least / 1000)) $((least % 1000 / 100))
@@ -130,6 +152,8 @@ measure referred_values 15000 30000 60000
 measure referred_members 7000 14000 28000
 measure alike_numbers 16000 32000 64000
 measure defaulted_chain 1000 2000 4000
+measure referred_items 1000 2000 4000
+measure record_values 10000 20000 40000
 measure endless 180 360 720
 measure long_name 1 2 4
 
@@ -145,10 +169,29 @@ notations() {
     $5 ~ /^printed/ { tell("printed", $5) }'
 }
 
-# Constraints are bounded, and long notations read, by a program of their own, since asnc doesn't ask for them yet.
+# Constraints and long notations alone, by a program of their own.
 bounds=$here/crates/bound_bench/out/bound_bench
 if [[ -x $bounds ]]; then
   { "$bounds" >/dev/null; } 2>&1 | notations
 else
   printf '%s\n' "bounds: bound_bench is not built (rt run in crates/bound_bench)"
+fi
+
+# settlings: lays out what settle_rows says of modules that were opened and settled, and of types that were compared.
+settlings() {
+  awk -F '[:,] ' '
+    function tell(call, what, words,   took) {
+      split(words, took, " ")
+      printf "%-21s %19s %6.1f ms\n", call, what, took[2] / 1000
+    }
+    $3 ~ /^compared/ { tell("compared", $2, $3); next }
+    { tell("opened " $1, $2, $3); tell("settled " $1, $2, $4) }'
+}
+
+# Types are settled and compared by a program of their own too: modules of 2,048 and of 4,096 types, and all that fit in.
+rows=$here/crates/settle_rows
+if [[ -x $rows/out/settle_rows ]]; then
+  { "$rows/out/settle_rows" "$rows/data/speed.rows" >/dev/null; } 2>&1 | settlings
+else
+  printf '%s\n' "settlings: settle_rows is not built (rt run in crates/settle_rows)"
 fi

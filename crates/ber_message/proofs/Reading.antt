@@ -1,14 +1,26 @@
 -- What is read of a message.
-use Rattle.std.proofs.Common.{arith, ◌≡◌, ℕ, ◌≤◌, Bool, true, false, List, [], ◌∷◌, ◌++◌, length, IsTrue, ◌↔◌, refl, sym, ap, subst, ◌∙◌, append-nil}
+use Rattle.std.proofs.Common.{arith, ◌≡◌, ℕ, zero, suc, ◌<◌, ◌≤◌, Bool, true, false, List, [], ◌∷◌, ◌++◌, length, IsTrue, ◌↔◌, refl, sym, ap, subst, ◌∙◌, append-nil, length-append}
 use Rattle.asn_base.specs.Abstract.{AbstractValue}
 use Rattle.asn_base.specs.Types.{Resolved}
 use Rattle.encodings.specs.Rules.{Basic}
-use Rattle.encodings.specs.Encoding.{Says}
+use Rattle.encodings.specs.Encoding.{Says, says}
 use Rattle.encodings.specs.Levels.{levels}
-use Rattle.octet_answers.specs.States.{State, Token}
+use Rattle.octet_answers.specs.States.{State, Token, front}
 use Rattle.reading_law.specs.Saying.{IsSaid}
 use Rattle.reading_law.specs.Shows.{Shows, passed_in, StandIn}
-use Rattle.ber_message.specs.Messages.{IsMessage, HasMessageFirst}
+use Rattle.octets.specs.Fronts.{EndsEarly, in_header, in_contents}
+use Rattle.std.specs.Prelude.{slice_get, Some, None}
+use Rattle.std.proofs.Common.{◌⊎◌, inl, inr, ⊎_elim, append_assoc}
+use Rattle.asn_base.specs.declared.tag.Tag.{Tag}
+use Rattle.asn_base.specs.declared.schema.TypeId.{TypeId}
+use Rattle.codec_code.specs.Routines.{routine_at}
+use Rattle.codec_source.specs.Reading.{Reads}
+use Rattle.codec_source.specs.declared.fault.ReadFault.{ReadFault}
+use Rattle.codec_source.specs.declared.fault.ReadFault.TheVariants as faults
+use Rattle.octet_answers.specs.Answers.{Takes}
+use Rattle.octets.specs.Fronts.{HeaderAt}
+use Rattle.reading_law.specs.Saying.{AreUnit, IsReadTo}
+use Rattle.ber_message.specs.Messages.{IsMessage, HasMessageFirst, IsEncoding, BeginsEncoding}
 
 record SaidWithin (s : List Resolved) (t : ℕ) (w : AbstractValue) (k : ℕ) (o : List ℕ) : Type 0 where
   is_said : Says s Basic t w k o
@@ -62,3 +74,113 @@ fails b e h p = false_true (sym e ∙ h.1 p)
 -- a test that holds
 pub holds : {P : Type 0} (b : Bool) → b ≡ true → IsTrue b ↔ P → P
 holds b e h = h.0 e
+
+-- ---- what is read
+
+below : {A : Type 0} (xs : List A) (i : ℕ) (x : A) → slice_get xs i ≡ Some x → i < length xs
+below [] i x e = absurd (let f : None ≡ Some x = e in cc)
+below (y ∷ xs) zero x e = omega arith
+below (y ∷ xs) (suc i) x e = let r = below xs i x e in omega arith
+
+said_type : {s : List Resolved} {t k : ℕ} {w : AbstractValue} {o : List ℕ} → Says s Basic t w k o → t < length s
+said_type {s} {t} (says i h f) = below s t _ i.found
+
+pub encoding_type : {s : List Resolved} {t : ℕ} {o : List ℕ} → IsEncoding s t o → t < length s
+encoding_type i = said_type i.is_said
+
+-- of two lists that begin another one, one begins the other
+data Split (h x o r : List ℕ) : Type 0 where
+  within : (m : List ℕ) → h ≡ o ++ m → 1 ≤ length m → Split h x o r
+  behind : (m : List ℕ) → o ≡ h ++ m → x ≡ m ++ r → Split h x o r
+
+abbrev first_or : ℕ → List ℕ → ℕ
+first_or d [] = d
+first_or d (x ∷ xs) = x
+
+abbrev behind_first : List ℕ → List ℕ
+behind_first [] = []
+behind_first (x ∷ xs) = xs
+
+split : (h x o r : List ℕ) → h ++ x ≡ o ++ r → Split h x o r
+split [] x o r e = behind o refl e
+split (a ∷ h) x [] r e = within (a ∷ h) refl (omega arith)
+split (a ∷ h) x (b ∷ o) r e = by (split h x o r (ap behind_first e)) (ap (first_or 0) e)
+  where
+    by : Split h x o r → a ≡ b → Split (a ∷ h) x (b ∷ o) r
+    by (within m f l) g = within m (ap (λ q. a ∷ q) f ∙ ap (λ q. q ∷ (o ++ m)) g) l
+    by (behind m f l) g = behind m (ap (λ q. b ∷ q) f ∙ ap (λ q. q ∷ (h ++ m)) (sym g)) l
+
+-- a proper front of an encoding ends early
+pub ends_before : {s : List Resolved} {t : ℕ} {o : List ℕ} (b : BeginsEncoding s t o) → AreUnit b.octets → EndsEarly o
+ends_before {o = o} b u = by (split u.header u.contents o b.missing (sym u.whole ∙ b.whole))
+  where
+    by : Split u.header u.contents o b.missing → EndsEarly o
+    by (within m f l) = in_header m u.is_header f l
+    by (behind m f g) =
+        let a = ap length u.whole in
+        let c = length-append u.header u.contents in
+        let d = ap length g in
+        let e = length-append m b.missing in
+        let x = b.is.short in
+        let y = b.some in
+        in_contents m u.is_header (omega arith) f (omega arith)
+
+-- octets that begin with a header and its contents
+pub record Headed (o : List ℕ) : Type 0 where
+  pub tag : Tag
+  pub constructed : Bool
+  pub count : ℕ
+  pub size : ℕ
+  pub header : HeaderAt tag constructed count size o
+
+pub headed : {p : List ℕ} (r o : List ℕ) → AreUnit p → o ≡ p ++ r → length o ≤ 16777216 → Headed o
+headed {p} r o u e l =
+    let a = ap length e in
+    let b = length-append p r in
+    let c = ap length u.whole in
+    let d = length-append u.header u.contents in
+    let f = length-append u.contents r in
+    record {
+      tag = u.tag;
+      constructed = u.constructed;
+      count = length u.contents;
+      size = length u.header;
+      header = record { header = u.header; rest = u.contents ++ r; is_header = u.is_header; few = omega arith; long = refl; whole = e ∙ ap (λ q. q ++ r) u.whole ∙ append_assoc u.header u.contents r; follow = omega arith };
+    }
+
+-- a fault is want of memory, or another one
+pub memory_or_not : (f : ReadFault) → (f ≡ faults.Memory) ⊎ (f ≡ faults.Memory → ⊥)
+memory_or_not faults.Memory = inl refl
+memory_or_not faults.MessageLimit = inr (λ e. cc)
+memory_or_not faults.IntegerLimit = inr (λ e. cc)
+memory_or_not faults.OidLimit = inr (λ e. cc)
+memory_or_not faults.Truncated = inr (λ e. cc)
+memory_or_not faults.Indefinite = inr (λ e. cc)
+memory_or_not faults.BadLength = inr (λ e. cc)
+memory_or_not faults.BadTag = inr (λ e. cc)
+memory_or_not faults.UnexpectedTag = inr (λ e. cc)
+memory_or_not faults.Missing = inr (λ e. cc)
+memory_or_not faults.BadContents = inr (λ e. cc)
+memory_or_not faults.EmptySegments = inr (λ e. cc)
+memory_or_not faults.OutsideConstraint = inr (λ e. cc)
+memory_or_not faults.Trailing = inr (λ e. cc)
+memory_or_not faults.TooDeep = inr (λ e. cc)
+memory_or_not faults.NotDer = inr (λ e. cc)
+
+pub is_memory : {P : Type 0} (f : ReadFault) → P → ((f ≡ faults.Memory → ⊥) → P → ⊥) → f ≡ faults.Memory
+is_memory f p h = ⊎_elim (λ e. e) (λ n. absurd (h n p)) (memory_or_not f)
+
+-- what is read of octets behind which others stand
+pub record ReadOf (s : List Resolved) (t : TypeId) (o r : List ℕ) (room : ℕ) : Type 0 where
+  pub last : State
+  pub reads : Reads (λ u. routine_at s u) Takes t (front s o room) last
+  pub behind : last.here.octets ≡ r
+
+pub read_of : {s : List Resolved} {t : TypeId} {p r : List ℕ} {room : ℕ} (o : List ℕ) → IsReadTo s t p r room → o ≡ p ++ r → ReadOf s t o r room
+read_of {s} {t} {p} {r} {room} o i e = record { last = i.last; reads = subst (λ q. Reads (λ u. routine_at s u) Takes t (front s q room) i.last) (sym e) i.reads; behind = i.behind }
+
+pub true_false : {b : Bool} → b ≡ true → b ≡ false → ⊥
+true_false e f = cc
+
+pub none_there : (r : List ℕ) → 1 ≤ length r → r ≡ [] → ⊥
+none_there r l e = let a = ap length e in omega arith

@@ -3,6 +3,7 @@ use Rattle.std.specs.Prelude.{◌≡◌, ℕ, ◌+◌, ◌*◌, ◌≤◌, List,
 use Rattle.asn_base.specs.declared.schema.TypeId.{TypeId}
 use Rattle.asn_base.specs.Abstract.{AbstractValue}
 use Rattle.asn_base.specs.Types.{TypeNumber, Resolved}
+use Rattle.asn_base.specs.Typed.{IsValueWithoutNodes}
 use Rattle.encodings.specs.Header.{Octets}
 use Rattle.encodings.specs.Rules.{Basic}
 use Rattle.encodings.specs.Encoding.{Says}
@@ -45,3 +46,30 @@ pub record IsRead (s : List Resolved) (t : TypeId) (o : Octets) : Type 0 where
   pub last : State
   pub reads : Reads (λ u. routine_at s u) Takes t (front s o (room_of (length o))) last
   pub at_end : last.here.octets ≡ []
+
+-- Octets say a value of the type, constraints included, within 400 levels; they are at most as many as a message has. By the
+-- definition of values it has at most 64 levels.
+pub record IsEncoding (s : List Resolved) (t : TypeNumber) (o : Octets) : Type 0 where
+  pub value : AbstractValue
+  pub count : ℕ
+  pub is_value : IsValueWithoutNodes s t value
+  pub is_said : Says s Basic t value count o
+  pub few : levels is_said ≤ 400
+  pub short : length o ≤ 16777216
+
+-- the octets are a proper front of such an encoding
+pub record BeginsEncoding (s : List Resolved) (t : TypeNumber) (o : Octets) : Type 0 where
+  pub octets : Octets
+  pub missing : Octets
+  pub is : IsEncoding s t octets
+  pub whole : octets ≡ o ++ missing
+  pub some : 1 ≤ length missing
+
+-- such an encoding is a proper front of the octets, which are at most as many as a message has
+pub record HasEncodingFirst (s : List Resolved) (t : TypeNumber) (o : Octets) : Type 0 where
+  pub octets : Octets
+  pub rest : Octets
+  pub is : IsEncoding s t octets
+  pub whole : o ≡ octets ++ rest
+  pub some : 1 ≤ length rest
+  pub short : length o ≤ 16777216

@@ -1,20 +1,24 @@
 //! Whole messages.
 
 ghost use Rattle.asn_base.specs.Abstract.{AbstractValue};
-ghost use Rattle.ber_message.specs.Messages.{HasMessageFirst, IsMessage, IsRead};
+ghost use Rattle.asn_base.specs.declared.tag.Tag.{Tag as Tag'};
+ghost use Rattle.ber_message.specs.Messages.{BeginsEncoding, HasEncodingFirst, HasMessageFirst, IsEncoding, IsMessage, IsRead};
 ghost use Rattle.ber_source.specs.Seen.{token_of};
-ghost use Rattle.codec_source.specs.declared.fault.ReadFault.TheVariants.{Memory, MessageLimit, Trailing};
+ghost use Rattle.codec_source.specs.declared.fault.ReadFault.TheVariants.{Memory, MessageLimit, Trailing, Truncated};
 ghost use Rattle.encodings.specs.Encoding.{Says};
 ghost use Rattle.encodings.specs.Rules.{Basic};
+ghost use Rattle.octets.specs.Fronts.{EndsEarly, HeaderAt};
 ghost use Rattle.std.specs.Int.Digits.{AllBelowBase};
-ghost use Rattle.std.specs.Prelude.{◌≡◌, ◌<◌, Err, IfErr, IfOk, length, map, ℕ};
+ghost use Rattle.std.specs.Prelude.{◌≡◌, ◌<◌, ◌⊎◌, Bool, Err, IfErr, IfOk, length, map, true, ℕ};
 
 use asn_base::schema::TypeId;
 use ber_source::{Cursor, Token};
 use codec_code::Code;
 use codec_source::{ReadFault, read};
 use encodings::schema_laws;
-use reading_law::law::read_is_said;
+use octets::law::one_front;
+use octets::{HeaderFault, read_header};
+use reading_law::law::{read_is_said, said_is_read};
 use std::alloc::Global;
 
 /// The most octets of a message.
@@ -43,6 +47,11 @@ pub fn read_message<'a>(
     ensures limit { 16777216 < length octets.now → result ≡ Err MessageLimit }
     ensures long { result ≡ Err MessageLimit → 16777216 < length octets.now }
     ensures trailing { result ≡ Err Trailing → HasMessageFirst code.now id.index octets.now }
+    // Whatever encodes a value of the type is read, memory apart; 89 is told where its encoding is a proper front of them, and
+    // 80 where they are one of it.
+    ensures read { IsEncoding code.now id.index octets.now → IfErr result (λ e. e ≡ Memory) }
+    ensures more { HasEncodingFirst code.now id.index octets.now → (result ≡ Err Trailing) ⊎ (result ≡ Err Memory) }
+    ensures less { BeginsEncoding code.now id.index octets.now → result ≡ Err Truncated }
     // A refusal but for want of memory or length says that the routine of the type reads nothing to the end.
     ensures err { IfErr result (λ e. (e ≡ Memory → ⊥)
         → (e ≡ MessageLimit → ⊥)
@@ -53,12 +62,16 @@ pub fn read_message<'a>(
     code.accepted();
     schema_laws();
     read_is_said();
+    said_is_read();
     are_octets(octets);
     if octets.len() > MOST {
         return Err(ReadFault::MessageLimit);
     }
     if !code.has(id) {
         return Err(ReadFault::UnexpectedTag);
+    }
+    if ends_early(octets) {
+        return Err(ReadFault::Truncated);
     }
     let mut cursor = match Cursor::new(alloc, code, octets, octets.len() * VALUES + VALUES) {
         Ok(cursor) => cursor,
@@ -78,6 +91,24 @@ pub fn read_message<'a>(
 fn are_octets(octets: &[u8])
     ensures { AllBelowBase 256 octets.now }
 {}
+
+/// Whether the octets end within the header at their front, or before the contents that it tells.
+fn ends_early(octets: &[u8]) -> bool
+    ensures early { result ≡ true → EndsEarly octets.now }
+    ensures late { EndsEarly octets.now → result ≡ true }
+    ensures none { result ≡ true → (g : Tag') (c : Bool) (n k : ℕ) → HeaderAt g c n k octets.now → ⊥ }
+{
+    one_front();
+    match read_header(octets) {
+        Ok(_) => false,
+        Err(fault) => match fault {
+            HeaderFault::Truncated => true,
+            HeaderFault::Indefinite => false,
+            HeaderFault::BadLength => false,
+            HeaderFault::BadTag => false,
+        },
+    }
+}
 
 /// A fault within a message: none of its length, and none behind it.
 fn within(fault: ReadFault) -> ReadFault

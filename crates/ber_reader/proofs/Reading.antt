@@ -1,5 +1,6 @@
 -- What is answered of a message that was read.
 use Rattle.std.proofs.Common.{◌≡◌, ℕ, ◌≤◌, Bool, true, List, IsTrue, ◌↔◌, sym, subst}
+use Rattle.std.proofs.Common.{false}
 use Rattle.asn_base.specs.Abstract.{AbstractValue}
 use Rattle.asn_base.specs.Types.{Resolved}
 use Rattle.asn_base.specs.Typed.{IsValueWithoutNodes}
@@ -31,3 +32,8 @@ reading_of {s} {t} {o} r m tree v b e k w =
 -- a test that holds
 pub holds : {P : Type 0} (b : Bool) → b ≡ true → IsTrue b ↔ P → P
 holds b e h = h.0 e
+
+-- a test that fails
+pub never_holds : {P Q : Type 0} (b : Bool) → b ≡ false → IsTrue b ↔ P → P → Q
+never_holds true e h p = absurd (let f = e in cc)
+never_holds false e h p = absurd (let f : false ≡ true = h.1 p in cc)

@@ -77,9 +77,9 @@ Wants s m w (component i ∷ ts) n h b = (i < 2 ^ 32) × Wants s m w ts i false 
 Wants s m w (chosen i ∷ ts) n h b = Wants s m w ts 0 false (opened n (open_alternative i) b)
 Wants s m w (begun t ∷ ts) n h b =
     Wants s m w ts
-        (number_as (shape_in (routine_at s t.index)) n)
-        false
-        (begun_as (shape_in (routine_at s t.index)) n b)
+    (number_as (shape_in (routine_at s t.index)) n)
+    false
+    (begun_as (shape_in (routine_at s t.index)) n b)
 Wants s m w (ended ∷ ts) n true b = Wants s m w ts 0 false b
 Wants s m w (ended ∷ ts) n false b = Closed b (λ c. Wants s m w ts 0 false c)
 Wants s m w (held k c x at ∷ ts) n h b = Held k c x at (λ l. Wants s m w ts 0 true (with_leaf n l b))

@@ -1,14 +1,14 @@
 //! Messages read as views.
 
 ghost use Rattle.asn_base.specs.Abstract.{AbstractValue};
-ghost use Rattle.ber_message.specs.Messages.{HasMessageFirst};
+ghost use Rattle.ber_message.specs.Messages.{BeginsEncoding, HasEncodingFirst, HasMessageFirst, IsEncoding};
 ghost use Rattle.ber_reader.specs.Readings.{IsReading};
 ghost use Rattle.ber_source.specs.Seen.{token_of};
-ghost use Rattle.codec_source.specs.declared.fault.ReadFault.TheVariants.{MessageLimit, Trailing};
+ghost use Rattle.codec_source.specs.declared.fault.ReadFault.TheVariants.{Memory, MessageLimit, Trailing, Truncated};
 ghost use Rattle.encodings.specs.Reading.{Encodes};
 ghost use Rattle.encodings.specs.Rules.{Basic};
 ghost use Rattle.reading_law.specs.Shows.{passed_in};
-ghost use Rattle.std.specs.Prelude.{◌≡◌, ◌∷◌, ◌<◌, ◌≤◌, [], Err, IfOk, length, map, ℕ};
+ghost use Rattle.std.specs.Prelude.{◌≡◌, ◌∷◌, ◌<◌, ◌≤◌, ◌⊎◌, [], Err, IfErr, IfOk, length, map, ℕ};
 ghost use Rattle.views.specs.Seen.{IsView};
 ghost use Rattle.views.specs.Tree.{Tree, value_of};
 
@@ -18,6 +18,7 @@ use ber_message::read_message;
 use ber_source::Token;
 use codec_code::Code;
 use codec_source::ReadFault;
+use encodings::message_laws;
 use std::alloc::Global;
 use views::View;
 
@@ -49,8 +50,14 @@ pub fn read_ber<'a>(
     ensures limit { 16777216 < length octets.now → result ≡ Err MessageLimit }
     ensures long { result ≡ Err MessageLimit → 16777216 < length octets.now }
     ensures trailing { result ≡ Err Trailing → HasMessageFirst code.now id.index octets.now }
+    // Whatever encodes a value of the type is read, memory apart; 89 is told where its encoding is a proper front of them, and
+    // 80 where they are one of it.
+    ensures read { IsEncoding code.now id.index octets.now → IfErr result (λ e. e ≡ Memory) }
+    ensures more { HasEncodingFirst code.now id.index octets.now → (result ≡ Err Trailing) ⊎ (result ≡ Err Memory) }
+    ensures less { BeginsEncoding code.now id.index octets.now → result ≡ Err Truncated }
 {
     code.accepted();
+    message_laws();
     let tokens = match read_message(alloc, code, id, octets) {
         Ok(tokens) => tokens,
         Err(fault) => return Err(fault),

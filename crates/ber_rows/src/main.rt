@@ -1,16 +1,18 @@
-//! Answers rows of messages by the public call that reads them, and prints each answer below its row's words.
+//! Answers rows of messages by the public calls that read them, and prints each answer below its row's words.
 //!
 //! The files that its words name are files of rows. A row's first word is a command and its second the row's own name:
-//! `read` and `sweep`, described where they are answered. The answers that the stored run compares are written by hand, or
+//! `read`, `sweep` and `view`, described where they are answered. The answers that the stored run compares are written by hand, or
 //! counted by a second reader, not taken from this program.
 #![tactic(auto)]
 
 mod message;
 mod refusal;
 mod sweep;
+mod view;
 mod words;
 
 use crate::refusal::{Refusal, told};
+use asn_base::schema::Schema;
 use codec_code::{Code, compile};
 use row_files::{Row, rows};
 use sample_types::schema;
@@ -19,22 +21,23 @@ use std::process::ExitCode;
 use std::{env, fs, io};
 
 /// What a row's command answers.
-fn answer_of(alloc: Global, code: &Code, row: &Row) -> Result<String, Refusal> {
+fn answer_of(alloc: Global, schema: &Schema, code: &Code, row: &Row) -> Result<String, Refusal> {
     match row.command() {
         "read" => message::answer(alloc, code, row),
         "sweep" => sweep::answer(alloc, code, row),
+        "view" => view::answer(alloc, schema, code, row),
         _ => Err(told(alloc, &"no such command")),
     }
 }
 
 /// A row's words, and below them the lines of its answer, each behind two blanks.
-fn entry(alloc: Global, code: &Code, row: &Row) -> Result<String, AllocError> {
+fn entry(alloc: Global, schema: &Schema, code: &Code, row: &Row) -> Result<String, AllocError> {
     let mut text = String::from_str(alloc, row.command())?;
     for word in row.words.iter().skip(1) {
         text.push(' ')?;
         text.push_str(word.as_str())?;
     }
-    let answer = match answer_of(alloc, code, row) {
+    let answer = match answer_of(alloc, schema, code, row) {
         Ok(answer) => answer,
         Err(Refusal::Told(words)) => words,
         Err(Refusal::Memory) => return Err(AllocError),
@@ -47,7 +50,7 @@ fn entry(alloc: Global, code: &Code, row: &Row) -> Result<String, AllocError> {
 }
 
 /// Prints the answers to the rows of a file.
-fn answer_file(rt: &HostRuntime, code: &Code, file: &str) -> io::Result<()> {
+fn answer_file(rt: &HostRuntime, schema: &Schema, code: &Code, file: &str) -> io::Result<()> {
     println!(rt; "{file}")?;
     let octets = fs::read(rt, file)?;
     let rows = match rows(rt.alloc(), octets.as_slice()) {
@@ -55,7 +58,7 @@ fn answer_file(rt: &HostRuntime, code: &Code, file: &str) -> io::Result<()> {
         Err(fault) => return println!(rt; "{fault}"),
     };
     for row in &rows {
-        let text = entry(rt.alloc(), code, row)?;
+        let text = entry(rt.alloc(), schema, code, row)?;
         println!(rt; "{text}")?;
     }
     Ok(())
@@ -66,7 +69,7 @@ fn main(rt: HostRuntime) -> io::Result<ExitCode> {
     match compile(rt.alloc(), &schema) {
         Ok(code) => {
             for file in env::args(&rt)?.skip(1) {
-                answer_file(&rt, &code, file.as_str())?;
+                answer_file(&rt, &schema, &code, file.as_str())?;
             }
             Ok(ExitCode::SUCCESS)
         }

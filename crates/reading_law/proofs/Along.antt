@@ -1,16 +1,15 @@
 -- Octets that are read from one state to another, all else being as before.
-use Rattle.std.proofs.Common.{arith, ◌≡◌, ℕ, zero, suc, ◌+◌, ◌<◌, ◌≤◌, Bool, true, false, List, [], ◌∷◌, ◌++◌, length, take, refl, sym, ap, subst, ◌∙◌, append_assoc}
+use Rattle.std.proofs.Common.{arith, ◌≡◌, ℕ, zero, suc, ◌+◌, Bool, List, [], ◌∷◌, ◌++◌, length, take, refl, sym, ap, subst, ◌∙◌, append_assoc}
 use Rattle.std.proofs.lemmas.List.{append-nil}
 use Rattle.std.proofs.Math.Seq.{take-append_seam}
 use Rattle.std.specs.Prelude.{replicate}
 use Rattle.std.specs.Int.Digits.{AllBelowBase}
 use Rattle.asn_base.specs.declared.tag.Tag.{Tag}
 use Rattle.asn_base.specs.declared.schema.TypeId.{TypeId}
-use Rattle.asn_base.specs.Types.{Resolved}
 use Rattle.codec_code.specs.declared.step.Head.{Head}
 use Rattle.encodings.specs.Header.{Header}
 use Rattle.octet_answers.specs.Units.{UnitAt}
-use Rattle.octet_answers.specs.States.{State, Token, component, chosen, begun, ended, held, passed, Window, behind, begun_at, ended_at, opened_at, closed_at, passing}
+use Rattle.octet_answers.specs.States.{State, Token, component, chosen, begun, ended, held, passed, behind}
 use Rattle.octet_answers.specs.Answers.{Begins, Ends, Opens, Closes}
 use Rattle.reading_law.specs.Shows.{passed_in}
 

@@ -1,8 +1,8 @@
 -- Contents octets don't depend on constraints, items and names.
-use Rattle.std.proofs.Common.{arith, ◌≡◌, ℕ, ◌+◌, ◌≤◌, Bool, true, false, List, [], refl, sym, ap, subst}
+use Rattle.std.proofs.Common.{arith, ◌≡◌, ℕ, ◌≤◌, Bool, true, false, List, refl}
 use Rattle.asn_base.specs.declared.strings.StringKind.{StringKind}
 use Rattle.asn_base.specs.Abstract.{AbstractValue}
-use Rattle.asn_base.specs.Types.{Constraint, Item, NamedBit, any_number, any_size, Kind, a_boolean, an_integer, an_enumerated, a_bit_string, a_named_bit_string, an_octet_string, a_null, an_object_identifier, a_relative_oid, a_utf8_string, a_restricted_string}
+use Rattle.asn_base.specs.Types.{Constraint, Item, NamedBit, Kind, an_integer, an_enumerated, a_bit_string, a_named_bit_string, an_octet_string, a_utf8_string, a_restricted_string}
 use Rattle.encodings.specs.Rules.{Basic, Rules}
 use Rattle.encodings.specs.Strings.{whole, whole_bits}
 use Rattle.encodings.specs.Contents.{Contents, of_false, of_true, of_integer, of_enumerated, of_bits, of_named_bits, of_octets, of_null, of_oid, of_relative_oid, of_utf8, of_restricted}

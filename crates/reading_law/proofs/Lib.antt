@@ -7,3 +7,7 @@ pub mod Partly
 pub mod Sets
 pub mod Places
 pub mod Saids
+pub mod Readers
+pub mod Bodies
+pub mod Drawn
+pub mod Completes

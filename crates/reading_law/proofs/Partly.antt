@@ -1,11 +1,11 @@
 -- Components that were read, some of which may still be missing.
-use Rattle.std.proofs.Common.{arith, ◌≡◌, ℕ, zero, suc, ◌+◌, ◌≤◌, Bool, true, false, List, [], ◌∷◌, ◌++◌, refl, sym, ap, subst, ◌∙◌}
-use Rattle.std.specs.Prelude.{Option, Some, None, slice_get, max}
+use Rattle.std.proofs.Common.{arith, ◌≡◌, ℕ, zero, suc, ◌+◌, ◌≤◌, Bool, true, false, List, [], ◌∷◌, ◌++◌, refl, sym, ap, subst}
+use Rattle.std.specs.Prelude.{Some, None, slice_get, max}
 use Rattle.asn_base.specs.Abstract.{AbstractValue, Row, end, absent, present}
 use Rattle.asn_base.specs.Tags.{is_mandatory}
 use Rattle.asn_base.specs.Types.{Component, Resolved}
 use Rattle.encodings.specs.Rules.{Basic}
-use Rattle.encodings.specs.Orders.{Inserted, here, there, Permutes, permutes_none, permutes_more, Merges, merges_none, merges_first, merges_second}
+use Rattle.encodings.specs.Orders.{Inserted, here, there, Permutes, permutes_more, Merges, merges_none, merges_second}
 use Rattle.encodings.specs.Encoding.{Says, Members, no_member, left_out, member}
 use Rattle.encodings.specs.Levels.{levels, member_levels}
 use Rattle.reading_law.specs.Shows.{blank, with_at, IsAbsentAt}

@@ -12,7 +12,7 @@ use Rattle.codec_code.specs.Routines.{routine_at}
 use Rattle.codec_source.specs.Events.{Event, begins, ends, opens, closes, holds, skips, stands, more, among, picks}
 use Rattle.codec_source.specs.Reading.{Asks, head, ending, leaf, rest, left_out, field, component as component', no_component, element, no_element, sorted_element, no_sorted_element, pick, call, Does, finished, goes_on, reads, Reads}
 use Rattle.octet_answers.specs.Units.{UnitAt}
-use Rattle.octet_answers.specs.States.{State, Window, Token, component, chosen, begun, ended, held, passed, begun_at, ended_at, opened_at, closed_at, held_at, telling, passing, marked, front}
+use Rattle.octet_answers.specs.States.{State, Window, Token, component, chosen, begun, ended, held, passed, front}
 use Rattle.octet_answers.specs.Found.{Passes, at_end_of_contents, at_component, passes}
 use Rattle.octet_answers.specs.Answers.{Answers, Takes, StandsNext, MoreNext, AmongNext}
 use Rattle.reading_law.specs.Shows.{StandsIn, StandIn}

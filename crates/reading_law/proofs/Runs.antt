@@ -1,6 +1,6 @@
 -- Runs of a routine, with a bound on how deep values stand in one another.
-use Rattle.std.proofs.Common.{arith, ◌≡◌, ℕ, suc, ◌+◌, ◌<◌, ◌≤◌, Bool, true, false, List, [], ◌∷◌, ◌++◌, length, refl, sym, ap, subst}
-use Rattle.std.specs.Prelude.{Option, Some, None, drop, take, replicate, max}
+use Rattle.std.proofs.Common.{arith, ◌≡◌, ℕ, suc, ◌+◌, ◌<◌, ◌≤◌, List, [], ◌∷◌, ◌++◌, length, refl, ap}
+use Rattle.std.specs.Prelude.{Some, None, drop, take}
 use Rattle.asn_base.specs.declared.tag.Tag.{Tag}
 use Rattle.asn_base.specs.declared.schema.TypeId.{TypeId}
 use Rattle.asn_base.specs.Types.{TypeNumber, Resolved, Kind, Is}
@@ -8,10 +8,10 @@ use Rattle.codec_code.specs.declared.step.Head.{Head as Head'}
 use Rattle.codec_code.specs.declared.step.LeafKind.{LeafKind}
 use Rattle.codec_code.specs.declared.step.Field.{Field as Field'}
 use Rattle.codec_code.specs.declared.step.Step.{Step}
-use Rattle.codec_code.specs.declared.step.Step.TheVariants.{Head, Leaf, Field, Ranked, Each, EachSorted, Pick, Call, Rest, End}
+use Rattle.codec_code.specs.declared.step.Step.TheVariants.{Head, Leaf, Field, Pick, Rest, End}
 use Rattle.codec_code.specs.Routines.{routine_at, routine_of, heads, row_of, body, ends}
 use Rattle.codec_source.specs.Events.{begins, ends as ends'}
-use Rattle.codec_source.specs.Reading.{Asks, head, ending, leaf, rest, left_out, field, element, no_element, sorted_element, no_sorted_element, pick, Does, finished, goes_on, reads}
+use Rattle.codec_source.specs.Reading.{Asks, head, ending, leaf, rest, left_out, field, pick, Does, finished, goes_on, reads}
 use Rattle.octet_answers.specs.States.{State}
 use Rattle.octet_answers.specs.Answers.{Takes, Begins, Ends, Opens, Closes, Holds, Skips, IsNext, IsAbsent, Chooses}
 

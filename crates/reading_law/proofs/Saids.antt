@@ -1,43 +1,42 @@
 -- What a routine reads, the octets say.
-use Rattle.std.proofs.Common.{arith, ◌≡◌, ℕ, zero, suc, ◌+◌, ◌<◌, ◌≤◌, ◌⊎◌, ⊎_elim, Bool, true, false, List, [], ◌∷◌, ◌++◌, length, take, drop, map, refl, sym, ap, subst, ◌∙◌, append_assoc, length-append}
+use Rattle.std.proofs.Common.{arith, ◌≡◌, ℕ, zero, suc, ◌+◌, ◌<◌, ◌≤◌, ⊎_elim, Bool, true, false, List, [], ◌∷◌, ◌++◌, length, take, drop, refl, sym, ap, subst, ◌∙◌, append_assoc, length-append}
 use Rattle.std.proofs.lemmas.List.{append-nil}
 use Rattle.std.proofs.lemmas.List.Folds.{concat-append}
 use Rattle.std.proofs.Math.Seq.{take-append_seam}
-use Rattle.std.specs.Prelude.{Option, Some, None, slice_get, max, replicate}
+use Rattle.std.specs.Prelude.{Some, None, slice_get, replicate}
 use Rattle.std.specs.List.{concat, AllByRecursion}
 use Rattle.std.specs.Int.Digits.{AllBelowBase}
 use Rattle.asn_base.specs.declared.tag.Tag.{Tag}
 use Rattle.asn_base.specs.declared.schema.TypeId.{TypeId}
 use Rattle.asn_base.specs.Abstract.{AbstractValue, fields, list, alternative, Row, end, absent, present}
 use Rattle.asn_base.specs.Names.{IsMember}
-use Rattle.asn_base.specs.Types.{TypeNumber, Constraint, Alternative, any_number, any_size, Kind, a_boolean, an_integer, an_enumerated, a_bit_string, a_named_bit_string, an_octet_string, a_null, an_object_identifier, a_relative_oid, a_utf8_string, a_restricted_string, a_sequence, a_set, a_sequence_of, a_set_of, a_choice, Component, Resolved, Is}
+use Rattle.asn_base.specs.Types.{TypeNumber, Alternative, any_number, any_size, Kind, a_boolean, an_integer, an_enumerated, a_bit_string, a_named_bit_string, an_octet_string, a_null, an_object_identifier, a_relative_oid, a_utf8_string, a_restricted_string, a_sequence, a_set, a_sequence_of, a_set_of, a_choice, Component, Resolved, Is}
 use Rattle.asn_base.specs.Tags.{IsChoice, is_mandatory}
 use Rattle.asn_base.specs.Schemas.{IsSchema, IsSound, HasTag}
 use Rattle.encodings.specs.Rules.{Basic}
 use Rattle.encodings.specs.Header.{Header}
-use Rattle.encodings.specs.Encoding.{Framed, bare, innermost, outer, Says, says, Holds, leaf, sequence, set, sequence_of, set_of, choice, Members, no_member, left_out, member, Elements, no_element, element, last_run, no_unknown}
-use Rattle.encodings.specs.Levels.{levels, inner_levels, member_levels, element_levels, leaf_levels, unknown_levels}
+use Rattle.encodings.specs.Encoding.{Framed, bare, innermost, outer, says, Holds, leaf, sequence, set, sequence_of, set_of, choice, Members, no_member, left_out, member, Elements, no_element, element, last_run, no_unknown}
+use Rattle.encodings.specs.Levels.{inner_levels, member_levels, element_levels}
 use Rattle.codec_code.specs.declared.step.LeafKind.{LeafKind}
 use Rattle.codec_code.specs.declared.step.LeafKind.TheVariants as leaves
-use Rattle.codec_code.specs.declared.step.RowKind.{RowKind}
 use Rattle.codec_code.specs.declared.step.Head.{Head as Head'}
 use Rattle.codec_code.specs.declared.step.Step.{Step}
-use Rattle.codec_code.specs.declared.step.Step.TheVariants.{Head, Leaf, Each, EachSorted, Pick, Call, Rest, End}
+use Rattle.codec_code.specs.declared.step.Step.TheVariants.{Head, Leaf, Each, EachSorted, Pick}
 use Rattle.codec_code.specs.Routines.{routine_at, id_of, heads, row_of, is_constructed, body, ends, fields_from, field_of, ranked_from, rest_if, calls}
 use Rattle.codec_code.specs.Steps.{plain}
-use Rattle.codec_source.specs.Reading.{Does, Reads, element as element', no_element as no_element', sorted_element, no_sorted_element}
+use Rattle.codec_source.specs.Reading.{Reads, element as element', no_element as no_element', sorted_element, no_sorted_element}
 use Rattle.octet_answers.specs.States.{State, Token, component, chosen, begun, ended, held, passed, at_end, behind, front}
 use Rattle.octet_answers.specs.Found.{IsChosen, chosen as chosen', later, last_steps, Passes}
-use Rattle.octet_answers.specs.Answers.{Takes, Begins, Ends, Opens, Holds as Holds', Skips, IsNext, IsAbsent, Chooses}
+use Rattle.octet_answers.specs.Answers.{Takes, Begins, Ends, Opens}
 use Rattle.reading_law.proofs.Places.{places_told}
 use Rattle.reading_law.specs.Shows.{passed_in, Shows, shows, ShowsOf, shows_leaf, shows_sequence, shows_set, shows_sequence_of, shows_set_of, shows_choice, ShowsFields, no_field, absent_field, present_field, ShowsElements, no_element_shown, element_shown}
 use Rattle.reading_law.specs.Saying.{IsSaid}
-use Rattle.reading_law.proofs.Along.{told_both, told_closed, told_value, passed_both, passed_times, Along, stays, both, along_as, last_same, below_behind, below_contents, Framed as Framed', framed, marks_closed, along_value}
-use Rattle.reading_law.proofs.Runs.{Runs, run_on, run_value, RunsValue, bounded, head_run, end_run, leaf_run, rest_run, FieldRun, run_absent, run_present, field_run, PickRun, pick_run, nothing_run, routine_is}
+use Rattle.reading_law.proofs.Along.{told_both, told_closed, told_value, passed_both, passed_times, Along, stays, both, along_as, last_same, below_contents, framed, marks_closed, along_value}
+use Rattle.reading_law.proofs.Runs.{Runs, run_on, run_value, RunsValue, bounded, head_run, end_run, leaf_run, rest_run, FieldRun, run_absent, run_present, field_run, pick_run, nothing_run, routine_is}
 use Rattle.reading_law.proofs.Values.{Fine, fine_behind, ValueRead, Below, Then, outer_same, same_state}
 use Rattle.reading_law.proofs.Leaves.{Moves, itself, to_integer, to_enumerated, to_bits, to_named_bits, to_octets, to_utf8, to_restricted, leaf_read}
-use Rattle.reading_law.proofs.Skipped.{Skipped, skipped, UnknownRead, unknown_read, nothing_unknown, none_left, none_last, tail_plain, may_lack, unknown_of}
-use Rattle.reading_law.proofs.Partly.{IsPresentAt, partly_levels, all_there}
+use Rattle.reading_law.proofs.Skipped.{skipped, UnknownRead, unknown_read, nothing_unknown, none_last, tail_plain, may_lack, unknown_of}
+use Rattle.reading_law.proofs.Partly.{IsPresentAt, all_there}
 use Rattle.reading_law.proofs.Sets.{marks_of, SetRead, set_end, Steps, set_loop, found_at, none_ranked, set_extensible, behind_ranked, must_be_read, none_to_skip}
 
 pub record MembersRead (s : List Resolved) (i : ℕ) (cs : List Component) (a b : State) : Type 0 where

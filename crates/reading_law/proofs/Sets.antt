@@ -2,31 +2,29 @@
 use Rattle.std.proofs.Common.{arith, ◌≡◌, ℕ, zero, suc, ◌+◌, ◌<◌, ◌≤◌, ◌⊎◌, inl, inr, ⊎_elim, Bool, true, false, List, [], ◌∷◌, ◌++◌, length, drop, refl, sym, ap, subst, ◌∙◌, append_assoc, length-append}
 use Rattle.std.proofs.lemmas.List.{append-nil}
 use Rattle.std.proofs.lemmas.List.Folds.{concat-append}
-use Rattle.std.specs.Prelude.{Option, Some, None, slice_get, max, not, replicate}
+use Rattle.std.specs.Prelude.{Option, Some, None, slice_get, replicate}
 use Rattle.std.specs.List.{concat, AllByRecursion}
 use Rattle.asn_base.specs.declared.tag.Tag.{Tag}
-use Rattle.asn_base.specs.declared.schema.TypeId.{TypeId}
 use Rattle.asn_base.specs.Abstract.{Row}
 use Rattle.asn_base.specs.Names.{IsMember, is_first, is_later}
 use Rattle.asn_base.specs.Tags.{is_mandatory}
-use Rattle.asn_base.specs.Types.{TypeNumber, Component, Resolved, a_set}
+use Rattle.asn_base.specs.Types.{Component, Resolved}
 use Rattle.encodings.specs.Header.{LengthOf, short, long, identifier}
 use Rattle.encodings.specs.Orders.{Permutes, permutes_none, Merges, merges_first}
 use Rattle.encodings.specs.Encoding.{Unknown, no_unknown, unknown}
 use Rattle.codec_code.specs.declared.step.Field.{Field as Field'}
 use Rattle.codec_code.specs.declared.step.Step.{Step}
-use Rattle.codec_code.specs.declared.step.Step.TheVariants.{Ranked, Rest, End}
-use Rattle.codec_code.specs.Routines.{id_of, field_of, ranked_from, rank, rest_if, ends}
-use Rattle.codec_code.specs.Steps.{may_be_absent}
+use Rattle.codec_code.specs.declared.step.Step.TheVariants.{Ranked}
+use Rattle.codec_code.specs.Routines.{id_of, field_of, ranked_from, rest_if, ends}
 use Rattle.codec_source.specs.Reading.{behind_components, component, no_component}
 use Rattle.octet_answers.specs.Units.{UnitAt}
 use Rattle.octet_answers.specs.States.{State, Token, passed, component as component'}
-use Rattle.octet_answers.specs.Found.{IsFound, found, not_yet, is_extensible, AreRead, are_read, is_read, Passes, at_end_of_contents, at_component, passes}
+use Rattle.octet_answers.specs.Found.{IsFound, found, not_yet, is_extensible, AreRead, is_read, Passes, at_end_of_contents, at_component, passes}
 use Rattle.reading_law.specs.Shows.{blank, IsAbsentAt, passed_in, ShowsMixed, nothing_mixed, passed_mixed, component_mixed}
-use Rattle.reading_law.proofs.Along.{told_both, passed_both, passed_times, Along, stays, both, along_as, below_behind}
+use Rattle.reading_law.proofs.Along.{told_both, passed_both, passed_times, Along, stays, both, along_as}
 use Rattle.reading_law.proofs.Runs.{Runs, run_on, run_value, RunsValue}
 use Rattle.reading_law.proofs.Skipped.{NoneFound, NoneFirst, Skipped, skipped, none_left, next_found, must_not_lack}
-use Rattle.reading_law.proofs.Partly.{Partly, partly_levels, IsPresentAt, all_missing, blank_absent, Put, put, one_before, all_second, seconds_before}
+use Rattle.reading_law.proofs.Partly.{Partly, partly_levels, IsPresentAt, all_missing, blank_absent, put, one_before, all_second, seconds_before}
 use Rattle.reading_law.proofs.Values.{Fine, fine_behind, ValueRead, Below, outer_same}
 
 none_some : {A : Type 0} {x : A} → None ≡ Some x → ⊥
@@ -42,7 +40,7 @@ no_ends zero i = elim i [ ]
 no_ends (suc m) (found e h) = none_some e
 no_ends (suc m) (not_yet n i) = no_ends m i
 
-no_tail : {s : List Resolved} {g : Tag} {f : Field'} (e : Bool) (m : ℕ) → IsFound s g (rest_if e ++ ends m) f → ⊥
+pub no_tail : {s : List Resolved} {g : Tag} {f : Field'} (e : Bool) (m : ℕ) → IsFound s g (rest_if e ++ ends m) f → ⊥
 no_tail false m i = no_ends m i
 no_tail true m (found e h) = none_some e
 no_tail true m (not_yet n i) = no_ends m i
@@ -99,16 +97,16 @@ must_be_read {marks = marks} s all tail i (d ∷ cs) (suc j) c (is_read h a) e m
 abbrev pub marks_of : State → List ℕ
 marks_of a = drop a.here.from a.marks
 
-drop_more : (n : ℕ) (xs ys : List ℕ) → n ≤ length xs → drop n (xs ++ ys) ≡ drop n xs ++ ys
+pub drop_more : (n : ℕ) (xs ys : List ℕ) → n ≤ length xs → drop n (xs ++ ys) ≡ drop n xs ++ ys
 drop_more zero xs ys l = refl
 drop_more (suc n) [] ys l = absurd (omega arith)
 drop_more (suc n) (x ∷ xs) ys l = drop_more n xs ys (omega arith)
 
-member_front : {i : ℕ} {xs : List ℕ} (ys : List ℕ) → IsMember i xs → IsMember i (xs ++ ys)
+pub member_front : {i : ℕ} {xs : List ℕ} (ys : List ℕ) → IsMember i xs → IsMember i (xs ++ ys)
 member_front ys is_first = is_first
 member_front ys (is_later m) = is_later (member_front ys m)
 
-member_last : (i : ℕ) (xs : List ℕ) → IsMember i (xs ++ i ∷ [])
+pub member_last : (i : ℕ) (xs : List ℕ) → IsMember i (xs ++ i ∷ [])
 member_last i [] = is_first
 member_last i (x ∷ xs) = is_later (member_last i xs)
 
@@ -116,7 +114,7 @@ only_one : {i j : ℕ} → IsMember i (j ∷ []) → i ≡ j
 only_one is_first = refl
 only_one (is_later m) = elim m [ ]
 
-front_or_last : (i j : ℕ) (xs : List ℕ) → IsMember i (xs ++ j ∷ []) → IsMember i xs ⊎ (i ≡ j)
+pub front_or_last : (i j : ℕ) (xs : List ℕ) → IsMember i (xs ++ j ∷ []) → IsMember i xs ⊎ (i ≡ j)
 front_or_last i j [] m = inr (only_one m)
 front_or_last i j (x ∷ xs) is_first = inl is_first
 front_or_last i j (x ∷ xs) (is_later m) = ⊎_elim (λ a. inl (is_later a)) (λ a. inr a) (front_or_last i j xs m)
@@ -127,11 +125,11 @@ unknown_both : {s : List Resolved} {cs : List Component} {j k : ℕ} {us vs : Li
 unknown_both {k = k} no_unknown v = (k, v, omega arith)
 unknown_both (unknown x h b f u) v = let r = unknown_both u v in let e = r.2 in (suc r.0, unknown x h b f r.1, omega arith)
 
-size_some : {n : ℕ} {x : List ℕ} → LengthOf n x → 1 ≤ length x
+pub size_some : {n : ℕ} {x : List ℕ} → LengthOf n x → 1 ≤ length x
 size_some (short l) = omega arith
 size_some (long l) = omega arith
 
-never_empty : {g : Tag} {c : Bool} {k : ℕ} {x r o : List ℕ} → UnitAt g c k x r o → o ≡ [] → ⊥
+pub never_empty : {g : Tag} {c : Bool} {k : ℕ} {x r o : List ℕ} → UnitAt g c k x r o → o ≡ [] → ⊥
 never_empty {g = g} {c = c} {x = x} {r = r} u e =
     let h = u.is_header in
     let a = ap length u.whole in

@@ -12,12 +12,12 @@ use Rattle.encodings.specs.Levels.{unknown_levels}
 use Rattle.codec_code.specs.declared.step.RowKind.{RowKind}
 use Rattle.codec_code.specs.declared.step.Field.{Field as Field'}
 use Rattle.codec_code.specs.declared.step.Step.{Step}
-use Rattle.codec_code.specs.declared.step.Step.TheVariants.{Head, Field, Rest, End}
+use Rattle.codec_code.specs.declared.step.Step.TheVariants.{Field}
 use Rattle.codec_code.specs.Routines.{heads, field_of, fields_from, need_of, rest_if, ends}
 use Rattle.codec_code.specs.Steps.{may_be_absent}
 use Rattle.octet_answers.specs.Units.{UnitAt}
 use Rattle.octet_answers.specs.States.{State, passing, passed}
-use Rattle.octet_answers.specs.Found.{IsFound, found, not_yet, CanBegin, field_in, must_stand, last_from, last_steps, Passes, at_end_of_contents, at_component, passes}
+use Rattle.octet_answers.specs.Found.{IsFound, found, not_yet, must_stand, last_from, last_steps, Passes, at_end_of_contents, at_component, passes}
 use Rattle.reading_law.proofs.Along.{Along, stays, both, told_both, below_behind, below_contents}
 
 abbrev pub NoneFound : List Resolved → Tag → List Step → Type 0
@@ -100,7 +100,7 @@ nothing_unknown known a l = record { count = 0; encodings = []; unknown = closed
 
 -- ---- the components behind the last one that must stand
 
-need_is : (p : Presence) → may_be_absent (need_of p) ≡ not (elim p [ mandatory ↦ true | optional ↦ false | default d ↦ false | addition o g ↦ false ])
+pub need_is : (p : Presence) → may_be_absent (need_of p) ≡ not (elim p [ mandatory ↦ true | optional ↦ false | default d ↦ false | addition o g ↦ false ])
 need_is mandatory = refl
 need_is optional = refl
 need_is (default d) = refl
@@ -138,7 +138,7 @@ or_false : (m t : Bool) → (m || t) ≡ false → (m ≡ false) × (t ≡ false
 or_false true t e = absurd (let f : true ≡ false = e in cc)
 or_false false t e = (refl, e)
 
-none_must : (cs : List Component) (i : ℕ) (others tail : List Step) → NoneMust tail → any_mandatory cs ≡ false → last_from others (fields_from i cs ++ tail) ≡ others
+pub none_must : (cs : List Component) (i : ℕ) (others tail : List Step) → NoneMust tail → any_mandatory cs ≡ false → last_from others (fields_from i cs ++ tail) ≡ others
 none_must [] i others tail p e = p others
 none_must (c ∷ cs) i others tail p e =
     let h = or_false (is_mandatory c) (any_mandatory cs) e in
@@ -151,7 +151,7 @@ all_last (c ∷ cs) e =
     let h = or_false (is_mandatory c) (any_mandatory cs) e in
     ap (λ q. cond q (last_run cs) (cond (is_mandatory c) cs (c ∷ cs))) h.1 ∙ ap (λ q. cond q cs (c ∷ cs)) h.0
 
-some_must : (cs : List Component) (i : ℕ) (others tail : List Step) → NoneMust tail → any_mandatory cs ≡ true → (j : ℕ) × (last_from others (fields_from i cs ++ tail) ≡ fields_from j (last_run cs) ++ tail)
+pub some_must : (cs : List Component) (i : ℕ) (others tail : List Step) → NoneMust tail → any_mandatory cs ≡ true → (j : ℕ) × (last_from others (fields_from i cs ++ tail) ≡ fields_from j (last_run cs) ++ tail)
 some_must [] i others tail p e = absurd (let f : false ≡ true = e in cc)
 some_must (c ∷ cs) i others tail p e = by (is_mandatory c) (any_mandatory cs) refl refl (λ o g. some_must cs (suc i) o tail p g)
   where

@@ -1,12 +1,17 @@
 -- What octets say of what a routine reads.
-use Rattle.std.specs.Prelude.{◌≡◌, ℕ, ◌≤◌, List, ◌++◌}
+use Rattle.std.specs.Prelude.{◌≡◌, ℕ, ◌≤◌, Bool, List, ◌++◌, length}
 use Rattle.asn_base.specs.Abstract.{AbstractValue}
 use Rattle.asn_base.specs.Types.{TypeNumber, Resolved}
-use Rattle.encodings.specs.Header.{Octets}
+use Rattle.encodings.specs.Header.{Octets, Header}
 use Rattle.encodings.specs.Rules.{Basic}
 use Rattle.encodings.specs.Encoding.{Says}
 use Rattle.encodings.specs.Levels.{levels}
-use Rattle.octet_answers.specs.States.{State}
+use Rattle.asn_base.specs.declared.tag.Tag.{Tag}
+use Rattle.asn_base.specs.declared.schema.TypeId.{TypeId}
+use Rattle.codec_code.specs.Routines.{routine_at}
+use Rattle.codec_source.specs.Reading.{Reads}
+use Rattle.octet_answers.specs.Answers.{Takes}
+use Rattle.octet_answers.specs.States.{State, front}
 use Rattle.reading_law.specs.Shows.{Shows, passed_in, StandIn}
 
 -- A front of the octets says a value of the type as it stands, with so many unknown additions, by the basic rules; it has
@@ -22,3 +27,19 @@ pub record IsSaid (s : List Resolved) (t : TypeNumber) (o : Octets) (z : State) 
   pub shown : Shows s t value z.told
   pub counted : passed_in z.told ≡ count
   pub stand : StandIn o z.told
+
+-- From the front of a message, where so many values may begin, the type's routine reads the octets that stand first, and
+-- no others.
+pub record IsReadTo (s : List Resolved) (t : TypeId) (o rest : Octets) (room : ℕ) : Type 0 where
+  pub last : State
+  pub reads : Reads (λ u. routine_at s u) Takes t (front s (o ++ rest) room) last
+  pub behind : last.here.octets ≡ rest
+
+-- octets are one header, and as many octets of contents as it tells
+pub record AreUnit (o : Octets) : Type 0 where
+  pub tag : Tag
+  pub constructed : Bool
+  pub header : Octets
+  pub contents : Octets
+  pub is_header : Header tag constructed (length contents) header
+  pub whole : o ≡ header ++ contents

@@ -1,15 +1,23 @@
-//! What a routine reads, the octets say.
+//! What a routine reads, the octets say, and what they say, it reads.
 
 ghost use Rattle.asn_base.specs.Schemas.{IsSchema};
 ghost use Rattle.asn_base.specs.declared.schema.TypeId.{TypeId};
+ghost use Rattle.asn_base.specs.Abstract.{AbstractValue};
+ghost use Rattle.asn_base.specs.Typed.{IsValueWithoutNodes};
 ghost use Rattle.asn_base.specs.Types.{Resolved};
+ghost use Rattle.encodings.specs.Encoding.{Says};
+ghost use Rattle.encodings.specs.Levels.{levels};
+ghost use Rattle.encodings.specs.Rules.{Basic};
 ghost use Rattle.codec_code.specs.Routines.{routine_at};
 ghost use Rattle.codec_source.specs.Reading.{Reads};
 ghost use Rattle.octet_answers.specs.Answers.{Takes};
 ghost use Rattle.octet_answers.specs.States.{State, front};
-ghost use Rattle.reading_law.specs.Saying.{IsSaid};
+ghost use Rattle.reading_law.specs.Saying.{AreUnit, IsReadTo, IsSaid};
 ghost use Rattle.std.specs.Int.Digits.{AllBelowBase};
-ghost use Rattle.std.specs.Prelude.{◌<◌, List, length, ℕ};
+ghost use Rattle.std.specs.Prelude.{◌<◌, ◌≤◌, List, length, ℕ};
+
+use encodings::message_laws;
+use octet_answers::law::one_answer;
 
 /// Whatever the routine of a type reads from the front of octets is what they say by the basic rules: a value as it
 /// stands, with so many unknown additions, within 400 levels of headers. What isn't read stands behind it.
@@ -21,3 +29,24 @@ pub fn read_is_said()
         → Reads (λ u. routine_at s u) Takes t (front s o room) z
         → IsSaid s t.index o z }
 {}
+
+/// Whatever octets say of a value of a type by the basic rules, within 400 levels of headers, the routine of the type
+/// reads, whatever stands behind them, where as many values may begin as there are octets.
+pub fn said_is_read()
+    ensures read { (s : List Resolved) (t : TypeId) (w : AbstractValue) (k : ℕ) (o rest : List ℕ) (room : ℕ)
+        (d : Says s Basic t.index w k o)
+        → IsSchema s
+        → IsValueWithoutNodes s t.index w
+        → levels d ≤ 400
+        → length o ≤ 16777216
+        → length o ≤ room
+        → IsReadTo s t o rest room }
+    // They are one header with its contents.
+    ensures unit { (s : List Resolved) (t k : ℕ) (w : AbstractValue) (o : List ℕ)
+        → IsSchema s
+        → Says s Basic t w k o
+        → AreUnit o }
+{
+    one_answer();
+    message_laws();
+}

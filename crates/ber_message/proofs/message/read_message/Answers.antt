@@ -1,9 +1,10 @@
-use Rattle.std.proofs.Common.{length, sym, ap, subst, ◌∙◌}
+use Rattle.std.proofs.Common.{arith, rules, ◌≤◌, [], length, sym, ap, subst, ◌∙◌, inr, append-nil, length-append}
+use Rattle.std.specs.Prelude.{Err}
 use Rattle.codec_code.specs.Routines.{routine_at}
 use Rattle.codec_source.specs.Reading.{Reads}
 use Rattle.octet_answers.specs.Answers.{Takes}
 use Rattle.ber_message.specs.Messages.{room_of}
-use Rattle.ber_message.proofs.Reading.{whole_message, front_message, fails, holds}
+use Rattle.ber_message.proofs.Reading.{whole_message, front_message, fails, holds, headed, ends_before, is_memory, read_of, true_false, none_there}
 use Rattle.ber_message.proofs.message.read_message.Goals as goal
 
 pub returns-in-Err-read-clause-err : goal.returns-in-Err-read-clause-err
@@ -31,3 +32,87 @@ returns-clause-ok c =
     let r = subst (λ q. Reads (λ u. routine_at s u) Takes c.args.id q c.read.new.source) c.in-Ok.ensures.ok c.in-Ok-read.ensures.ok in
     whole_message _ (c.read_is_said.ensures s c.args.id c.args.octets.now (room_of (length c.args.octets.now)) c.read.new.source c.accepted.ensures (holds c.has.result c.if-not-has.false c.has.ensures) c.are_octets.ensures r)
     (holds c.is_at_end.result c.if-not-is_at_end.false c.is_at_end.ensures) c.in-Ok.ensures.few c.into_tokens.ensures
+
+pub returns-then-ends_early-clause-read : goal.returns-then-ends_early-clause-read
+returns-then-ends_early-clause-read c i =
+    let s = c.args.code.now in
+    let o = c.args.octets.now in
+    let u = c.said_is_read.ensures.unit s c.args.id.index i.count i.value o c.accepted.ensures i.is_said in
+    let h = headed [] o u (sym (append-nil o)) i.short in
+    absurd (c.ends_early.ensures.none c.if-ends_early.true h.tag h.constructed h.count h.size h.header)
+
+pub returns-then-ends_early-clause-more : goal.returns-then-ends_early-clause-more
+returns-then-ends_early-clause-more c m =
+    let s = c.args.code.now in
+    let o = c.args.octets.now in
+    let u = c.said_is_read.ensures.unit s c.args.id.index m.is.count m.is.value m.octets c.accepted.ensures m.is.is_said in
+    let h = headed m.rest o u m.whole m.short in
+    absurd (c.ends_early.ensures.none c.if-ends_early.true h.tag h.constructed h.count h.size h.header)
+
+pub returns-then-ends_early-clause-err : goal.returns-then-ends_early-clause-err
+returns-then-ends_early-clause-err c memory limit has r =
+    let s = c.args.code.now in
+    let o = c.args.octets.now in
+    let i = c.read_is_said.ensures s c.args.id o (room_of (length o)) r.last c.accepted.ensures has c.are_octets.ensures r.reads in
+    let u = c.said_is_read.ensures.unit s c.args.id.index i.count i.value i.octets c.accepted.ensures i.is_said in
+    let short : length o ≤ 16777216 = search rules in
+    let h = headed r.last.here.octets o u i.whole short in
+    c.ends_early.ensures.none c.if-ends_early.true h.tag h.constructed h.count h.size h.header
+
+pub returns-in-Err-read-clause-read : goal.returns-in-Err-read-clause-read
+returns-in-Err-read-clause-read c i =
+    let s = c.args.code.now in
+    let o = c.args.octets.now in
+    let r = c.said_is_read.ensures.read s c.args.id i.value i.count o [] (room_of (length o)) i.is_said c.accepted.ensures i.is_value i.few i.short (omega arith) in
+    let q = read_of o r (sym (append-nil o)) in
+    c.within.ensures.memory (is_memory c.in-Err-read.fault (subst (λ x. Reads (λ u. routine_at s u) Takes c.args.id x q.last) (sym c.in-Ok.ensures.ok) q.reads) (λ n x. c.in-Err-read.ensures.err n q.last x))
+
+pub returns-in-Err-read-clause-more : goal.returns-in-Err-read-clause-more
+returns-in-Err-read-clause-more c m =
+    let s = c.args.code.now in
+    let o = c.args.octets.now in
+    let i = m.is in
+    let a = ap length m.whole in
+    let b = length-append m.octets m.rest in
+    let r = c.said_is_read.ensures.read s c.args.id i.value i.count m.octets m.rest (room_of (length o)) i.is_said c.accepted.ensures i.is_value i.few i.short (omega arith) in
+    let q = read_of o r m.whole in
+    inr (ap Err (c.within.ensures.memory (is_memory c.in-Err-read.fault (subst (λ x. Reads (λ u. routine_at s u) Takes c.args.id x q.last) (sym c.in-Ok.ensures.ok) q.reads) (λ n x. c.in-Err-read.ensures.err n q.last x))))
+
+pub returns-in-Err-read-clause-less : goal.returns-in-Err-read-clause-less
+returns-in-Err-read-clause-less c b =
+    let i = b.is in
+    let u = c.said_is_read.ensures.unit c.args.code.now c.args.id.index i.count i.value b.octets c.accepted.ensures i.is_said in
+    absurd (true_false (c.ends_early.ensures.late (ends_before b u)) c.if-ends_early.false)
+
+pub returns-then-not-is_at_end-clause-read : goal.returns-then-not-is_at_end-clause-read
+returns-then-not-is_at_end-clause-read c i =
+    let s = c.args.code.now in
+    let o = c.args.octets.now in
+    let r = c.said_is_read.ensures.read s c.args.id i.value i.count o [] (room_of (length o)) i.is_said c.accepted.ensures i.is_value i.few i.short (omega arith) in
+    let q = read_of o r (sym (append-nil o)) in
+    let e = c.in-Ok-read.ensures.only q.last (subst (λ x. Reads (λ u. routine_at s u) Takes c.args.id x q.last) (sym c.in-Ok.ensures.ok) q.reads) in
+    absurd (fails c.is_at_end.result c.if-not-is_at_end.true c.is_at_end.ensures (ap (λ x. x.here.octets) (sym e) ∙ q.behind))
+
+pub returns-then-not-is_at_end-clause-less : goal.returns-then-not-is_at_end-clause-less
+returns-then-not-is_at_end-clause-less c b =
+    let i = b.is in
+    let u = c.said_is_read.ensures.unit c.args.code.now c.args.id.index i.count i.value b.octets c.accepted.ensures i.is_said in
+    absurd (true_false (c.ends_early.ensures.late (ends_before b u)) c.if-ends_early.false)
+
+pub returns-clause-more : goal.returns-clause-more
+returns-clause-more c m =
+    let s = c.args.code.now in
+    let o = c.args.octets.now in
+    let i = m.is in
+    let a = ap length m.whole in
+    let b = length-append m.octets m.rest in
+    let r = c.said_is_read.ensures.read s c.args.id i.value i.count m.octets m.rest (room_of (length o)) i.is_said c.accepted.ensures i.is_value i.few i.short (omega arith) in
+    let q = read_of o r m.whole in
+    let e = c.in-Ok-read.ensures.only q.last (subst (λ x. Reads (λ u. routine_at s u) Takes c.args.id x q.last) (sym c.in-Ok.ensures.ok) q.reads) in
+    absurd (none_there m.rest m.some (sym q.behind ∙ ap (λ x. x.here.octets) e ∙ holds c.is_at_end.result c.if-not-is_at_end.false c.is_at_end.ensures))
+
+pub returns-clause-less : goal.returns-clause-less
+returns-clause-less c b =
+    let i = b.is in
+    let u = c.said_is_read.ensures.unit c.args.code.now c.args.id.index i.count i.value b.octets c.accepted.ensures i.is_said in
+    absurd (true_false (c.ends_early.ensures.late (ends_before b u)) c.if-ends_early.false)

@@ -1,4 +1,3 @@
-use Rattle.std.proofs.Common.{arith, ◌+◌, ◌≤◌, refl}
 use Rattle.reading_law.proofs.Saids.{said}
 use Rattle.reading_law.proofs.law.read_is_said.Goals as goal
 

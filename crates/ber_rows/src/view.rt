@@ -1,0 +1,77 @@
+//! What views of messages show.
+
+ghost use Rattle.views.specs.Seen.{IsPart, IsView};
+ghost use Rattle.views.specs.Tree.{Tree};
+
+use crate::refusal::{Refusal, told};
+use crate::words::{octets_of, type_of};
+use asn_base::schema::{Schema, TypeId};
+use ber_reader::{Read, read_ber};
+use codec_code::Code;
+use row_files::Row;
+use std::alloc::{AllocError, Global};
+use view_text::print_view;
+use views::{Part, View};
+
+/// So many octets, and where the first of them stands in the message.
+fn push_place(out: &mut String, count: usize, at: Option<usize>) -> Result<(), AllocError> {
+    match at {
+        Some(at) => write!(out, "\n{count} octets borrowed at {at}"),
+        None => write!(out, "\n{count} octets joined"),
+    }
+}
+
+/// Where the octets of a part stand that is a string.
+fn push_string(out: &mut String, part: &Part<'_, '_>) -> Result<(), AllocError>
+    requires { (t : Tree) × IsPart part.now t }
+{
+    if let Some((octets, at)) = part.as_octets() {
+        push_place(out, octets.len(), at)?;
+    }
+    if let Some((_, octets, at)) = part.as_bits() {
+        push_place(out, octets.len(), at)?;
+    }
+    if let Some((text, at)) = part.as_text() {
+        push_place(out, text.len(), at)?;
+    }
+    Ok(())
+}
+
+/// Where the strings of a view stand, of the whole and of its members.
+fn push_strings(out: &mut String, view: &View<'_>) -> Result<(), AllocError>
+    requires { (t : Tree) × IsView view.now t }
+{
+    let whole = view.top();
+    push_string(out, &whole)?;
+    let mut left = whole.members();
+    while let Some((_, part, behind)) = left.split() {
+        push_string(out, &part)?;
+        left = behind;
+    }
+    Ok(())
+}
+
+/// The text of the value, how many additions were skipped, and where its strings stand.
+fn shown(alloc: Global, schema: &Schema, id: TypeId, read: &Read<'_>) -> Result<String, Refusal>
+    requires { (t : Tree) × IsView read.now.view t }
+{
+    let mut text = match print_view(alloc, schema, id, &read.view) {
+        Ok(text) => text,
+        Err(fault) => return Err(told(alloc, &fault)),
+    };
+    let skipped = read.skipped;
+    write!(text, "\nskipped {skipped}")?;
+    push_strings(&mut text, &read.view)?;
+    Ok(text)
+}
+
+/// `view NAME TYPE HEX..`: the text of the value that is read of the message, how many additions were skipped and where
+/// its strings stand, or the fault.
+pub fn answer(alloc: Global, schema: &Schema, code: &Code, row: &Row) -> Result<String, Refusal> {
+    let id = type_of(alloc, row)?;
+    let octets = octets_of(alloc, row)?;
+    match read_ber(alloc, code, id, octets.as_slice()) {
+        Ok(read) => shown(alloc, schema, id, &read),
+        Err(fault) => Err(told(alloc, &fault)),
+    }
+}
