@@ -1,0 +1,184 @@
+//! Each growth refused in turn: `Memory` and nothing out, or the answer.
+
+use super::modules::{OCTETS, kit, texts};
+use asnc::{Fault, Kit, Sink};
+use starving::{Starved, Swept, Turn, sweep};
+use std::alloc::Global;
+use std::io;
+use std::test::Fail;
+
+/// What a refusal is to a sweep: one for want of memory, or another one.
+fn refusal(fault: &Fault) -> Turn {
+    match fault {
+        Fault::Memory => Turn::Refused,
+        _ => Turn::Wrong,
+    }
+}
+
+/// Whether an answer is right.
+fn answer(right: bool) -> Turn {
+    if right { Turn::Right } else { Turn::Wrong }
+}
+
+/// `Kit::open`.
+#[derive(Drop)]
+struct Opening {
+    texts: Vec<Vec<u8>>,
+}
+
+impl Starved for Opening {
+    fn call(&mut self, alloc: Global) -> Turn {
+        match Kit::open(alloc, &self.texts) {
+            Ok(_kit) => Turn::Right,
+            Err(fault) => refusal(&fault),
+        }
+    }
+}
+
+/// `Kit::der`.
+#[derive(Drop)]
+struct Encoding {
+    kit: Kit,
+}
+
+impl Starved for Encoding {
+    fn call(&mut self, alloc: Global) -> Turn {
+        match self.kit.der(alloc, "B.T", "A.v") {
+            Ok((octets, _account)) => answer(octets.as_slice() == OCTETS.as_slice()),
+            Err(fault) => refusal(&fault),
+        }
+    }
+}
+
+/// A sink that takes no memory: it compares what it gets with the encoding.
+#[derive(Drop)]
+struct Compared {
+    taken: usize,
+    wrong: bool,
+    failures: u64,
+}
+
+impl Sink for Compared {
+    ghost use Rattle.std.specs.Prelude.{None};
+
+    ghost taken = { λ s. None };
+
+    ghost failed = { λ s. s.failures };
+
+    fn failures(&self) -> u64 {
+        self.failures
+    }
+
+    fn put(&mut self, octets: &[u8]) -> io::Result<usize> {
+        if self.taken > OCTETS.len() || !OCTETS[self.taken..].starts_with(octets) {
+            self.wrong = true;
+        }
+        self.taken = self.taken.wrapping_add(octets.len());
+        Ok(octets.len())
+    }
+}
+
+/// `Kit::der_to`: where it is refused, nothing went out.
+#[derive(Drop)]
+struct Sending {
+    kit: Kit,
+    sink: Compared,
+}
+
+impl Starved for Sending {
+    fn call(&mut self, alloc: Global) -> Turn {
+        self.sink.taken = 0;
+        if self.sink.failures > 0 {
+            return Turn::Wrong;
+        }
+        let answered = self.kit.der_to(alloc, "B.T", "A.v", &mut self.sink);
+        if self.sink.wrong {
+            return Turn::Wrong;
+        }
+        match answered {
+            Ok(_account) => answer(self.sink.taken == OCTETS.len()),
+            Err(fault) if self.sink.taken == 0 => refusal(&fault),
+            Err(_) => Turn::Wrong,
+        }
+    }
+}
+
+/// `Kit::list`.
+#[derive(Drop)]
+struct Listing {
+    kit: Kit,
+    text: String,
+}
+
+impl Starved for Listing {
+    fn call(&mut self, alloc: Global) -> Turn {
+        match self.kit.list(alloc) {
+            Ok(text) => answer(text.as_str() == self.text.as_str()),
+            Err(fault) => refusal(&fault),
+        }
+    }
+}
+
+/// That a sweep met many refusals and many answers, and nothing else.
+fn told(rt: &HostRuntime, name: &str, swept: Swept) -> Result<(), Fail> {
+    match swept {
+        Swept::Endless => Ok(()),
+        Swept::Wrong(turn) => {
+            eprintln!(rt; "{name}: wrong in turn {turn}")?;
+            Err("another answer".into())
+        }
+        Swept::Through { refused, right } => {
+            eprintln!(rt; "{name}: refused {refused}, right {right}")?;
+            if refused > 20 && right > 100 {
+                Ok(())
+            } else {
+                Err("too few turns of a kind".into())
+            }
+        }
+    }
+}
+
+#[test]
+fn open_with_ever_more_memory(rt: HostRuntime) -> Result<(), Fail> {
+    let alloc = rt.alloc();
+    let mut opening = Opening {
+        texts: texts(alloc)?,
+    };
+    let swept = sweep(alloc, &mut opening)?;
+    told(&rt, "Kit::open", swept)
+}
+
+#[test]
+fn der_with_ever_more_memory(rt: HostRuntime) -> Result<(), Fail> {
+    let alloc = rt.alloc();
+    let mut encoding = Encoding { kit: kit(alloc)? };
+    let swept = sweep(alloc, &mut encoding)?;
+    told(&rt, "Kit::der", swept)
+}
+
+#[test]
+fn der_to_with_ever_more_memory(rt: HostRuntime) -> Result<(), Fail> {
+    let alloc = rt.alloc();
+    let mut sending = Sending {
+        kit: kit(alloc)?,
+        sink: Compared {
+            taken: 0,
+            wrong: false,
+            failures: 0,
+        },
+    };
+    let swept = sweep(alloc, &mut sending)?;
+    told(&rt, "Kit::der_to", swept)
+}
+
+#[test]
+fn list_with_ever_more_memory(rt: HostRuntime) -> Result<(), Fail> {
+    let alloc = rt.alloc();
+    let kit = kit(alloc)?;
+    let Ok(text) = kit.list(alloc) else {
+        return Err("no listing".into());
+    };
+    let mut listing = Listing { kit, text };
+    let swept = sweep(alloc, &mut listing)?;
+    told(&rt, "Kit::list", swept)
+}

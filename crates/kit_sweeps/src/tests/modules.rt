@@ -1,0 +1,38 @@
+//! What is opened and written.
+
+use asnc::Kit;
+use std::alloc::Global;
+use std::test::Fail;
+
+const A: &str = "A DEFINITIONS ::= BEGIN IMPORTS T FROM B; v T ::= {n 7, s {TRUE, FALSE}} END";
+
+const B: &str = "\
+B DEFINITIONS ::= BEGIN EXPORTS T;
+T ::= SEQUENCE {n Num, s SET OF BOOLEAN, d INTEGER DEFAULT 5}
+Num ::= INTEGER (0..9)
+END";
+
+/// The two modules; the first imports from the second.
+pub fn texts(alloc: Global) -> Result<Vec<Vec<u8>>, Fail> {
+    let mut texts = Vec::with_capacity(alloc, 2)?;
+    for text in [A, B] {
+        let mut octets = Vec::new(alloc);
+        octets.extend_from_slice(text.as_bytes())?;
+        texts.push(octets)?;
+    }
+    Ok(texts)
+}
+
+/// Their kit.
+pub fn kit(alloc: Global) -> Result<Kit, Fail> {
+    match Kit::open(alloc, &texts(alloc)?) {
+        Ok(kit) => Ok(kit),
+        Err(_) => Err("no kit".into()),
+    }
+}
+
+/// The encoding of A.v under B.T, worked out by hand: 300B 020107 3106 010100 0101FF. The members of the SET OF ascend, and the
+/// component that is its DEFAULT is absent.
+pub const OCTETS: [u8; 13] = [
+    0x30, 0x0B, 0x02, 0x01, 0x07, 0x31, 0x06, 0x01, 0x01, 0x00, 0x01, 0x01, 0xFF,
+];
