@@ -1,4 +1,4 @@
-use Rattle.std.proofs.Common.{arith, rules, ◌≡◌, ◌+◌, suc, ◌<◌, ◌≤◌, length, subst}
+use Rattle.std.proofs.Common.{arith, rules, ◌≡◌, ◌+◌, suc, ◌≤◌, length, subst}
 use Rattle.ber_message.proofs.Opened.{Taken, at_start, one_more, all_below, all_taken}
 use Rattle.ber_message.proofs.open.open_behind.Goals as goal
 
