@@ -1,21 +1,20 @@
 -- The order of a SET's components.
-use Rattle.std.proofs.Common.{arith, ◌≡◌, ℕ, zero, suc, ◌+◌, ◌<◌, ◌≤◌, ◌⊎◌, inl, inr, ⊎_elim, Bool, true, false, List, [], ◌∷◌, ◌++◌, length, refl, sym, ap, subst, ◌∙◌, length-append}
+use Rattle.std.proofs.Common.{arith, ◌≡◌, ℕ, zero, suc, ◌+◌, ◌≤◌, Bool, true, false, List, [], ◌∷◌, ◌++◌, length, refl, sym, ap, subst, ◌∙◌, length-append}
 use Rattle.std.specs.Prelude.{◌↔◌, IsTrue, Option, Some, None, get_or, slice_get}
 use Rattle.std.specs.List.{concat, AllByRecursion}
-use Rattle.asn_base.specs.declared.tag.Class.{Class}
 use Rattle.asn_base.specs.declared.tag.Tag.{Tag}
-use Rattle.asn_base.specs.Tags.{First, TagBefore, class_rank}
+use Rattle.asn_base.specs.Tags.{First, TagBefore}
 use Rattle.asn_base.specs.Types.{Component, Resolved}
 use Rattle.codec_code.specs.declared.step.Field.{Field as Field'}
 use Rattle.codec_code.specs.declared.step.Step.{Step}
 use Rattle.codec_code.specs.Routines.{field_of, fields_from, ranked_from, rest_if, ends}
 use Rattle.encodings.specs.Orders.{Ascending, ascending_none, ascending_one, ascending_more, InTagOrder, BeginsWith}
-use Rattle.octet_answers.specs.Found.{field_in, IsFound, found, not_yet, CanBegin}
+use Rattle.octet_answers.specs.Found.{field_in, IsFound, found, not_yet}
 use Rattle.strict_rules.specs.Units.{IsUnit, AreUnits}
 use Rattle.strict_rules.specs.Sets.{Reads, reads_none, reads_more, IsOfOne, of_first, of_later, IsOfNone, Parted, parted_none, parted_known, parted_other, IsBehind, Climbs, climbs, passes}
-use Rattle.strict_rules.specs.Places.{Has, has_first, has_later, BeginsType, IsOnly}
-use Rattle.strict_rules.proofs.Split.{HeadersApart, AllUnits, OneUnit, one_unit, unit_some}
-use Rattle.strict_rules.proofs.Orders.{Front, front_of}
+use Rattle.strict_rules.specs.Places.{Has, has_first, has_later, IsOnly}
+use Rattle.strict_rules.proofs.Split.{HeadersApart, AllUnits, unit_some}
+use Rattle.strict_rules.proofs.Orders.{front_of}
 
 none_some : {A : Type 0} {x : A} → None ≡ Some x → ⊥
 none_some e = cc

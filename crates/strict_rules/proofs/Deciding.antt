@@ -1,36 +1,31 @@
 -- What is decided of a whole by what is decided of its parts.
-use Rattle.std.proofs.Common.{arith, ◌≡◌, ℕ, zero, suc, ◌+◌, ◌-◌, ◌<◌, ◌≤◌, ◌⊎◌, inl, inr, ⊎_elim, Bool, true, false, List, [], ◌∷◌, ◌++◌, length, map, refl, sym, ap, subst, ◌∙◌, length-append}
-use Rattle.std.specs.Prelude.{◌↔◌, IsTrue, Option, Some, None, MatchOption, slice_get}
+use Rattle.std.proofs.Common.{arith, ◌≡◌, ℕ, zero, suc, ◌+◌, ◌≤◌, Bool, true, false, List, [], ◌∷◌, ◌++◌, length, refl, sym, ap, subst, ◌∙◌}
+use Rattle.std.specs.Prelude.{IsTrue, Option, Some, None, slice_get}
 use Rattle.std.specs.List.{concat, AllByRecursion}
 use Rattle.asn_base.specs.declared.tag.Tag.{Tag}
 use Rattle.asn_base.specs.declared.schema.TypeId.{TypeId}
 use Rattle.asn_base.specs.Abstract.{AbstractValue, fields, list, alternative, Row, row_of_options, row_of_list}
-use Rattle.asn_base.specs.Accepted.{IsAccepted}
-use Rattle.asn_base.specs.Same.{Alike, Same}
+use Rattle.asn_base.specs.Same.{Same}
 use Rattle.asn_base.specs.Schemas.{IsSchema, IsSound, HasValue, components}
-use Rattle.asn_base.specs.Tags.{AllTagged, AllApart, IsChoice, AllTellable}
-use Rattle.asn_base.specs.Types.{TypeNumber, Alternative, Constraint, Presence, default, Kind, a_sequence, a_set, a_sequence_of, a_set_of, a_choice, Component, Resolved, Is}
-use Rattle.asn_base.specs.Typed.{ValueIn, value_in, ValueOf, of_leaf, of_sequence, of_set, of_sequence_of, of_set_of, of_choice, AreComponents, AreElements, IsValue, Fits, fits_boolean}
+use Rattle.asn_base.specs.Types.{Alternative, Constraint, Kind, a_sequence, a_set, a_sequence_of, a_set_of, a_choice, Component, Resolved, Is}
+use Rattle.asn_base.specs.Typed.{ValueIn, value_in, ValueOf, of_leaf, of_sequence, of_set, of_sequence_of, of_set_of, of_choice, AreComponents, AreElements}
 use Rattle.encodings.specs.Contents.{Contents}
 use Rattle.encodings.specs.Orders.{Ascending, ascending_none, AtMost, InTagOrder}
 use Rattle.encodings.specs.Rules.{Rules, Basic, Distinguished}
-use Rattle.encodings.specs.Reading.{Encodes}
-use Rattle.encodings.specs.Encoding.{Framed, Says, says, Holds, leaf, sequence, set, sequence_of, set_of, choice, Members, no_member, Elements, IsDefault, Der, Ber, UnknownIf}
+use Rattle.encodings.specs.Encoding.{Framed, Says, says, Holds, leaf, sequence, set, sequence_of, set_of, choice, Members, no_member, Elements, IsDefault, Der, Ber}
 use Rattle.codec_code.specs.declared.step.Field.{Field as Field'}
 use Rattle.codec_code.specs.declared.step.LeafKind.{LeafKind}
 use Rattle.codec_code.specs.declared.step.Step.{Step}
-use Rattle.codec_code.specs.declared.step.Step.TheVariants.{Leaf, Field, Ranked, Each, EachSorted, Pick, Call, Rest, End}
-use Rattle.codec_code.specs.Routines.{id_of, field_of, routine_at, heads, row_of, body, ends, fields_from, ranked_from, rest_if, choice_of, calls, component_in}
-use Rattle.codec_code.specs.Steps.{plain, IsDefaultAt, IsTheDefault}
-use Rattle.strict_rules.specs.Units.{IsUnit, AreUnits}
+use Rattle.codec_code.specs.declared.step.Step.TheVariants.{Leaf, Call}
+use Rattle.codec_code.specs.Routines.{id_of, field_of, routine_at, row_of, body, ends, fields_from, rest_if, choice_of, calls, component_in}
+use Rattle.codec_code.specs.Steps.{plain, IsDefaultAt}
 use Rattle.strict_rules.specs.Heads.{IsWithin, no_head, in_head}
-use Rattle.strict_rules.specs.Sets.{Reads, Parted}
-use Rattle.strict_rules.specs.Places.{IsOnly, ArePlaced}
+use Rattle.strict_rules.specs.Sets.{Reads}
 use Rattle.strict_rules.specs.Strict.{Decides, form_of, begins_ranked, element_type, ValueGiven, ContentsGiven, ElementsGiven, StepsGiven, SequenceGiven, SetGiven, MemberGiven, MemberBy, PartGiven, PartBy, StandsFirst, StandsAmong, SequenceBy, SetBy}
-use Rattle.strict_rules.proofs.Split.{HeadersApart, AllUnits, one_unit, units_list}
+use Rattle.strict_rules.proofs.Split.{HeadersApart, AllUnits}
 use Rattle.strict_rules.proofs.Shortened.{inside_short}
 use Rattle.strict_rules.proofs.Climbing.{reads_fields, reads_ranked}
-use Rattle.strict_rules.proofs.KindParts.{same_tags, same_kind, routine_is, bare_body, IsFramed, heads_framed, framed_heads, same_frame, strict_form, SequenceParts, sequence_parts, sequence_units, sequence_same, counted, fields_split, ranked_split, sequence_of_parts, set_of_parts, list_units, elements_of, members_of, elements_units, choice_parts, chosen}
+use Rattle.strict_rules.proofs.KindParts.{same_tags, same_kind, routine_is, bare_body, IsFramed, heads_framed, framed_heads, same_frame, strict_form, SequenceParts, sequence_parts, sequence_units, sequence_same, counted, fields_split, ranked_split, sequence_of_parts, set_of_parts, list_units, elements_of, members_of, chosen}
 use Rattle.strict_rules.proofs.SetParts.{SetParts, permutes_nothing, merges_nothing, set_parts, set_parted, set_units, set_placed, set_same}
 use Rattle.strict_rules.proofs.Leafs.{HoldsOthers, flat_contents, is_plain}
 

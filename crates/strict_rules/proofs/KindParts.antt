@@ -1,22 +1,20 @@
 -- What octets say, kind by kind: by the distinguished rules it is what they say by the basic ones, with more asked.
-use Rattle.std.proofs.Common.{arith, ◌≡◌, ℕ, zero, suc, ◌+◌, ◌≤◌, inl, inr, ⊎_elim, Bool, true, false, List, [], ◌∷◌, ◌++◌, length, map, refl, sym, ap, subst, ◌∙◌}
+use Rattle.std.proofs.Common.{◌≡◌, ℕ, zero, suc, ◌+◌, ◌≤◌, Bool, true, false, List, [], ◌∷◌, ◌++◌, length, refl, sym, ap, subst, ◌∙◌}
 use Rattle.std.specs.Prelude.{Option, Some, None, slice_get}
 use Rattle.std.specs.List.{concat, AllByRecursion}
 use Rattle.asn_base.specs.declared.tag.Tag.{Tag}
-use Rattle.asn_base.specs.Abstract.{AbstractValue, fields, list, alternative, Row, end, absent, present}
+use Rattle.asn_base.specs.Abstract.{AbstractValue, fields, list, alternative, Row}
 use Rattle.asn_base.specs.Types.{TypeNumber, Constraint, Alternative, Kind, a_sequence, a_set, a_sequence_of, a_set_of, a_choice, a_boolean, an_integer, an_enumerated, a_bit_string, a_named_bit_string, an_octet_string, a_null, an_object_identifier, a_relative_oid, a_utf8_string, a_restricted_string, Component, Resolved, Is}
-use Rattle.asn_base.specs.Tags.{First, first_tag, first_of_choice, IsChoice, AllTagged}
-use Rattle.encodings.specs.Rules.{Rules, Basic, Distinguished}
+use Rattle.asn_base.specs.Tags.{first_tag, first_of_choice, IsChoice, AllTagged}
+use Rattle.encodings.specs.Rules.{Rules, Distinguished}
 use Rattle.encodings.specs.Contents.{Contents, of_false, of_true, of_integer, of_enumerated, of_bits, of_named_bits, of_octets, of_null, of_oid, of_relative_oid, of_utf8, of_restricted}
-use Rattle.encodings.specs.Orders.{Ascending, AtMost, InTagOrder, Permutes, Merges}
+use Rattle.encodings.specs.Orders.{Ascending, AtMost}
 use Rattle.encodings.specs.Encoding.{Framed, bare, innermost, outer, Unknown, no_unknown, unknown, UnknownIf, closed, extensible, last_run, Says, says, Holds, leaf, sequence, set, sequence_of, set_of, choice, Members, no_member, left_out, member, Elements, no_element, element}
-use Rattle.codec_code.specs.declared.step.Head.{Head as Head'}
 use Rattle.codec_code.specs.declared.step.RowKind.{RowKind}
 use Rattle.codec_code.specs.declared.step.Step.{Step}
-use Rattle.codec_code.specs.declared.step.Step.TheVariants.{Head}
 use Rattle.codec_code.specs.Routines.{routine_at, routine_of, heads, row_of, is_constructed, body, ends, fields_from, ranked_from, rest_if}
 use Rattle.strict_rules.specs.Units.{IsUnit, AreUnits}
-use Rattle.strict_rules.specs.Heads.{IsInside, IsBare, IsWithin, no_head, in_head}
+use Rattle.strict_rules.specs.Heads.{IsBare, IsWithin, no_head, in_head}
 use Rattle.strict_rules.specs.Places.{BeginsType}
 use Rattle.strict_rules.specs.Strict.{form_of}
 use Rattle.strict_rules.proofs.Split.{HeadersApart, AllUnits, split_front, units_list}

@@ -1,6 +1,5 @@
 -- Contents of kinds that hold no others don't depend on constraints, items and names.
-use Rattle.std.proofs.Common.{◌≡◌, ℕ, Bool, true, false, List, [], ◌∷◌, ◌++◌, refl, sym, ap, subst, ◌∙◌, ◌↔◌, IsTrue}
-use Rattle.std.specs.Prelude.{Option, Some, None}
+use Rattle.std.proofs.Common.{◌≡◌, ℕ, Bool, false, List, [], ◌∷◌, refl}
 use Rattle.asn_base.specs.declared.strings.StringKind.{StringKind}
 use Rattle.asn_base.specs.Abstract.{AbstractValue, fields, list, alternative}
 use Rattle.asn_base.specs.Types.{Constraint, Item, NamedBit, Kind, an_integer, an_enumerated, a_bit_string, a_named_bit_string, an_octet_string, a_utf8_string, a_restricted_string, Resolved}
@@ -9,7 +8,6 @@ use Rattle.encodings.specs.Contents.{Contents, of_false, of_true, of_integer, of
 use Rattle.encodings.specs.Encoding.{Holds, leaf, sequence, set, sequence_of, set_of, choice}
 use Rattle.codec_code.specs.declared.step.LeafKind.{LeafKind}
 use Rattle.codec_code.specs.declared.step.LeafKind.TheVariants as leaves
-use Rattle.codec_code.specs.declared.step.Step.{Step}
 use Rattle.codec_code.specs.declared.step.Step.TheVariants.{Leaf}
 use Rattle.codec_code.specs.Routines.{body}
 use Rattle.codec_code.specs.Steps.{plain}

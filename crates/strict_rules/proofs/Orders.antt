@@ -1,11 +1,11 @@
 -- Encodings that ascend.
-use Rattle.std.proofs.Common.{arith, ◌≡◌, ℕ, zero, suc, ◌+◌, ◌<◌, ◌≤◌, ◌⊎◌, inl, inr, ⊎_elim, Bool, true, false, List, [], ◌∷◌, ◌++◌, length, drop, slice_index, refl, sym, ap, subst, ◌∙◌, append_assoc, length-append}
+use Rattle.std.proofs.Common.{arith, ◌≡◌, ℕ, ◌<◌, ◌≤◌, true, false, List, [], ◌∷◌, ◌++◌, length, refl, sym, ap, subst, ◌∙◌, length-append}
 use Rattle.std.specs.Prelude.{◌↔◌, IsTrue}
-use Rattle.std.specs.List.{concat, AllByRecursion}
+use Rattle.std.specs.List.{concat}
 use Rattle.asn_base.specs.declared.tag.Tag.{Tag}
 use Rattle.encodings.specs.Orders.{Ascending, ascending_none, ascending_one, ascending_more, AtMost}
 use Rattle.strict_rules.specs.Units.{IsUnit, AreUnits}
-use Rattle.strict_rules.proofs.Split.{HeadersApart, AllUnits, one_unit, unit_some}
+use Rattle.strict_rules.proofs.Split.{HeadersApart, one_unit, unit_some}
 
 pub yes : {P : Type 0} → P → IsTrue true ↔ P
 yes p = (λ t. p, λ q. refl)

@@ -1,19 +1,19 @@
 -- The parts of a SET's contents: encodings of components, in the order of their tags or not, and others among them.
-use Rattle.std.proofs.Common.{arith, ◌≡◌, ℕ, zero, suc, ◌+◌, ◌≤◌, ◌⊎◌, inl, inr, ⊎_elim, Bool, true, false, List, [], ◌∷◌, ◌++◌, length, map, refl, sym, ap, subst, ◌∙◌}
+use Rattle.std.proofs.Common.{arith, ◌≡◌, ℕ, ◌+◌, ◌≤◌, ◌⊎◌, inl, inr, ⊎_elim, Bool, List, [], ◌∷◌, length, map, refl, sym, ap, subst, ◌∙◌}
 use Rattle.std.specs.List.{concat, AllByRecursion}
 use Rattle.asn_base.specs.declared.tag.Tag.{Tag}
-use Rattle.asn_base.specs.Abstract.{AbstractValue, fields, Row}
-use Rattle.asn_base.specs.Types.{Kind, a_set, Component, Resolved}
+use Rattle.asn_base.specs.Abstract.{fields, Row}
+use Rattle.asn_base.specs.Types.{a_set, Component, Resolved}
 use Rattle.asn_base.specs.Tags.{First, AreApart, AllApart, AllTagged}
-use Rattle.encodings.specs.Rules.{Rules, Distinguished, Sorted}
+use Rattle.encodings.specs.Rules.{Rules, Sorted}
 use Rattle.encodings.specs.Orders.{Ascending, InTagOrder, Inserted, here, there, Permutes, permutes_none, permutes_more, Merges, merges_none, merges_first, merges_second}
-use Rattle.encodings.specs.Encoding.{Unknown, no_unknown, unknown, UnknownIf, closed, extensible, Says, Holds, leaf, set, Members, no_member, left_out, member}
+use Rattle.encodings.specs.Encoding.{Unknown, no_unknown, unknown, UnknownIf, closed, extensible, Holds, leaf, set, Members, no_member, left_out, member}
 use Rattle.strict_rules.specs.Units.{IsUnit, AreUnits}
 use Rattle.strict_rules.specs.Sets.{IsOfOne, of_first, of_later, IsOfNone, Parted, parted_none, parted_known, parted_other}
-use Rattle.strict_rules.specs.Places.{Has, has_first, has_later, BeginsType, IsOnly, ArePlaced, placed_none, placed_absent, placed_present}
-use Rattle.strict_rules.proofs.Split.{HeadersApart, AllUnits, units_list, one_unit}
+use Rattle.strict_rules.specs.Places.{Has, has_first, has_later, BeginsType, ArePlaced, placed_none, placed_absent, placed_present}
+use Rattle.strict_rules.proofs.Split.{HeadersApart, AllUnits, units_list}
 use Rattle.strict_rules.proofs.Climbing.{both_ways, units_tag}
-use Rattle.strict_rules.proofs.KindParts.{says_begins, members_units, others_units}
+use Rattle.strict_rules.proofs.KindParts.{says_begins}
 
 -- ---- one of some encodings
 

@@ -5,7 +5,7 @@ use Rattle.std.specs.List.{concat, AllByRecursion}
 use Rattle.asn_base.specs.declared.tag.Tag.{Tag}
 use Rattle.encodings.specs.Header.{Header, LengthOf, short, long, identifier}
 use Rattle.octet_answers.specs.Units.{UnitAt}
-use Rattle.strict_rules.specs.Units.{IsUnit, AreUnits}
+use Rattle.strict_rules.specs.Units.{IsUnit}
 
 -- no header begins another one
 abbrev pub HeadersApart : Type 0

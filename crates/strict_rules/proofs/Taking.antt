@@ -1,21 +1,20 @@
 -- Components and elements, taken one by one.
-use Rattle.std.proofs.Common.{arith, ◌≡◌, ℕ, zero, suc, ◌+◌, ◌<◌, ◌≤◌, Bool, true, false, List, [], ◌∷◌, ◌++◌, length, map, drop, get_or, refl, sym, ap, subst, ◌∙◌, append_assoc, length-append}
+use Rattle.std.proofs.Common.{arith, ◌≡◌, ℕ, zero, suc, ◌+◌, ◌<◌, ◌≤◌, Bool, true, List, [], ◌∷◌, ◌++◌, length, map, drop, get_or, refl, sym, ap, subst, ◌∙◌, length-append}
 use Rattle.std.proofs.lemmas.Bool.{eqb-true, eq-eqb}
-use Rattle.std.specs.Prelude.{◌↔◌, ◌==◌, IsTrue, Option, Some, None, MatchOption, slice_get}
-use Rattle.std.specs.List.{concat, AllByRecursion}
+use Rattle.std.specs.Prelude.{◌↔◌, ◌==◌, IsTrue, Option, Some, None, slice_get}
+use Rattle.std.specs.List.{concat}
 use Rattle.asn_base.specs.declared.tag.Tag.{Tag}
 use Rattle.asn_base.specs.Abstract.{AbstractValue, Row, end, absent, present, row_of_options, row_of_list}
 use Rattle.asn_base.specs.Types.{TypeNumber, Component, Resolved}
 use Rattle.asn_base.specs.Typed.{ValueIn, AreComponents, component_absent, component_present, AreElements, one_element}
 use Rattle.encodings.specs.Rules.{Rules, Basic, Distinguished}
 use Rattle.encodings.specs.Orders.{Ascending, InTagOrder}
-use Rattle.encodings.specs.Encoding.{Says, Members, no_member, left_out, member, Elements, no_element, element, IsDefault}
+use Rattle.encodings.specs.Encoding.{Says, Members, no_member, left_out, member, Elements, no_element, element}
 use Rattle.codec_code.specs.declared.step.Step.{Step}
 use Rattle.strict_rules.specs.Units.{IsUnit, AreUnits}
-use Rattle.strict_rules.specs.Places.{Has, has_first, has_later, IsOnly, ArePlaced, placed_none, placed_absent, placed_present}
-use Rattle.strict_rules.specs.Strict.{Decides, ValueGiven, ElementsGiven, StepsGiven, SequenceGiven, SetGiven, MemberGiven, MemberBy, PartGiven, PartBy, StandsFirst, StandsAmong, SequenceBy, SetBy}
-use Rattle.strict_rules.proofs.Split.{HeadersApart, one_unit, unit_some, drop_next}
-use Rattle.strict_rules.proofs.Orders.{Front, front_of}
+use Rattle.strict_rules.specs.Places.{Has, has_first, has_later, IsOnly, ArePlaced, placed_absent, placed_present}
+use Rattle.strict_rules.specs.Strict.{ValueGiven, ElementsGiven, StepsGiven, SequenceGiven, SetGiven, MemberBy, PartGiven, PartBy, StandsFirst, StandsAmong, SequenceBy, SetBy}
+use Rattle.strict_rules.proofs.Split.{unit_some, drop_next}
 
 none_some : {A : Type 0} {x : A} → None ≡ Some x → ⊥
 none_some e = cc
@@ -160,10 +159,14 @@ take_member {s} {n} {i} {cs} {ws} {xs} {todo} o os {whole = whole} m e =
             count = k2;
             says_them = ms;
             forth = λ k dm. let g = first_member (f k dm).1 in (g.others, g.rest);
-            back = λ k dm. let g = b (j + k) (member z.says_it z.no_default dm) in (g.0, g.1, (
-              λ q. let h = g.2.0 q in let hz = h.1 in (w.1 (h.0, p.1 (omega arith)), omega arith),
-              λ q. let y = w.0 q.0 in let jz = p.0 y.1 in let kz = q.1 in g.2.1 (y.0, omega arith),
-            ));
+            back = λ k dm. let g = b (j + k) (member z.says_it z.no_default dm) in (
+              g.0,
+              g.1,
+              (
+                λ q. let h = g.2.0 q in let hz = h.1 in (w.1 (h.0, p.1 (omega arith)), omega arith),
+                λ q. let y = w.0 q.0 in let jz = p.0 y.1 in let kz = q.1 in g.2.1 (y.0, omega arith),
+              ),
+            );
           };
           refused = λ no j dm. let g = first_member (f j dm).1 in no g.one g.by;
         }
@@ -234,11 +237,14 @@ pub sequence_end : {s : List Resolved} {n i : ℕ} {cs : List Component} {os all
 sequence_end {us = us} {rest = rest} l e z w =
     let m = members_end l.members e in
     let d = m.1 in
-    let u = no_octets us (subst (λ q. AreUnits (q ++ us) rest) m.0 l.units) in
-    (d.0 + length us, record { count = d.0; says_them = d.1; counted = refl }, (
-      λ a. let b = w.0 a in let g = d.2.0 b.0 in let h = u.0 (z.0 b.1) in omega arith,
-      λ a. w.1 (d.2.1 (omega arith), z.1 (u.1 (omega arith))),
-    ))
+    let u = no_octets us (subst (λ q. AreUnits (q ++ us) rest) m.0 l.units) in (
+      d.0 + length us,
+      record { count = d.0; says_them = d.1; counted = refl },
+      (
+        λ a. let b = w.0 a in let g = d.2.0 b.0 in let h = u.0 (z.0 b.1) in omega arith,
+        λ a. w.1 (d.2.1 (omega arith), z.1 (u.1 (omega arith))),
+      ),
+    )
 
 pub sequence_refused : {s : List Resolved} {os : List (Option AbstractValue)} {cs : List Component} {xs us : List (List ℕ)} → ((j : ℕ) → Members s Distinguished cs (row_of_options os) j xs → ⊥) → (j : ℕ) → SequenceBy s os cs xs us j → ⊥
 sequence_refused n j b = n b.count b.says_them
@@ -400,10 +406,14 @@ take_element {s} {t} {n} {ws} {xs} v vs {whole = whole} {rest = rest} few l e =
             says_them = es;
             units = record { units = u.units.1; whole = refl; short = omega arith };
             forth = λ k d. let g = first_element (f k d).1 in (g.others, g.rest);
-            back = λ k d. let g = b (j + k) (element z d) in (g.0, g.1, (
-              λ q. let h = g.2.0 q in let hz = h.1 in (w.1 (h.0, p.1 (omega arith)), omega arith),
-              λ q. let y = w.0 q.0 in let jz = p.0 y.1 in let kz = q.1 in g.2.1 (y.0, omega arith),
-            ));
+            back = λ k d. let g = b (j + k) (element z d) in (
+              g.0,
+              g.1,
+              (
+                λ q. let h = g.2.0 q in let hz = h.1 in (w.1 (h.0, p.1 (omega arith)), omega arith),
+                λ q. let y = w.0 q.0 in let jz = p.0 y.1 in let kz = q.1 in g.2.1 (y.0, omega arith),
+              ),
+            );
           };
           refused = λ no j d. let g = first_element (f j d).1 in no g.one g.by;
         }

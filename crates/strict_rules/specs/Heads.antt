@@ -1,5 +1,5 @@
 -- Headers by the distinguished rules, as the steps of a routine ask for them (X.690, 10.1).
-use Rattle.std.specs.Prelude.{◌≡◌, ℕ, List, [], ◌∷◌, ◌++◌, length}
+use Rattle.std.specs.Prelude.{◌≡◌, List, [], ◌∷◌, ◌++◌, length}
 use Rattle.encodings.specs.Header.{Octets, HeaderBy}
 use Rattle.encodings.specs.Rules.{Distinguished}
 use Rattle.codec_code.specs.declared.step.Head.{Head as Head'}

@@ -130,13 +130,7 @@ fn is_default(code: &Code, id: TypeId, place: usize, value: &Value, whole: bool)
 /// Whether octets that say a value of the type by the basic rules do by the distinguished ones, and if so, whether no
 /// additions were skipped.
 #[cycle(strict)]
-fn strict_value(
-    code: &Code,
-    id: TypeId,
-    levels: u8,
-    value: &Value,
-    octets: &[u8],
-) -> Option<bool>
+fn strict_value(code: &Code, id: TypeId, levels: u8, value: &Value, octets: &[u8]) -> Option<bool>
     ensures { ValueGiven code.now id.index levels (abstract value.now) octets.now
         → Decides (λ j. Says code.now Distinguished id.index (abstract value.now) j octets.now) result }
 {

@@ -1,4 +1,4 @@
-use Rattle.std.proofs.Common.{arith, length}
+use Rattle.std.proofs.Common.{arith}
 use Rattle.std.proofs.lemmas.Bool.Decides.{nat_tests}
 use Rattle.strict_rules.proofs.Orders.{yes, no, shorter, front_of, front_there, ascends_begin, ascends_refused, ascends_next, ascends_end}
 use Rattle.strict_rules.proofs.order.do_ascend.Goals as goal

@@ -1,4 +1,4 @@
-use Rattle.std.proofs.Common.{arith, sym, ap, ◌∙◌}
+use Rattle.std.proofs.Common.{arith, ap, ◌∙◌}
 use Rattle.octet_answers.specs.Found.{field_in as field_in'}
 use Rattle.strict_rules.proofs.Climbing.{step_at, got, none_past}
 use Rattle.strict_rules.proofs.sets.field_at.Goals as goal

@@ -1,4 +1,4 @@
-use Rattle.std.proofs.Common.{arith, length}
+use Rattle.std.proofs.Common.{arith}
 use Rattle.std.proofs.lemmas.Bool.Decides.{nat_tests}
 use Rattle.strict_rules.proofs.Orders.{shorter, front_there}
 use Rattle.strict_rules.proofs.Climbing.{stands_here, stands_later, stands_nowhere}

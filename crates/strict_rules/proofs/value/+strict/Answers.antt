@@ -1,12 +1,11 @@
-use Rattle.std.proofs.Common.{arith, ◌≡◌, ◌+◌, ◌-◌, ◌<◌, ◌≤◌, suc, Bool, true, List, ℕ, length, map, drop, refl, sym, ap, subst, ◌∙◌}
-use Rattle.std.specs.Prelude.{IsTrue, None, Some, option_map}
-use Rattle.asn_base.specs.Abstract.{abstract, fields, list, alternative, row_of_options, row_of_list}
+use Rattle.std.proofs.Common.{arith, ◌+◌, ◌-◌, length, map, drop, sym, ap, subst, ◌∙◌}
+use Rattle.std.specs.Prelude.{None, Some, option_map}
+use Rattle.asn_base.specs.Abstract.{abstract, fields, alternative, row_of_options, row_of_list}
 use Rattle.encodings.specs.Rules.{Distinguished}
 use Rattle.strict_rules.specs.Places.{IsOnly}
-use Rattle.strict_rules.specs.Strict.{Decides, SequenceBy, SetBy}
 use Rattle.strict_rules.proofs.Split.{one_unit}
-use Rattle.strict_rules.proofs.Taking.{drop_is, drop_end, is_none, sequence_begin, take_next, sequence_end, sequence_refused, SequenceLeft, known_begin, take_known, known_end, set_end, elements_begin, take_element, elements_end, ElementsLeft}
-use Rattle.strict_rules.proofs.Deciding.{no_some, decides_as, of_same, no_levels, strict_within, value_opened, leaf_decided, choice_decided, choice_none, value_as, member_as, field_type, field_there, value_of_type, member_decided, member_omitted, next_given, next_first, next_among, next_by, as_sequence, as_set, list_given, list_at}
+use Rattle.strict_rules.proofs.Taking.{drop_is, drop_end, is_none, take_next, sequence_end, sequence_refused, SequenceLeft, known_begin, take_known, known_end, set_end, take_element, elements_end, ElementsLeft}
+use Rattle.strict_rules.proofs.Deciding.{no_some, decides_as, of_same, strict_within, value_opened, leaf_decided, choice_decided, choice_none, value_as, member_as, field_type, field_there, value_of_type, member_decided, member_omitted, next_given, next_first, next_among, next_by, as_sequence, as_set, list_given, list_at}
 use Rattle.strict_rules.proofs.value.+strict.Goals as goal
 
 pub strict_value-returns-in-Some : goal.strict_value-returns-in-Some

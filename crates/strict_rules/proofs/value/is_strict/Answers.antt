@@ -1,4 +1,4 @@
-use Rattle.std.proofs.Common.{arith, ◌≤◌, subst}
+use Rattle.std.proofs.Common.{arith, subst}
 use Rattle.asn_base.specs.Abstract.{abstract}
 use Rattle.encodings.specs.Encoding.{Says}
 use Rattle.encodings.specs.Rules.{Distinguished}
