@@ -1,12 +1,13 @@
 //! Answers rows of messages by the public calls that read them, and prints each answer below its row's words.
 //!
 //! The files that its words name are files of rows. A row's first word is a command and its second the row's own name:
-//! `read`, `sweep` and `view`, described where they are answered. The answers that the stored run compares are written by hand, or
+//! `read`, `sweep`, `view` and `der`, described where they are answered. The answers that the stored run compares are written by hand, or
 //! counted by a second reader, not taken from this program.
 #![tactic(auto)]
 
 mod message;
 mod refusal;
+mod strict;
 mod sweep;
 mod view;
 mod words;
@@ -26,6 +27,7 @@ fn answer_of(alloc: Global, schema: &Schema, code: &Code, row: &Row) -> Result<S
         "read" => message::answer(alloc, code, row),
         "sweep" => sweep::answer(alloc, code, row),
         "view" => view::answer(alloc, schema, code, row),
+        "der" => strict::answer(alloc, schema, code, row),
         _ => Err(told(alloc, &"no such command")),
     }
 }

@@ -52,7 +52,7 @@ fn push_strings(out: &mut String, view: &View<'_>) -> Result<(), AllocError>
 }
 
 /// The text of the value, how many additions were skipped, and where its strings stand.
-fn shown(alloc: Global, schema: &Schema, id: TypeId, read: &Read<'_>) -> Result<String, Refusal>
+pub fn shown(alloc: Global, schema: &Schema, id: TypeId, read: &Read<'_>) -> Result<String, Refusal>
     requires { (t : Tree) × IsView read.now.view t }
 {
     let mut text = match print_view(alloc, schema, id, &read.view) {

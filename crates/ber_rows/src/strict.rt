@@ -1,0 +1,20 @@
+//! What is read of messages by the distinguished rules.
+
+use crate::refusal::{Refusal, told};
+use crate::view::shown;
+use crate::words::{octets_of, type_of};
+use asn_base::schema::Schema;
+use ber_reader::read_der;
+use codec_code::Code;
+use row_files::Row;
+use std::alloc::Global;
+
+/// `der NAME TYPE HEX..`: what `view` answers, where the message is one by the distinguished rules, or the fault.
+pub fn answer(alloc: Global, schema: &Schema, code: &Code, row: &Row) -> Result<String, Refusal> {
+    let id = type_of(alloc, row)?;
+    let octets = octets_of(alloc, row)?;
+    match read_der(alloc, code, id, octets.as_slice()) {
+        Ok(read) => shown(alloc, schema, id, &read),
+        Err(fault) => Err(told(alloc, &fault)),
+    }
+}
