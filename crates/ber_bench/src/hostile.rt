@@ -61,7 +61,8 @@ fn put_long_element(out: &mut Vec<u8>) -> Result<(), AllocError> {
     put_long_header(out, 0x01, 1)?;
     out.push(0xFF)?;
     put_long_header(out, 0x02, 1)?;
-    out.push(0xF9)
+    out.push(0xF9)?;
+    Ok(())
 }
 
 /// A list of small SEQUENCEs with such lengths.
