@@ -9,7 +9,7 @@ use std::io;
 use std::time::{Duration, Instant};
 
 /// How often a value is written so many times; the least time counts.
-const RUNS: usize = 10;
+const RUNS: usize = 3;
 
 /// A value of a type, which has so many members, and is written so many times one behind the other.
 #[derive(Clone, Copy)]
