@@ -1,8 +1,8 @@
-//! Reads messages that cost a careless reader more than their length: one with each length in its longest form, one of 400
-//! levels of headers, and one of empty elements.
+//! Reads messages that cost a careless reader more than their length: one with each length in its longest form, one of
+//! 400 levels of headers, and one of empty elements.
 //!
-//! `ber_bench OCTETS ..`: messages of about so many octets; how many members are read stands on standard output, how long it
-//! took, in microseconds, and how many megabytes a second that is, on standard error.
+//! `ber_bench OCTETS ..`: messages of about so many octets; how many members are read stands on standard output, how
+//! long it took, in microseconds, and how many megabytes a second that is, on standard error.
 #![tactic(auto)]
 
 mod hostile;

@@ -1,9 +1,9 @@
-//! Writes values by the distinguished rules, into a list and to a sink that keeps nothing, reads what was written by the basic
-//! rules, and prints how many octets and rows of the account each has, and whether what was read is what was written. How long
-//! each took, in microseconds, and how many megabytes a second that is, stands on standard error.
+//! Writes values by the distinguished rules, into a list and to a sink that keeps nothing, reads what was written by
+//! the basic rules, and prints how many octets and rows of the account each has, and whether what was read is what was
+//! written. How long each took, in microseconds, and how many megabytes a second that is, stands on standard error.
 //!
-//! `codec_bench FILE .. -- TYPE VALUE ..`: values that the modules in the files name, each under a type; behind them values of
-//! growing size.
+//! `codec_bench FILE .. -- TYPE VALUE ..`: values that the modules in the files name, each under a type; behind them
+//! values of growing size.
 #![tactic(auto)]
 
 mod named;

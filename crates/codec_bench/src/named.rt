@@ -15,7 +15,8 @@ use trees::ValueSyntax;
 /// How often a message is written in one run.
 const TIMES: usize = 1000;
 
-/// What the words of the program ask for: the texts of files up to the word `--`, and behind it the names of types and values.
+/// What the words of the program ask for: the texts of files up to the word `--`, and behind it the names of types and
+/// values.
 #[derive(Drop)]
 struct Words {
     texts: Vec<Vec<u8>>,
