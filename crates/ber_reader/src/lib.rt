@@ -6,7 +6,9 @@ mod build;
 mod leaf;
 mod place;
 mod read;
+mod seek;
 mod shape;
+mod wrong;
 
 pub use ber_message::{Open, Part, Whereabouts};
 pub use place::whereabouts;

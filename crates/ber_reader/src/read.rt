@@ -13,6 +13,7 @@ ghost use Rattle.views.specs.Seen.{IsView};
 ghost use Rattle.views.specs.Tree.{Tree, value_of};
 
 use crate::build::view_of;
+use crate::wrong::fault_of;
 use asn_base::schema::TypeId;
 use ber_message::read_message;
 use ber_source::Token;
@@ -33,8 +34,10 @@ pub struct Read<'a> {
 /// strings are slices of the octets where they were primitive, and joined copies where they were in segments.
 ///
 /// `MessageLimit`: there are more than 16,777,216 octets. `Trailing`: a value ends before the octets do.
-/// `OutsideConstraint`: they say what is no value of the type. Else the first fault met from the front is told. A type
-/// that the code lacks is `UnexpectedTag`.
+/// The first fault met from the front is told; a type that the code lacks is `UnexpectedTag`. Where all of them was read and
+/// says what is no value of the type, it is the fault of the innermost value in it that is none of its own: `BadContents` of
+/// an ENUMERATED that lacks the number, `Missing` of components of which one of a group must stand beside others,
+/// `TooDeep` where the levels of an absent component's DEFAULT are too many, `OutsideConstraint` of any other.
 pub fn read_ber<'a>(
     alloc: Global,
     code: &Code,
@@ -71,7 +74,7 @@ pub fn read_ber<'a>(
         Err(_) => return Err(ReadFault::Memory),
     };
     if !code.is_value(id, &value) {
-        return Err(ReadFault::OutsideConstraint);
+        return Err(fault_of(alloc, code, id, &value));
     }
     Ok(Read {
         view,
