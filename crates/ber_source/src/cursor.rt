@@ -83,6 +83,20 @@ impl<'c, 'a> Cursor<'c, 'a> {
         self.place.here.octets.is_empty()
     }
 
+    /// The place in the message of the first octet that isn't read of the contents that it stands in, from 0.
+    pub fn at(&self) -> usize
+        ensures { result ≡ self.now.here.at }
+    {
+        self.place.here.at
+    }
+
+    /// What was read so far.
+    pub fn tokens(&self) -> &[Token<'a>]
+        ensures { map token_of result.now ≡ self.now.told }
+    {
+        self.place.told.as_slice()
+    }
+
     /// What was read.
     pub fn into_tokens(self) -> Vec<Token<'a>>
         ensures { map token_of result.items ≡ self.entry.told }
@@ -95,6 +109,10 @@ impl<'c, 'a> Source for Cursor<'c, 'a> {
     ghost use Rattle.octet_answers.specs.Answers.{Takes};
 
     ghost takes = { Takes };
+
+    ghost use Rattle.octet_answers.specs.Left.{Leaves};
+
+    ghost leaves = { Leaves };
 
     ghost room = { λ a. a.room };
 
