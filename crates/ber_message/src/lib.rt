@@ -1,7 +1,11 @@
 //! A whole message, read by the routine of its type by the basic rules: what was read is what its octets say (X.690, 8.1 to
-//! 8.14).
+//! 8.14); and where reading stops.
 #![tactic(auto)]
 
 mod message;
+mod open;
+mod stop;
 
 pub use message::read_message;
+pub use open::{Open, Part};
+pub use stop::{Whereabouts, most_values, stop_of};

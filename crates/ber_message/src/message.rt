@@ -22,10 +22,10 @@ use reading_law::law::{read_is_said, said_is_read};
 use std::alloc::Global;
 
 /// The most octets of a message.
-const MOST: usize = 16_777_216;
+pub(crate) const MOST: usize = 16_777_216;
 
 /// How many values may stand one in another.
-const VALUES: usize = 64;
+pub(crate) const VALUES: usize = 64;
 
 /// The tokens of a message of the type, read by the basic rules (X.690, 8.1 to 8.14) from the front; its strings are slices
 /// of it. Constraints are not judged.

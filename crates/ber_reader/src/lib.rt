@@ -4,7 +4,10 @@
 mod arcs;
 mod build;
 mod leaf;
+mod place;
 mod read;
 mod shape;
 
+pub use ber_message::{Open, Part, Whereabouts};
+pub use place::whereabouts;
 pub use read::{Read, read_ber};

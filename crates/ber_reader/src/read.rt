@@ -26,7 +26,7 @@ use views::View;
 #[derive(Drop)]
 pub struct Read<'a> {
     pub view: View<'a>,
-    pub skipped: usize,
+    pub skipped: u64,
 }
 
 /// The value of the type that the octets encode by the basic rules (X.690, 8.1 to 8.14), as it stands there. Its
@@ -80,7 +80,7 @@ pub fn read_ber<'a>(
 }
 
 /// 1 of an addition that was skipped, 0 of any other token.
-fn one_skipped(token: Token<'_>) -> usize
+fn one_skipped(token: Token<'_>) -> u64
     ensures few { result ≤ 1 }
     ensures is { result ≡ passed_in (token_of token.entry ∷ []) }
 {
@@ -100,7 +100,7 @@ fn one_skipped(token: Token<'_>) -> usize
 }
 
 /// How many additions were skipped.
-fn skipped_in(tokens: &[Token<'_>]) -> usize
+fn skipped_in(tokens: &[Token<'_>]) -> u64
     ensures { result ≡ passed_in (map token_of tokens.now) }
 {
     let mut skipped = 0;

@@ -1,0 +1,53 @@
+-- Which values are open behind tokens, and which of their parts are being read.
+use Rattle.std.specs.Prelude.{ℕ, suc, List, [], ◌∷◌, ◌++◌, Option, Some, None}
+use Rattle.asn_base.specs.declared.schema.TypeId.{TypeId}
+use Rattle.octet_answers.specs.States.{Token, component, chosen, begun, ended, held, passed}
+use Rattle.ber_message.specs.declared.open.Open.{Open}
+use Rattle.ber_message.specs.declared.open.Part.{Part}
+use Rattle.ber_message.specs.declared.open.Part.TheVariants.{Component, Alternative, Element}
+
+-- a value that begins
+abbrev pub opened : TypeId → Open
+opened t = record { ty = t; part = None; read = 0 }
+
+abbrev pub with_part : Option Part → Open → Open
+with_part p o = record { ty = o.ty; part = p; read = o.read }
+
+-- the part that begins: the one that was told, or else the next element
+abbrev pub part_or : Option Part → ℕ → Option Part
+part_or None n = Some (Element n)
+part_or (Some p) n = Some p
+
+abbrev pub entered : Open → Open
+entered o = with_part (part_or o.part o.read) o
+
+-- behind a part
+abbrev pub behind_part : Open → Open
+behind_part o = record { ty = o.ty; part = None; read = suc o.read }
+
+abbrev pub on_last : (Open → Open) → List Open → List Open
+on_last f [] = []
+on_last f (o ∷ []) = f o ∷ []
+on_last f (o ∷ p ∷ os) = o ∷ on_last f (p ∷ os)
+
+abbrev pub but_last : List Open → List Open
+but_last [] = []
+but_last (o ∷ []) = []
+but_last (o ∷ p ∷ os) = o ∷ but_last (p ∷ os)
+
+-- the values that are open behind one token more, the outermost first
+abbrev pub opens_after : List Open → Token → List Open
+opens_after os (component i) = on_last (with_part (Some (Component i))) os
+opens_after os (chosen i) = on_last (with_part (Some (Alternative i))) os
+opens_after os (begun t) = on_last entered os ++ opened t ∷ []
+opens_after os ended = on_last behind_part (but_last os)
+opens_after os (held k c x at) = os
+opens_after os passed = os
+
+abbrev pub opens_from : List Open → List Token → List Open
+opens_from os [] = os
+opens_from os (t ∷ ts) = opens_from (opens_after os t) ts
+
+-- the values that are open behind the tokens, the outermost first
+abbrev pub opens : List Token → List Open
+opens ts = opens_from [] ts

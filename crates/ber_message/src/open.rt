@@ -1,0 +1,155 @@
+//! Which values are open behind what was read, and which of their parts are being read.
+
+ghost use Rattle.ber_message.specs.Opened.{behind_part, but_last, entered, on_last, opened, opens, opens_after, part_or, with_part};
+ghost use Rattle.ber_source.specs.Seen.{token_of};
+ghost use Rattle.std.specs.List.{AllByRecursion};
+ghost use Rattle.std.specs.Prelude.{◌≡◌, ◌++◌, ◌∷◌, ◌<◌, ◌≤◌, [], IfOk, map, OnOk, Some, suc, ℕ};
+
+use asn_base::schema::TypeId;
+use ber_source::Token;
+use std::alloc::{AllocError, Global};
+
+/// A part of a value.
+#[derive(Clone, Copy, PartialEq, Eq, Debug)]
+pub enum Part {
+    /// The component at this place in order of definition, from 0.
+    Component(usize),
+    /// The alternative with this number in order of definition, from 0.
+    Alternative(usize),
+    /// The element with this number, from 0.
+    Element(usize),
+}
+
+/// A value that is open: its type, which of its parts is being read, if any, and how many were read to their ends.
+#[derive(Clone, Copy, PartialEq, Eq, Debug)]
+pub struct Open {
+    pub ty: TypeId,
+    pub part: Option<Part>,
+    pub read: usize,
+}
+
+fn push_open(list: &mut Vec<Open>, one: Open) -> Result<(), AllocError>
+    ensures { OnOk result (list.new.items ≡ list.old.items ++ one ∷ []) }
+{
+    list.push(one)?;
+    Ok(())
+}
+
+/// The part that begins: the one that was told, or else the next element.
+fn part_of(value: Open) -> Option<Part>
+    ensures { result ≡ part_or value.part value.read }
+{
+    match value.part {
+        Some(part) => Some(part),
+        None => Some(Part::Element(value.read)),
+    }
+}
+
+/// A part of the innermost open value is told.
+fn tell(list: &mut Vec<Open>, part: Part) -> Result<(), AllocError>
+    ensures { OnOk result (list.new.items ≡ on_last (with_part (Some part)) list.old.items) }
+{
+    match list.pop() {
+        Some(last) => push_open(
+            list,
+            Open {
+                ty: last.ty,
+                part: Some(part),
+                read: last.read,
+            },
+        ),
+        None => Ok(()),
+    }
+}
+
+/// A part of the innermost open value begins.
+fn enter(list: &mut Vec<Open>) -> Result<(), AllocError>
+    ensures { OnOk result (list.new.items ≡ on_last entered list.old.items) }
+{
+    match list.pop() {
+        Some(last) => push_open(
+            list,
+            Open {
+                ty: last.ty,
+                part: part_of(last),
+                read: last.read,
+            },
+        ),
+        None => Ok(()),
+    }
+}
+
+/// The part of the innermost open value that was being read ends.
+fn pass(list: &mut Vec<Open>) -> Result<(), AllocError>
+    requires { AllByRecursion (λ o. o.read < 18446744073709551615) list.old.items }
+    ensures { OnOk result (list.new.items ≡ on_last behind_part list.old.items) }
+{
+    match list.pop() {
+        Some(last) => push_open(
+            list,
+            Open {
+                ty: last.ty,
+                part: None,
+                read: last.read + 1,
+            },
+        ),
+        None => Ok(()),
+    }
+}
+
+/// The innermost open value ends.
+fn leave(list: &mut Vec<Open>) -> Result<(), AllocError>
+    requires { AllByRecursion (λ o. o.read < 18446744073709551615) list.old.items }
+    ensures { OnOk result (list.new.items ≡ on_last behind_part (but_last list.old.items)) }
+{
+    match list.pop() {
+        Some(_) => pass(list),
+        None => Ok(()),
+    }
+}
+
+/// A value of the type begins.
+fn begin(list: &mut Vec<Open>, id: TypeId) -> Result<(), AllocError>
+    ensures { OnOk result (list.new.items ≡ on_last entered list.old.items ++ opened id ∷ []) }
+{
+    enter(list)?;
+    push_open(
+        list,
+        Open {
+            ty: id,
+            part: None,
+            read: 0,
+        },
+    )
+}
+
+/// One token more.
+fn take(list: &mut Vec<Open>, token: Token<'_>) -> Result<(), AllocError>
+    requires { AllByRecursion (λ o. o.read < 18446744073709551615) list.old.items }
+    ensures { OnOk result (list.new.items ≡ opens_after list.old.items (token_of token.entry)) }
+{
+    match token {
+        Token::Component(place) => tell(list, Part::Component(place)),
+        Token::Chosen(index) => tell(list, Part::Alternative(index)),
+        Token::Begun(id) => begin(list, id),
+        Token::Ended => leave(list),
+        Token::Held {
+            kind: _,
+            form: _,
+            octets: _,
+            at: _,
+        } => Ok(()),
+        Token::Passed => Ok(()),
+    }
+}
+
+/// The values that are open behind the tokens, the outermost first.
+pub(crate) fn open_behind(alloc: Global, tokens: &[Token<'_>]) -> Result<Vec<Open>, AllocError>
+    ensures { IfOk result (λ list. list.items ≡ opens (map token_of tokens.now)) }
+{
+    let mut list = Vec::new(alloc);
+    for i in 0..tokens.len() {
+        take(&mut list, tokens[i])?;
+    }
+    Ok(list)
+}

@@ -1,0 +1,61 @@
+//! Where reading of a message stops.
+
+ghost use Rattle.ber_message.specs.Opened.{opens};
+ghost use Rattle.octet_answers.specs.States.{Token as Token'};
+ghost use Rattle.std.specs.Prelude.{◌≡◌, ◌≤◌, IfOk, length, List};
+
+use crate::message::{MOST, VALUES};
+use crate::open::{Open, open_behind};
+use asn_base::schema::TypeId;
+use ber_source::Cursor;
+use codec_code::Code;
+use codec_source::{ReadFault, read};
+use std::alloc::{AllocError, Global};
+
+/// Where reading of a message stops: the place of the first octet that isn't read, from 0, and the values that are open
+/// there, the outermost first, each with the part of it that was being read.
+#[derive(Drop)]
+pub struct Whereabouts {
+    pub place: usize,
+    pub values: Vec<Open>,
+}
+
+/// How many values begin in the message at most: each octet but the last begins a header at most, and 64 values stand one
+/// in another.
+pub fn most_values(octets: &[u8]) -> usize {
+    octets.len().min(MOST) * VALUES + VALUES
+}
+
+/// Where reading of the message stops, if so many values may begin at most.
+///
+/// Of a message with more than 16,777,216 octets it is the first one behind those.
+pub fn stop_of(
+    alloc: Global,
+    code: &Code,
+    id: TypeId,
+    octets: &[u8],
+    most: usize,
+) -> Result<Whereabouts, AllocError>
+    ensures place { IfOk result (λ w. w.place ≤ length octets.now) }
+    ensures values { IfOk result (λ w. (ts : List Token') × (w.values.items ≡ opens ts)) }
+{
+    let mut cursor = match Cursor::new(alloc, code, octets, most) {
+        Ok(cursor) => cursor,
+        Err(_) => {
+            return Ok(Whereabouts {
+                place: MOST,
+                values: Vec::new(alloc),
+            });
+        }
+    };
+    match read(alloc, code, id, &mut cursor) {
+        Err(ReadFault::Memory) => return Err(AllocError),
+        Err(_) => {}
+        Ok(()) => {}
+    }
+    let values = open_behind(alloc, cursor.tokens())?;
+    Ok(Whereabouts {
+        place: cursor.at().min(octets.len()),
+        values,
+    })
+}
