@@ -1,5 +1,6 @@
 //! Where reading of a message stops.
 
+ghost use Rattle.ber_message.specs.Messages.{room_of};
 ghost use Rattle.ber_message.specs.Opened.{opens};
 ghost use Rattle.ber_message.specs.Stops.{IsStop};
 ghost use Rattle.codec_source.specs.declared.fault.ReadFault.TheVariants.{Memory};
@@ -24,7 +25,9 @@ pub struct Whereabouts {
 
 /// How many values begin in the message at most: each octet but the last begins a header at most, and 64 values stand one
 /// in another.
-pub fn most_values(octets: &[u8]) -> usize {
+pub fn most_values(octets: &[u8]) -> usize
+    ensures { length octets.now ≤ 16777216 → result ≡ room_of (length octets.now) }
+{
     octets.len().min(MOST) * VALUES + VALUES
 }
 

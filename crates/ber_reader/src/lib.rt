@@ -3,6 +3,7 @@
 
 mod arcs;
 mod build;
+pub mod law;
 mod leaf;
 mod place;
 mod read;

@@ -1,10 +1,10 @@
 //! Where a message is refused.
 
-ghost use Rattle.ber_message.specs.Messages.{IsMessage};
-ghost use Rattle.ber_message.specs.Opened.{opens};
+ghost use Rattle.ber_message.specs.Messages.{IsMessage, room_of};
+ghost use Rattle.ber_message.specs.Stops.{IsStop};
 ghost use Rattle.ber_source.specs.Seen.{token_of};
 ghost use Rattle.octet_answers.specs.States.{Token as Token'};
-ghost use Rattle.std.specs.Prelude.{◌≡◌, ◌≤◌, IfOk, length, List, map};
+ghost use Rattle.std.specs.Prelude.{◌≤◌, IfOk, length, List, map, ℕ};
 
 use crate::build::view_of;
 use crate::seek::begun_before;
@@ -29,15 +29,21 @@ pub fn whereabouts(
     id: TypeId,
     octets: &[u8],
 ) -> Result<Whereabouts, AllocError>
+    ensures is { IfOk result (λ w. (most : ℕ) × IsStop code.now id octets.now most w) }
+    // Of what is not read as a whole it is where reading it stops.
+    ensures first { ((ts : List Token') → IsMessage code.now id.index octets.now ts → ⊥)
+        → length octets.now ≤ 16777216
+        → IfOk result (λ w. IsStop code.now id octets.now (room_of (length octets.now)) w) }
     ensures place { IfOk result (λ w. w.place ≤ length octets.now) }
-    ensures values { IfOk result (λ w. (ts : List Token') × (w.values.items ≡ opens ts)) }
 {
-    let most = match read_message(alloc, code, id, octets) {
-        Ok(tokens) => before_wrong(alloc, code, id, octets, tokens.as_slice())?,
-        Err(ReadFault::Memory) => return Err(AllocError),
-        Err(_) => most_values(octets),
-    };
-    stop_of(alloc, code, id, octets, most)
+    match read_message(alloc, code, id, octets) {
+        Ok(tokens) => {
+            let most = before_wrong(alloc, code, id, octets, tokens.as_slice())?;
+            stop_of(alloc, code, id, octets, most)
+        }
+        Err(ReadFault::Memory) => Err(AllocError),
+        Err(_) => stop_of(alloc, code, id, octets, most_values(octets)),
+    }
 }
 
 /// How many values begin in the message before the innermost one that is none of its type.

@@ -1,10 +1,10 @@
 //! Messages read as views.
 
 ghost use Rattle.asn_base.specs.Abstract.{AbstractValue};
-ghost use Rattle.ber_message.specs.Messages.{BeginsEncoding, HasEncodingFirst, HasMessageFirst, IsEncoding};
+ghost use Rattle.ber_message.specs.Messages.{BeginsEncoding, EndsTooSoon, HasEncodingFirst, HasMessageFirst, IsEncoding, SaysNoValue};
 ghost use Rattle.ber_reader.specs.Readings.{IsReading};
 ghost use Rattle.ber_source.specs.Seen.{token_of};
-ghost use Rattle.codec_source.specs.declared.fault.ReadFault.TheVariants.{Memory, MessageLimit, Trailing, Truncated};
+ghost use Rattle.codec_source.specs.declared.fault.ReadFault.TheVariants.{Memory, MessageLimit, Missing, OutsideConstraint, Trailing, Truncated};
 ghost use Rattle.encodings.specs.Reading.{Encodes};
 ghost use Rattle.encodings.specs.Rules.{Basic};
 ghost use Rattle.reading_law.specs.Shows.{passed_in};
@@ -58,6 +58,10 @@ pub fn read_ber<'a>(
     ensures read { IsEncoding code.now id.index octets.now → IfErr result (λ e. e ≡ Memory) }
     ensures more { HasEncodingFirst code.now id.index octets.now → (result ≡ Err Trailing) ⊎ (result ≡ Err Memory) }
     ensures less { BeginsEncoding code.now id.index octets.now → result ≡ Err Truncated }
+    // 88 is told where they say what is no value of the type, 85 there or at the end of contents.
+    ensures outside { result ≡ Err OutsideConstraint → SaysNoValue code.now id.index octets.now }
+    ensures missing { result ≡ Err Missing
+        → EndsTooSoon code.now id octets.now ⊎ SaysNoValue code.now id.index octets.now }
 {
     code.accepted();
     message_laws();

@@ -1,7 +1,3 @@
-use Rattle.std.proofs.Common.{map, false}
-use Rattle.ber_source.specs.Seen.{token_of}
-use Rattle.views.specs.Building.{begun}
-use Rattle.ber_reader.specs.Wants.{Wants}
 use Rattle.ber_reader.proofs.Built.{shown_builds}
 use Rattle.ber_reader.proofs.place.before_wrong.Goals as goal
 
