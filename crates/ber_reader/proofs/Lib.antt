@@ -4,3 +4,4 @@ pub mod Leaves
 pub mod Rows
 pub mod Built
 pub mod Reading
+pub mod Strictly

@@ -2,7 +2,8 @@
 use Rattle.std.specs.Prelude.{◌≤◌, List, length}
 use Rattle.asn_base.specs.Types.{TypeNumber, Resolved}
 use Rattle.encodings.specs.Header.{Octets}
-use Rattle.encodings.specs.Rules.{Basic}
+use Rattle.encodings.specs.Rules.{Basic, Distinguished}
+use Rattle.encodings.specs.Encoding.{Says}
 use Rattle.encodings.specs.Levels.{levels}
 use Rattle.encodings.specs.Reading.{Encodes}
 use Rattle.views.specs.Tree.{Tree, value_of, IsBorrowed}
@@ -19,3 +20,8 @@ pub record IsReading (s : List Resolved) (t : TypeNumber) (o : Octets) (r : Read
   pub few : levels encodes.says_it ≤ 400
   pub short : length o ≤ 16777216
   pub borrowed : IsBorrowed o tree
+
+-- The same of octets that say the value by the distinguished rules.
+pub record IsStrictReading (s : List Resolved) (t : TypeNumber) (o : Octets) (r : Read) : Type 0 where
+  pub reading : IsReading s t o r
+  pub strict : Says s Distinguished t (value_of reading.tree) r.skipped o

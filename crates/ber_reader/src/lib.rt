@@ -1,8 +1,9 @@
-//! Messages by the basic rules, read as views of their values (X.690, 8.1 to 8.14).
+//! Messages by the basic rules, and by the distinguished ones, read as views of their values (X.690, 8.1 to 8.14, 10 and 11).
 #![tactic(auto)]
 
 mod arcs;
 mod build;
+mod der;
 pub mod law;
 mod leaf;
 mod place;
@@ -12,5 +13,6 @@ mod shape;
 mod wrong;
 
 pub use ber_message::{Open, Part, Whereabouts};
+pub use der::read_der;
 pub use place::whereabouts;
 pub use read::{Read, read_ber};

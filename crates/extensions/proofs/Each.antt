@@ -120,19 +120,22 @@ parts_of (members l m cs) = cs
 parts_of k = []
 
 -- a list is written in one module, and has its components
+pub same_list : (p : Program) (i : ℕ) (M N : Name) (cs ds : List Part) → IsList p i M cs → IsList p i N ds → (M ≡ N) × (cs ≡ ds)
+same_list p i M N cs ds f g =
+    let types = same_Some f.type g.type (sym f.there ∙ g.there) in
+    let kinds : members f.list f.marked cs ≡ members g.list g.marked ds =
+    sym f.is ∙ ap (λ (t : Type'). t.kind) types ∙ g.is in
+    let stands = subst (λ (t : Type'). IsAssignment p t.assignment M f.assigns) types f.stands in
+    (one_home p g.type.assignment M N f.assigns g.assigns stands g.stands, ap parts_of kinds)
+
 pub at_list : (p : Program) (i : ℕ) (M N : Name) (cs ds : List Part) (vs : List (Option AbstractValue))
     → IsList p i M cs
     → AreDefaultsOf p M cs vs
     → IsList p i N ds
     → AreDefaultsOf p N ds vs
 at_list p i M N cs ds vs f a g =
-    let types = same_Some f.type g.type (sym f.there ∙ g.there) in
-    let kinds : members f.list f.marked cs ≡ members g.list g.marked ds =
-    sym f.is ∙ ap (λ (t : Type'). t.kind) types ∙ g.is in
-    let parts : cs ≡ ds = ap parts_of kinds in
-    let stands = subst (λ (t : Type'). IsAssignment p t.assignment M f.assigns) types f.stands in
-    let home = one_home p g.type.assignment M N f.assigns g.assigns stands g.stands in
-    subst (λ X. AreDefaultsOf p X ds vs) home (subst (λ xs. AreDefaultsOf p M xs vs) parts a)
+    let same = same_list p i M N cs ds f g in
+    subst (λ X. AreDefaultsOf p X ds vs) same.0 (subst (λ xs. AreDefaultsOf p M xs vs) same.1 a)
 
 -- a type that is no list has none
 pub no_list : (p : Program) (i : ℕ) (t : Type') (k : Kind) (vs : List (Option AbstractValue))

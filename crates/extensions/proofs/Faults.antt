@@ -25,7 +25,7 @@ use Rattle.typed_values.specs.Faults as typed
 use Rattle.typed_values.specs.Laws.{HaveFewNodes}
 use Rattle.settled.specs.Settled.{AreTypedDefaults}
 use Rattle.extensions.specs.Settles.{IsRead, IsSettling, HasValue}
-use Rattle.extensions.specs.Faults.{Stands, IsWrong}
+use Rattle.extensions.specs.Faults.{Stands, IsFirstDefault, IsWrong}
 use Rattle.extensions.specs.declared.fault.ExtFault.{ExtFault}
 use Rattle.extensions.specs.declared.fault.ExtFault.TheVariants.{Memory, Additions, Default, Assigned}
 
@@ -52,32 +52,33 @@ Exclude = (p : Program) (levels left i : ℕ) (os : List ℕ) (M : Name) (n : Tr
 abbrev pub NoOther : Type 0
 NoOther = (p : Program) (e : AdditionFault) → (e ≡ markers.Memory → ⊥) → additions.Stands p e → KeepAdditions p.types → ⊥
 
-few : OneValue → (p : Program) → IsRead p → AreTypedDefaults p → HaveFewNodes p
+pub few : OneValue → (p : Program) → IsRead p → AreTypedDefaults p → HaveFewNodes p
 few one p r d i k e cs N c t v is stands presence n =
     let w = d is.core is.type N is.assigns k e cs c is.there is.stands is.kind stands t presence in
     subst (λ x. nodes x ≤ 16777216) (one p [] N c.ty t w.0 v r.apart r.sound.lists w.1.stands n) w.1.value.few_nodes
 
-none : OneValue → Exclude → (p : Program) (M : Name) (i : ℕ) (n : Tree) (f : ValueFault)
+pub none : Exclude → (p : Program) (M : Name) (i : ℕ) (n : Tree) (f : ValueFault)
     → IsRead p
-    → AreTypedDefaults p
+    → HaveFewNodes p
     → IsWrong p M i n f
     → HasValue p M i n
     → ⊥
-none one exclude p M i n f r d w v =
-    exclude p 64 16777216 i [] M n f v.0 r.apart r.sound.lists (few one p r d) w.stands w.caused v.1.stands
-    v.1.value.shaped v.1.value.few_nodes
+none exclude p M i n f r h w v =
+    exclude p 64 16777216 i [] M n f v.0 r.apart r.sound.lists h w.stands w.caused v.1.stands v.1.value.shaped v.1.value.few_nodes
+
+pub no_wrong_default : OneValue → Exclude → (p : Program) (f : ValueFault) → IsRead p → AreTypedDefaults p → IsFirstDefault p f → ⊥
+no_wrong_default one exclude p f r a d =
+    let w = d.first.wrong in
+    none exclude p d.within d.first.part.ty w.0 f r (few one p r a) w.2
+    (a d.number d.list.type d.within d.list.assigns d.list.list d.list.marked d.parts d.first.part d.list.there d.list.stands d.list.is (d.first.number, d.first.there) w.0 w.1)
 
 pub no_other_fault : OneValue → Exclude → NoOther → (p : Program) (e : ExtFault) → IsRead p → (e ≡ Memory → ⊥) → Stands p e
     → IsSettling p
     → ⊥
 no_other_fault one exclude other p Memory r m s a = m refl
 no_other_fault one exclude other p (Additions f) r m s a = other p f s.0 s.1 a.additions
-no_other_fault one exclude other p (Default f) r m s a =
-    let d = s.1 in
-    let w = d.first.wrong in
-    none one exclude p d.within d.first.part.ty w.0 f r a.defaults w.2
-    (a.defaults d.number d.list.type d.within d.list.assigns d.list.list d.list.marked d.parts d.first.part d.list.there d.list.stands d.list.is (d.first.number, d.first.there) w.0 w.1)
+no_other_fault one exclude other p (Default f) r m s a = no_wrong_default one exclude p f r a.defaults s.1
 no_other_fault one exclude other p (Assigned f) r m s a =
     let d = s.2 in
-    none one exclude p d.within d.value.ty d.value.notation f r a.defaults d.wrong
+    none exclude p d.within d.value.ty d.value.notation f r (few one p r a.defaults) d.wrong
     (a.values d.number d.value d.within d.assigns d.there d.stands)

@@ -1,5 +1,6 @@
 mod Each
 mod Faults
+mod Places
 mod Sorting
 mod Numbers
 mod Roots

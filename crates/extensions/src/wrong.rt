@@ -1,6 +1,6 @@
 //! What reading one notation told, if it isn't a value.
 
-ghost use Rattle.std.specs.Prelude.{◌≡◌, ◌<◌, ℕ, false, IfOk, IfErr, length};
+ghost use Rattle.std.specs.Prelude.{◌≡◌, ◌<◌, ℕ, false, true, IfOk, IfErr, length};
 ghost use Rattle.asn_base.specs.Abstract.{abstract};
 ghost use Rattle.trees.specs.Values.{tree_of};
 ghost use Rattle.type_table.specs.Lists.{AreSound};
@@ -27,7 +27,8 @@ pub(crate) enum Wrong<'a> {
 
 /// Whether it was memory that wanted.
 fn ran_out(cause: Cause<'_>) -> bool
-    ensures { result ≡ false → cause.entry ≡ causes.Memory → ⊥ }
+    ensures memory { result ≡ true → cause.entry ≡ causes.Memory }
+    ensures another { result ≡ false → cause.entry ≡ causes.Memory → ⊥ }
 {
     match cause {
         Cause::Memory => true,

@@ -2,7 +2,7 @@
 
 ghost use Rattle.std.specs.Prelude.{IfOk};
 ghost use Rattle.grammar.specs.Places.{small};
-ghost use Rattle.grammar.specs.Single.{definitions_at, assign_at, begin_at};
+ghost use Rattle.grammar.specs.Single.{assign_at};
 ghost use Rattle.kernel.specs.Reads.{ReadsAs, SkipsAs};
 ghost use Rattle.kernel.specs.Given.{AreTokens};
 ghost use Rattle.trees.specs.Values.{name_at};
@@ -25,19 +25,6 @@ pub struct ModuleHead {
     pub imports: Vec<Import>,
 }
 
-/// The tokens behind `DEFINITIONS`.
-#[tactic(auto, unfolding(grammar::specs::Single::definitions_at))]
-fn definitions<'a>(text: &[u8], tokens: &'a [Token]) -> Result<&'a [Token], ReadError>
-    requires tokens { AreTokens text.now tokens.now }
-    ensures read { SkipsAs definitions_at text.now tokens.now result }
-    ensures rest { IfOk result (λ x. AreTokens text.now x.now) }
-{
-    match tokens {
-        [word!(Definitions), rest @ ..] => Ok(rest),
-        _ => Err(ReadError::Unexpected(tokens.len())),
-    }
-}
-
 /// The tokens behind `::=`.
 #[tactic(auto, unfolding(grammar::specs::Single::assign_at))]
 pub fn assign<'a>(text: &[u8], tokens: &'a [Token]) -> Result<&'a [Token], ReadError>
@@ -51,21 +38,8 @@ pub fn assign<'a>(text: &[u8], tokens: &'a [Token]) -> Result<&'a [Token], ReadE
     }
 }
 
-/// The tokens behind `BEGIN`.
-#[tactic(auto, unfolding(grammar::specs::Single::begin_at))]
-fn begin<'a>(text: &[u8], tokens: &'a [Token]) -> Result<&'a [Token], ReadError>
-    requires tokens { AreTokens text.now tokens.now }
-    ensures read { SkipsAs begin_at text.now tokens.now result }
-    ensures rest { IfOk result (λ x. AreTokens text.now x.now) }
-{
-    match tokens {
-        [word!(Begin), rest @ ..] => Ok(rest),
-        _ => Err(ReadError::Unexpected(tokens.len())),
-    }
-}
-
 /// Reads what stands behind `DEFINITIONS`, as far as `BEGIN`.
-#[tactic(auto, unfolding(crate::specs::HeadReading::begun_at))]
+#[tactic(auto, unfolding(crate::specs::HeadReading::begun_at, grammar::specs::Single::begin_at))]
 fn begun<'a>(text: &[u8], tokens: &'a [Token]) -> Read<'a, TagDefault>
     requires tokens { AreTokens text.now tokens.now }
     ensures read { ReadsAs (λ x. x) begun_at text.now tokens.now result }
@@ -73,11 +47,14 @@ fn begun<'a>(text: &[u8], tokens: &'a [Token]) -> Read<'a, TagDefault>
 {
     let (tag_default, rest) = tag_default(text, tokens)?;
     let rest = assign(text, rest)?;
-    Ok((tag_default, begin(text, rest)?))
+    match rest {
+        [word!(Begin), rest @ ..] => Ok((tag_default, rest)),
+        _ => Err(ReadError::Unexpected(rest.len())),
+    }
 }
 
 /// Reads a module's name and its default for tags, as far as `BEGIN`.
-#[tactic(auto, unfolding(crate::specs::HeadReading::heading_at))]
+#[tactic(auto, unfolding(crate::specs::HeadReading::heading_at, grammar::specs::Single::definitions_at))]
 fn heading<'a>(
     alloc: Global,
     text: &[u8],
@@ -88,9 +65,13 @@ fn heading<'a>(
     ensures rest { IfOk result (λ x. AreTokens text.now x.1.now) }
 {
     let (name, rest) = module_ref(alloc, text, tokens)?;
-    let rest = definitions(text, rest)?;
-    let (tag_default, rest) = begun(text, rest)?;
-    Ok(((name, tag_default), rest))
+    match rest {
+        [word!(Definitions), rest @ ..] => {
+            let (tag_default, rest) = begun(text, rest)?;
+            Ok(((name, tag_default), rest))
+        }
+        _ => Err(ReadError::Unexpected(rest.len())),
+    }
 }
 
 /// Reads a module's head, as far as its first assignment.

@@ -4,7 +4,6 @@ ghost use Rattle.std.specs.Prelude.{map, option_map, IfOk};
 ghost use Rattle.grammar.specs.Reading.{listed_at};
 ghost use Rattle.kernel.specs.Reads.{ReadsAs, SkipsAs};
 ghost use Rattle.kernel.specs.Given.{AreTokens};
-ghost use Rattle.grammar.specs.Single.{tags_at};
 ghost use Rattle.trees.specs.Values.{name_at};
 ghost use Rattle.module_head.specs.HeadingReading.{tag_word_at, default_words_at, semicolon_at, symbol_at, some_exports_at, exported_at};
 ghost use Rattle.module_head.specs.HeadReading.{tag_default_at, export_list_at};
@@ -14,19 +13,6 @@ use kernel::{Listed, Part, Read, ReadError};
 use std::alloc::Global;
 use text::{Token, kind, mark, word};
 use trees::{At, TagDefault};
-
-/// The tokens behind `TAGS`.
-#[tactic(auto, unfolding(grammar::specs::Single::tags_at))]
-fn tags<'a>(text: &[u8], tokens: &'a [Token]) -> Result<&'a [Token], ReadError>
-    requires tokens { AreTokens text.now tokens.now }
-    ensures read { SkipsAs tags_at text.now tokens.now result }
-    ensures rest { IfOk result (λ x. AreTokens text.now x.now) }
-{
-    match tokens {
-        [word!(Tags), rest @ ..] => Ok(rest),
-        _ => Err(ReadError::Unexpected(tokens.len())),
-    }
-}
 
 /// Reads the word before `TAGS`.
 #[tactic(auto, unfolding(crate::specs::HeadingReading::tag_word_at))]
@@ -44,14 +30,17 @@ fn tag_word<'a>(text: &[u8], tokens: &'a [Token]) -> Read<'a, TagDefault>
 }
 
 /// Reads a default for tags (X.680, clause 13.2).
-#[tactic(auto, unfolding(crate::specs::HeadingReading::default_words_at))]
+#[tactic(auto, unfolding(crate::specs::HeadingReading::default_words_at, grammar::specs::Single::tags_at))]
 fn default_words<'a>(text: &[u8], tokens: &'a [Token]) -> Read<'a, TagDefault>
     requires tokens { AreTokens text.now tokens.now }
     ensures read { ReadsAs (λ x. x) default_words_at text.now tokens.now result }
     ensures rest { IfOk result (λ x. AreTokens text.now x.1.now) }
 {
     let (tag_default, rest) = tag_word(text, tokens)?;
-    Ok((tag_default, tags(text, rest)?))
+    match rest {
+        [word!(Tags), rest @ ..] => Ok((tag_default, rest)),
+        _ => Err(ReadError::Unexpected(rest.len())),
+    }
 }
 
 /// Reads what tags in a module are if nothing else is written: explicit, where no default stands there.

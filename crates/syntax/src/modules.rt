@@ -5,10 +5,9 @@ ghost use Rattle.text.specs.declared.token.TokenKind.TheVariants as kinds;
 ghost use Rattle.grammar.specs.Lexeme.{lexemes};
 ghost use Rattle.grammar.specs.Manies.{is_begun_by};
 ghost use Rattle.grammar.specs.Places.{small};
-ghost use Rattle.kernel.specs.Reads.{ReadsAs, SkipsAs, name_in};
+ghost use Rattle.kernel.specs.Reads.{ReadsAs, name_in};
 ghost use Rattle.kernel.specs.Given.{IsTokenOf, AreTokens};
 ghost use Rattle.trees.specs.Modules.{assignment_of, module_tree_of};
-ghost use Rattle.grammar.specs.Single.{end_at};
 ghost use Rattle.syntax.specs.Reading.{type_assigned_at, value_assigned_at, begins_assignment, assignment_at, many_assignments_at, assignments_at};
 ghost use Rattle.syntax.specs.ModuleReading.{module_at};
 
@@ -20,19 +19,6 @@ use std::alloc::Global;
 use text::{Token, kind, word};
 use trees::{Assignment, Module, TypeAssignment, ValueAssignment};
 use type_syntax::types::type_syntax;
-
-/// The tokens behind `END`.
-#[tactic(auto, unfolding(grammar::specs::Single::end_at))]
-fn end<'a>(text: &[u8], tokens: &'a [Token]) -> Result<&'a [Token], ReadError>
-    requires tokens { AreTokens text.now tokens.now }
-    ensures read { SkipsAs end_at text.now tokens.now result }
-    ensures rest { IfOk result (λ x. AreTokens text.now x.now) }
-{
-    match tokens {
-        [word!(End), rest @ ..] => Ok(rest),
-        _ => Err(ReadError::Unexpected(tokens.len())),
-    }
-}
 
 /// Reads what stands behind the name of a type that is assigned.
 fn type_assignment<'a>(
@@ -138,7 +124,7 @@ fn many<'a>(
 }
 
 /// Reads the assignments of a module and its end.
-#[tactic(auto, unfolding(crate::specs::Reading::assignments_at))]
+#[tactic(auto, unfolding(crate::specs::Reading::assignments_at, grammar::specs::Single::end_at))]
 fn assignments<'a>(
     alloc: Global,
     text: &[u8],
@@ -151,7 +137,10 @@ fn assignments<'a>(
     ensures rest { IfOk result (λ x. AreTokens text.now x.1.now) }
 {
     let (assignments, rest) = many(alloc, text, tokens, depth)?;
-    Ok((assignments, end(text, rest)?))
+    match rest {
+        [word!(End), rest @ ..] => Ok((assignments, rest)),
+        _ => Err(ReadError::Unexpected(rest.len())),
+    }
 }
 
 /// Reads a module, where so many things may be open at one place.

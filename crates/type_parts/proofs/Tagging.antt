@@ -4,7 +4,7 @@ use Rattle.std.proofs.Props.{props}
 use Rattle.std.proofs.lemmas.Bool.Decides.{nat_tests}
 use Rattle.std.specs.Prelude.{nat_lt}
 use Rattle.asn_base.specs.declared.tag.Class.{Class}
-use Rattle.asn_base.specs.declared.tag.Class.TheVariants.{Universal, Application, Private, Context}
+use Rattle.asn_base.specs.declared.tag.Class.TheVariants.{Universal}
 use Rattle.asn_base.specs.declared.tag.Tag.{Tag}
 use Rattle.grammar.specs.Lexeme.{Lexeme, Number}
 use Rattle.grammar.specs.Places.{small}
@@ -13,8 +13,8 @@ use Rattle.kernel.specs.declared.fault.ReadError.{ReadError}
 use Rattle.kernel.specs.declared.fault.ReadError.TheVariants as errors
 use Rattle.kernel.specs.Given.{Fails}
 use Rattle.grammar.specs.Rules.{made}
-use Rattle.type_parts.specs.PlainGrammar.{TagNumber, application_tag, private_tag, context_tag}
-use Rattle.type_parts.specs.PlainReading.{by_limit, bracket_at, low, low_number_at, low_end_at, tag_number_at, tag_end_at, application_at, private_at, context_at}
+use Rattle.type_parts.specs.PlainGrammar.{TagNumber, tag_of}
+use Rattle.type_parts.specs.PlainReading.{by_limit, bracket_at, low, low_number_at, low_end_at, tag_number_at, tag_end_at, class_at, tag_at}
 
 -- ---- tags of one class and number are equal
 
@@ -102,38 +102,19 @@ fails f ts errors.Memory h = tt
 fails f ts (errors.Unexpected n) h = made_fails f (tag_end_at small ts) _ (end_is ts ⋆ h)
 fails f ts (errors.Limit l n) h = made_fails f (tag_end_at small ts) _ (end_is ts ⋆ h)
 
-pub application_is : (ts rest : List Lexeme) (n : ℕ) (g : Tag)
-    → low_end_at ts ≡ Ok (n, rest)
-    → g.class ≡ Application
+-- us stands behind the word of the class
+pub tag_is : (ts us rest : List Lexeme) (n : ℕ) (g : Tag)
+    → (class_at ts).1 ≡ us
+    → low_end_at us ≡ Ok (n, rest)
+    → (class_at ts).0.0 ≡ g.class
     → g.number ≡ n
-    → application_at small ts ≡ Ok (g, rest)
-unfolding application_at
-application_is ts rest n g e c d = made_is application_tag (tag_end_at small ts) n g rest (end_is ts ⋆ e) (λ x h. tag_same (application_tag x) g (sym c) (h ⋆ sym d))
+    → tag_at small ts ≡ Ok (g, rest)
+unfolding tag_at
+tag_is ts us rest n g b e c d = made_is (tag_of (class_at ts).0) (tag_end_at small (class_at ts).1) n g rest (end_is (class_at ts).1 ⋆ ap low_end_at b ⋆ e) (λ x h. tag_same (tag_of (class_at ts).0 x) g c (h ⋆ sym d))
 
-pub private_is : (ts rest : List Lexeme) (n : ℕ) (g : Tag)
-    → low_end_at ts ≡ Ok (n, rest)
-    → g.class ≡ Private
-    → g.number ≡ n
-    → private_at small ts ≡ Ok (g, rest)
-unfolding private_at
-private_is ts rest n g e c d = made_is private_tag (tag_end_at small ts) n g rest (end_is ts ⋆ e) (λ x h. tag_same (private_tag x) g (sym c) (h ⋆ sym d))
-
-pub context_is : (ts rest : List Lexeme) (n : ℕ) (g : Tag)
-    → low_end_at ts ≡ Ok (n, rest)
-    → g.class ≡ Context
-    → g.number ≡ n
-    → context_at small ts ≡ Ok (g, rest)
-unfolding context_at
-context_is ts rest n g e c d = made_is context_tag (tag_end_at small ts) n g rest (end_is ts ⋆ e) (λ x h. tag_same (context_tag x) g (sym c) (h ⋆ sym d))
-
-pub application_fails : (ts : List Lexeme) (e : ReadError) → Fails e (low_end_at ts) → Fails e (application_at small ts)
-unfolding application_at
-application_fails ts e h = fails application_tag ts e h
-
-pub private_fails : (ts : List Lexeme) (e : ReadError) → Fails e (low_end_at ts) → Fails e (private_at small ts)
-unfolding private_at
-private_fails ts e h = fails private_tag ts e h
-
-pub context_fails : (ts : List Lexeme) (e : ReadError) → Fails e (low_end_at ts) → Fails e (context_at small ts)
-unfolding context_at
-context_fails ts e h = fails context_tag ts e h
+pub tag_fails : (ts us : List Lexeme) (e : ReadError)
+    → (class_at ts).1 ≡ us
+    → Fails e (low_end_at us)
+    → Fails e (tag_at small ts)
+unfolding tag_at
+tag_fails ts us e b h = fails (tag_of (class_at ts).0) (class_at ts).1 e (subst (λ l. Fails e (low_end_at l)) (sym b) h)

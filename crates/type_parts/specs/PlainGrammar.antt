@@ -4,6 +4,7 @@ use Rattle.text.specs.declared.token.Mark.TheVariants.{Dot, Minus, CloseBracket}
 use Rattle.text.specs.declared.reserved.Word.{Word as Word'}
 use Rattle.text.specs.declared.reserved.Word.TheVariants as words
 use Rattle.asn_base.specs.declared.strings.StringKind.TheVariants as kinds
+use Rattle.asn_base.specs.declared.tag.Class.{Class}
 use Rattle.asn_base.specs.declared.tag.Class.TheVariants as classes
 use Rattle.asn_base.specs.declared.tag.Tag.{Tag}
 use Rattle.grammar.specs.Lexeme.{TypeRef, Ident, Number, Word, Mark}
@@ -74,14 +75,21 @@ not_private e = absurd cc
 pub not_context : classes.Context ≡ classes.Universal → ⊥
 not_context e = absurd cc
 
-abbrev pub application_tag : TagNumber → Tag
-application_tag n = record { class = classes.Application; number = n.0; in_range = n.1; not_reserved = λ e. absurd (not_application e) }
+-- a class that is not UNIVERSAL
+abbrev pub Free : Type 0
+Free = (c : Class) × (c ≡ classes.Universal → ⊥)
 
-abbrev pub private_tag : TagNumber → Tag
-private_tag n = record { class = classes.Private; number = n.0; in_range = n.1; not_reserved = λ e. absurd (not_private e) }
+abbrev pub application : Free
+application = (classes.Application, not_application)
 
-abbrev pub context_tag : TagNumber → Tag
-context_tag n = record { class = classes.Context; number = n.0; in_range = n.1; not_reserved = λ e. absurd (not_context e) }
+abbrev pub private : Free
+private = (classes.Private, not_private)
+
+abbrev pub context : Free
+context = (classes.Context, not_context)
+
+abbrev pub tag_of : Free → TagNumber → Tag
+tag_of c n = record { class = c.0; number = n.0; in_range = n.1; not_reserved = λ e. absurd (c.1 e) }
 
 -- ---- productions that hold no number
 
@@ -118,9 +126,9 @@ module _ (tags : ℕ → Bool) where
   -- behind an open bracket
   abbrev pub tag : Grammar Tag
   tag =
-      behind (Word words.Application) tag_end ⇒ application_tag
-      ∣ behind (Word words.Private) tag_end ⇒ private_tag
-      ∣ tag_end ⇒ context_tag
+      behind (Word words.Application) tag_end ⇒ tag_of application
+      ∣ behind (Word words.Private) tag_end ⇒ tag_of private
+      ∣ tag_end ⇒ tag_of context
 
 -- A limit on numbers is a test that numbers with no minus meet.
 module _ (fits : ℕ → Bool) where

@@ -16,7 +16,7 @@ use Rattle.notation.specs.ConstraintReading.{size_at, constraint_at}
 use Rattle.trees.specs.declared.types.Keyword.{Keyword}
 use Rattle.trees.specs.declared.types.Keyword.TheVariants as keywords
 use Rattle.trees.specs.Types.{PresenceTree, mandatory, optional as may_be_absent, default, Plain, an_octet_string, an_object_identifier, FormTree, a_reference}
-use Rattle.type_parts.specs.PlainGrammar.{type_of_word, integer_with, bits_with, enumerated_of, positive, negative, TagNumber, application_tag, private_tag, context_tag}
+use Rattle.type_parts.specs.PlainGrammar.{type_of_word, integer_with, bits_with, enumerated_of, positive, negative, TagNumber, Free, application, private, context, tag_of}
 
 -- ---- words and names
 
@@ -54,12 +54,9 @@ keyword_at ts = Ok (keywords.Absent, ts)
 
 -- ---- what stands behind a member's type; value reads a value
 
-unfoldable pub default_at : Reader Tree → Reader PresenceTree
-default_at value ts = value ts >>= λ v. Ok (default v.0, v.1)
-
 unfoldable pub presence_at : Reader Tree → Reader PresenceTree
 presence_at value (Word words.Optional ∷ rest) = Ok (may_be_absent, rest)
-presence_at value (Word words.Default ∷ rest) = default_at value rest
+presence_at value (Word words.Default ∷ rest) = value rest >>= λ v. Ok (default v.0, v.1)
 presence_at value ts = Ok (mandatory, ts)
 
 -- ---- numbers of tags
@@ -90,17 +87,16 @@ low_number_at ts = stop ts
 unfoldable pub low_end_at : Reader ℕ
 low_end_at ts = low_number_at ts >>= λ n. bracket_at n.1 >>= λ e. Ok (n.0, e.1)
 
+-- the class of a tag, and what stands behind the word that names it
+unfoldable pub class_at : List Lexeme → Free × List Lexeme
+class_at (Word words.Application ∷ rest) = (application, rest)
+class_at (Word words.Private ∷ rest) = (private, rest)
+class_at ts = (context, ts)
+
 -- the numbers of tags that are no fault of a limit: those below 2 to the 31, and all
 -- where numbers are not limited to 2 to the 127
 abbrev pub tag_fits : (ℕ → Bool) → ℕ → Bool
 tag_fits fits n = bor (nat_lt n 2147483648) (fits (2 ^ 127))
-
--- behind OBJECT, and behind OCTET
-unfoldable pub object_at : Reader Plain
-object_at ts = identifier_at ts >>= λ i. Ok (an_object_identifier, i.1)
-
-unfoldable pub octets_at : Reader Plain
-octets_at ts = string_at ts >>= λ s. Ok (an_octet_string, s.1)
 
 -- fits: the test that numbers with no minus meet
 module _ (fits : ℕ → Bool) where
@@ -111,20 +107,9 @@ module _ (fits : ℕ → Bool) where
   unfoldable pub tag_end_at : Reader TagNumber
   tag_end_at ts = tag_number_at ts >>= λ n. bracket_at n.1 >>= λ e. Ok (n.0, e.1)
 
-  unfoldable pub application_at : Reader Tag
-  application_at ts = tag_end_at ts >>= λ n. Ok (application_tag n.0, n.1)
-
-  unfoldable pub private_at : Reader Tag
-  private_at ts = tag_end_at ts >>= λ n. Ok (private_tag n.0, n.1)
-
-  unfoldable pub context_at : Reader Tag
-  context_at ts = tag_end_at ts >>= λ n. Ok (context_tag n.0, n.1)
-
   -- behind an open bracket
   unfoldable pub tag_at : Reader Tag
-  tag_at (Word words.Application ∷ rest) = application_at rest
-  tag_at (Word words.Private ∷ rest) = private_at rest
-  tag_at ts = context_at ts
+  tag_at ts = tag_end_at (class_at ts).1 >>= λ n. Ok (tag_of (class_at ts).0 n.0, n.1)
 
   -- ---- names with numbers
 
@@ -165,8 +150,8 @@ module _ (fits : ℕ → Bool) where
 
   -- a type that holds no type
   unfoldable pub simple_at : ℕ → Reader Plain
-  simple_at n (Word words.Object ∷ rest) = object_at rest
-  simple_at n (Word words.Octet ∷ rest) = octets_at rest
+  simple_at n (Word words.Object ∷ rest) = identifier_at rest >>= λ i. Ok (an_object_identifier, i.1)
+  simple_at n (Word words.Octet ∷ rest) = string_at rest >>= λ s. Ok (an_octet_string, s.1)
   simple_at n (Word words.Integer ∷ rest) = integer_at n rest
   simple_at n (Word words.Bit ∷ rest) = bit_string_at n rest
   simple_at n (Word words.Enumerated ∷ rest) = enumerated_at n rest

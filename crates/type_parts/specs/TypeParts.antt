@@ -19,8 +19,8 @@ use Rattle.trees.specs.Values.{Name}
 use Rattle.trees.specs.declared.types.Keyword.{Keyword}
 use Rattle.trees.specs.declared.types.Keyword.TheVariants as keywords
 use Rattle.trees.specs.Types.{Plain, an_octet_string, an_object_identifier, FormTree}
-use Rattle.type_parts.specs.PlainGrammar.{referred, integer_with, bits_with, enumerated_of, keyword_of, positive, negative, TagNumber, application_tag, private_tag, context_tag, ref, keyword, signed, named_number, named_bit, item, integer, bit_string, enumerated, simple, tag_end, tag}
-use Rattle.type_parts.specs.PlainReading.{string_at, identifier_at, one_word_at, type_in_at, ref_at, keyword_at, tag_end_at, application_at, private_at, context_at, tag_at, object_at, octets_at, negative_at, signed_at, named_number_at, named_bit_at, item_at, integer_at, bits_at, bit_string_at, enumerated_at, simple_at}
+use Rattle.type_parts.specs.PlainGrammar.{referred, integer_with, bits_with, enumerated_of, keyword_of, positive, negative, TagNumber, application, private, context, tag_of, ref, keyword, signed, named_number, named_bit, item, integer, bit_string, enumerated, simple, tag_end, tag}
+use Rattle.type_parts.specs.PlainReading.{string_at, identifier_at, one_word_at, type_in_at, ref_at, keyword_at, tag_end_at, class_at, tag_at, negative_at, signed_at, named_number_at, named_bit_at, item_at, integer_at, bits_at, bit_string_at, enumerated_at, simple_at}
 use Rattle.type_parts.specs.TypeLexemes.{is_object_word, is_octet_word, is_bit_word, is_integer_word, is_enumerated_word, is_implicit_word, is_explicit_word, is_application_word, is_private_word, is_dot, is_minus, rule_object_word, rule_octet_word, rule_bit_word, rule_integer_word, rule_string, rule_identifier, rule_enumerated_word, rule_implicit_word, rule_explicit_word, rule_application_word, rule_private_word, rule_dot, rule_minus, digits_at, rule_digits, rule_bracket}
 use Rattle.type_parts.specs.TypeWords.{is_type_word, rule_one_word, TagRule, rule_tag_number}
 
@@ -118,7 +118,7 @@ module _ (fits : ℕ → Bool) where
       (pick is_integer_word (integer_read n) (pick is_bit_word (bits_read n) (items_read n)))))
 
   simple_same : (n : ℕ) (ts : List Lexeme) → simple_read n ts ≡ simple_at fits n ts
-  unfolding simple_at one_word_at object_at octets_at
+  unfolding simple_at one_word_at
   simple_same n [] = refl
   simple_same n (Word words.Object ∷ ts) = refl
   simple_same n (Word words.Octet ∷ ts) = refl
@@ -264,14 +264,14 @@ module _ (over : Limit → ℕ) (within : Limit → Type 0) (fits fits' : ℕ �
 
   abbrev tag_read : Reader Tag
   tag_read =
-      pick is_application_word (λ ts. then_read (λ (p : Unit {0} × TagNumber). p.1) (one_at is_application_word) (tag_end_at fits) ts >>= λ n. Ok (application_tag n.0, n.1))
-      (pick is_private_word (λ ts. then_read (λ (p : Unit {0} × TagNumber). p.1) (one_at is_private_word) (tag_end_at fits) ts >>= λ n. Ok (private_tag n.0, n.1)) (λ ts. tag_end_at fits ts >>= λ n. Ok (context_tag n.0, n.1)))
+      pick is_application_word (λ ts. then_read (λ (p : Unit {0} × TagNumber). p.1) (one_at is_application_word) (tag_end_at fits) ts >>= λ n. Ok (tag_of application n.0, n.1))
+      (pick is_private_word (λ ts. then_read (λ (p : Unit {0} × TagNumber). p.1) (one_at is_private_word) (tag_end_at fits) ts >>= λ n. Ok (tag_of private n.0, n.1)) (λ ts. tag_end_at fits ts >>= λ n. Ok (tag_of context n.0, n.1)))
 
   tag_same : (ts : List Lexeme) → tag_read ts ≡ tag_at fits ts
-  unfolding tag_at application_at private_at context_at
+  unfolding tag_at class_at
   tag_same [] = refl
-  tag_same (Word words.Application ∷ ts) = ap (made application_tag) (read_again (tag_end_at fits ts))
-  tag_same (Word words.Private ∷ ts) = ap (made private_tag) (read_again (tag_end_at fits ts))
+  tag_same (Word words.Application ∷ ts) = ap (made (tag_of application)) (read_again (tag_end_at fits ts))
+  tag_same (Word words.Private ∷ ts) = ap (made (tag_of private)) (read_again (tag_end_at fits ts))
   tag_same (t ∷ ts) = refl
 
   number_no_private : (t : Lexeme) → is_number t ≡ true → is_private_word t ≡ false
@@ -286,4 +286,4 @@ module _ (over : Limit → ℕ) (within : Limit → Type 0) (fits fits' : ℕ �
       Rules over within (tag tags) (either is_application_word (either is_private_word is_number)) (either no_lexeme (either no_lexeme no_lexeme)) (tag_at fits)
   rule_tag =
       rule_read (tag_at fits) tag_same
-      (rule_pick (rule_made application_tag (rule_behind rule_application_word rule_tag_end)) (rule_pick (rule_made private_tag (rule_behind rule_private_word rule_tag_end)) (rule_made context_tag rule_tag_end) number_no_private) rest_no_application)
+      (rule_pick (rule_made (tag_of application) (rule_behind rule_application_word rule_tag_end)) (rule_pick (rule_made (tag_of private) (rule_behind rule_private_word rule_tag_end)) (rule_made (tag_of context) rule_tag_end) number_no_private) rest_no_application)

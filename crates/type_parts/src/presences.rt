@@ -6,29 +6,13 @@ ghost use Rattle.kernel.specs.Given.{AreTokens};
 ghost use Rattle.kernel.specs.Reads.{ReadsAs};
 ghost use Rattle.notation.specs.Reading.{value_at};
 ghost use Rattle.trees.specs.Types.{presence_of};
-ghost use Rattle.type_parts.specs.PlainReading.{default_at, presence_at};
+ghost use Rattle.type_parts.specs.PlainReading.{presence_at};
 
 use kernel::Read;
 use notation::reading::value;
 use std::alloc::Global;
 use text::{Token, word};
 use trees::PresenceSyntax;
-
-/// Reads the value of a default.
-#[tactic(auto, unfolding(crate::specs::PlainReading::default_at))]
-fn default_value<'a>(
-    alloc: Global,
-    text: &[u8],
-    tokens: &'a [Token],
-    depth: usize,
-) -> Read<'a, PresenceSyntax>
-    requires tokens { AreTokens text.now tokens.now }
-    ensures read { ReadsAs presence_of (default_at (value_at small depth)) text.now tokens.now result }
-    ensures rest { IfOk result (λ x. AreTokens text.now x.1.now) }
-{
-    let (value, rest) = value(alloc, text, tokens, depth)?;
-    Ok((PresenceSyntax::Default(value), rest))
-}
 
 /// Reads whether a member may be absent (X.680, clause 25.1).
 #[tactic(auto, unfolding(crate::specs::PlainReading::presence_at))]
@@ -44,7 +28,10 @@ pub fn presence<'a>(
 {
     match tokens {
         [word!(Optional), rest @ ..] => Ok((PresenceSyntax::Optional, rest)),
-        [word!(Default), rest @ ..] => default_value(alloc, text, rest, depth),
+        [word!(Default), rest @ ..] => {
+            let (value, rest) = value(alloc, text, rest, depth)?;
+            Ok((PresenceSyntax::Default(value), rest))
+        }
         _ => Ok((PresenceSyntax::Mandatory, tokens)),
     }
 }

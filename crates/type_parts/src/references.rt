@@ -4,7 +4,7 @@ ghost use Rattle.std.specs.Prelude.{◌≡◌, IfOk, slice_range};
 ghost use Rattle.text.specs.declared.token.TokenKind.TheVariants as kinds;
 ghost use Rattle.kernel.specs.Given.{IsTokenOf, AreTokens};
 ghost use Rattle.kernel.specs.Reads.{ReadsAs};
-ghost use Rattle.type_parts.specs.PlainReading.{type_in_at, ref_at};
+ghost use Rattle.type_parts.specs.PlainReading.{ref_at};
 ghost use Rattle.type_parts.specs.Shorts.{reference_of};
 
 use kernel::decode::name_of;
@@ -13,34 +13,8 @@ use std::alloc::Global;
 use text::{Token, kind, mark};
 use trees::Reference;
 
-/// Reads the type's name that stands behind a module's name and a dot.
-#[tactic(auto, unfolding(crate::specs::PlainReading::type_in_at))]
-fn type_in<'a>(
-    alloc: Global,
-    text: &[u8],
-    module_name: Token,
-    tokens: &'a [Token],
-) -> Read<'a, Reference>
-    requires tokens { AreTokens text.now tokens.now }
-    requires before { IsTokenOf text.now module_name }
-    requires name { module_name.kind ≡ kinds.TypeReference }
-    ensures read { ReadsAs reference_of (type_in_at (slice_range text.now module_name.span.start module_name.span.end))
-        text.now tokens.now result }
-    ensures rest { IfOk result (λ x. AreTokens text.now x.1.now) }
-{
-    match tokens {
-        [name @ kind!(TypeReference), rest @ ..] => {
-            let at = module_name.span.start;
-            let module = Some(name_of(alloc, text, module_name)?);
-            let name = name_of(alloc, text, *name)?;
-            Ok((Reference { at, module, name }, rest))
-        }
-        _ => Err(ReadError::Unexpected(tokens.len())),
-    }
-}
-
 /// Reads what stands behind a name (X.680, clause 14.1).
-#[tactic(auto, unfolding(crate::specs::PlainReading::ref_at))]
+#[tactic(auto, unfolding(crate::specs::PlainReading::ref_at, crate::specs::PlainReading::type_in_at))]
 pub fn reference<'a>(
     alloc: Global,
     text: &[u8],
@@ -55,7 +29,13 @@ pub fn reference<'a>(
     ensures rest { IfOk result (λ x. AreTokens text.now x.1.now) }
 {
     match tokens {
-        [mark!(Dot), rest @ ..] => type_in(alloc, text, first, rest),
+        [mark!(Dot), name @ kind!(TypeReference), rest @ ..] => {
+            let at = first.span.start;
+            let module = Some(name_of(alloc, text, first)?);
+            let name = name_of(alloc, text, *name)?;
+            Ok((Reference { at, module, name }, rest))
+        }
+        [mark!(Dot), rest @ ..] => Err(ReadError::Unexpected(rest.len())),
         _ => {
             let at = first.span.start;
             let name = name_of(alloc, text, first)?;

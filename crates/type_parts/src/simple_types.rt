@@ -6,7 +6,7 @@ ghost use Rattle.kernel.specs.Given.{AreTokens};
 ghost use Rattle.kernel.specs.Reads.{ReadsAs, SkipsAs};
 ghost use Rattle.trees.specs.Types.{plain_of};
 ghost use Rattle.type_parts.specs.PlainGrammar.{type_of_word};
-ghost use Rattle.type_parts.specs.PlainReading.{string_at, identifier_at, one_word_at, object_at, octets_at, bit_string_at, simple_at};
+ghost use Rattle.type_parts.specs.PlainReading.{string_at, one_word_at, bit_string_at, simple_at};
 
 use crate::named::{bits, enumerated, integer};
 use asn_base::strings::StringKind;
@@ -25,19 +25,6 @@ fn string<'a>(text: &[u8], tokens: &'a [Token]) -> Result<&'a [Token], ReadError
 {
     match tokens {
         [word!(String), rest @ ..] => Ok(rest),
-        _ => Err(ReadError::Unexpected(tokens.len())),
-    }
-}
-
-/// The tokens behind `IDENTIFIER`.
-#[tactic(auto, unfolding(crate::specs::PlainReading::identifier_at))]
-fn identifier<'a>(text: &[u8], tokens: &'a [Token]) -> Result<&'a [Token], ReadError>
-    requires tokens { AreTokens text.now tokens.now }
-    ensures read { SkipsAs identifier_at text.now tokens.now result }
-    ensures rest { IfOk result (λ x. AreTokens text.now x.now) }
-{
-    match tokens {
-        [word!(Identifier), rest @ ..] => Ok(rest),
         _ => Err(ReadError::Unexpected(tokens.len())),
     }
 }
@@ -81,28 +68,6 @@ fn one_word<'a>(text: &[u8], tokens: &'a [Token]) -> Read<'a, Simple>
     }
 }
 
-/// Reads what stands behind `OBJECT`.
-#[tactic(auto, unfolding(crate::specs::PlainReading::object_at))]
-fn object<'a>(text: &[u8], tokens: &'a [Token]) -> Read<'a, Simple>
-    requires tokens { AreTokens text.now tokens.now }
-    ensures read { ReadsAs plain_of object_at text.now tokens.now result }
-    ensures rest { IfOk result (λ x. AreTokens text.now x.1.now) }
-{
-    let rest = identifier(text, tokens)?;
-    Ok((Simple::ObjectIdentifier, rest))
-}
-
-/// Reads what stands behind `OCTET`.
-#[tactic(auto, unfolding(crate::specs::PlainReading::octets_at))]
-fn octets<'a>(text: &[u8], tokens: &'a [Token]) -> Read<'a, Simple>
-    requires tokens { AreTokens text.now tokens.now }
-    ensures read { ReadsAs plain_of octets_at text.now tokens.now result }
-    ensures rest { IfOk result (λ x. AreTokens text.now x.1.now) }
-{
-    let rest = string(text, tokens)?;
-    Ok((Simple::OctetString, rest))
-}
-
 /// Reads what stands behind `BIT` (X.680, clause 22.1).
 #[tactic(auto, unfolding(crate::specs::PlainReading::bit_string_at))]
 fn bit_string<'a>(alloc: Global, text: &[u8], tokens: &'a [Token], depth: usize) -> Read<'a, Simple>
@@ -115,7 +80,7 @@ fn bit_string<'a>(alloc: Global, text: &[u8], tokens: &'a [Token], depth: usize)
 }
 
 /// Reads a type that holds no type, where so many more things may be open (X.680, clause 17.1).
-#[tactic(auto, unfolding(crate::specs::PlainReading::simple_at, crate::specs::PlainReading::one_word_at))]
+#[tactic(auto, unfolding(crate::specs::PlainReading::simple_at, crate::specs::PlainReading::one_word_at, crate::specs::PlainReading::identifier_at))]
 pub fn simple<'a>(alloc: Global, text: &[u8], tokens: &'a [Token], depth: usize) -> Read<'a, Simple>
     requires tokens { AreTokens text.now tokens.now }
     ensures read { ReadsAs plain_of (simple_at small depth) text.now tokens.now result }
@@ -125,8 +90,11 @@ pub fn simple<'a>(alloc: Global, text: &[u8], tokens: &'a [Token], depth: usize)
         return Err(ReadError::Unexpected(0));
     };
     match first.kind {
-        TokenKind::Reserved(Word::Object) => object(text, rest),
-        TokenKind::Reserved(Word::Octet) => octets(text, rest),
+        TokenKind::Reserved(Word::Object) => match rest {
+            [word!(Identifier), rest @ ..] => Ok((Simple::ObjectIdentifier, rest)),
+            _ => Err(ReadError::Unexpected(rest.len())),
+        },
+        TokenKind::Reserved(Word::Octet) => Ok((Simple::OctetString, string(text, rest)?)),
         TokenKind::Reserved(Word::Integer) => integer(alloc, text, rest, depth),
         TokenKind::Reserved(Word::Bit) => bit_string(alloc, text, rest, depth),
         TokenKind::Reserved(Word::Enumerated) => enumerated(alloc, text, rest, depth),

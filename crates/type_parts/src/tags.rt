@@ -1,10 +1,12 @@
 //! Reading a tag and the word behind it.
 
-ghost use Rattle.std.specs.Prelude.{◌<◌, IfOk};
+ghost use Rattle.std.specs.Prelude.{◌≡◌, ◌<◌, IfOk};
+ghost use Rattle.asn_base.specs.declared.tag.Class.TheVariants as classes;
+ghost use Rattle.grammar.specs.Lexeme.{lexemes};
 ghost use Rattle.grammar.specs.Places.{small};
 ghost use Rattle.kernel.specs.Given.{AreTokens};
-ghost use Rattle.kernel.specs.Reads.{ReadsAs, SkipsAs};
-ghost use Rattle.type_parts.specs.PlainReading.{keyword_at, bracket_at, low_number_at, low_end_at, application_at, private_at, context_at, tag_at};
+ghost use Rattle.kernel.specs.Reads.{ReadsAs};
+ghost use Rattle.type_parts.specs.PlainReading.{keyword_at, low_number_at, low_end_at, class_at, tag_at};
 
 use asn_base::tag::{Class, Tag};
 use kernel::decode::number_of;
@@ -14,19 +16,6 @@ use trees::Keyword;
 
 /// The numbers of tags are less than this.
 const LIMIT: u128 = 1 << 31;
-
-/// The tokens behind a closing bracket.
-#[tactic(auto, unfolding(crate::specs::PlainReading::bracket_at))]
-fn bracket<'a>(text: &[u8], tokens: &'a [Token]) -> Result<&'a [Token], ReadError>
-    requires tokens { AreTokens text.now tokens.now }
-    ensures read { SkipsAs bracket_at text.now tokens.now result }
-    ensures rest { IfOk result (λ x. AreTokens text.now x.now) }
-{
-    match tokens {
-        [mark!(CloseBracket), rest @ ..] => Ok(rest),
-        _ => Err(ReadError::Unexpected(tokens.len())),
-    }
-}
 
 /// Reads the number of a tag.
 #[tactic(auto, unfolding(crate::specs::PlainReading::low_number_at))]
@@ -50,7 +39,7 @@ fn number<'a>(text: &[u8], tokens: &'a [Token]) -> Read<'a, u32>
 }
 
 /// Reads the number of a tag and the closing bracket.
-#[tactic(auto, unfolding(crate::specs::PlainReading::low_end_at))]
+#[tactic(auto, unfolding(crate::specs::PlainReading::low_end_at, crate::specs::PlainReading::bracket_at))]
 fn end<'a>(text: &[u8], tokens: &'a [Token]) -> Read<'a, u32>
     requires tokens { AreTokens text.now tokens.now }
     ensures read { ReadsAs (λ x. x) low_end_at text.now tokens.now result }
@@ -58,69 +47,37 @@ fn end<'a>(text: &[u8], tokens: &'a [Token]) -> Read<'a, u32>
     ensures rest { IfOk result (λ x. AreTokens text.now x.1.now) }
 {
     let (number, rest) = number(text, tokens)?;
-    Ok((number, bracket(text, rest)?))
+    match rest {
+        [mark!(CloseBracket), rest @ ..] => Ok((number, rest)),
+        _ => Err(ReadError::Unexpected(rest.len())),
+    }
 }
 
-/// Reads a tag of the application class, behind its word.
-fn application<'a>(text: &[u8], tokens: &'a [Token]) -> Read<'a, Tag>
+/// The class of a tag, and the tokens behind the word that names it.
+#[tactic(auto, unfolding(crate::specs::PlainReading::class_at))]
+fn class<'a>(text: &[u8], tokens: &'a [Token]) -> (Class, &'a [Token])
     requires tokens { AreTokens text.now tokens.now }
-    ensures read { ReadsAs (λ x. x) (application_at small) text.now tokens.now result }
-    ensures rest { IfOk result (λ x. AreTokens text.now x.1.now) }
+    ensures class { (class_at (lexemes text.now tokens.now)).0.0 ≡ result.0 }
+    ensures behind { (class_at (lexemes text.now tokens.now)).1 ≡ lexemes text.now result.1.now }
+    ensures free { result.0 ≡ classes.Universal → ⊥ }
+    ensures rest { AreTokens text.now result.1.now }
 {
-    let (number, rest) = end(text, tokens)?;
-    Ok((
-        Tag {
-            class: Class::Application,
-            number,
-        },
-        rest,
-    ))
-}
-
-/// Reads a tag of the private class, behind its word.
-fn private<'a>(text: &[u8], tokens: &'a [Token]) -> Read<'a, Tag>
-    requires tokens { AreTokens text.now tokens.now }
-    ensures read { ReadsAs (λ x. x) (private_at small) text.now tokens.now result }
-    ensures rest { IfOk result (λ x. AreTokens text.now x.1.now) }
-{
-    let (number, rest) = end(text, tokens)?;
-    Ok((
-        Tag {
-            class: Class::Private,
-            number,
-        },
-        rest,
-    ))
-}
-
-/// Reads a tag of the context class.
-fn context<'a>(text: &[u8], tokens: &'a [Token]) -> Read<'a, Tag>
-    requires tokens { AreTokens text.now tokens.now }
-    ensures read { ReadsAs (λ x. x) (context_at small) text.now tokens.now result }
-    ensures rest { IfOk result (λ x. AreTokens text.now x.1.now) }
-{
-    let (number, rest) = end(text, tokens)?;
-    Ok((
-        Tag {
-            class: Class::Context,
-            number,
-        },
-        rest,
-    ))
+    match tokens {
+        [word!(Application), rest @ ..] => (Class::Application, rest),
+        [word!(Private), rest @ ..] => (Class::Private, rest),
+        _ => (Class::Context, tokens),
+    }
 }
 
 /// Reads a tag behind its open bracket (X.680, clause 31.2.1).
-#[tactic(auto, unfolding(crate::specs::PlainReading::tag_at))]
 pub fn tag<'a>(text: &[u8], tokens: &'a [Token]) -> Read<'a, Tag>
     requires tokens { AreTokens text.now tokens.now }
     ensures read { ReadsAs (λ x. x) (tag_at small) text.now tokens.now result }
     ensures rest { IfOk result (λ x. AreTokens text.now x.1.now) }
 {
-    match tokens {
-        [word!(Application), rest @ ..] => application(text, rest),
-        [word!(Private), rest @ ..] => private(text, rest),
-        _ => context(text, tokens),
-    }
+    let (class, rest) = class(text, tokens);
+    let (number, rest) = end(text, rest)?;
+    Ok((Tag { class, number }, rest))
 }
 
 /// Reads the word behind a tag, if there is one.

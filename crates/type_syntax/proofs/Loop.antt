@@ -23,7 +23,7 @@ use Rattle.trees.specs.Types.{MemberTree, TypeTree, a_type, FormTree, a_list, ty
 use Rattle.notation.specs.Reading.{value_at}
 use Rattle.notation.specs.Value.{value}
 use Rattle.type_parts.specs.PartLaws.{PartLaws}
-use Rattle.type_parts.specs.PlainReading.{default_at, presence_at, list_size_at}
+use Rattle.type_parts.specs.PlainReading.{presence_at, list_size_at}
 use Rattle.type_syntax.specs.TypeGrammar.{list_of, type}
 use Rattle.type_syntax.specs.TypeReading.{component_at, bare_at, body_at, choice_at, tagged_at, one_type_at, with_constraints_at, plain_at, of_at, list_at, structure_at, behind_at, type_step, type_at}
 use Rattle.type_syntax.specs.Listings.{form_tree}
@@ -94,15 +94,11 @@ same n = omega arith
 one_less : (t : Lexeme) (ts : List Lexeme) → length ts ≤ length (t ∷ ts)
 one_less t ts = omega arith
 
-default_short : (v : Reader Tree) → Short v → Short (default_at v)
-unfolding default_at
-default_short v s ts = bind_leaves (length ts) (v ts) _ (s ts) (λ x. same (length x.1))
-
 presence_short : (v : Reader Tree) → Short v → Short (presence_at v)
 unfolding presence_at
 presence_short v s [] = same 0
 presence_short v s (Word words.Optional ∷ ts) = one_less (Word words.Optional) ts
-presence_short v s (Word words.Default ∷ ts) = less (length ts) (length (Word words.Default ∷ ts)) (default_at v ts) (one_less (Word words.Default) ts) (default_short v s ts)
+presence_short v s (Word words.Default ∷ ts) = less (length ts) (length (Word words.Default ∷ ts)) _ (one_less (Word words.Default) ts) (bind_leaves (length ts) (v ts) _ (s ts) (λ x. same (length x.1)))
 presence_short v s (t ∷ ts) = same (length (t ∷ ts))
 
 module _ (laws : PartLaws) (n : ℕ) where

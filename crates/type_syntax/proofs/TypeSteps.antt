@@ -23,7 +23,7 @@ use Rattle.trees.specs.declared.types.Keyword.{Keyword}
 use Rattle.trees.specs.declared.types.ListKind.TheVariants as lists
 use Rattle.trees.specs.Types.{PresenceTree, mandatory, optional as may_be_absent, default, TypeTree, a_type, FormTree, a_simple, a_tagged}
 use Rattle.type_parts.specs.PlainGrammar.{present, keyword, presence, simple, list_size, ref, tag}
-use Rattle.type_parts.specs.PlainReading.{keyword_at, default_at, presence_at, tag_at, one_word_at, simple_at, constraints_at, some_size_at, size_in_parens_at, list_size_at}
+use Rattle.type_parts.specs.PlainReading.{keyword_at, presence_at, tag_at, one_word_at, simple_at, constraints_at, some_size_at, size_in_parens_at, list_size_at}
 use Rattle.type_parts.specs.TypeLexemes.{is_choice_word, is_sequence_word, is_set_word, is_of_word, of_word_one, is_optional_word, is_default_word, is_open_bracket, open_bracket_one, is_application_word, is_private_word, is_dot, rule_choice_word, rule_sequence_word, rule_set_word, rule_optional_word, rule_default_word}
 use Rattle.type_parts.specs.TypeWords.{TagRule}
 use Rattle.type_parts.specs.TypeParts.{is_keyword, loose_keyword, ref_read, ref_same, rule_ref, simple_starts, rule_simple, rule_tag}
@@ -79,7 +79,7 @@ default_same (Ok v) = refl
 default_same (Err e) = refl
 
 presence_same : (value : Reader Tree) (ts : List Lexeme) → presence_read value ts ≡ presence_at value ts
-unfolding presence_at default_at
+unfolding presence_at
 presence_same value [] = refl
 presence_same value (Word words.Optional ∷ ts) = refl
 presence_same value (Word words.Default ∷ ts) = default_same (value ts)

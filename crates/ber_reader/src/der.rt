@@ -1,0 +1,97 @@
+//! Messages by the distinguished rules.
+
+ghost use Rattle.asn_base.specs.Abstract.{AbstractValue};
+ghost use Rattle.ber_message.specs.Messages.{BeginsEncoding, HasEncodingFirst, HasMessageFirst, IsEncoding};
+ghost use Rattle.ber_reader.specs.Readings.{IsStrictReading};
+ghost use Rattle.codec_source.specs.declared.fault.ReadFault.TheVariants.{Memory, MessageLimit, NotDer, Trailing, Truncated, UnexpectedTag};
+ghost use Rattle.encodings.specs.Encoding.{Says};
+ghost use Rattle.encodings.specs.Reading.{Encodes};
+ghost use Rattle.encodings.specs.Rules.{Basic, Distinguished};
+ghost use Rattle.std.specs.Prelude.{◌≡◌, ◌<◌, ◌⊎◌, Err, IfErr, IfOk, length, ℕ};
+ghost use Rattle.views.specs.Seen.{IsView};
+ghost use Rattle.views.specs.Tree.{Tree, value_of};
+
+use crate::read::{Read, read_ber};
+use asn_base::schema::TypeId;
+use codec_code::Code;
+use codec_source::ReadFault;
+use encodings::schema_laws;
+use std::alloc::Global;
+use strict_rules::is_strict;
+
+/// The value of the type that the octets encode by the distinguished rules (X.690, 10 and 11), as it stands there, as
+/// `read_ber` tells it. Additions that the type lacks are not judged, nor is their place in a SET, and a component that is
+/// the same as its DEFAULT may stand where additions were skipped within it.
+///
+/// `NotDer`: the octets encode the value by the basic rules alone. The other faults are those of `read_ber`.
+pub fn read_der<'a>(
+    alloc: Global,
+    code: &Code,
+    id: TypeId,
+    octets: &'a [u8],
+) -> Result<Read<'a>, ReadFault>
+    ensures ok { IfOk result (λ r. IsStrictReading code.now id.index octets.now r) }
+    // It is the only value that they encode, with the only number of additions.
+    ensures only { IfOk result (λ r. (t : Tree) (w : AbstractValue) (k : ℕ)
+        → IsView r.view t
+        → Encodes code.now Basic id.index w k octets.now
+        → (w ≡ value_of t) × (k ≡ r.skipped)) }
+    ensures limit { 16777216 < length octets.now → result ≡ Err MessageLimit }
+    ensures long { result ≡ Err MessageLimit → 16777216 < length octets.now }
+    ensures trailing { result ≡ Err Trailing → HasMessageFirst code.now id.index octets.now }
+    // 96 is told just of what encodes a value by the basic rules and doesn't by the distinguished ones, memory apart.
+    ensures not_der { result ≡ Err NotDer
+        → (i : IsEncoding code.now id.index octets.now)
+        × (Says code.now Distinguished id.index i.value i.count octets.now → ⊥) }
+    ensures basic { (i : IsEncoding code.now id.index octets.now)
+        → (Says code.now Distinguished id.index i.value i.count octets.now → ⊥)
+        → (result ≡ Err NotDer) ⊎ (result ≡ Err Memory) }
+    // Whatever encodes a value of the type by the distinguished rules is read, memory apart; 89 is told where an encoding by
+    // the basic rules is a proper front of them, and 80 where they are one of it.
+    ensures read { (i : IsEncoding code.now id.index octets.now)
+        → Says code.now Distinguished id.index i.value i.count octets.now
+        → IfErr result (λ e. e ≡ Memory) }
+    ensures more { HasEncodingFirst code.now id.index octets.now → (result ≡ Err Trailing) ⊎ (result ≡ Err Memory) }
+    ensures less { BeginsEncoding code.now id.index octets.now → result ≡ Err Truncated }
+{
+    code.accepted();
+    schema_laws();
+    let read = match read_ber(alloc, code, id, octets) {
+        Ok(read) => read,
+        Err(fault) => return Err(of_basic(fault)),
+    };
+    let value = match read.view.to_value(alloc) {
+        Ok(value) => value,
+        Err(_) => return Err(ReadFault::Memory),
+    };
+    if !is_strict(code, id, &value, octets) {
+        return Err(ReadFault::NotDer);
+    }
+    Ok(read)
+}
+
+/// A fault by the basic rules, none of which is `NotDer`.
+fn of_basic(fault: ReadFault) -> ReadFault
+    ensures never { result ≡ NotDer → ⊥ }
+    ensures same { (fault ≡ NotDer → ⊥) → result ≡ fault }
+    ensures other { fault ≡ NotDer → result ≡ UnexpectedTag }
+{
+    match fault {
+        ReadFault::NotDer => ReadFault::UnexpectedTag,
+        ReadFault::Memory => ReadFault::Memory,
+        ReadFault::MessageLimit => ReadFault::MessageLimit,
+        ReadFault::IntegerLimit => ReadFault::IntegerLimit,
+        ReadFault::OidLimit => ReadFault::OidLimit,
+        ReadFault::Truncated => ReadFault::Truncated,
+        ReadFault::Indefinite => ReadFault::Indefinite,
+        ReadFault::BadLength => ReadFault::BadLength,
+        ReadFault::BadTag => ReadFault::BadTag,
+        ReadFault::UnexpectedTag => ReadFault::UnexpectedTag,
+        ReadFault::Missing => ReadFault::Missing,
+        ReadFault::BadContents => ReadFault::BadContents,
+        ReadFault::EmptySegments => ReadFault::EmptySegments,
+        ReadFault::OutsideConstraint => ReadFault::OutsideConstraint,
+        ReadFault::Trailing => ReadFault::Trailing,
+        ReadFault::TooDeep => ReadFault::TooDeep,
+    }
+}

@@ -1,0 +1,9 @@
+pub mod Split
+pub mod Shortened
+pub mod Orders
+pub mod Climbing
+pub mod KindParts
+pub mod SetParts
+pub mod Taking
+pub mod Leafs
+pub mod Deciding

@@ -1,0 +1,144 @@
+-- What is decided of octets that say a value by the basic rules: whether they do by the distinguished ones, and if so whether
+-- additions were skipped.
+use Rattle.std.specs.Prelude.{◌≡◌, ℕ, ◌+◌, ◌≤◌, ◌++◌, ◌↔◌, Bool, true, false, List, [], ◌∷◌, length, Option, Some, None, slice_get, IsTrue, MatchOption}
+use Rattle.asn_base.specs.declared.tag.Tag.{Tag}
+use Rattle.asn_base.specs.Abstract.{AbstractValue, row_of_options, row_of_list}
+use Rattle.asn_base.specs.Types.{TypeNumber, Kind, Component, Resolved, Is}
+use Rattle.asn_base.specs.Typed.{ValueIn, ValueOf, AreComponents, AreElements}
+use Rattle.encodings.specs.Header.{Octets, Encodings}
+use Rattle.encodings.specs.Orders.{Ascending, InTagOrder}
+use Rattle.encodings.specs.Rules.{Basic, Distinguished}
+use Rattle.encodings.specs.Encoding.{Says, Holds, Members, Elements, IsDefault}
+use Rattle.codec_code.specs.declared.step.Step.{Step}
+use Rattle.codec_code.specs.declared.step.Step.TheVariants.{Ranked, Each, EachSorted}
+use Rattle.asn_base.specs.declared.schema.TypeId.{TypeId}
+use Rattle.codec_code.specs.Routines.{row_of, is_constructed, body, ends, component_in}
+use Rattle.strict_rules.specs.Units.{IsUnit, AreUnits}
+use Rattle.strict_rules.specs.Sets.{Reads, Parted}
+use Rattle.strict_rules.specs.Places.{IsOnly, ArePlaced}
+
+-- there is a number of additions of which P holds, and it is told whether it is 0; or there is none
+abbrev pub Decides : (ℕ → Type 0) → Option Bool → Type 0
+Decides P r = MatchOption r ((j : ℕ) → P j → ⊥) (λ b. (j : ℕ) × P j × (IsTrue b ↔ (j ≡ 0)))
+
+-- the form of the header before contents of a kind
+abbrev pub form_of : Kind → Bool
+form_of k = is_constructed (row_of k)
+
+-- the steps begin with a component of a SET
+abbrev pub begins_ranked : List Step → Bool
+begins_ranked [] = false
+begins_ranked (Ranked f r ∷ ss) = true
+begins_ranked (p ∷ ss) = false
+
+-- the type of the elements that steps begin with, and whether their encodings ascend
+abbrev pub element_type : List Step → Option (TypeId × Bool)
+element_type [] = None
+element_type (Each u ∷ ss) = Some (u, false)
+element_type (EachSorted u ∷ ss) = Some (u, true)
+element_type (p ∷ ss) = None
+
+-- octets of a message say a value of at most n levels by the basic rules
+pub record ValueGiven (s : List Resolved) (t : TypeNumber) (n : ℕ) (v : AbstractValue) (o : Octets) : Type 0 where
+  pub few : n ≤ 64
+  pub value : ValueIn s n t v
+  pub count : ℕ
+  pub says_it : Says s Basic t v count o
+  pub short : length o ≤ 16777216
+
+-- contents hold a value of this kind by the basic rules, and these are the steps that read them
+pub record ContentsGiven (s : List Resolved) (t : TypeNumber) (n : ℕ) (ss : List Step) (v : AbstractValue) (k : Kind) (x : Octets)
+    : Type 0 where
+  pub few : n ≤ 64
+  pub tags : List Tag
+  pub is : Is s t tags k
+  pub ended : ℕ
+  pub steps : ss ≡ body s k ++ ends ended
+  pub value : ValueOf s n k v
+  pub count : ℕ
+  pub holds_it : Holds s Basic k v count (form_of k) x
+  pub short : length x ≤ 16777216
+
+-- the same of elements, whose encodings are told
+pub record ElementsGiven (s : List Resolved) (t : TypeNumber) (n : ℕ) (vs : List AbstractValue) (xs : Encodings) (o : Octets)
+    : Type 0 where
+  pub few : n ≤ 64
+  pub values : AreElements s n t (row_of_list vs)
+  pub count : ℕ
+  pub says_them : Elements s Basic t (row_of_list vs) count xs
+  pub units : AreUnits xs o
+
+-- the steps of type t read these components
+pub record StepsGiven (s : List Resolved) (t : TypeNumber) (ss : List Step) (cs : List Component) : Type 0 where
+  pub reads : Reads cs 0 ss
+  pub placed : (i : ℕ) (c : Component) → slice_get cs i ≡ Some c → component_in s t i ≡ Some c
+
+-- the same of components, whose encodings are told, and those of some additions behind them
+pub record SequenceGiven (s : List Resolved) (t : TypeNumber) (n : ℕ) (ss : List Step) (os : List (Option AbstractValue))
+    (cs : List Component) (xs us : Encodings) (o : Octets) : Type 0 where
+  pub few : n ≤ 64
+  pub steps : StepsGiven s t ss cs
+  pub values : AreComponents s n cs (row_of_options os)
+  pub count : ℕ
+  pub says_them : Members s Basic cs (row_of_options os) count xs
+  pub units : AreUnits (xs ++ us) o
+
+-- of a SET, where encodings are those of components, and others
+pub record SetGiven (s : List Resolved) (t : TypeNumber) (n : ℕ) (ss : List Step) (os : List (Option AbstractValue))
+    (cs : List Component) (xs zs us ys : Encodings) (o : Octets) : Type 0 where
+  pub few : n ≤ 64
+  pub steps : StepsGiven s t ss cs
+  pub values : AreComponents s n cs (row_of_options os)
+  pub count : ℕ
+  pub says_them : Members s Basic cs (row_of_options os) count xs
+  pub units : AreUnits ys o
+  pub parted : Parted s cs ys zs us
+  pub places : ArePlaced s ys cs (row_of_options os) xs
+
+-- of the component at a place
+pub record MemberGiven (s : List Resolved) (t : TypeNumber) (n : ℕ) (ss : List Step) (v : AbstractValue) (i : ℕ) (c : Component)
+    (x : Octets) : Type 0 where
+  pub all : List Component
+  pub steps : StepsGiven s t ss all
+  pub stands : slice_get all i ≡ Some c
+  pub given : ValueGiven s c.type n v x
+
+-- octets say the component's value by the distinguished rules, and it isn't the same as its DEFAULT, unless additions were
+-- skipped within it (X.690, 11.5)
+pub record MemberBy (s : List Resolved) (c : Component) (v : AbstractValue) (x : Octets) (j : ℕ) : Type 0 where
+  pub says_it : Says s Distinguished c.type v j x
+  pub no_default : j ≡ 0 → IsDefault s c v → ⊥
+
+-- the same of a component that may be absent
+abbrev pub PartGiven : List Resolved → TypeNumber → ℕ → List Step → Option AbstractValue → ℕ → Component → Octets → Type 0
+PartGiven s t n ss None i c x = Unit {0}
+PartGiven s t n ss (Some v) i c x = MemberGiven s t n ss v i c x
+
+abbrev pub PartBy : List Resolved → Component → Option AbstractValue → Octets → ℕ → Type 0
+PartBy s c None x j = j ≡ 0
+PartBy s c (Some v) x j = MemberBy s c v x j
+
+-- its encoding stands at the front of octets
+abbrev pub StandsFirst : Option AbstractValue → Octets → Octets → Octets → Type 0
+StandsFirst None x r o = o ≡ r
+StandsFirst (Some v) x r o = (o ≡ x ++ r) × (length o ≤ 16777216) × ((g : Tag) × IsUnit g x)
+
+-- or among some encodings
+abbrev pub StandsAmong : List Resolved → Component → Option AbstractValue → Octets → Octets → Type 0
+StandsAmong s c None x o = Unit {0}
+StandsAmong s c (Some v) x o = (ys : Encodings) × AreUnits ys o × IsOnly s c.type ys x
+
+-- the components, with as many others
+pub record SequenceBy (s : List Resolved) (os : List (Option AbstractValue)) (cs : List Component) (xs us : Encodings) (j : ℕ)
+    : Type 0 where
+  pub count : ℕ
+  pub says_them : Members s Distinguished cs (row_of_options os) count xs
+  pub counted : j ≡ count + length us
+
+-- of a SET, in order of their tags
+pub record SetBy (s : List Resolved) (os : List (Option AbstractValue)) (cs : List Component) (xs zs us : Encodings) (j : ℕ)
+    : Type 0 where
+  pub count : ℕ
+  pub says_them : Members s Distinguished cs (row_of_options os) count xs
+  pub ascend : Ascending InTagOrder zs
+  pub counted : j ≡ count + length us

@@ -1,0 +1,74 @@
+//! Headers by the distinguished rules.
+
+ghost use Rattle.encodings.specs.Header.{HeaderBy};
+ghost use Rattle.encodings.specs.Rules.{Distinguished};
+ghost use Rattle.octets.specs.Forms.{is_constructed};
+ghost use Rattle.codec_code.specs.declared.step.Step.{Step as Step'};
+ghost use Rattle.std.specs.Prelude.{◌≡◌, ◌≤◌, IfNone, IfSome, List, false, length, true, ℕ};
+ghost use Rattle.strict_rules.specs.Heads.{IsInside, IsWithin};
+
+use codec_code::{Head, Step};
+use encodings::header_laws;
+use next_tags::{next_unit, same_tag};
+use octets::law::shortest_headers;
+use octets::{Form, header_len};
+
+/// Whether the form is the one told.
+fn is_form(form: Form, constructed: bool) -> bool
+    ensures yes { result ≡ true → is_constructed form ≡ constructed }
+    ensures no { result ≡ false → is_constructed form ≡ constructed → ⊥ }
+{
+    match form {
+        Form::Primitive => !constructed,
+        Form::Constructed => constructed,
+    }
+}
+
+/// The contents of octets that are one header and its contents, with this tag and form and the fewest octets.
+fn inside(head: Head, octets: &[u8]) -> Option<&[u8]>
+    ensures some { IfSome result (λ x. IsInside head x.now octets.now) }
+    ensures none { IfNone result ((x : List ℕ) → IsInside head x octets.now → length octets.now ≤ 16777216 → ⊥) }
+{
+    header_laws();
+    shortest_headers();
+    let Ok(unit) = next_unit(octets) else {
+        return None;
+    };
+    if !same_tag(unit.tag, head.tag) {
+        return None;
+    }
+    if !is_form(unit.form, head.constructed) {
+        return None;
+    }
+    if unit.count != header_len(unit.tag, unit.contents.len() as u64) {
+        return None;
+    }
+    if !unit.rest.is_empty() {
+        return None;
+    }
+    Some(unit.contents)
+}
+
+/// The steps behind the headers that steps begin with, and the contents within such headers of the octets.
+pub(crate) fn within_heads<'s, 'o>(
+    steps: &'s [Step],
+    octets: &'o [u8],
+) -> Option<(&'s [Step], &'o [u8])>
+    ensures some { IfSome result (λ r. IsWithin steps.now octets.now r.0.now r.1.now) }
+    ensures none { IfNone result ((ss : List Step') (x : List ℕ)
+        → IsWithin steps.now octets.now ss x
+        → length octets.now ≤ 16777216
+        → ⊥) }
+{
+    header_laws();
+    let Some((step, behind)) = steps.split_first() else {
+        return Some((steps, octets));
+    };
+    let Step::Head(head) = *step else {
+        return Some((steps, octets));
+    };
+    match inside(head, octets) {
+        Some(contents) => within_heads(behind, contents),
+        None => None,
+    }
+}

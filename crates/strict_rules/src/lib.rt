@@ -1,0 +1,11 @@
+//! Whether octets that encode a value by the basic rules keep the distinguished ones too (X.690, 10 and 11).
+#![tactic(auto)]
+
+mod heads;
+mod leaf;
+mod order;
+mod sets;
+mod units;
+mod value;
+
+pub use value::is_strict;
