@@ -10,7 +10,10 @@ use Rattle.encodings.specs.Encoding.{Says}
 use Rattle.encodings.specs.Levels.{levels}
 use Rattle.codec_code.specs.Routines.{routine_at}
 use Rattle.codec_source.specs.Reading.{Reads}
+use Rattle.codec_source.specs.Stopping.{StopsReading}
+use Rattle.codec_source.specs.declared.fault.ReadFault.TheVariants.{Missing}
 use Rattle.octet_answers.specs.Answers.{Takes}
+use Rattle.octet_answers.specs.Left.{Leaves}
 use Rattle.octet_answers.specs.States.{State, Token, front}
 use Rattle.reading_law.specs.Shows.{Shows, passed_in, StandIn}
 
@@ -46,6 +49,23 @@ pub record IsRead (s : List Resolved) (t : TypeId) (o : Octets) : Type 0 where
   pub last : State
   pub reads : Reads (λ u. routine_at s u) Takes t (front s o (room_of (length o))) last
   pub at_end : last.here.octets ≡ []
+
+-- the type's routine comes to the end of contents in which something must stand yet
+pub record EndsTooSoon (s : List Resolved) (t : TypeId) (o : Octets) : Type 0 where
+  pub last : State
+  pub stops :
+      StopsReading (λ u. routine_at s u) Takes (λ a b. Leaves a b Missing) t (front s o (room_of (length o))) last
+  pub at_end : last.here.octets ≡ []
+
+-- Octets say something of the type's shape that is no value of it: a constraint isn't met, an ENUMERATED lacks the number, a
+-- group is not whole, or an absent component's DEFAULT has too many levels.
+pub record SaysNoValue (s : List Resolved) (t : TypeNumber) (o : Octets) : Type 0 where
+  pub value : AbstractValue
+  pub count : ℕ
+  pub is_said : Says s Basic t value count o
+  pub few : levels is_said ≤ 400
+  pub short : length o ≤ 16777216
+  pub is_none : IsValueWithoutNodes s t value → ⊥
 
 -- Octets say a value of the type, constraints included, within 400 levels; they are at most as many as a message has. By the
 -- definition of values it has at most 64 levels.

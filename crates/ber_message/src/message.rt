@@ -2,9 +2,9 @@
 
 ghost use Rattle.asn_base.specs.Abstract.{AbstractValue};
 ghost use Rattle.asn_base.specs.declared.tag.Tag.{Tag as Tag'};
-ghost use Rattle.ber_message.specs.Messages.{BeginsEncoding, HasEncodingFirst, HasMessageFirst, IsEncoding, IsMessage, IsRead};
+ghost use Rattle.ber_message.specs.Messages.{BeginsEncoding, EndsTooSoon, HasEncodingFirst, HasMessageFirst, IsEncoding, IsMessage, IsRead};
 ghost use Rattle.ber_source.specs.Seen.{token_of};
-ghost use Rattle.codec_source.specs.declared.fault.ReadFault.TheVariants.{Memory, MessageLimit, Trailing, Truncated};
+ghost use Rattle.codec_source.specs.declared.fault.ReadFault.TheVariants.{Memory, MessageLimit, Missing, OutsideConstraint, Trailing, Truncated};
 ghost use Rattle.encodings.specs.Encoding.{Says};
 ghost use Rattle.encodings.specs.Rules.{Basic};
 ghost use Rattle.octets.specs.Fronts.{EndsEarly, HeaderAt};
@@ -52,6 +52,9 @@ pub fn read_message<'a>(
     ensures read { IsEncoding code.now id.index octets.now → IfErr result (λ e. e ≡ Memory) }
     ensures more { HasEncodingFirst code.now id.index octets.now → (result ≡ Err Trailing) ⊎ (result ≡ Err Memory) }
     ensures less { BeginsEncoding code.now id.index octets.now → result ≡ Err Truncated }
+    // 85 is told at the end of contents, and 88 of nothing: constraints are not judged.
+    ensures missing { result ≡ Err Missing → EndsTooSoon code.now id octets.now }
+    ensures outside { result ≡ Err OutsideConstraint → ⊥ }
     // A refusal but for want of memory or length says that the routine of the type reads nothing to the end.
     ensures err { IfErr result (λ e. (e ≡ Memory → ⊥)
         → (e ≡ MessageLimit → ⊥)
@@ -110,11 +113,13 @@ fn ends_early(octets: &[u8]) -> bool
     }
 }
 
-/// A fault within a message: none of its length, and none behind it.
+/// A fault within a message: none of its length, none behind it, and none of a constraint.
 fn within(fault: ReadFault) -> ReadFault
     ensures limit { result ≡ MessageLimit → ⊥ }
     ensures trailing { result ≡ Trailing → ⊥ }
     ensures memory { fault ≡ Memory → result ≡ Memory }
+    ensures missing { result ≡ Missing → fault ≡ Missing }
+    ensures outside { result ≡ OutsideConstraint → ⊥ }
 {
     match fault {
         ReadFault::MessageLimit => ReadFault::TooDeep,
@@ -130,7 +135,7 @@ fn within(fault: ReadFault) -> ReadFault
         ReadFault::Missing => ReadFault::Missing,
         ReadFault::BadContents => ReadFault::BadContents,
         ReadFault::EmptySegments => ReadFault::EmptySegments,
-        ReadFault::OutsideConstraint => ReadFault::OutsideConstraint,
+        ReadFault::OutsideConstraint => ReadFault::BadContents,
         ReadFault::TooDeep => ReadFault::TooDeep,
         ReadFault::NotDer => ReadFault::NotDer,
     }

@@ -1,8 +1,10 @@
 //! Where reading of a message stops.
 
+ghost use Rattle.ber_message.specs.Messages.{room_of};
 ghost use Rattle.ber_message.specs.Opened.{opens};
-ghost use Rattle.octet_answers.specs.States.{Token as Token'};
-ghost use Rattle.std.specs.Prelude.{◌≡◌, ◌≤◌, IfOk, length, List};
+ghost use Rattle.ber_message.specs.Stops.{IsStop};
+ghost use Rattle.codec_source.specs.declared.fault.ReadFault.TheVariants.{Memory};
+ghost use Rattle.std.specs.Prelude.{◌≡◌, ◌≤◌, false, IfOk, length};
 
 use crate::message::{MOST, VALUES};
 use crate::open::{Open, open_behind};
@@ -10,6 +12,7 @@ use asn_base::schema::TypeId;
 use ber_source::Cursor;
 use codec_code::Code;
 use codec_source::{ReadFault, read};
+use reading_law::law::stops_in_place;
 use std::alloc::{AllocError, Global};
 
 /// Where reading of a message stops: the place of the first octet that isn't read, from 0, and the values that are open
@@ -22,7 +25,9 @@ pub struct Whereabouts {
 
 /// How many values begin in the message at most: each octet but the last begins a header at most, and 64 values stand one
 /// in another.
-pub fn most_values(octets: &[u8]) -> usize {
+pub fn most_values(octets: &[u8]) -> usize
+    ensures { length octets.now ≤ 16777216 → result ≡ room_of (length octets.now) }
+{
     octets.len().min(MOST) * VALUES + VALUES
 }
 
@@ -36,9 +41,10 @@ pub fn stop_of(
     octets: &[u8],
     most: usize,
 ) -> Result<Whereabouts, AllocError>
+    ensures is { IfOk result (λ w. IsStop code.now id octets.now most w) }
     ensures place { IfOk result (λ w. w.place ≤ length octets.now) }
-    ensures values { IfOk result (λ w. (ts : List Token') × (w.values.items ≡ opens ts)) }
 {
+    stops_in_place();
     let mut cursor = match Cursor::new(alloc, code, octets, most) {
         Ok(cursor) => cursor,
         Err(_) => {
@@ -49,13 +55,30 @@ pub fn stop_of(
         }
     };
     match read(alloc, code, id, &mut cursor) {
-        Err(ReadFault::Memory) => return Err(AllocError),
-        Err(_) => {}
-        Ok(()) => {}
+        Ok(()) => told(alloc, &cursor),
+        Err(fault) => {
+            if is_memory(fault) {
+                return Err(AllocError);
+            }
+            told(alloc, &cursor)
+        }
     }
+}
+
+fn is_memory(fault: ReadFault) -> bool
+    ensures { result ≡ false → fault ≡ Memory → ⊥ }
+{
+    fault == ReadFault::Memory
+}
+
+/// Where the cursor stands.
+fn told(alloc: Global, cursor: &Cursor<'_, '_>) -> Result<Whereabouts, AllocError>
+    ensures place { IfOk result (λ w. w.place ≡ cursor.now.here.at) }
+    ensures values { IfOk result (λ w. w.values.items ≡ opens cursor.now.told) }
+{
     let values = open_behind(alloc, cursor.tokens())?;
     Ok(Whereabouts {
-        place: cursor.at().min(octets.len()),
+        place: cursor.at(),
         values,
     })
 }

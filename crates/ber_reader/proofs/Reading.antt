@@ -8,7 +8,11 @@ use Rattle.encodings.specs.Rules.{Basic}
 use Rattle.encodings.specs.Encoding.{Says}
 use Rattle.encodings.specs.Levels.{levels}
 use Rattle.octet_answers.specs.States.{Token}
-use Rattle.ber_message.specs.Messages.{IsMessage}
+use Rattle.std.specs.Prelude.{Result, Ok, Err, IfOk}
+use Rattle.asn_base.specs.declared.schema.TypeId.{TypeId}
+use Rattle.ber_message.specs.Messages.{IsMessage, SaysNoValue}
+use Rattle.ber_message.specs.Stops.{IsStop}
+use Rattle.ber_message.specs.declared.stop.Whereabouts.{Whereabouts}
 use Rattle.views.specs.Tree.{Tree, value_of, IsBorrowed}
 use Rattle.views.specs.Seen.{IsView}
 use Rattle.ber_reader.specs.declared.read.Read.{Read}
@@ -37,3 +41,14 @@ holds b e h = h.0 e
 pub never_holds : {P Q : Type 0} (b : Bool) → b ≡ false → IsTrue b ↔ P → P → Q
 never_holds true e h p = absurd (let f = e in cc)
 never_holds false e h p = absurd (let f : false ≡ true = h.1 p in cc)
+
+-- what was read is no value
+pub says_none : {s : List Resolved} {t : ℕ} {o : List ℕ} {ts : List Token} (m : IsMessage s t o ts) → (IsValueWithoutNodes s t m.value → ⊥) → SaysNoValue s t o
+says_none m n = record { value = m.value; count = m.count; is_said = m.is_said; few = m.few; short = m.short; is_none = n }
+
+pub stop_some : {E : Type 0} (s : List Resolved) (t : TypeId) (o : List ℕ) (m : ℕ) (r : Result Whereabouts E) → IfOk r (λ w. IsStop s t o m w) → IfOk r (λ w. (n : ℕ) × IsStop s t o n w)
+stop_some s t o m (Ok w) h = (m, h)
+stop_some s t o m (Err e) h = h
+
+pub stop_most : {E : Type 0} (s : List Resolved) (t : TypeId) (o : List ℕ) (m n : ℕ) (r : Result Whereabouts E) → m ≡ n → IfOk r (λ w. IsStop s t o m w) → IfOk r (λ w. IsStop s t o n w)
+stop_most s t o m n r e h = subst (λ q. IfOk r (λ w. IsStop s t o q w)) e h

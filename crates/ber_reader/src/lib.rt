@@ -4,10 +4,13 @@
 mod arcs;
 mod build;
 mod der;
+pub mod law;
 mod leaf;
 mod place;
 mod read;
+mod seek;
 mod shape;
+mod wrong;
 
 pub use ber_message::{Open, Part, Whereabouts};
 pub use der::read_der;

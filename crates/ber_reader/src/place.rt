@@ -1,28 +1,66 @@
 //! Where a message is refused.
 
-ghost use Rattle.ber_message.specs.Opened.{opens};
+ghost use Rattle.ber_message.specs.Messages.{IsMessage, room_of};
+ghost use Rattle.ber_message.specs.Stops.{IsStop};
+ghost use Rattle.ber_source.specs.Seen.{token_of};
 ghost use Rattle.octet_answers.specs.States.{Token as Token'};
-ghost use Rattle.std.specs.Prelude.{◌≡◌, ◌≤◌, IfOk, length, List};
+ghost use Rattle.std.specs.Prelude.{◌≤◌, IfOk, length, List, map, ℕ};
 
+use crate::build::view_of;
+use crate::seek::begun_before;
+use crate::wrong::wrong_from;
 use asn_base::schema::TypeId;
-use ber_message::{Whereabouts, most_values, stop_of};
+use ber_message::{Whereabouts, most_values, read_message, stop_of};
+use ber_source::Token;
 use codec_code::Code;
+use codec_source::ReadFault;
 use std::alloc::{AllocError, Global};
 
 /// Where a message is refused that `read_ber` refuses, other than for want of memory: the place of the octet, from 0, and
 /// the values that were open there, the outermost first, each with the part of it that was being read.
 ///
-/// `Truncated`, `Indefinite`, `BadLength`, `BadTag`, `UnexpectedTag`: the header. `Missing`: the end of the contents.
-/// `BadContents`, `IntegerLimit`, `OidLimit`: the first of the contents octets. `Trailing`: the first octet behind the
-/// value. `MessageLimit`: the first octet behind those that a message may have. Of what is no value of the type the end.
+/// `Truncated`, `Indefinite`, `BadLength`, `BadTag`, `UnexpectedTag`: the header. `BadContents`, `IntegerLimit`,
+/// `OidLimit`: the first of the contents octets. `Missing`: the end of the contents. `TooDeep`: the header one too many.
+/// `Trailing`: the first octet behind the value. `MessageLimit`: the first octet behind those that a message may have. Where
+/// all of a message was read and is no value of the type, the header of the innermost value that is none of its own.
 pub fn whereabouts(
     alloc: Global,
     code: &Code,
     id: TypeId,
     octets: &[u8],
 ) -> Result<Whereabouts, AllocError>
+    ensures is { IfOk result (λ w. (most : ℕ) × IsStop code.now id octets.now most w) }
+    // Of what is not read as a whole it is where reading it stops.
+    ensures first { ((ts : List Token') → IsMessage code.now id.index octets.now ts → ⊥)
+        → length octets.now ≤ 16777216
+        → IfOk result (λ w. IsStop code.now id octets.now (room_of (length octets.now)) w) }
     ensures place { IfOk result (λ w. w.place ≤ length octets.now) }
-    ensures values { IfOk result (λ w. (ts : List Token') × (w.values.items ≡ opens ts)) }
 {
-    stop_of(alloc, code, id, octets, most_values(octets))
+    match read_message(alloc, code, id, octets) {
+        Ok(tokens) => {
+            let most = before_wrong(alloc, code, id, octets, tokens.as_slice())?;
+            stop_of(alloc, code, id, octets, most)
+        }
+        Err(ReadFault::Memory) => Err(AllocError),
+        Err(_) => stop_of(alloc, code, id, octets, most_values(octets)),
+    }
+}
+
+/// How many values begin in the message before the innermost one that is none of its type.
+fn before_wrong(
+    alloc: Global,
+    code: &Code,
+    id: TypeId,
+    octets: &[u8],
+    tokens: &[Token<'_>],
+) -> Result<usize, AllocError>
+    requires { IsMessage code.now id.index octets.now (map token_of tokens.now) }
+{
+    code.accepted();
+    let view = view_of(alloc, code, tokens)?;
+    let value = view.to_value(alloc)?;
+    if code.is_value(id, &value) {
+        return Ok(most_values(octets));
+    }
+    Ok(begun_before(tokens, wrong_from(code, id, &value, tokens)))
 }

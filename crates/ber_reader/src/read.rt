@@ -1,10 +1,10 @@
 //! Messages read as views.
 
 ghost use Rattle.asn_base.specs.Abstract.{AbstractValue};
-ghost use Rattle.ber_message.specs.Messages.{BeginsEncoding, HasEncodingFirst, HasMessageFirst, IsEncoding};
+ghost use Rattle.ber_message.specs.Messages.{BeginsEncoding, EndsTooSoon, HasEncodingFirst, HasMessageFirst, IsEncoding, SaysNoValue};
 ghost use Rattle.ber_reader.specs.Readings.{IsReading};
 ghost use Rattle.ber_source.specs.Seen.{token_of};
-ghost use Rattle.codec_source.specs.declared.fault.ReadFault.TheVariants.{Memory, MessageLimit, Trailing, Truncated};
+ghost use Rattle.codec_source.specs.declared.fault.ReadFault.TheVariants.{Memory, MessageLimit, Missing, OutsideConstraint, Trailing, Truncated};
 ghost use Rattle.encodings.specs.Reading.{Encodes};
 ghost use Rattle.encodings.specs.Rules.{Basic};
 ghost use Rattle.reading_law.specs.Shows.{passed_in};
@@ -13,6 +13,7 @@ ghost use Rattle.views.specs.Seen.{IsView};
 ghost use Rattle.views.specs.Tree.{Tree, value_of};
 
 use crate::build::view_of;
+use crate::wrong::fault_of;
 use asn_base::schema::TypeId;
 use ber_message::read_message;
 use ber_source::Token;
@@ -33,8 +34,10 @@ pub struct Read<'a> {
 /// strings are slices of the octets where they were primitive, and joined copies where they were in segments.
 ///
 /// `MessageLimit`: there are more than 16,777,216 octets. `Trailing`: a value ends before the octets do.
-/// `OutsideConstraint`: they say what is no value of the type. Else the first fault met from the front is told. A type
-/// that the code lacks is `UnexpectedTag`.
+/// The first fault met from the front is told; a type that the code lacks is `UnexpectedTag`. Where all of them was read and
+/// says what is no value of the type, it is the fault of the innermost value in it that is none of its own: `BadContents` of
+/// an ENUMERATED that lacks the number, `Missing` of components of which one of a group must stand beside others,
+/// `TooDeep` where the levels of an absent component's DEFAULT are too many, `OutsideConstraint` of any other.
 pub fn read_ber<'a>(
     alloc: Global,
     code: &Code,
@@ -55,6 +58,10 @@ pub fn read_ber<'a>(
     ensures read { IsEncoding code.now id.index octets.now → IfErr result (λ e. e ≡ Memory) }
     ensures more { HasEncodingFirst code.now id.index octets.now → (result ≡ Err Trailing) ⊎ (result ≡ Err Memory) }
     ensures less { BeginsEncoding code.now id.index octets.now → result ≡ Err Truncated }
+    // 88 is told where they say what is no value of the type, 85 there or at the end of contents.
+    ensures outside { result ≡ Err OutsideConstraint → SaysNoValue code.now id.index octets.now }
+    ensures missing { result ≡ Err Missing
+        → EndsTooSoon code.now id octets.now ⊎ SaysNoValue code.now id.index octets.now }
 {
     code.accepted();
     message_laws();
@@ -71,7 +78,7 @@ pub fn read_ber<'a>(
         Err(_) => return Err(ReadFault::Memory),
     };
     if !code.is_value(id, &value) {
-        return Err(ReadFault::OutsideConstraint);
+        return Err(fault_of(alloc, code, id, &value));
     }
     Ok(Read {
         view,

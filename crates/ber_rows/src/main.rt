@@ -1,11 +1,12 @@
 //! Answers rows of messages by the public calls that read them, and prints each answer below its row's words.
 //!
 //! The files that its words name are files of rows. A row's first word is a command and its second the row's own name:
-//! `read`, `sweep`, `view` and `der`, described where they are answered. The answers that the stored run compares are written by hand, or
-//! counted by a second reader, not taken from this program.
+//! `der`, `place`, `read`, `sweep` and `view`, described where they are answered. The answers that the stored run compares are
+//! written by hand, or counted by a second reader, not taken from this program.
 #![tactic(auto)]
 
 mod message;
+mod place;
 mod refusal;
 mod strict;
 mod sweep;
@@ -24,6 +25,7 @@ use std::{env, fs, io};
 /// What a row's command answers.
 fn answer_of(alloc: Global, schema: &Schema, code: &Code, row: &Row) -> Result<String, Refusal> {
     match row.command() {
+        "place" => place::answer(alloc, code, row),
         "read" => message::answer(alloc, code, row),
         "sweep" => sweep::answer(alloc, code, row),
         "view" => view::answer(alloc, schema, code, row),

@@ -2,7 +2,8 @@
 use Rattle.std.proofs.Common.{◌≡◌, sym, subst}
 use Rattle.std.specs.Prelude.{Result, Ok, Err, OnOk, IfOk}
 use Rattle.codec_source.specs.declared.fault.ReadFault.{ReadFault}
-use Rattle.codec_source.specs.proving.Frames.{IfRefused}
+use Rattle.codec_source.specs.proving.Frames.{IfRefused, IfRefusedWith}
+use Rattle.octet_answers.specs.Left.{Leaves}
 use Rattle.codec_source.specs.Events.{Event}
 use Rattle.octet_answers.specs.States.{State}
 use Rattle.octet_answers.specs.Answers.{Answers, Takes}
@@ -40,3 +41,10 @@ pub never_one : {A B : Type 0} (r : Result A ReadFault) (s a : State) (e : B →
     → IfRefused r ((x : B) (b : State) → Takes a (e x) b → ⊥)
 never_one (Ok x) s a e i h = h
 never_one (Err f) s a e i h = λ other x b t. h other x b (subst (λ q. Answers q (e x) b) (sym i) t.answer)
+
+pub left_as : {A : Type 0} (r : Result A ReadFault) (s a b : State)
+    → s ≡ a
+    → IfRefusedWith r (Leaves s b)
+    → IfRefusedWith r (Leaves a b)
+left_as (Ok x) s a b e h = h
+left_as (Err f) s a b e h = λ other. subst (λ q. Leaves q b f) e (h other)

@@ -3,8 +3,9 @@
 ghost use Rattle.asn_base.specs.declared.schema.TypeId.{TypeId as TypeId'};
 ghost use Rattle.ber_source.specs.Seen.{IsWithin, state_of, token_of};
 ghost use Rattle.codec_source.specs.declared.fault.ReadFault.TheVariants.{Memory};
-ghost use Rattle.codec_source.specs.proving.Frames.{IfRefused};
+ghost use Rattle.codec_source.specs.proving.Frames.{IfRefused, IfRefusedWith};
 ghost use Rattle.octet_answers.specs.Answers.{AmongNext, Chooses, MoreNext, Skips, StandsNext};
+ghost use Rattle.octet_answers.specs.Left.{Leaves};
 ghost use Rattle.octet_answers.specs.States.{State, marked, telling};
 ghost use Rattle.std.specs.Prelude.{◌≡◌, ◌++◌, ◌∷◌, [], Bool, IfErr, IfNone, IfOk, IfSome, OnOk, Option as Option', drop, length, List};
 
@@ -47,6 +48,7 @@ pub(crate) fn stands_next<'c, 'a>(
     ensures within { IsWithin (state_of place.new) }
     ensures ok { IfOk result (λ yes. StandsNext (state_of place.old) field yes (state_of place.new)) }
     ensures err { IfRefused result ((yes : Bool) (b : State) → StandsNext (state_of place.old) field yes b → ⊥) }
+    ensures left { IfRefusedWith result (Leaves (state_of place.old) (state_of place.new)) }
 {
     one_unit();
     if place.here.octets.is_empty() {
@@ -78,6 +80,7 @@ pub(crate) fn choose_next<'c, 'a>(
     ensures within { IsWithin (state_of place.new) }
     ensures ok { IfOk result (λ id. Chooses (state_of place.old) calls.now id (state_of place.new)) }
     ensures err { IfRefused result ((id : TypeId') (b : State) → Chooses (state_of place.old) calls.now id b → ⊥) }
+    ensures left { IfRefusedWith result (Leaves (state_of place.old) (state_of place.new)) }
 {
     one_unit();
     let unit = match next_unit(place.here.octets) {
@@ -99,6 +102,7 @@ pub(crate) fn skip<'c, 'a>(place: &mut Place<'c, 'a>) -> Result<(), ReadFault>
     ensures within { IsWithin (state_of place.new) }
     ensures ok { OnOk result (Skips (state_of place.old) (state_of place.new)) }
     ensures err { IfRefused result ((b : State) → Skips (state_of place.old) b → ⊥) }
+    ensures left { IfRefusedWith result (Leaves (state_of place.old) (state_of place.new)) }
 {
     let id = match innermost(place.values.as_slice()) {
         Some(id) => id,
@@ -146,6 +150,7 @@ pub(crate) fn among_next<'c, 'a>(
     ensures ok { IfOk result (λ id. AmongNext (state_of place.old) steps.now id (state_of place.new)) }
     ensures err { IfRefused result ((id : Option' TypeId') (b : State)
         → AmongNext (state_of place.old) steps.now id b → ⊥) }
+    ensures left { IfRefusedWith result (Leaves (state_of place.old) (state_of place.new)) }
 {
     let found = match pass(place, steps, is_extensible(steps)) {
         Ok(found) => found,

@@ -110,6 +110,10 @@ impl<'c, 'a> Source for Cursor<'c, 'a> {
 
     ghost takes = { Takes };
 
+    ghost use Rattle.octet_answers.specs.Left.{Leaves};
+
+    ghost leaves = { Leaves };
+
     ghost room = { λ a. a.room };
 
     fn begin(&mut self, id: TypeId) -> Result<(), ReadFault> {

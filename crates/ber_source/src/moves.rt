@@ -2,14 +2,16 @@
 
 ghost use Rattle.asn_base.specs.Abstract.{AbstractValue};
 ghost use Rattle.ber_source.specs.Seen.{IsWithin, state_of, token_of};
-ghost use Rattle.codec_source.specs.declared.fault.ReadFault.TheVariants.{Memory};
-ghost use Rattle.codec_source.specs.proving.Frames.{IfRefused};
+ghost use Rattle.codec_source.specs.declared.fault.ReadFault.{ReadFault as ReadFault'};
+ghost use Rattle.codec_source.specs.declared.fault.ReadFault.TheVariants.{Memory, Missing};
+ghost use Rattle.codec_source.specs.proving.Frames.{IfRefused, IfRefusedWith};
 ghost use Rattle.octet_answers.specs.Answers.{AreContents, Begins, Closes, Ends, Holds, Opens};
+ghost use Rattle.octet_answers.specs.Left.{Leaves, standing};
 ghost use Rattle.octet_answers.specs.States.{State, held_at, opened_at};
 ghost use Rattle.octet_answers.specs.Units.{UnitAt};
 ghost use Rattle.octets.specs.Forms.{is_constructed};
 ghost use Rattle.segmented_strings.specs.declared.fault.SegmentsFault.TheVariants.{Memory as NoMemory};
-ghost use Rattle.std.specs.Prelude.{◌≡◌, ◌++◌, ◌∷◌, ◌<◌, ◌≤◌, [], IfErr, OnErr, OnOk, length};
+ghost use Rattle.std.specs.Prelude.{◌≡◌, ◌++◌, ◌∷◌, ◌<◌, ◌≤◌, [], IfErr, OnErr, OnOk, drop, length};
 
 use crate::place::Place;
 use crate::token::Token;
@@ -32,7 +34,8 @@ const VALUES: usize = 64;
 
 /// The fault of a header, as that of a reader.
 pub(crate) fn told_header(fault: HeaderFault) -> ReadFault
-    ensures { result ≡ Memory → ⊥ }
+    ensures memory { result ≡ Memory → ⊥ }
+    ensures missing { result ≡ Missing → ⊥ }
 {
     match fault {
         HeaderFault::Truncated => ReadFault::Truncated,
@@ -43,7 +46,9 @@ pub(crate) fn told_header(fault: HeaderFault) -> ReadFault
 }
 
 /// The fault of primitive contents, as that of a reader.
-fn told_leaf(fault: LeafFault) -> ReadFault {
+fn told_leaf(fault: LeafFault) -> ReadFault
+    ensures { result ≡ Missing → ⊥ }
+{
     match fault {
         LeafFault::BadContents => ReadFault::BadContents,
         LeafFault::IntegerLimit => ReadFault::IntegerLimit,
@@ -52,17 +57,38 @@ fn told_leaf(fault: LeafFault) -> ReadFault {
 }
 
 /// The fault of segments, as that of a reader.
-fn told_segments(fault: SegmentsFault) -> ReadFault
-    ensures { fault ≡ NoMemory → result ≡ Memory }
+fn told_why(why: Why) -> ReadFault
+    ensures { result ≡ Missing → ⊥ }
+{
+    match why {
+        Why::Header(header) => told_header(header),
+        Why::UnexpectedTag => ReadFault::UnexpectedTag,
+        Why::BadContents => ReadFault::BadContents,
+        Why::EmptySegments => ReadFault::EmptySegments,
+        Why::TooDeep => ReadFault::TooDeep,
+    }
+}
+
+/// Why contents octets are none of a kind, and at which of them, from 0.
+#[derive(Clone, Copy)]
+struct Bad {
+    fault: ReadFault,
+    at: usize,
+}
+
+/// Segments that are refused.
+fn told_segments(fault: SegmentsFault) -> Bad
+    ensures memory { fault ≡ NoMemory → result.fault ≡ Memory }
+    ensures missing { result.fault ≡ Missing → ⊥ }
 {
     match fault {
-        SegmentsFault::Memory => ReadFault::Memory,
-        SegmentsFault::At(_, why) => match why {
-            Why::Header(header) => told_header(header),
-            Why::UnexpectedTag => ReadFault::UnexpectedTag,
-            Why::BadContents => ReadFault::BadContents,
-            Why::EmptySegments => ReadFault::EmptySegments,
-            Why::TooDeep => ReadFault::TooDeep,
+        SegmentsFault::Memory => Bad {
+            fault: ReadFault::Memory,
+            at: 0,
+        },
+        SegmentsFault::At(at, why) => Bad {
+            fault: told_why(why),
+            at,
         },
     }
 }
@@ -99,6 +125,7 @@ pub(crate) fn begin<'c, 'a>(place: &mut Place<'c, 'a>, id: TypeId) -> Result<(),
     ensures within { IsWithin (state_of place.new) }
     ensures ok { OnOk result (Begins (state_of place.old) id (state_of place.new)) }
     ensures err { IfRefused result ((b : State) → Begins (state_of place.old) id b → ⊥) }
+    ensures left { IfRefusedWith result (Leaves (state_of place.old) (state_of place.new)) }
 {
     if place.room == 0 {
         return Err(ReadFault::TooDeep);
@@ -118,6 +145,7 @@ pub(crate) fn end<'c, 'a>(place: &mut Place<'c, 'a>) -> Result<(), ReadFault>
     ensures within { IsWithin (state_of place.new) }
     ensures ok { OnOk result (Ends (state_of place.old) (state_of place.new)) }
     ensures err { IfRefused result ((b : State) → Ends (state_of place.old) b → ⊥) }
+    ensures left { IfRefusedWith result (Leaves (state_of place.old) (state_of place.new)) }
 {
     match place.values.pop() {
         Some(_) => {
@@ -134,6 +162,7 @@ pub(crate) fn open<'c, 'a>(place: &mut Place<'c, 'a>, head: Head) -> Result<(), 
     ensures within { IsWithin (state_of place.new) }
     ensures ok { OnOk result (Opens (state_of place.old) head (state_of place.new)) }
     ensures err { IfRefused result ((b : State) → Opens (state_of place.old) head b → ⊥) }
+    ensures left { IfRefusedWith result (Leaves (state_of place.old) (state_of place.new)) }
 {
     one_unit();
     let unit = match next_unit(place.here.octets) {
@@ -188,6 +217,7 @@ pub(crate) fn close<'c, 'a>(place: &mut Place<'c, 'a>) -> Result<(), ReadFault>
     ensures within { IsWithin (state_of place.new) }
     ensures ok { OnOk result (Closes (state_of place.old) (state_of place.new)) }
     ensures err { IfRefused result ((b : State) → Closes (state_of place.old) b → ⊥) }
+    ensures left { IfRefusedWith result (Leaves (state_of place.old) (state_of place.new)) }
 {
     if !place.here.octets.is_empty() {
         return Err(ReadFault::UnexpectedTag);
@@ -208,6 +238,7 @@ pub(crate) fn hold<'c, 'a>(place: &mut Place<'c, 'a>, kind: LeafKind) -> Result<
     ensures within { IsWithin (state_of place.new) }
     ensures ok { OnOk result (Holds (state_of place.old) kind (state_of place.new)) }
     ensures err { IfRefused result ((b : State) → Holds (state_of place.old) kind b → ⊥) }
+    ensures left { IfRefusedWith result (Leaves (state_of place.old) (state_of place.new)) }
 {
     if place.outer.len() > LEVELS {
         return Err(ReadFault::TooDeep);
@@ -215,28 +246,62 @@ pub(crate) fn hold<'c, 'a>(place: &mut Place<'c, 'a>, kind: LeafKind) -> Result<
     let room = LEVELS - place.outer.len();
     match judge(place.alloc, kind, place.here.form, place.here.octets, room) {
         Ok(()) => {}
-        Err(fault) => return Err(fault),
+        Err(bad) => {
+            stand_at(place, bad.at);
+            return Err(bad.fault);
+        }
     }
     pass_contents(place, kind)?;
     Ok(())
 }
 
+/// The octets behind so many.
+fn behind(octets: &[u8], count: usize) -> &[u8]
+    ensures { result.now ≡ drop count octets.now }
+{
+    if count < octets.len() {
+        &octets[count..]
+    } else {
+        &[]
+    }
+}
+
+/// Goes behind so many of the octets, if there are as many.
+fn stand_at<'c, 'a>(place: &mut Place<'c, 'a>, count: usize)
+    requires { IsWithin (state_of place.old) }
+    ensures within { IsWithin (state_of place.new) }
+    ensures left { (e : ReadFault')
+        → (e ≡ Missing → ⊥)
+        → Leaves (state_of place.old) (state_of place.new) e }
+{
+    let here = place.here;
+    if count <= here.octets.len() {
+        place.here = Window {
+            form: here.form,
+            octets: behind(here.octets, count),
+            at: here.at + count,
+            from: here.from,
+        };
+    }
+}
+
 /// Whether the octets are contents of this kind, where so many levels of headers may stand in them.
-fn judge(
-    alloc: Global,
-    kind: LeafKind,
-    form: Form,
-    octets: &[u8],
-    room: usize,
-) -> Result<(), ReadFault>
+fn judge(alloc: Global, kind: LeafKind, form: Form, octets: &[u8], room: usize) -> Result<(), Bad>
     requires { length octets.now ≤ 16777216 }
     ensures ok { OnOk result ((v : AbstractValue) × AreContents (is_constructed form) kind v room octets.now) }
-    ensures err { IfRefused result ((v : AbstractValue) → AreContents (is_constructed form) kind v room octets.now → ⊥) }
+    ensures err { IfErr result (λ e. (e.fault ≡ Memory → ⊥)
+        → (v : AbstractValue)
+        → AreContents (is_constructed form) kind v room octets.now
+        → ⊥) }
+    ensures missing { IfErr result (λ e. e.fault ≡ Missing → ⊥) }
 {
     match form {
         Form::Primitive => match read_leaf(kind, octets) {
             Ok(_) => Ok(()),
-            Err(fault) => Err(told_leaf(fault)),
+            Err(fault) => Err(Bad {
+                fault: told_leaf(fault),
+                at: 0,
+            }),
         },
         Form::Constructed => match read_segments(alloc, kind, octets, room) {
             Ok(_) => Ok(()),

@@ -2,13 +2,15 @@
 
 ghost use Rattle.ber_source.specs.Seen.{IsWithin, state_of};
 ghost use Rattle.codec_code.specs.declared.step.Field.{Field as Field'};
+ghost use Rattle.codec_source.specs.declared.fault.ReadFault.{ReadFault as ReadFault'};
 ghost use Rattle.codec_source.specs.declared.fault.ReadFault.TheVariants.{Memory};
-ghost use Rattle.codec_source.specs.proving.Frames.{IfRefused};
+ghost use Rattle.codec_source.specs.proving.Frames.{IfRefused, IfRefusedWith};
 ghost use Rattle.octet_answers.specs.Found.{Passes};
+ghost use Rattle.octet_answers.specs.Left.{Leaves};
 ghost use Rattle.octet_answers.specs.States.{State, passing};
 ghost use Rattle.octet_answers.specs.Units.{UnitAt};
 ghost use Rattle.octets.specs.Forms.{is_constructed};
-ghost use Rattle.std.specs.Prelude.{◌≡◌, ◌<◌, Bool, IfErr, IfNone, IfOk, IfSome, OnOk, Option as Option', length};
+ghost use Rattle.std.specs.Prelude.{◌≡◌, ◌<◌, [], Bool, IfErr, IfNone, IfOk, IfSome, OnOk, Option as Option', length};
 
 use crate::moves::{LEVELS, push_token, told_header};
 use crate::place::Place;
@@ -36,6 +38,12 @@ pub(crate) fn pass<'c, 'a>(
     ensures err { IfRefused result ((f : Option' Field') (b : State)
         → Passes place.old.code.now steps.now extensible (state_of place.old) f b → ⊥) }
     ensures code { place.new.code.now ≡ place.old.code.now }
+    ensures left { IfRefusedWith result (Leaves (state_of place.old) (state_of place.new)) }
+    // A question that is refused behind them is refused before them.
+    ensures onward { IfOk result (λ f. (b : State) (e : ReadFault')
+        → Leaves (state_of place.new) b e
+        → Leaves (state_of place.old) b e) }
+    ensures at_end { IfOk result (λ f. IfNone f (place.new.here.octets.now ≡ [])) }
 {
     loop {
         match pass_one(place, steps, extensible) {
@@ -71,6 +79,11 @@ fn pass_one<'c, 'a>(
         (length place.new.here.octets.now < length place.old.here.octets.now)) }
     ensures err { IfRefused result ((f : Option' Field') (b : State)
         → Passes place.old.code.now steps.now extensible (state_of place.old) f b → ⊥) }
+    ensures left { IfRefusedWith result (Leaves (state_of place.old) (state_of place.new)) }
+    ensures onward { IfOk result (λ r. IfNone r ((b : State) (e : ReadFault')
+        → Leaves (state_of place.new) b e
+        → Leaves (state_of place.old) b e)) }
+    ensures at_end { IfOk result (λ r. IfSome r (λ f. IfNone f (place.new.here.octets.now ≡ []))) }
 {
     one_unit();
     if place.here.octets.is_empty() {

@@ -9,7 +9,8 @@ use Rattle.codec_code.specs.declared.step.Step.{Step}
 use Rattle.codec_code.specs.declared.step.Step.TheVariants.{Head, Leaf, Field, Ranked, Each, EachSorted, Pick, Call, Rest, End}
 use Rattle.codec_source.specs.Events.{Event, opens, closes, holds, skips, stands, more, among, picks, both_open, both_close, both_hold, both_skip, both_stand, both_more, both_among, both_pick, IsOneAnswer}
 use Rattle.codec_source.specs.Reading.{behind_components, Asks, head, ending, leaf, rest, left_out, field, component, no_component, element, no_element, sorted_element, no_sorted_element, pick, call}
-use Rattle.codec_source.specs.proving.Frames.{AsksNothing, is_ranked}
+use Rattle.codec_source.specs.Stopping.{AsksNothing}
+use Rattle.codec_source.specs.proving.Frames.{is_ranked}
 
 abbrev answer : Event → Bool
 answer (stands f b) = b

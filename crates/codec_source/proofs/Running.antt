@@ -11,7 +11,8 @@ use Rattle.codec_source.specs.declared.fault.ReadFault.TheVariants.{Memory}
 use Rattle.codec_source.specs.declared.frame.Frame.{Frame}
 use Rattle.codec_source.specs.Events.{Event, begins, ends, both_begin, both_end, IsOneAnswer}
 use Rattle.codec_source.specs.Reading.{Asks, Does, finished, goes_on, reads, Reads}
-use Rattle.codec_source.specs.proving.Frames.{IfRefused, Same, Never, AsksNothing, Rests, Goes, Before, Then, ThenBefore, frame_steps, weighs}
+use Rattle.codec_source.specs.Stopping.{AsksNothing}
+use Rattle.codec_source.specs.proving.Frames.{IfRefused, Same, Never, Rests, Goes, Before, Then, ThenBefore, frame_steps, weighs}
 use Rattle.codec_source.proofs.Asking.{one_ask, none_asked}
 
 none_some : {A : Type 0} {t : TypeId} → None ≡ Some t → A

@@ -3,7 +3,9 @@
 ghost use Rattle.codec_code.specs.Routines.{routine_at, table_of};
 ghost use Rattle.codec_source.specs.Reading.{Reads};
 ghost use Rattle.codec_source.specs.declared.fault.ReadFault.TheVariants.{Memory};
-ghost use Rattle.codec_source.specs.proving.Frames.{Before, Goes, IfRefused, Never, Same, ThenBefore, weighs};
+ghost use Rattle.codec_source.specs.Stopping.{StopsReading};
+ghost use Rattle.codec_source.specs.declared.fault.ReadFault.{ReadFault as ReadFault'};
+ghost use Rattle.codec_source.specs.proving.Frames.{Before, BeforeStops, Goes, GoesStop, IfRefused, IfRefusedWith, Never, Same, ThenBefore, ThenBeforeStops, weighs};
 ghost use Rattle.std.specs.Prelude.{◌≡◌, ◌<◌, ◌+◌, ◌∷◌, ◌++◌, [], IfErr, OnOk, Some, length};
 
 use crate::ask::ask;
@@ -26,6 +28,9 @@ pub fn read<S: Source>(
     ensures ok { OnOk result (Reads (routine_at code.now) S.takes id source.old source.new) }
     ensures only { OnOk result ((b : S) → Reads (routine_at code.now) S.takes id source.old b → b ≡ source.new) }
     ensures err { IfRefused result ((b : S) → Reads (routine_at code.now) S.takes id source.old b → ⊥) }
+    // It came to a question without an answer, and stands there.
+    ensures stopped { IfRefusedWith result (λ e.
+        StopsReading (routine_at code.now) S.takes (λ a b. S.leaves a b e) id source.old source.new) }
 {
     match source.begin(id) {
         Ok(()) => {}
@@ -70,6 +75,12 @@ fn turn<'a, S: Source>(
         < weighs (length (table_of code.now)) (S.room source.old) (frames.old.items ++ frame.entry ∷ [])) }
     ensures err { IfRefused result
         (Never (Before (routine_at code.now) S.takes frame.entry.steps.now frames.old.items source.old)) }
+    ensures on { OnOk result ((e : ReadFault') (z : S)
+        → GoesStop (routine_at code.now) S.takes (λ a b. S.leaves a b e) frames.new.items source.new z
+        → BeforeStops (routine_at code.now) S.takes (λ a b. S.leaves a b e) frame.entry.steps.now frames.old.items
+        source.old z) }
+    ensures stopped { IfRefusedWith result (λ e. BeforeStops (routine_at code.now) S.takes (λ a b. S.leaves a b e)
+        frame.entry.steps.now frames.old.items source.old source.new) }
 {
     match frame.steps.split_first() {
         None => match source.end() {
@@ -109,6 +120,12 @@ fn call<'a, S: Source>(
         < weighs (length (table_of code.now)) (S.room source.old) frames.old.items + (1 + length behind.now)) }
     ensures err { IfRefused result
         (Never (ThenBefore (routine_at code.now) S.takes (Some id) behind.now frames.old.items source.old)) }
+    ensures on { OnOk result ((e : ReadFault') (z : S)
+        → GoesStop (routine_at code.now) S.takes (λ a b. S.leaves a b e) frames.new.items source.new z
+        → ThenBeforeStops (routine_at code.now) S.takes (λ a b. S.leaves a b e) (Some id) behind.now frames.old.items
+        source.old z) }
+    ensures stopped { IfRefusedWith result (λ e. ThenBeforeStops (routine_at code.now) S.takes (λ a b. S.leaves a b e)
+        (Some id) behind.now frames.old.items source.old source.new) }
 {
     match source.begin(id) {
         Ok(()) => {}

@@ -11,3 +11,4 @@ pub mod Readers
 pub mod Bodies
 pub mod Drawn
 pub mod Completes
+pub mod Stopped

@@ -18,13 +18,13 @@ use Rattle.octet_answers.specs.Answers.{Answers, Takes, StandsNext, MoreNext, Am
 use Rattle.reading_law.specs.Shows.{StandsIn, StandIn}
 
 -- octets that are left stand in the message
-abbrev Lies : List ℕ → Window → Type 0
+abbrev pub Lies : List ℕ → Window → Type 0
 Lies m w = StandsIn m w.at w.octets
 
-record Placed (m : List ℕ) (a : State) : Type 0 where
-  here : Lies m a.here
-  outer : AllByRecursion (Lies m) a.outer
-  told : StandIn m a.told
+pub record Placed (m : List ℕ) (a : State) : Type 0 where
+  pub here : Lies m a.here
+  pub outer : AllByRecursion (Lies m) a.outer
+  pub told : StandIn m a.told
 
 stand_both : (m : List ℕ) (xs ys : List Token) → StandIn m xs → StandIn m ys → StandIn m (xs ++ ys)
 stand_both m [] ys a b = b
@@ -48,7 +48,7 @@ all_back m [] ys a = a
 all_back m (x ∷ xs) ys a = all_back m xs ys a.1
 
 -- octets behind others that stand in the message
-further : {m : List ℕ} {at : ℕ} (h x : List ℕ) {o : List ℕ} → StandsIn m at o → o ≡ h ++ x → StandsIn m (at + length h) x
+pub further : {m : List ℕ} {at : ℕ} (h x : List ℕ) {o : List ℕ} → StandsIn m at o → o ≡ h ++ x → StandsIn m (at + length h) x
 further h x s e = record {
   before = s.before ++ h;
   behind = s.behind;
@@ -65,17 +65,17 @@ nearer x r s e = record {
   place = s.place;
 }
 
-at_place : {m : List ℕ} {i j : ℕ} {x : List ℕ} → StandsIn m i x → i ≡ j → StandsIn m j x
+pub at_place : {m : List ℕ} {i j : ℕ} {x : List ℕ} → StandsIn m i x → i ≡ j → StandsIn m j x
 at_place {m} {x = x} s e = subst (λ q. StandsIn m q x) e s
 
 -- the contents at the front, and what stands behind them
 inner_lies : {m : List ℕ} (w : Window) {g : Tag} {c : Bool} {k : ℕ} {x r : List ℕ} → Lies m w → UnitAt g c k x r w.octets → StandsIn m (w.at + k) x
 inner_lies w {x = x} {r = r} l u = at_place (nearer x r (further u.header (x ++ r) l u.whole) refl) (let e = u.long in omega arith)
 
-behind_lies : {m : List ℕ} (w : Window) {g : Tag} {c : Bool} {k : ℕ} {x r : List ℕ} → Lies m w → UnitAt g c k x r w.octets → StandsIn m (w.at + (k + length x)) r
+pub behind_lies : {m : List ℕ} (w : Window) {g : Tag} {c : Bool} {k : ℕ} {x r : List ℕ} → Lies m w → UnitAt g c k x r w.octets → StandsIn m (w.at + (k + length x)) r
 behind_lies w {x = x} {r = r} l u = at_place (further x r (further u.header (x ++ r) l u.whole) refl) (let e = u.long in omega arith)
 
-told_more : {m : List ℕ} {a : State} (t : Token) → Placed m a → StandIn m (t ∷ []) → StandIn m (a.told ++ t ∷ [])
+pub told_more : {m : List ℕ} {a : State} (t : Token) → Placed m a → StandIn m (t ∷ []) → StandIn m (a.told ++ t ∷ [])
 told_more {m} {a} t p s = stand_both m a.told (t ∷ []) p.told s
 
 passes_placed : {m : List ℕ} {s : List Resolved} {ss : List Step} {e : Bool} {a b : State} {f : Option Field} → Passes s ss e a f b → Placed m a → Placed m b
@@ -112,10 +112,10 @@ answered a b (more t s there) x p = more_placed a b there x p
 answered a b (among ss t) x p = among_placed a b ss t x p
 answered a b (picks ss t) x p = placed_as x.is (record { here = p.here; outer = p.outer; told = told_more {a = a} (chosen x.index) p tt })
 
-taken : {m : List ℕ} {a b : State} {e : Event} → Takes a e b → Placed m a → Placed m b
+pub taken : {m : List ℕ} {a b : State} {e : Event} → Takes a e b → Placed m a → Placed m b
 taken {a = a} {b = b} {e = e} x p = answered a b e x.answer p
 
-asked : {m : List ℕ} {ss r : List Step} {t : Option TypeId} {x y : State} → Asks Takes ss x r t y → Placed m x → Placed m y
+pub asked : {m : List ℕ} {ss r : List Step} {t : Option TypeId} {x y : State} → Asks Takes ss x r t y → Placed m x → Placed m y
 asked (head t) p = taken t p
 asked (ending t) p = taken t p
 asked (leaf t) p = taken t p
@@ -131,7 +131,7 @@ asked (no_sorted_element t) p = taken t p
 asked (pick t) p = taken t p
 asked call p = p
 
-done : {m : List ℕ} {r : ℕ → List Step} {ss : List Step} {x z : State} → Does r Takes ss x z → Placed m x → Placed m z
+pub done : {m : List ℕ} {r : ℕ → List Step} {ss : List Step} {x z : State} → Does r Takes ss x z → Placed m x → Placed m z
 done finished p = p
 done (goes_on q d) p = done d (asked q p)
 done (reads q g i e d) p = done d (taken e (done i (taken g (asked q p))))

@@ -10,9 +10,13 @@ ghost use Rattle.encodings.specs.Levels.{levels};
 ghost use Rattle.encodings.specs.Rules.{Basic};
 ghost use Rattle.codec_code.specs.Routines.{routine_at};
 ghost use Rattle.codec_source.specs.Reading.{Reads};
+ghost use Rattle.codec_source.specs.Stopping.{StopsReading};
+ghost use Rattle.codec_source.specs.declared.fault.ReadFault.{ReadFault};
 ghost use Rattle.octet_answers.specs.Answers.{Takes};
+ghost use Rattle.octet_answers.specs.Left.{Leaves};
 ghost use Rattle.octet_answers.specs.States.{State, front};
 ghost use Rattle.reading_law.specs.Saying.{AreUnit, IsReadTo, IsSaid};
+ghost use Rattle.reading_law.specs.Shows.{StandIn, StandsIn};
 ghost use Rattle.std.specs.Int.Digits.{AllBelowBase};
 ghost use Rattle.std.specs.Prelude.{◌<◌, ◌≤◌, List, length, ℕ};
 
@@ -50,3 +54,14 @@ pub fn said_is_read()
     one_answer();
     message_laws();
 }
+
+/// Where the routine of a type stops at the front of octets, what isn't read of them stands at the place that is told, and
+/// contents octets that were read at theirs.
+pub fn stops_in_place()
+    ensures stopped { (s : List Resolved) (t : TypeId) (o : List ℕ) (room : ℕ) (z : State) (e : ReadFault)
+        → StopsReading (λ u. routine_at s u) Takes (λ a b. Leaves a b e) t (front s o room) z
+        → StandsIn o z.here.at z.here.octets × StandIn o z.told }
+    ensures read { (s : List Resolved) (t : TypeId) (o : List ℕ) (room : ℕ) (z : State)
+        → Reads (λ u. routine_at s u) Takes t (front s o room) z
+        → StandsIn o z.here.at z.here.octets }
+{}

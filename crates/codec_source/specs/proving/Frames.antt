@@ -1,5 +1,5 @@
 -- What frames stand for.
-use Rattle.std.specs.Prelude.{◌≡◌, ℕ, suc, ◌+◌, ◌*◌, List, [], ◌∷◌, length, Bool, true, false, Option, Some}
+use Rattle.std.specs.Prelude.{◌≡◌, ℕ, suc, ◌+◌, ◌*◌, ◌⊎◌, List, [], ◌∷◌, length, Bool, true, false, Option, Some}
 use Rattle.std.specs.Prelude.{None, Result, IfErr}
 use Rattle.asn_base.specs.declared.schema.TypeId.{TypeId}
 use Rattle.codec_code.specs.declared.step.Step.{Step}
@@ -8,11 +8,16 @@ use Rattle.codec_source.specs.declared.fault.ReadFault.{ReadFault}
 use Rattle.codec_source.specs.declared.fault.ReadFault.TheVariants.{Memory}
 use Rattle.codec_source.specs.declared.frame.Frame.{Frame}
 use Rattle.codec_source.specs.Events.{Event, begins, ends}
-use Rattle.codec_source.specs.Reading.{Asks, Does}
+use Rattle.codec_source.specs.Reading.{Does}
+use Rattle.codec_source.specs.Stopping.{Stops, StopsThen}
 
 -- a refusal but for want of memory says so
 abbrev pub IfRefused : {A : Type 0} → Result A ReadFault → Type 0 → Type 0
 IfRefused r P = IfErr r (λ e. (e ≡ Memory → ⊥) → P)
+
+-- a refusal but for want of memory says so of its fault
+abbrev pub IfRefusedWith : {A : Type 0} → Result A ReadFault → (ReadFault → Type 0) → Type 0
+IfRefusedWith r P = IfErr r (λ e. (e ≡ Memory → ⊥) → P e)
 
 -- two ways that lead to the same states
 pub record Same {S : Type 0} (P Q : S → Type 0) : Type 0 where
@@ -21,10 +26,6 @@ pub record Same {S : Type 0} (P Q : S → Type 0) : Type 0 where
 
 abbrev pub Never : {S : Type 0} → (S → Type 0) → Type 0
 Never {S} P = (z : S) → P z → ⊥
-
--- the first step asks for nothing that the source has
-abbrev pub AsksNothing : {S : Type 0} → (S → Event → S → Type 0) → List Step → S → Type 0
-AsksNothing {S} takes ss x = (behind : List Step) (t : Option TypeId) (y : S) → Asks takes ss x behind t y → ⊥
 
 module _ {S : Type 0} (r : ℕ → List Step) (takes : S → Event → S → Type 0) where
   -- steps to the end of a value
@@ -50,6 +51,42 @@ module _ {S : Type 0} (r : ℕ → List Step) (takes : S → Event → S → Typ
   -- the same, and then the frames
   abbrev pub ThenBefore : Option TypeId → List Step → List Frame → S → S → Type 0
   ThenBefore t ss fs x z = (y : S) × ((w : S) × Then t ss x w × takes w ends y) × Goes fs y z
+
+module _ {S : Type 0} (r : ℕ → List Step) (takes : S → Event → S → Type 0) (leaves : S → S → Type 0) where
+  -- steps to the end of a value come to a question without an answer, or the value does not end
+  abbrev pub RestsStop : List Step → S → S → Type 0
+  RestsStop ss x z =
+      Stops r takes leaves ss x z
+      ⊎ ((y : S) × Does r takes ss x y × ((c : S) → takes y ends c → ⊥) × leaves y z)
+
+  -- one of the frames does, the last one first
+  abbrev pub GoesStop : List Frame → S → S → Type 0
+  GoesStop [] x z = ⊥
+  GoesStop (f ∷ fs) x z = GoesStop fs x z ⊎ ((y : S) × Goes r takes fs x y × RestsStop f.steps.now y z)
+
+  -- these steps do, or then one of the frames
+  abbrev pub BeforeStops : List Step → List Frame → S → S → Type 0
+  BeforeStops ss fs x z = RestsStop ss x z ⊎ ((y : S) × Rests r takes ss x y × GoesStop fs y z)
+
+  -- a value of the type, and these steps to the end of a value
+  abbrev pub ThenStops : Option TypeId → List Step → S → S → Type 0
+  ThenStops t ss x z =
+      StopsThen r takes leaves t ss x z
+      ⊎ ((w : S) × Then r takes t ss x w × ((c : S) → takes w ends c → ⊥) × leaves w z)
+
+  -- they do, or then one of the frames
+  abbrev pub ThenBeforeStops : Option TypeId → List Step → List Frame → S → S → Type 0
+  ThenBeforeStops t ss fs x z =
+      ThenStops t ss x z
+      ⊎ ((y : S) × ((w : S) × Then r takes t ss x w × takes w ends y) × GoesStop fs y z)
+
+-- the frames lead where those at the start lead, and stop where they stop
+pub record IsUnderWay {S : Type 0} (r : ℕ → List Step) (takes : S → Event → S → Type 0)
+    (leaves : S → S → ReadFault → Type 0) (start : List Frame) (x : S) (frames : List Frame) (y : S) : Type 0 where
+  pub same : Same (Goes r takes start x) (Goes r takes frames y)
+  pub stops : (e : ReadFault) (z : S)
+      → GoesStop r takes (λ a b. leaves a b e) frames y z
+      → GoesStop r takes (λ a b. leaves a b e) start x z
 
 -- how many steps the frames have, where the source has room for some values, and a routine has at most l steps
 abbrev pub frame_steps : List Frame → ℕ

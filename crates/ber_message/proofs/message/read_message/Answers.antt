@@ -5,7 +5,23 @@ use Rattle.codec_source.specs.Reading.{Reads}
 use Rattle.octet_answers.specs.Answers.{Takes}
 use Rattle.ber_message.specs.Messages.{room_of}
 use Rattle.ber_message.proofs.Reading.{whole_message, front_message, fails, holds, headed, ends_before, is_memory, read_of, true_false, none_there}
+use Rattle.codec_source.specs.Stopping.{StopsReading}
+use Rattle.octet_answers.specs.Left.{Leaves}
+use Rattle.ber_message.proofs.Stopped.{ends_too_soon, fault_or, not_memory}
+use Rattle.codec_source.specs.declared.fault.ReadFault.TheVariants.{Missing, OutsideConstraint}
 use Rattle.ber_message.proofs.message.read_message.Goals as goal
+
+pub returns-in-Err-read-clause-missing : goal.returns-in-Err-read-clause-missing
+returns-in-Err-read-clause-missing c e =
+    let s = c.args.code.now in
+    let o = c.args.octets.now in
+    let f = c.in-Err-read.fault in
+    let m = c.within.ensures.missing (ap (fault_or Missing) e) in
+    let h = c.in-Err-read.ensures.stopped (not_memory f m) in
+    ends_too_soon s c.args.id o f c.read.new.source m (subst (λ q. StopsReading (λ u. routine_at s u) Takes (λ a b. Leaves a b f) c.args.id q c.read.new.source) c.in-Ok.ensures.ok h)
+
+pub returns-in-Err-read-clause-outside : goal.returns-in-Err-read-clause-outside
+returns-in-Err-read-clause-outside c e = c.within.ensures.outside (ap (fault_or OutsideConstraint) e)
 
 pub returns-in-Err-read-clause-err : goal.returns-in-Err-read-clause-err
 returns-in-Err-read-clause-err c memory limit has r =

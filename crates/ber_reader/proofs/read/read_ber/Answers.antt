@@ -1,12 +1,13 @@
 use Rattle.encodings.specs.Rules.{Basic}
-use Rattle.std.proofs.Common.{sym, ap, subst, ◌∙◌, map, false}
+use Rattle.std.proofs.Common.{inr, sym, ap, subst, ◌∙◌, map, false}
 use Rattle.asn_base.specs.Typed.{IsValueWithoutNodes, IsValue}
 use Rattle.ber_source.specs.Seen.{token_of}
 use Rattle.reading_law.specs.Shows.{passed_in}
 use Rattle.views.specs.Building.{begun}
 use Rattle.ber_reader.specs.Wants.{Wants}
 use Rattle.ber_reader.proofs.Built.{shown_builds}
-use Rattle.ber_reader.proofs.Reading.{reading_of, holds, never_holds}
+use Rattle.ber_reader.proofs.Reading.{reading_of, holds, never_holds, says_none}
+use Rattle.ber_message.specs.Messages.{SaysNoValue}
 use Rattle.ber_reader.proofs.read.read_ber.Goals as goal
 
 pub view_of-requires : goal.view_of-requires
@@ -58,3 +59,25 @@ returns-then-not-is_value-clause-read c i =
     let r = c.in-Ok.ensures.only m i.value i.count i.is_said in
     let v = c.message_laws.ensures.value s Basic t i.count i.value o c.accepted.ensures i.is_value i.is_said i.short in
     never_holds c.is_value.result c.if-not-is_value.true c.is_value.ensures (subst (IsValue s t) (r.0 ∙ sym q.2 ∙ sym (c.in-Ok-to_value.ensures q.0 q.1)) v)
+
+pub returns-then-not-is_value-clause-outside : goal.returns-then-not-is_value-clause-outside
+returns-then-not-is_value-clause-outside c e =
+    let m = c.in-Ok.ensures.ok in
+    let s = c.args.code.now in
+    let t = c.args.id.index in
+    let o = c.args.octets.now in
+    let x = subst (λ q. Wants s o m.value (map token_of q) 0 false begun) (sym c.as_slice.ensures.value) (shown_builds s c.accepted.ensures o m.short t m.value _ m.shown m.stand) in
+    let q = c.in-Ok-view_of.ensures o m.value x in
+    let n : SaysNoValue s t o = says_none m (λ v. never_holds c.is_value.result c.if-not-is_value.true c.is_value.ensures (subst (IsValue s t) (sym q.2 ∙ sym (c.in-Ok-to_value.ensures q.0 q.1)) (c.message_laws.ensures.value s Basic t m.count m.value o c.accepted.ensures v m.is_said m.short))) in
+    n
+
+pub returns-then-not-is_value-clause-missing : goal.returns-then-not-is_value-clause-missing
+returns-then-not-is_value-clause-missing c e =
+    let m = c.in-Ok.ensures.ok in
+    let s = c.args.code.now in
+    let t = c.args.id.index in
+    let o = c.args.octets.now in
+    let x = subst (λ q. Wants s o m.value (map token_of q) 0 false begun) (sym c.as_slice.ensures.value) (shown_builds s c.accepted.ensures o m.short t m.value _ m.shown m.stand) in
+    let q = c.in-Ok-view_of.ensures o m.value x in
+    let n : SaysNoValue s t o = says_none m (λ v. never_holds c.is_value.result c.if-not-is_value.true c.is_value.ensures (subst (IsValue s t) (sym q.2 ∙ sym (c.in-Ok-to_value.ensures q.0 q.1)) (c.message_laws.ensures.value s Basic t m.count m.value o c.accepted.ensures v m.is_said m.short))) in
+    inr n

@@ -1,5 +1,6 @@
 use Rattle.std.proofs.Common.{sym, subst}
 use Rattle.octets.specs.Forms.{is_constructed}
+use Rattle.octet_answers.specs.Left.{stays}
 use Rattle.octet_answers.specs.Found.{IsChosen}
 use Rattle.ber_source.proofs.asking.choose_next.Goals as goal
 
@@ -10,3 +11,9 @@ pub returns-in-None-clause-err : goal.returns-in-None-clause-err
 returns-in-None-clause-err c other i b d =
     let u = c.one_unit.ensures.once c.in-Ok.unit.tag d.tag (is_constructed c.in-Ok.unit.form) d.constructed c.in-Ok.unit.count d.count c.in-Ok.unit.contents.now d.contents c.in-Ok.unit.rest.now d.rest c.args.place.now.here.octets.now c.in-Ok.ensures.ok d.unit in
     c.in-None.ensures.none d.index i (subst (λ q. IsChosen c.args.place.now.code.now q c.args.calls.now d.index i) (sym u.0) d.alternative)
+
+pub returns-in-Err-clause-left : goal.returns-in-Err-clause-left
+returns-in-Err-clause-left c = λ other. stays (λ e. absurd (c.told_header.ensures.missing e))
+
+pub returns-in-None-clause-left : goal.returns-in-None-clause-left
+returns-in-None-clause-left c = λ other. stays (λ e. absurd (cc))

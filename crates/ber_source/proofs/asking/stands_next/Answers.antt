@@ -1,7 +1,8 @@
 use Rattle.std.proofs.Common.{inr, refl, sym, ◌∙◌}
 use Rattle.octets.specs.Forms.{is_constructed}
 use Rattle.ber_source.specs.Seen.{state_of}
-use Rattle.ber_source.proofs.Windows.{fails, some_octets}
+use Rattle.octet_answers.specs.Left.{stays}
+use Rattle.ber_source.proofs.Windows.{fails, some_octets, no_octets}
 use Rattle.ber_source.proofs.Asked.{stands_never, other_never}
 use Rattle.ber_source.proofs.asking.stands_next.Goals as goal
 
@@ -43,3 +44,12 @@ returns-clause-err c other there b d =
     other_never (state_of c.args.place.now) b c.args.field there c.in-Ok.unit.tag (is_constructed c.in-Ok.unit.form) c.in-Ok.unit.count c.in-Ok.unit.contents.now c.in-Ok.unit.rest.now
     c.one_unit.ensures.once c.in-Ok.ensures.ok (fails c.can_begin.result c.if-can_begin.false c.can_begin.ensures)
     (sym c.may_be_absent-2.ensures ∙ c.if-may_be_absent-2.false) d
+
+pub returns-then-is_empty-clause-left : goal.returns-then-is_empty-clause-left
+returns-then-is_empty-clause-left c = λ other. stays (λ e. no_octets c.args.place.now.here.octets.now c.is_empty.result c.is_empty.ensures c.if-is_empty.true)
+
+pub returns-in-Err-clause-left : goal.returns-in-Err-clause-left
+returns-in-Err-clause-left c = λ other. stays (λ e. absurd (c.told_header.ensures.missing e))
+
+pub returns-clause-left : goal.returns-clause-left
+returns-clause-left c = λ other. stays (λ e. absurd (cc))

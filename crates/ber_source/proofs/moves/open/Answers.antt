@@ -1,5 +1,6 @@
 use Rattle.std.proofs.Common.{rules, ◌≡◌, sym, ap, ◌∙◌}
 use Rattle.octets.specs.declared.form.Form.TheVariants.{Primitive}
+use Rattle.octet_answers.specs.Left.{stays}
 use Rattle.octets.specs.Forms.{is_constructed}
 use Rattle.ber_source.proofs.Windows.{fails, false_true}
 use Rattle.ber_source.proofs.moves.open.Goals as goal
@@ -17,3 +18,15 @@ returns-then-eq-clause-err c other b d =
     let u = c.one_unit.ensures.once c.in-Ok.unit.tag c.args.head.tag (is_constructed c.in-Ok.unit.form) d.constructed c.in-Ok.unit.count d.count c.in-Ok.unit.contents.now d.contents c.in-Ok.unit.rest.now d.rest c.args.place.now.here.octets.now c.in-Ok.ensures.ok d.unit in
     let p : c.in-Ok.unit.form ≡ Primitive = search rules in
     false_true (sym (ap is_constructed p) ∙ u.1 ∙ d.form c.if-head.true)
+
+pub returns-in-Err-clause-left : goal.returns-in-Err-clause-left
+returns-in-Err-clause-left c = λ other. stays (λ e. absurd (c.told_header.ensures.missing e))
+
+pub returns-then-len-ge-LEVELS-clause-left : goal.returns-then-len-ge-LEVELS-clause-left
+returns-then-len-ge-LEVELS-clause-left c = λ other. stays (λ e. absurd (cc))
+
+pub returns-then-not-same_tag-clause-left : goal.returns-then-not-same_tag-clause-left
+returns-then-not-same_tag-clause-left c = λ other. stays (λ e. absurd (cc))
+
+pub returns-then-eq-clause-left : goal.returns-then-eq-clause-left
+returns-then-eq-clause-left c = λ other. stays (λ e. absurd (cc))

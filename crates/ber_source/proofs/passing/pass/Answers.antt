@@ -1,5 +1,6 @@
 use Rattle.std.proofs.Common.{sym, subst, ◌∙◌}
 use Rattle.octet_answers.specs.Found.{Passes}
+use Rattle.octet_answers.specs.Left.{Leaves}
 use Rattle.ber_source.specs.Seen.{state_of}
 use Rattle.ber_source.proofs.Windows.{some_of, none_of}
 use Rattle.ber_source.proofs.Going.{at_first, one_more, by_first, by_last}
@@ -42,7 +43,7 @@ pub loop-found-preserved : goal.loop-found-preserved
 loop-found-preserved c =
     one_more c.args.steps.now c.args.extensible c.args.place.now c.loop-found.place c.pass_one.new.place c.loop-found.invariant
     c.in-Ok-None.ensures.within c.in-Ok-None.ensures.code (none_of _ _ c.in-Ok-None.field-0-is c.in-Ok-None.ensures.passed)
-    (none_of _ _ c.in-Ok-None.field-0-is c.in-Ok-None.ensures.back)
+    (none_of _ _ c.in-Ok-None.field-0-is c.in-Ok-None.ensures.back) (none_of _ _ c.in-Ok-None.field-0-is c.in-Ok-None.ensures.onward)
 
 pub returns-in-Err-clause-err : goal.returns-in-Err-clause-err
 returns-in-Err-clause-err c other f b h =
@@ -54,3 +55,14 @@ returns-in-Err-clause-err c other f b h =
 
 pub returns-in-Err-clause-code : goal.returns-in-Err-clause-code
 returns-in-Err-clause-code c = c.in-Err.ensures.code ∙ c.loop-found.invariant.code
+
+pub returns-in-Err-clause-left : goal.returns-in-Err-clause-left
+returns-in-Err-clause-left c = λ other. c.loop-found.invariant.onward (state_of c.pass_one.new.place) c.in-Err.fault (c.in-Err.ensures.left other)
+
+pub returns-in-Ok-Some-clause-onward : goal.returns-in-Ok-Some-clause-onward
+returns-in-Ok-Some-clause-onward c = λ b e h.
+    let k = some_of _ _ _ c.in-Ok-Some.field-0-is c.in-Ok-Some.ensures.ended in
+    c.loop-found.invariant.onward b e (subst (λ z. Leaves z b e) k.0 h)
+
+pub returns-in-Ok-Some-clause-at_end : goal.returns-in-Ok-Some-clause-at_end
+returns-in-Ok-Some-clause-at_end c = some_of _ _ _ c.in-Ok-Some.field-0-is c.in-Ok-Some.ensures.at_end

@@ -1,4 +1,5 @@
 use Rattle.std.proofs.Common.{arith, refl, sym, subst, ◌∙◌}
+use Rattle.octet_answers.specs.Left.{Leaves, stays, behind_addition}
 use Rattle.octet_answers.specs.Found.{Passes, at_end_of_contents, at_component, passes}
 use Rattle.ber_source.proofs.Windows.{as_many, false_true, no_octets, some_octets}
 use Rattle.ber_source.proofs.Passed.{at_end_alone, component_alone, no_unit_none, must_pass}
@@ -47,3 +48,18 @@ pub returns-clause-back : goal.returns-clause-back
 returns-clause-back c f b p =
     let z = must_pass c.one_unit.ensures.some c.one_unit.ensures.once c.in-Ok.ensures.ok c.in-None.ensures.none p in
     subst (λ q. Passes c.args.place.now.code.now c.args.steps.now c.args.extensible q f b) (sym c.in_ok-step_over.ensures.ok) z.behind
+
+pub returns-then-is_empty-clause-at_end : goal.returns-then-is_empty-clause-at_end
+returns-then-is_empty-clause-at_end c = no_octets c.args.place.now.here.octets.now c.is_empty.result c.is_empty.ensures c.if-is_empty.true
+
+pub returns-in-Err-clause-left : goal.returns-in-Err-clause-left
+returns-in-Err-clause-left c = λ other. stays (λ e. absurd (c.told_header.ensures.missing e))
+
+pub returns-then-len-ge-LEVELS-clause-left : goal.returns-then-len-ge-LEVELS-clause-left
+returns-then-len-ge-LEVELS-clause-left c = λ other. stays (λ e. absurd (cc))
+
+pub returns-then-not-extensible-clause-left : goal.returns-then-not-extensible-clause-left
+returns-then-not-extensible-clause-left c = λ other. stays (λ e. absurd (cc))
+
+pub returns-clause-onward : goal.returns-clause-onward
+returns-clause-onward c = λ b e h. behind_addition c.in-Ok.ensures.ok (subst (λ q. Leaves q b e) c.in_ok-step_over.ensures.ok h)

@@ -2,7 +2,8 @@ use Rattle.std.proofs.Common.{◌∷◌, ap, sym, subst, ◌∙◌}
 use Rattle.std.specs.Prelude.{IfOk, Some}
 use Rattle.codec_source.specs.declared.ask.Answer.{Answer}
 use Rattle.codec_source.specs.Reading.{Asks, call}
-use Rattle.codec_source.specs.proving.Frames.{AsksNothing, IfRefused}
+use Rattle.codec_source.specs.Stopping.{AsksNothing}
+use Rattle.codec_source.specs.proving.Frames.{IfRefused}
 use Rattle.codec_source.proofs.ask.ask.Goals as goal
 
 pub ask_ranked-requires : goal.ask_ranked-requires

@@ -3,9 +3,10 @@ use Rattle.std.specs.Prelude.{Some, None}
 use Rattle.codec_code.specs.Routines.{routine_at, table_of}
 use Rattle.codec_source.specs.Events.{ends}
 use Rattle.codec_source.specs.Reading.{Asks}
-use Rattle.codec_source.specs.proving.Frames.{AsksNothing}
+use Rattle.codec_source.specs.Stopping.{AsksNothing}
 use Rattle.codec_source.proofs.Asking.{shorter, no_more_room}
 use Rattle.codec_source.proofs.Running.{same_then, asked_before, goes_at, ended_before, never_ended, never_asked, less_ended, less_one, less_called, on_ok, no_memory, refused}
+use Rattle.codec_source.proofs.Halting.{asked_stops, before_none, nothing_asked, none_ended, ended_stops, stops_at, no_memory_with, refused_with}
 use Rattle.codec_source.proofs.machine.turn.Goals as goal
 
 pub ask-requires : goal.ask-requires
@@ -73,3 +74,44 @@ returns-in-Some-value-clause-err g c =
     subst (λ t. Asks g.S.Source.takes c.args.frame.steps.now c.args.source.now b t c.ask.new.source) c.in-Some-value.is
     (subst (λ q. Asks g.S.Source.takes q c.args.source.now b c.in-Ok-ask.answer.value c.ask.new.source) (sym c.in-Some.ensures.cases.0) c.in-Ok-ask.ensures.ok) in
     refused c.call.result (λ n z d. n z ((asked_before (routine_at c.args.code.now) g.S.Source.takes g.met.S.Source.one_answer c.args.frame.steps.now b (Some c.in-Some-value.id) c.args.frames.now.items c.args.source.now c.ask.new.source a).to z d)) c.call.ensures.err
+
+pub returns-in-Ok-clause-on : goal.returns-in-Ok-clause-on
+returns-in-Ok-clause-on g c e z s = ended_stops (routine_at c.args.code.now) g.S.Source.takes (λ a b. g.S.Source.leaves a b e) c.args.frame.steps.now c.args.frames.now.items c.args.source.now c.end.new.self z c.in-None.ensures.cases c.in-Ok.ensures.ok s
+
+pub returns-in-Err-clause-stopped : goal.returns-in-Err-clause-stopped
+returns-in-Err-clause-stopped g c = λ other. none_ended (routine_at c.args.code.now) g.S.Source.takes (λ a b. g.S.Source.leaves a b c.in-Err.fault) c.args.frame.steps.now c.args.frames.now.items c.args.source.now c.end.new.self c.in-None.ensures.cases (c.in-Err.ensures.err other) (c.in-Err.ensures.left other)
+
+pub returns-in-Err-ask-clause-stopped : goal.returns-in-Err-ask-clause-stopped
+returns-in-Err-ask-clause-stopped g c = λ other.
+    let some : 0 < length c.args.frame.steps.now = (let e = ap length c.in-Some.ensures.cases.0 in omega (arith, e)) in
+    nothing_asked (routine_at c.args.code.now) g.S.Source.takes (λ a b. g.S.Source.leaves a b c.in-Err-ask.fault) c.args.frame.steps.now c.args.frames.now.items c.args.source.now c.ask.new.source some
+    (subst (λ q. AsksNothing g.S.Source.takes q c.args.source.now) (sym c.in-Some.ensures.cases.0) (c.in-Err-ask.ensures.err other)) (c.in-Err-ask.ensures.left other)
+
+pub returns-in-None-value-clause-on : goal.returns-in-None-value-clause-on
+returns-in-None-value-clause-on g c =
+    let r = routine_at c.args.code.now in
+    let b = c.in-Ok-ask.answer.behind.now in
+    let a : Asks g.S.Source.takes c.args.frame.steps.now c.args.source.now b None c.ask.new.source =
+    subst (λ t. Asks g.S.Source.takes c.args.frame.steps.now c.args.source.now b t c.ask.new.source) c.in-None-value.is
+    (subst (λ q. Asks g.S.Source.takes q c.args.source.now b c.in-Ok-ask.answer.value c.ask.new.source) (sym c.in-Some.ensures.cases.0) c.in-Ok-ask.ensures.ok) in
+    on_ok c.add.result (λ h e z s. asked_stops r g.S.Source.takes (λ a b. g.S.Source.leaves a b e) c.args.frame.steps.now b None c.args.frames.now.items c.args.source.now c.ask.new.source z a
+    (before_none r g.S.Source.takes (λ a b. g.S.Source.leaves a b e) b c.args.frames.now.items c.ask.new.source z (stops_at r g.S.Source.takes (λ a b. g.S.Source.leaves a b e) c.add.new.frames.items c.args.frames.now.items _ c.ask.new.source z h s))) c.add.ensures.ok
+
+pub returns-in-None-value-clause-stopped : goal.returns-in-None-value-clause-stopped
+returns-in-None-value-clause-stopped g c = no_memory_with _ c.add.result c.add.ensures.err
+
+pub returns-in-Some-value-clause-on : goal.returns-in-Some-value-clause-on
+returns-in-Some-value-clause-on g c =
+    let b = c.in-Ok-ask.answer.behind.now in
+    let a : Asks g.S.Source.takes c.args.frame.steps.now c.args.source.now b (Some c.in-Some-value.id) c.ask.new.source =
+    subst (λ t. Asks g.S.Source.takes c.args.frame.steps.now c.args.source.now b t c.ask.new.source) c.in-Some-value.is
+    (subst (λ q. Asks g.S.Source.takes q c.args.source.now b c.in-Ok-ask.answer.value c.ask.new.source) (sym c.in-Some.ensures.cases.0) c.in-Ok-ask.ensures.ok) in
+    on_ok c.call.result (λ k e z s. asked_stops (routine_at c.args.code.now) g.S.Source.takes (λ a b. g.S.Source.leaves a b e) c.args.frame.steps.now b (Some c.in-Some-value.id) c.args.frames.now.items c.args.source.now c.ask.new.source z a (k e z s)) c.call.ensures.on
+
+pub returns-in-Some-value-clause-stopped : goal.returns-in-Some-value-clause-stopped
+returns-in-Some-value-clause-stopped g c =
+    let b = c.in-Ok-ask.answer.behind.now in
+    let a : Asks g.S.Source.takes c.args.frame.steps.now c.args.source.now b (Some c.in-Some-value.id) c.ask.new.source =
+    subst (λ t. Asks g.S.Source.takes c.args.frame.steps.now c.args.source.now b t c.ask.new.source) c.in-Some-value.is
+    (subst (λ q. Asks g.S.Source.takes q c.args.source.now b c.in-Ok-ask.answer.value c.ask.new.source) (sym c.in-Some.ensures.cases.0) c.in-Ok-ask.ensures.ok) in
+    refused_with c.call.result (λ e s. asked_stops (routine_at c.args.code.now) g.S.Source.takes (λ a b. g.S.Source.leaves a b e) c.args.frame.steps.now b (Some c.in-Some-value.id) c.args.frames.now.items c.args.source.now c.ask.new.source c.call.new.source a s) c.call.ensures.stopped

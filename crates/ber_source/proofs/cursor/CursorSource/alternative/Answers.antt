@@ -1,6 +1,6 @@
 use Rattle.codec_source.specs.Events.{picks}
 use Rattle.ber_source.specs.Seen.{state_of}
-use Rattle.ber_source.proofs.Taken.{takes_one, never_one}
+use Rattle.ber_source.proofs.Taken.{takes_one, never_one, left_as}
 use Rattle.ber_source.proofs.cursor.CursorSource.alternative.Goals as goal
 
 pub returns-clause-ok : goal.returns-clause-ok
@@ -9,3 +9,6 @@ returns-clause-ok c =
 
 pub returns-clause-err : goal.returns-clause-err
 returns-clause-err c = never_one c.choose_next.result (state_of c.self.inside.place) c.args.self.now (λ q. picks c.args.calls.now q) c.self.view_is c.choose_next.ensures.err
+
+pub returns-clause-left : goal.returns-clause-left
+returns-clause-left c = left_as c.choose_next.result (state_of c.self.inside.place) c.args.self.now (state_of c.choose_next.new.place) c.self.view_is c.choose_next.ensures.left

@@ -1,6 +1,6 @@
 use Rattle.codec_source.specs.Events.{begins}
 use Rattle.ber_source.specs.Seen.{state_of}
-use Rattle.ber_source.proofs.Taken.{takes, never}
+use Rattle.ber_source.proofs.Taken.{takes, never, left_as}
 use Rattle.ber_source.proofs.cursor.CursorSource.begin.Goals as goal
 
 pub returns-clause-ok : goal.returns-clause-ok
@@ -9,3 +9,6 @@ returns-clause-ok c =
 
 pub returns-clause-err : goal.returns-clause-err
 returns-clause-err c = never c.begin.result (state_of c.self.inside.place) c.args.self.now (begins c.args.id) c.self.view_is c.begin.ensures.err
+
+pub returns-clause-left : goal.returns-clause-left
+returns-clause-left c = left_as c.begin.result (state_of c.self.inside.place) c.args.self.now (state_of c.begin.new.place) c.self.view_is c.begin.ensures.left

@@ -1,6 +1,6 @@
 use Rattle.codec_source.specs.Events.{ends}
 use Rattle.ber_source.specs.Seen.{state_of}
-use Rattle.ber_source.proofs.Taken.{takes, never}
+use Rattle.ber_source.proofs.Taken.{takes, never, left_as}
 use Rattle.ber_source.proofs.cursor.CursorSource.end.Goals as goal
 
 pub returns-clause-ok : goal.returns-clause-ok
@@ -9,3 +9,6 @@ returns-clause-ok c =
 
 pub returns-clause-err : goal.returns-clause-err
 returns-clause-err c = never c.end.result (state_of c.self.inside.place) c.args.self.now (ends) c.self.view_is c.end.ensures.err
+
+pub returns-clause-left : goal.returns-clause-left
+returns-clause-left c = left_as c.end.result (state_of c.self.inside.place) c.args.self.now (state_of c.end.new.place) c.self.view_is c.end.ensures.left

@@ -1,6 +1,6 @@
 use Rattle.codec_source.specs.Events.{stands}
 use Rattle.ber_source.specs.Seen.{state_of}
-use Rattle.ber_source.proofs.Taken.{takes_one, never_one}
+use Rattle.ber_source.proofs.Taken.{takes_one, never_one, left_as}
 use Rattle.ber_source.proofs.cursor.CursorSource.has_component.Goals as goal
 
 pub returns-clause-ok : goal.returns-clause-ok
@@ -9,3 +9,6 @@ returns-clause-ok c =
 
 pub returns-clause-err : goal.returns-clause-err
 returns-clause-err c = never_one c.stands_next.result (state_of c.self.inside.place) c.args.self.now (λ q. stands c.args.field q) c.self.view_is c.stands_next.ensures.err
+
+pub returns-clause-left : goal.returns-clause-left
+returns-clause-left c = left_as c.stands_next.result (state_of c.self.inside.place) c.args.self.now (state_of c.stands_next.new.place) c.self.view_is c.stands_next.ensures.left

@@ -1,6 +1,6 @@
 use Rattle.codec_source.specs.Events.{opens}
 use Rattle.ber_source.specs.Seen.{state_of}
-use Rattle.ber_source.proofs.Taken.{takes, never}
+use Rattle.ber_source.proofs.Taken.{takes, never, left_as}
 use Rattle.ber_source.proofs.cursor.CursorSource.open.Goals as goal
 
 pub returns-clause-ok : goal.returns-clause-ok
@@ -9,3 +9,6 @@ returns-clause-ok c =
 
 pub returns-clause-err : goal.returns-clause-err
 returns-clause-err c = never c.open.result (state_of c.self.inside.place) c.args.self.now (opens c.args.head) c.self.view_is c.open.ensures.err
+
+pub returns-clause-left : goal.returns-clause-left
+returns-clause-left c = left_as c.open.result (state_of c.self.inside.place) c.args.self.now (state_of c.open.new.place) c.self.view_is c.open.ensures.left

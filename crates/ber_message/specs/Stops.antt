@@ -1,0 +1,32 @@
+-- Where reading of a message stops.
+use Rattle.std.specs.Prelude.{◌≡◌, ℕ, ◌<◌, List, [], length}
+use Rattle.asn_base.specs.declared.schema.TypeId.{TypeId}
+use Rattle.asn_base.specs.Types.{Resolved}
+use Rattle.encodings.specs.Header.{Octets}
+use Rattle.codec_code.specs.Routines.{routine_at}
+use Rattle.codec_source.specs.Reading.{Reads}
+use Rattle.codec_source.specs.Stopping.{StopsReading}
+use Rattle.codec_source.specs.declared.fault.ReadFault.{ReadFault}
+use Rattle.octet_answers.specs.Answers.{Takes}
+use Rattle.octet_answers.specs.Left.{Leaves}
+use Rattle.octet_answers.specs.States.{State, front}
+use Rattle.reading_law.specs.Shows.{StandsIn}
+use Rattle.ber_message.specs.Opened.{opens}
+use Rattle.ber_message.specs.declared.stop.Whereabouts.{Whereabouts}
+
+-- the place of the octets that aren't read, which stand there in the message, and the values that are open behind what was
+-- read
+pub record IsAt (o : Octets) (w : Whereabouts) (z : State) : Type 0 where
+  pub place : w.place ≡ z.here.at
+  pub unread : StandsIn o w.place z.here.octets
+  pub values : w.values.items ≡ opens z.told
+
+-- From the front of the octets, where so many values may begin, the type's routine comes to a question without an answer,
+-- or reads a value; or there are more octets than a message has, and the first one behind those is told.
+pub data IsStop (s : List Resolved) (t : TypeId) (o : Octets) (most : ℕ) (w : Whereabouts) : Type 0 where
+  stops : (z : State) (e : ReadFault)
+      → StopsReading (λ u. routine_at s u) Takes (λ a b. Leaves a b e) t (front s o most) z
+      → IsAt o w z
+      → IsStop s t o most w
+  reads : (z : State) → Reads (λ u. routine_at s u) Takes t (front s o most) z → IsAt o w z → IsStop s t o most w
+  is_long : 16777216 < length o → w.place ≡ 16777216 → w.values.items ≡ [] → IsStop s t o most w

@@ -1,0 +1,44 @@
+//! Where messages are refused.
+
+use crate::refusal::{Refusal, told};
+use crate::words::{octets_of, type_of};
+use ber_reader::{Part, Whereabouts, read_ber, whereabouts};
+use codec_code::Code;
+use codec_source::ReadFault;
+use row_files::Row;
+use std::alloc::{AllocError, Global};
+
+fn push_part(text: &mut String, part: Part) -> Result<(), AllocError> {
+    match part {
+        Part::Component(place) => write!(text, ", component {place}"),
+        Part::Alternative(index) => write!(text, ", alternative {index}"),
+        Part::Element(index) => write!(text, ", element {index}"),
+    }
+}
+
+/// The place of the octet, and the parts that were being read, from the outermost on.
+fn shown(alloc: Global, fault: ReadFault, found: &Whereabouts) -> Result<String, AllocError> {
+    let place = found.place;
+    let mut text = String::new(alloc);
+    write!(text, "{fault} at octet {place}")?;
+    for i in 0..found.values.len() {
+        if let Some(part) = found.values[i].part {
+            push_part(&mut text, part)?;
+        }
+    }
+    Ok(text)
+}
+
+/// `place NAME TYPE HEX..`: the fault for which the message is refused, the place of its octet, from 0, and the parts that
+/// were being read.
+pub fn answer(alloc: Global, code: &Code, row: &Row) -> Result<String, Refusal> {
+    let id = type_of(alloc, row)?;
+    let octets = octets_of(alloc, row)?;
+    match read_ber(alloc, code, id, octets.as_slice()) {
+        Ok(_) => Err(told(alloc, &"read")),
+        Err(fault) => {
+            let found = whereabouts(alloc, code, id, octets.as_slice())?;
+            Ok(shown(alloc, fault, &found)?)
+        }
+    }
+}

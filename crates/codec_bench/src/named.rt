@@ -1,0 +1,104 @@
+//! Values that modules name.
+
+ghost use Rattle.front_end.specs.Accepted.{Keeps};
+ghost use Rattle.std.specs.Prelude.{◌<◌, IfSome, length};
+
+use crate::timing::{Subject, measure};
+use asn_base::schema::TypeId;
+use codec_code::{Code, compile};
+use front_end::law::accepted_keep;
+use front_end::{Modules, open};
+use resolve::Found;
+use std::{env, fs, io};
+use trees::ValueSyntax;
+
+/// How often a message is written in one run.
+const TIMES: usize = 1000;
+
+/// What the words of the program ask for: the texts of files up to the word `--`, and behind it the names of types and
+/// values.
+#[derive(Drop)]
+struct Words {
+    texts: Vec<Vec<u8>>,
+    names: Vec<String>,
+}
+
+/// The texts and names that the program's words ask for.
+fn asked(rt: &HostRuntime) -> io::Result<Words> {
+    let mut texts = Vec::new(rt.alloc());
+    let mut names = Vec::new(rt.alloc());
+    let mut behind = false;
+    for word in env::args(rt)?.skip(1) {
+        if behind {
+            names.push(word)?;
+        } else if word.as_str() == "--" {
+            behind = true;
+        } else {
+            texts.push(fs::read(rt, word.as_str())?)?;
+        }
+    }
+    Ok(Words { texts, names })
+}
+
+/// The type that a word names as `Module.Type`.
+fn type_at(modules: &Modules, word: &str) -> Option<TypeId>
+    ensures { IfSome result (λ id. id.index < length modules.now.types) }
+{
+    let (within, name) = word.split_once('.')?;
+    match modules.linked().find(within, name) {
+        Some(Found::TypeNamed(id)) if id.index < modules.linked().types().len() => Some(id),
+        _ => None,
+    }
+}
+
+/// The module and the notation of the value that a word names as `Module.value`, where it is assigned.
+fn notation_at<'a>(modules: &'a Modules, word: &'a str) -> Option<(&'a str, &'a ValueSyntax)> {
+    let (within, name) = word.split_once('.')?;
+    match modules.linked().find(within, name) {
+        Some(Found::ValueNamed(syntax)) => Some((within, syntax)),
+        _ => None,
+    }
+}
+
+/// Measures the value that a word names, under the type that another one names.
+fn measure_one(
+    rt: &HostRuntime,
+    modules: &Modules,
+    code: &Code,
+    ty: &str,
+    name: &str,
+) -> io::Result<()> {
+    let (Some(id), Some((within, syntax))) = (type_at(modules, ty), notation_at(modules, name))
+    else {
+        return println!(rt; "{name}: there is no such type or value");
+    };
+    let Ok(value) = modules.typed(rt.alloc(), id, within, syntax) else {
+        return println!(rt; "{name}: it is no value of {ty}");
+    };
+    let subject = Subject {
+        name,
+        id,
+        value: &value,
+        members: 1,
+        times: TIMES,
+    };
+    measure(rt, code, subject)
+}
+
+/// Measures each value that the program's words name.
+pub fn measure_named(rt: &HostRuntime) -> io::Result<()> {
+    let asked = asked(rt)?;
+    accepted_keep();
+    let front = match open(rt.alloc(), asked.texts.as_slice()) {
+        Ok(front) => front,
+        Err(fault) => return println!(rt; "{fault}"),
+    };
+    let Ok(code) = compile(rt.alloc(), &front.schema) else {
+        return println!(rt; "want of memory");
+    };
+    let modules = Modules::of(front.linked);
+    for pair in asked.names.as_slice().chunks_exact(2) {
+        measure_one(rt, &modules, &code, pair[0].as_str(), pair[1].as_str())?;
+    }
+    Ok(())
+}

@@ -1,0 +1,56 @@
+-- Where a run stops: the steps lead to a state in which what is asked for next has no answer.
+use Rattle.std.specs.Prelude.{ℕ, List, [], ◌∷◌, Option, Some, None}
+use Rattle.asn_base.specs.declared.schema.TypeId.{TypeId}
+use Rattle.codec_code.specs.declared.step.Step.{Step}
+use Rattle.codec_source.specs.Events.{Event, begins, ends}
+use Rattle.codec_source.specs.Reading.{Asks, Does}
+
+-- the first step asks for nothing that the source has
+abbrev pub AsksNothing : {S : Type 0} → (S → Event → S → Type 0) → List Step → S → Type 0
+AsksNothing {S} takes ss x = (behind : List Step) (t : Option TypeId) (y : S) → Asks takes ss x behind t y → ⊥
+
+mutual
+  -- These steps, where each type has its routine, come to a question without an answer, which leaves the source in the
+  -- last state.
+  pub data Stops {S : Type 0} (routine : ℕ → List Step) (takes : S → Event → S → Type 0) (leaves : S → S → Type 0)
+      : List Step → S → S → Type 0 where
+    unanswered : {s : Step} {ss : List Step} {x z : S}
+        → AsksNothing takes (s ∷ ss) x
+        → leaves x z
+        → Stops routine takes leaves (s ∷ ss) x z
+    answered : {ss behind : List Step} {t : Option TypeId} {x y z : S}
+        → Asks takes ss x behind t y
+        → StopsThen routine takes leaves t behind y z
+        → Stops routine takes leaves ss x z
+
+  -- a value of the type, if any, and then these steps do
+  pub data StopsThen {S : Type 0} (routine : ℕ → List Step) (takes : S → Event → S → Type 0) (leaves : S → S → Type 0)
+      : Option TypeId → List Step → S → S → Type 0 where
+    stops_on : {ss : List Step} {x z : S}
+        → Stops routine takes leaves ss x z
+        → StopsThen routine takes leaves None ss x z
+    not_begun : {t : TypeId} {ss : List Step} {x z : S}
+        → ((a : S) → takes x (begins t) a → ⊥)
+        → leaves x z
+        → StopsThen routine takes leaves (Some t) ss x z
+    stops_within : {t : TypeId} {ss : List Step} {x a z : S}
+        → takes x (begins t) a
+        → Stops routine takes leaves (routine t.index) a z
+        → StopsThen routine takes leaves (Some t) ss x z
+    not_ended : {t : TypeId} {ss : List Step} {x a b z : S}
+        → takes x (begins t) a
+        → Does routine takes (routine t.index) a b
+        → ((c : S) → takes b ends c → ⊥)
+        → leaves b z
+        → StopsThen routine takes leaves (Some t) ss x z
+    stops_behind : {t : TypeId} {ss : List Step} {x a b c z : S}
+        → takes x (begins t) a
+        → Does routine takes (routine t.index) a b
+        → takes b ends c
+        → Stops routine takes leaves ss c z
+        → StopsThen routine takes leaves (Some t) ss x z
+
+-- the type's routine does, where it reads a value
+abbrev pub StopsReading : {S : Type 0} → (ℕ → List Step) → (S → Event → S → Type 0) → (S → S → Type 0)
+    → TypeId → S → S → Type 0
+StopsReading routine takes leaves t x z = StopsThen routine takes leaves (Some t) [] x z
