@@ -1,2 +1,3 @@
 mod Dots
 mod Opening
+mod Messages

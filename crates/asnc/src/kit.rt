@@ -1,6 +1,6 @@
 //! Modules that are ready for use.
 
-ghost use Rattle.std.specs.Prelude.{◌≡◌, ◌<◌, ℕ, List, map, IfOk, IfErr, MatchResult};
+ghost use Rattle.std.specs.Prelude.{◌≡◌, ◌<◌, ℕ, List, map, IfOk, IfErr, MatchResult, string_bytes};
 ghost use Rattle.asn_base.specs.Abstract.{abstract};
 ghost use Rattle.asn_base.specs.Typed.{IsValue};
 ghost use Rattle.resolve.specs.Program.{Program};
@@ -10,9 +10,11 @@ ghost use Rattle.front_end.specs.declared.fault.FrontFault.TheVariants.{Memory a
 ghost use Rattle.sinks.specs.Sent.{state};
 ghost use Rattle.messages.specs.declared.fault.Fault.TheVariants.{Device, Memory};
 ghost use Rattle.asnc.specs.Kits.{IsNotOpened};
+ghost use Rattle.asnc.specs.Reading.{IsNotReadAs, IsReadAs};
 ghost use Rattle.asnc.specs.Writing.{IsEncoded, IsMeant, IsNotEncoded, IsNotMeant, IsSent, IsSentInPart};
 
 use crate::meaning::meant;
+use crate::reading::read_as;
 use asn_base::schema::{Schema, TypeId};
 use asn_base::value::Value;
 use codec_code::{Code, compile};
@@ -31,6 +33,7 @@ use type_listing::list;
 #[derive(Drop)]
 pub struct Kit {
     modules: Modules,
+    schema: Schema,
     code: Code,
 }
 
@@ -46,9 +49,10 @@ impl Model for Kit {
 
     ghost view = { λ k. record { program = k.modules; types = k.code } };
 
+    ghost use Rattle.std.specs.Prelude.{◌≡◌};
     ghost use Rattle.front_end.specs.Accepted.{HasTypes};
 
-    ghost invariant = { λ k. HasTypes k.modules k.code };
+    ghost invariant = { λ k. HasTypes k.modules k.code × (k.schema ≡ k.code) };
 }
 
 /// What a fault of texts is to a user.
@@ -63,16 +67,17 @@ fn refusal(fault: FrontFault) -> Fault
 }
 
 /// The kit of modules that were accepted, with these types.
-fn kit_of(alloc: Global, linked: Linked, schema: &Schema) -> Result<Kit, Fault>
+fn kit_of(alloc: Global, linked: Linked, schema: Schema) -> Result<Kit, Fault>
     requires kept { Keeps linked }
-    requires types { HasTypes linked schema.now }
+    requires types { HasTypes linked schema }
     ensures program { IfOk result (λ k. k.program ≡ linked) }
-    ensures types { IfOk result (λ k. k.types ≡ schema.now) }
+    ensures types { IfOk result (λ k. k.types ≡ schema) }
     ensures memory { IfErr result (λ e. e ≡ Memory) }
 {
-    match compile(alloc, schema) {
+    match compile(alloc, &schema) {
         Ok(code) => Ok(Kit {
             modules: Modules::of(linked),
+            schema,
             code,
         }),
         Err(codec_code::Fault::Memory) => Err(Fault::Memory),
@@ -97,7 +102,7 @@ impl Kit {
     {
         accepted_keep();
         match front_end::open(alloc, texts) {
-            Ok(front) => kit_of(alloc, front.linked, &front.schema),
+            Ok(front) => kit_of(alloc, front.linked, front.schema),
             Err(fault) => Err(refusal(fault)),
         }
     }
@@ -177,6 +182,21 @@ impl Kit {
             Err(WriteFault::Device(count)) => Err(Fault::Device(count)),
             Err(WriteFault::NotOfType) => unreachable!(),
         }
+    }
+
+    /// The value of a type that octets encode by the basic rules, printed, and how many additions that the type lacks were
+    /// skipped. The type is named as `Module.Name`, where it is assigned or where it is imported.
+    ///
+    /// `NoType` where the name is no type's; `Unread` where the octets encode no value of it, in 400 levels of headers, or are
+    /// more than 16,777,216; `Memory`.
+    pub fn ber(&self, alloc: Global, ty: &str, octets: &[u8]) -> Result<(String, u64), Fault>
+        // The octets encode one value of the type with one number of additions; it is printed, and they are told.
+        ensures read { IfOk result (λ r.
+            IsReadAs self.now.program self.now.types ty.now octets.now (string_bytes r.0) r.1) }
+        // A refusal stands.
+        ensures refused { IfErr result (IsNotReadAs self.now.program self.now.types ty.now octets.now) }
+    {
+        read_as(alloc, &self.modules, &self.schema, &self.code, ty, octets)
     }
 
     /// All types in the order of their numbers, to be read by people: of each its number, where it is written, its tags, and

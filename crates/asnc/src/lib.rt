@@ -1,10 +1,12 @@
-//! The compiler behind one door: a command line, the texts of modules, a type and a value go in, octets come out.
+//! The compiler behind one door: a command line, the texts of modules, a type and a value go in, octets come out; a type and octets go in, a printed
+//! value comes out.
 #![tactic(auto)]
 
 mod kit;
 pub mod law;
 mod meaning;
 mod naming;
+mod reading;
 
 pub use kit::Kit;
 pub use messages::{Fault, number, status};

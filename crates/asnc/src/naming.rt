@@ -7,6 +7,7 @@ ghost use Rattle.names.specs.Sources.{value_of};
 ghost use Rattle.range_ends.specs.Ends.{IsValueAt};
 ghost use Rattle.resolve.specs.Program.{IsThere};
 ghost use Rattle.asnc.specs.Named.{IsNamed, IsQualified, TypeNamed, ValueNamed};
+ghost use Rattle.asnc.specs.Reading.{Names};
 
 use asn_base::schema::TypeId;
 use front_end::Modules;
@@ -39,6 +40,7 @@ fn named(linked: &Linked, text: &str) -> Option<Assigned>
 /// The number of the type that a text names as `Module.Type`.
 pub(crate) fn type_number(modules: &Modules, name: &str) -> Option<TypeId>
     ensures within { IfSome result (λ id. id.index < length modules.now.types) }
+    ensures only { IfSome result (λ id. Names modules.now name.now id.index) }
     ensures named { MatchOption result
         ((t : ℕ) → TypeNamed modules.now name.now t → ⊥)
         (λ id. TypeNamed modules.now name.now id.index) }

@@ -25,6 +25,7 @@ refused_by words k (faults.NoType n) h f = absurd f
 refused_by words k (faults.NoValue n) h f = absurd f
 refused_by words k faults.TooLong h f = absurd f
 refused_by words k (faults.Device n) h f = absurd f
+refused_by words k (faults.Unread e) h f = absurd f
 
 pub refused_as : (a : App) (words : List Text) (k : ErrorKind) (fault : Fault) → a ≡ asnc_app → (k ≡ kinds.OutOfMemory) ⊎ IsAmong k (fault_of a words)
     → IsFaultOf k fault → IsRefused words fault

@@ -16,6 +16,8 @@ use Rattle.constraints.specs.declared.fault.BoundFault.{BoundFault}
 use Rattle.constraints.specs.declared.fault.BoundFault.TheVariants as bounds
 use Rattle.additions.specs.declared.fault.ExtFault.{ExtFault}
 use Rattle.additions.specs.declared.fault.ExtFault.TheVariants as additions
+use Rattle.codec_source.specs.declared.fault.ReadFault.{ReadFault}
+use Rattle.codec_source.specs.declared.fault.ReadFault.TheVariants as readings
 use Rattle.told_values.specs.declared.telling.Reason.{Reason}
 use Rattle.told_values.specs.declared.telling.Reason.TheVariants as reasons
 use Rattle.front_end.specs.declared.fault.FrontFault.{FrontFault}
@@ -105,6 +107,25 @@ reason_class_of reasons.Missing = (63, codes "Missing")
 reason_class_of reasons.Behind = (60, codes "NotOfType")
 reason_class_of reasons.Outside = (61, codes "OutsideConstraint")
 
+-- octets that are not read (X.690, clause 8)
+abbrev pub read_class_of : ReadFault → ℕ × List ℕ
+read_class_of readings.Memory = (1, codes "Memory")
+read_class_of readings.MessageLimit = (2, codes "Limit(Message)")
+read_class_of readings.IntegerLimit = (2, codes "Limit(Integer)")
+read_class_of readings.OidLimit = (2, codes "Limit(Oid)")
+read_class_of readings.Truncated = (80, codes "Truncated")
+read_class_of readings.Indefinite = (81, codes "Indefinite")
+read_class_of readings.BadLength = (82, codes "BadLength")
+read_class_of readings.BadTag = (83, codes "BadTag")
+read_class_of readings.UnexpectedTag = (84, codes "UnexpectedTag")
+read_class_of readings.Missing = (85, codes "Missing")
+read_class_of readings.BadContents = (86, codes "BadContents")
+read_class_of readings.EmptySegments = (87, codes "EmptySegments")
+read_class_of readings.OutsideConstraint = (88, codes "OutsideConstraint")
+read_class_of readings.Trailing = (89, codes "Trailing")
+read_class_of readings.TooDeep = (95, codes "TooDeep")
+read_class_of readings.NotDer = (96, codes "NotDer")
+
 abbrev pub front_class_of : FrontFault → ℕ × List ℕ
 front_class_of fronts.Memory = (1, codes "Memory")
 front_class_of (fronts.Text k f) = text_class_of f
@@ -129,6 +150,7 @@ class_of (faults.NoValue name) = (31, codes "UnknownName")
 class_of (faults.Value t) = reason_class_of t.reason
 class_of faults.TooLong = (71, codes "TooLong")
 class_of (faults.Device n) = (72, codes "Device")
+class_of (faults.Unread f) = read_class_of f
 
 abbrev pub number_of : Fault → ℕ
 number_of f = (class_of f).0

@@ -1,9 +1,10 @@
 //! The classes of faults: each has a number and a name.
 
-ghost use Rattle.messages.specs.Classes.{IsClass, class_of, front_class_of, text_class_of, tree_class_of, name_class_of, tag_class_of, bound_class_of, addition_class_of, reason_class_of};
+ghost use Rattle.messages.specs.Classes.{IsClass, class_of, front_class_of, text_class_of, tree_class_of, name_class_of, tag_class_of, bound_class_of, addition_class_of, reason_class_of, read_class_of};
 
 use crate::fault::Fault;
 use additions::ExtFault;
+use codec_source::ReadFault;
 use constraints::BoundFault;
 use front_end::FrontFault;
 use names::{Limit, NameFault};
@@ -40,6 +41,7 @@ pub(crate) fn told_class(fault: &Fault) -> Class
         Fault::Value(told) => of_reason(told.reason),
         Fault::TooLong => is(71, "TooLong"),
         Fault::Device(_) => is(72, "Device"),
+        Fault::Unread(fault) => of_reading(*fault),
     }
 }
 
@@ -161,5 +163,28 @@ fn of_reason(reason: Reason) -> Class
         Reason::UnknownAlternative | Reason::UnknownField => is(62, "UnknownItem"),
         Reason::Missing => is(63, "Missing"),
         Reason::Repeated => is(64, "Repeated"),
+    }
+}
+
+fn of_reading(fault: ReadFault) -> Class
+    ensures { IsClass result (read_class_of fault) }
+{
+    match fault {
+        ReadFault::Memory => is(1, "Memory"),
+        ReadFault::MessageLimit => is(2, "Limit(Message)"),
+        ReadFault::IntegerLimit => is(2, "Limit(Integer)"),
+        ReadFault::OidLimit => is(2, "Limit(Oid)"),
+        ReadFault::Truncated => is(80, "Truncated"),
+        ReadFault::Indefinite => is(81, "Indefinite"),
+        ReadFault::BadLength => is(82, "BadLength"),
+        ReadFault::BadTag => is(83, "BadTag"),
+        ReadFault::UnexpectedTag => is(84, "UnexpectedTag"),
+        ReadFault::Missing => is(85, "Missing"),
+        ReadFault::BadContents => is(86, "BadContents"),
+        ReadFault::EmptySegments => is(87, "EmptySegments"),
+        ReadFault::OutsideConstraint => is(88, "OutsideConstraint"),
+        ReadFault::Trailing => is(89, "Trailing"),
+        ReadFault::TooDeep => is(95, "TooDeep"),
+        ReadFault::NotDer => is(96, "NotDer"),
     }
 }

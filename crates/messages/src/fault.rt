@@ -6,6 +6,7 @@ ghost use Rattle.messages.specs.Status.{status_of};
 ghost use Rattle.messages.specs.declared.fault.Fault.TheVariants.{Memory};
 
 use crate::classes::told_class;
+use codec_source::ReadFault;
 use front_end::FrontFault;
 use std::alloc::{AllocError, AllocFailed};
 use thiserror::Error;
@@ -50,6 +51,9 @@ pub enum Fault {
     /// The output took this many octets and then no more.
     #[error("error 72 Device: the output took {0} octets and then no more")]
     Device(u64),
+    /// The octets are not read as a value of the type.
+    #[error("error {0}")]
+    Unread(ReadFault),
 }
 
 impl<T: Drop> From<AllocFailed<T>> for Fault {

@@ -7,6 +7,7 @@ use crate::asked::{of_file, of_no_name};
 use crate::finding::{octet_in, text_number};
 use crate::heading::heading;
 use crate::of_names::of_names;
+use crate::of_readings::of_reading;
 use crate::of_texts::{left_out, of_octets, of_tokens};
 use crate::of_types::{of_additions, of_bounds, of_tags};
 use crate::of_values::of_value;
@@ -64,6 +65,7 @@ fn sentence(
         Fault::NoType(name) => of_no_name(alloc, texts, name.as_str(), false),
         Fault::NoValue(name) => of_no_name(alloc, texts, name.as_str(), true),
         Fault::TooLong => String::from_str(alloc, "the encoding has more than 16777216 octets"),
+        Fault::Unread(inner) => String::from_str(alloc, of_reading(*inner)),
         Fault::Memory => String::from_str(alloc, "out of memory"),
         Fault::Device(sent) => format!(in alloc; "the output took {sent} octets and then no more"),
         Fault::File(name) => of_file(alloc, name.as_str(), "could not be read"),

@@ -2,6 +2,7 @@ use Rattle.std.proofs.Common.{◌≡◌, ◌↔◌, Some, sym, ap, ◌∙◌, su
 use Rattle.names.specs.declared.scope.Assigned.{Assigned}
 use Rattle.asnc.specs.Named.{IsNamed}
 use Rattle.asnc.proofs.Dots.{no_type}
+use Rattle.asnc.proofs.Messages.{one_named}
 use Rattle.asnc.proofs.naming.type_number.Goals as goal
 
 pub returns-in-Some-Value-clause-named : goal.returns-in-Some-Value-clause-named
@@ -13,3 +14,9 @@ pub returns-in-None-clause-named : goal.returns-in-None-clause-named
 returns-in-None-clause-named c =
     no_type c.args.modules.now c.args.name.now c.named.result (subst (λ p. (a : Assigned) → (c.named.result ≡ Some a ↔ IsNamed p c.args.name.now a)) c.linked.ensures c.named.ensures.is)
     (λ t e. (let f = sym c.in-None.is ∙ e in cc))
+
+pub returns-in-Some-Type-clause-only : goal.returns-in-Some-Type-clause-only
+returns-in-Some-Type-clause-only c =
+    one_named c.args.modules.now c.args.name.now c.named.result c.in-Some-Type.index
+    (subst (λ p. (a : Assigned) → (c.named.result ≡ Some a ↔ IsNamed p c.args.name.now a)) c.linked.ensures c.named.ensures.is)
+    (c.in-Some-Type.is ∙ ap Some c.in-Some-Type.field-0-is)

@@ -1,0 +1,26 @@
+//! Octets that are not read, in words.
+
+use codec_source::ReadFault;
+
+/// Why octets are not read as a value of the type.
+pub(crate) fn of_reading(fault: ReadFault) -> &'static str {
+    match fault {
+        ReadFault::Memory => "out of memory",
+        ReadFault::MessageLimit => "a message has at most 16777216 octets",
+        ReadFault::IntegerLimit => "numbers are from -2^127 to 2^127 - 1",
+        ReadFault::OidLimit => "an object identifier has at most 64 numbers, each below 2^64",
+        ReadFault::Truncated =>
+            "the octets end within a header, or before the contents that one tells",
+        ReadFault::Indefinite => "a length is in the indefinite form, which is not read",
+        ReadFault::BadLength => "a length begins with FF, or is more than 16777216",
+        ReadFault::BadTag => "the octets of a tag are those of none",
+        ReadFault::UnexpectedTag => "found a tag, or a form of one, that can not stand there",
+        ReadFault::Missing => "contents end before a component that has to stand in them",
+        ReadFault::BadContents => "contents are those of no value of their type",
+        ReadFault::EmptySegments => "a BIT STRING in segments has none",
+        ReadFault::OutsideConstraint => "the octets say a value that constraints leave out",
+        ReadFault::Trailing => "octets stand behind the whole value",
+        ReadFault::TooDeep => "more than 400 headers, or 64 values, stand one in another",
+        ReadFault::NotDer => "the octets encode a value, but not by the distinguished rules",
+    }
+}
