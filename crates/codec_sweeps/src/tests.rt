@@ -1,5 +1,6 @@
-//! `compile`, `write_der` and `write_der_to` over the sample types.
+//! `compile`, `write_der`, `write_der_to`, `read_ber` and `whereabouts` over the sample types.
 
 mod memory;
+mod reading;
 mod stopping;
 mod values;

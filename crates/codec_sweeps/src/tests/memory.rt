@@ -113,7 +113,7 @@ impl Starved for Sending {
 }
 
 /// That a sweep met many refusals and many answers, and nothing else.
-fn told(rt: &HostRuntime, name: &str, swept: Swept) -> Result<(), Fail> {
+pub fn told(rt: &HostRuntime, name: &str, swept: Swept) -> Result<(), Fail> {
     match swept {
         Swept::Endless => Ok(()),
         Swept::Wrong(turn) => {
@@ -140,7 +140,7 @@ fn mixed() -> Result<TypeId, Fail> {
 }
 
 /// The codes of the sample types.
-fn sample_code(alloc: Global) -> Result<Code, Fail> {
+pub fn sample_code(alloc: Global) -> Result<Code, Fail> {
     let schema = schema(alloc)?;
     match compile(alloc, &schema) {
         Ok(code) => Ok(code),

@@ -1,0 +1,123 @@
+//! Messages that are read while each growth is refused in turn: `Memory`, or the answer.
+
+use super::memory::{sample_code, told};
+use asn_base::schema::TypeId;
+use ber_reader::{read_ber, whereabouts};
+use codec_code::Code;
+use codec_source::ReadFault;
+use sample_types::type_named;
+use starving::{Starved, Swept, Turn, sweep};
+use std::alloc::{AllocError, Global};
+use std::test::Fail;
+
+/// `read_ber`: so many additions are skipped, or the fault is told.
+#[derive(Drop)]
+struct Reading {
+    code: Code,
+    id: TypeId,
+    octets: Vec<u8>,
+    wanted: Result<u64, ReadFault>,
+}
+
+impl Starved for Reading {
+    fn call(&mut self, alloc: Global) -> Turn {
+        let right = match read_ber(alloc, &self.code, self.id, self.octets.as_slice()) {
+            Err(ReadFault::Memory) => return Turn::Refused,
+            Ok(read) => self.wanted == Ok(read.skipped),
+            Err(fault) => self.wanted == Err(fault),
+        };
+        if right { Turn::Right } else { Turn::Wrong }
+    }
+}
+
+/// `whereabouts`: the place, and how many values are open there.
+#[derive(Drop)]
+struct Finding {
+    code: Code,
+    id: TypeId,
+    octets: Vec<u8>,
+    place: usize,
+    open: usize,
+}
+
+impl Starved for Finding {
+    fn call(&mut self, alloc: Global) -> Turn {
+        match whereabouts(alloc, &self.code, self.id, self.octets.as_slice()) {
+            Err(_) => Turn::Refused,
+            Ok(found) => {
+                let right = found.place == self.place && found.values.len() == self.open;
+                if right { Turn::Right } else { Turn::Wrong }
+            }
+        }
+    }
+}
+
+/// The type with the name.
+fn named(name: &str) -> Result<TypeId, Fail> {
+    match type_named(name) {
+        Some(id) => Ok(id),
+        None => Err("no type".into()),
+    }
+}
+
+/// A SET with two additions that it lacks: 3111 8500 3108 3106 020101 020102 8600 810100.
+fn two_unknown(alloc: Global) -> Result<Vec<u8>, AllocError> {
+    let mut octets = Vec::new(alloc);
+    octets.extend_from_slice(&[0x31, 0x11, 0x85, 0x00, 0x31, 0x08, 0x31, 0x06])?;
+    octets.extend_from_slice(&[0x02, 0x01, 0x01, 0x02, 0x01, 0x02])?;
+    octets.extend_from_slice(&[0x86, 0x00, 0x81, 0x01, 0x00])?;
+    Ok(octets)
+}
+
+#[test]
+fn read_ber_with_ever_more_memory(rt: HostRuntime) -> Result<(), Fail> {
+    let alloc = rt.alloc();
+    let mut reading = Reading {
+        code: sample_code(alloc)?,
+        id: named("mixed")?,
+        octets: two_unknown(alloc)?,
+        wanted: Ok(2),
+    };
+    let swept = sweep(alloc, &mut reading)?;
+    told(&rt, "read_ber", swept)
+}
+
+/// No growth by a told length before it is seen to lie within the message: the fault in each turn.
+#[test]
+fn no_growth_by_a_told_length(rt: HostRuntime) -> Result<(), Fail> {
+    let alloc = rt.alloc();
+    let mut octets = Vec::new(alloc);
+    octets.extend_from_slice(&[0x04, 0x84, 0x01, 0x00, 0x00, 0x00])?;
+    let mut reading = Reading {
+        code: sample_code(alloc)?,
+        id: named("octets")?,
+        octets,
+        wanted: Err(ReadFault::Truncated),
+    };
+    match sweep(alloc, &mut reading)? {
+        Swept::Endless => Ok(()),
+        Swept::Through {
+            refused: 0,
+            right: _,
+        } => Ok(()),
+        _ => Err("it grew".into()),
+    }
+}
+
+#[test]
+fn whereabouts_with_ever_more_memory(rt: HostRuntime) -> Result<(), Fail> {
+    let alloc = rt.alloc();
+    // The second number of the inner SET is cut short: 0201 without its octet.
+    let mut octets = Vec::new(alloc);
+    octets.extend_from_slice(&[0x31, 0x09, 0x31, 0x07, 0x31, 0x05])?;
+    octets.extend_from_slice(&[0x02, 0x01, 0x01, 0x02, 0x01])?;
+    let mut finding = Finding {
+        code: sample_code(alloc)?,
+        id: named("mixed")?,
+        octets,
+        place: 9,
+        open: 4,
+    };
+    let swept = sweep(alloc, &mut finding)?;
+    told(&rt, "whereabouts", swept)
+}
