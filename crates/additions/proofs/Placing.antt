@@ -13,11 +13,11 @@ use Rattle.trees.specs.declared.types.ListKind.TheVariants.{Choice}
 use Rattle.trees.specs.declared.types.Standing.{Standing}
 use Rattle.trees.specs.declared.types.Standing.TheVariants.{Root, Addition}
 use Rattle.names.specs.proving.Distinct.{item_at}
-use Rattle.type_table.specs.declared.table.Component.{Component}
+use Rattle.type_table.specs.declared.table.ListMember.{ListMember}
 use Rattle.type_table.specs.Seen.{part_of}
 use Rattle.type_table.specs.Table.{Part, Type', members, Is, IsLinked}
 use Rattle.tagging.specs.declared.path.FormedTag.{FormedTag}
-use Rattle.tagging.specs.declared.path.Form.{Form}
+use Rattle.tagging.specs.declared.path.TagForm.{TagForm}
 use Rattle.tagging.specs.Tags.{Label, Path, path_of, label, Tags}
 use Rattle.tagging.specs.First.{First, outermost, is_addition}
 use Rattle.tagging.specs.Tagged.{IsTagged, HaveOneFirst}
@@ -27,11 +27,11 @@ use Rattle.additions.specs.proving.Checks.{IsListAt, IsChecked, IsSeenBefore, Fo
 some_one : {X : Type 0} {a b : X} → Some a ≡ Some b → a ≡ b
 some_one h = cc
 
-pub part_at : (cs : List Component) (i : ℕ) (c : Component) → i < length cs → c ≡ get_or cs i c →
+pub part_at : (cs : List ListMember) (i : ℕ) (c : ListMember) → i < length cs → c ≡ get_or cs i c →
     slice_get (map part_of cs) i ≡ Some (part_of c)
 part_at cs i c l e = item_at part_of cs i c l e
 
-pub parts_long : (cs : List Component) → length (map part_of cs) ≡ length cs
+pub parts_long : (cs : List ListMember) → length (map part_of cs) ≡ length cs
 parts_long cs = length-map cs part_of
 
 pub negated : (b : Bool) → not b ≡ false → b ≡ true
@@ -46,11 +46,11 @@ pub not_both : (b : Bool) → b ≡ true → b ≡ false → ⊥
 not_both b e f = let x = sym e ∙ f in absurd cc
 
 -- the member at a place is the one that lies there
-pub same_part : (cs : List Component) (i : ℕ) (c : Component) (x : Part) → i < length cs → c ≡ get_or cs i c →
+pub same_part : (cs : List ListMember) (i : ℕ) (c : ListMember) (x : Part) → i < length cs → c ≡ get_or cs i c →
     slice_get (map part_of cs) i ≡ Some x → part_of c ≡ x
 same_part cs i c x l e f = some_one (sym (part_at cs i c l e) ∙ f)
 
-pub component_at : (cs : List Component) (i : ℕ) (c : Component) → i < length cs → c ≡ get_or cs i c →
+pub component_at : (cs : List ListMember) (i : ℕ) (c : ListMember) → i < length cs → c ≡ get_or cs i c →
     slice_get cs i ≡ Some c
 component_at cs i c l e = slice_get_read cs (length cs) i c refl l e
 
@@ -143,7 +143,7 @@ parted cs n g c b z e f h nay s = record {
   left = nay;
 }
 
-pub together_same : (cs : List Component) (n g : ℕ) (c b : Component) → 0 < n → n < length cs → c ≡ get_or cs n c →
+pub together_same : (cs : List ListMember) (n g : ℕ) (c b : ListMember) → 0 < n → n < length cs → c ≡ get_or cs n c →
     b ≡ get_or cs (n - 1) b → IsOfGroup g (part_of c) → IsOfGroup g (part_of b) → AreTogetherBefore (map part_of cs) n →
     (x : Part) → slice_get (map part_of cs) n ≡ Some x → IsTogether (map part_of cs) n x
 together_same cs n g c b z l ec eb hc hb t x f =
@@ -153,7 +153,7 @@ together_same cs n g c b z l ec eb hc hb t x f =
 
 -- ---- places
 
-pub follows : (cs : List Component) (n : ℕ) (c : Component) (b : Bool) → 0 < n → n < length cs →
+pub follows : (cs : List ListMember) (n : ℕ) (c : ListMember) (b : Bool) → 0 < n → n < length cs →
     c ≡ get_or cs (n - 1) c → b ≡ is_addition (part_of c).standing →
     (IsTrue b → FollowsAddition (map part_of cs) n) × (FollowsAddition (map part_of cs) n → IsTrue b)
 follows cs n c b z l e q =
@@ -209,14 +209,14 @@ are_together marker cs n h = λ m d l e. (h m d l e).together
 -- ---- tags
 
 pub outermost_first : (xs : List FormedTag) (x : FormedTag) → Some x ≡ slice_get xs 0 →
-    (f : Form) × (p : Path) × (path_of xs ≡ (label x.tag, f) ∷ p)
+    (f : TagForm) × (p : Path) × (path_of xs ≡ (label x.tag, f) ∷ p)
 outermost_first [] x e = absurd cc
 outermost_first (y ∷ ys) x e =
     let s : x ≡ y = some_one e in
     (y.form, path_of ys, ap (λ (z : FormedTag). (label z.tag, y.form) ∷ path_of ys) (sym s))
 
 pub first_at : (ts : List Type') (i : ℕ) (xs ys : List FormedTag) (t : Tag) → Tags ts i (path_of xs) → ys ≡ xs →
-    ((f : Form) × (p : Path) × (path_of ys ≡ (label t, f) ∷ p)) → First ts i (label t)
+    ((f : TagForm) × (p : Path) × (path_of ys ≡ (label t, f) ∷ p)) → First ts i (label t)
 first_at ts i xs ys t g e h = outermost (subst (Tags ts i) h.2 (subst (λ z. Tags ts i (path_of z)) (sym e) g))
 
 before_both : (a b c : Label) → LabelBefore a b → LabelBefore b c → LabelBefore a c

@@ -16,7 +16,7 @@ use crate::members::list_breaks;
 use std::alloc::{AllocError, Global};
 use tagging::Tagged;
 use trees::{EnumeratedItem, EnumeratedSyntax, ListKind, Simple};
-use type_table::{Component, Shape, Written};
+use type_table::{ListMember, Shape, Written};
 
 /// What a member or an item can break.
 #[derive(Clone, Copy, Debug, PartialEq)]
@@ -66,7 +66,7 @@ fn name_of_item(items: &[EnumeratedItem], number: usize) -> usize
 }
 
 /// The place where the name of a member is written.
-fn name_of_member(components: &[Component], number: usize) -> usize
+fn name_of_member(components: &[ListMember], number: usize) -> usize
     requires { number < length components.now }
     ensures { IsMemberAt components.now number result }
 {
@@ -90,7 +90,7 @@ fn in_members(
     tagged: &Tagged<'_>,
     kind: ListKind,
     marker: bool,
-    components: &[Component],
+    components: &[ListMember],
 ) -> Result<Option<(Broken, usize)>, AllocError>
     requires { (list : ℕ) × IsListAt tagged.now.types list kind marker (map part_of components.now) }
     ensures { IfOk result (λ o. MatchOption o

@@ -15,10 +15,10 @@ use asn_base::tag::Tag;
 use std::alloc::{AllocError, Global};
 use tagging::Tagged;
 use trees::{ListKind, PresenceSyntax, Standing};
-use type_table::Component;
+use type_table::ListMember;
 
 /// Whether a member is an addition.
-fn is_addition(component: &Component) -> bool
+fn is_addition(component: &ListMember) -> bool
     ensures { result ≡ is_addition' (part_of component.now).standing }
 {
     match component.standing {
@@ -28,7 +28,7 @@ fn is_addition(component: &Component) -> bool
 }
 
 /// Whether a member has a DEFAULT.
-fn has_default(component: &Component) -> bool
+fn has_default(component: &ListMember) -> bool
     ensures { result ≡ has_default' (part_of component.now).presence }
 {
     match &component.presence {
@@ -39,7 +39,7 @@ fn has_default(component: &Component) -> bool
 }
 
 /// Whether a member is of these version brackets of its list.
-fn is_of_group(component: &Component, group: usize) -> bool
+fn is_of_group(component: &ListMember, group: usize) -> bool
     ensures { IsTrue result ↔ IsOfGroup group (part_of component.now) }
 {
     match component.standing {
@@ -49,7 +49,7 @@ fn is_of_group(component: &Component, group: usize) -> bool
 }
 
 /// The version brackets that a member is of.
-fn group_of(component: &Component) -> Option<usize>
+fn group_of(component: &ListMember) -> Option<usize>
     ensures { MatchOption result
         ((g : ℕ) → IsOfGroup g (part_of component.now) → ⊥)
         (λ g. IsOfGroup g (part_of component.now)) }
@@ -61,7 +61,7 @@ fn group_of(component: &Component) -> Option<usize>
 }
 
 /// Whether one of the first members is of these version brackets.
-fn is_seen(components: &[Component], before: usize, group: usize) -> bool
+fn is_seen(components: &[ListMember], before: usize, group: usize) -> bool
     requires { before ≤ length components.now }
     ensures { IsTrue result ↔ IsSeenBefore (map part_of components.now) before group }
 {
@@ -74,7 +74,7 @@ fn is_seen(components: &[Component], before: usize, group: usize) -> bool
 }
 
 /// Whether a member is of version brackets that were left before it.
-fn is_parted(components: &[Component], at: usize) -> bool
+fn is_parted(components: &[ListMember], at: usize) -> bool
     requires there { at < length components.now }
     requires before { AreTogetherBefore (map part_of components.now) at }
     ensures parted { IsTrue result → IsParted (map part_of components.now) at }
@@ -96,7 +96,7 @@ fn is_parted(components: &[Component], at: usize) -> bool
 }
 
 /// Whether an addition stands directly before a member.
-fn follows_addition(components: &[Component], at: usize) -> bool
+fn follows_addition(components: &[ListMember], at: usize) -> bool
     requires { at < length components.now }
     ensures { IsTrue result ↔ FollowsAddition (map part_of components.now) at }
 {
@@ -107,7 +107,7 @@ fn follows_addition(components: &[Component], at: usize) -> bool
 }
 
 /// Whether a member stands where the extension marker doesn't let it.
-fn is_misplaced(marker: bool, components: &[Component], at: usize) -> bool
+fn is_misplaced(marker: bool, components: &[ListMember], at: usize) -> bool
     requires there { at < length components.now }
     requires before { ArePlacedBefore marker (map part_of components.now) at }
     ensures misplaced { IsTrue result → IsMisplaced marker (map part_of components.now) at }
@@ -127,7 +127,7 @@ fn is_misplaced(marker: bool, components: &[Component], at: usize) -> bool
 fn tag_at(
     alloc: Global,
     tagged: &Tagged<'_>,
-    components: &[Component],
+    components: &[ListMember],
     at: usize,
 ) -> Result<Tag, AllocError>
     requires there { at < length components.now }
@@ -146,7 +146,7 @@ fn tag_at(
 fn is_disordered(
     alloc: Global,
     tagged: &Tagged<'_>,
-    components: &[Component],
+    components: &[ListMember],
     at: usize,
 ) -> Result<bool, AllocError>
     requires there { at < length components.now }
@@ -172,7 +172,7 @@ fn breaks_order(
     alloc: Global,
     tagged: &Tagged<'_>,
     kind: ListKind,
-    components: &[Component],
+    components: &[ListMember],
     at: usize,
 ) -> Result<bool, AllocError>
     requires there { at < length components.now }
@@ -189,7 +189,7 @@ fn breaks_order(
 }
 
 /// Whether a member is an addition with a DEFAULT.
-fn is_default_addition(components: &[Component], at: usize) -> bool
+fn is_default_addition(components: &[ListMember], at: usize) -> bool
     requires { at < length components.now }
     ensures default { IsTrue result → IsDefaultAddition (map part_of components.now) at }
     ensures plain { IsFalse result → (c : Part) → slice_get (map part_of components.now) at ≡ Some c →
@@ -207,7 +207,7 @@ fn member_breaks(
     tagged: &Tagged<'_>,
     kind: ListKind,
     marker: bool,
-    components: &[Component],
+    components: &[ListMember],
     at: usize,
 ) -> Result<Option<Rule>, AllocError>
     requires there { at < length components.now }
@@ -237,7 +237,7 @@ pub(crate) fn list_breaks(
     tagged: &Tagged<'_>,
     kind: ListKind,
     marker: bool,
-    components: &[Component],
+    components: &[ListMember],
 ) -> Result<Option<Broken>, AllocError>
     requires { (list : ℕ) × IsListAt tagged.now.types list kind marker (map part_of components.now) }
     ensures { IfOk result (λ o. MatchOption o

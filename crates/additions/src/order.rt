@@ -5,7 +5,7 @@ ghost use Rattle.asn_base.specs.Tags.{class_rank};
 ghost use Rattle.tagging.specs.First.{First};
 ghost use Rattle.tagging.specs.Tags.{Path, Tags, label, path_of};
 ghost use Rattle.tagging.specs.Tagged.{IsTagged, HaveOneFirst};
-ghost use Rattle.tagging.specs.declared.path.Form.{Form as Form'};
+ghost use Rattle.tagging.specs.declared.path.TagForm.{TagForm};
 ghost use Rattle.type_table.specs.Table.{IsLinked};
 ghost use Rattle.additions.specs.Additions.{LabelBefore};
 
@@ -48,7 +48,7 @@ pub(crate) fn facts(tagged: &Tagged<'_>)
 fn outermost(path: &[FormedTag]) -> Option<Tag>
     ensures { MatchOption result
         (path_of path.now ≡ [])
-        (λ t. (f : Form') × (p : Path) × (path_of path.now ≡ (label t, f) ∷ p)) }
+        (λ t. (f : TagForm) × (p : Path) × (path_of path.now ≡ (label t, f) ∷ p)) }
 {
     match path.first() {
         Some(formed) => Some(formed.tag),

@@ -8,6 +8,7 @@ ghost use Rattle.asn_base.specs.Typed.{AreComponents, AreElements, GroupsAreWhol
 ghost use Rattle.asn_base.specs.Types.{Alternative};
 ghost use Rattle.std.specs.Prelude.{◌≡◌, ◌↔◌, ◌++◌, ◌-◌, IfSome, IsTrue, MatchOption, None, Some, length, map, option_map, slice_get};
 
+use limits::{MAX_LEVELS, MAX_NODES};
 use crate::constraint::Constraint;
 use crate::depths::depth_of;
 use crate::groups::are_whole;
@@ -17,15 +18,12 @@ use crate::nodes::nodes_left;
 use crate::schema::{Alternatives, Component, Core, Presence, Schema, TypeId};
 use crate::value::Value;
 
-/// The nodes of a value are at most this many, 2^24.
-const MOST_NODES: u32 = 16_777_216;
-
 /// Whether it is a value of the type: shape, constraints, items, named bits, alphabets, groups of additions, at most 64
 /// levels and at most 2^24 nodes. It is none where the schema lacks the type. It takes no memory.
 pub fn is_value(value: &Value, schema: &Schema, id: TypeId) -> bool
     ensures { IsTrue result ↔ IsValue schema.now id.index (abstract value.now) }
 {
-    is_value_without_nodes(value, schema, id) && nodes_left(value, MOST_NODES).is_some()
+    is_value_without_nodes(value, schema, id) && nodes_left(value, MAX_NODES).is_some()
 }
 
 /// Whether it is a value of the type, the limit on nodes apart. A value of any depth may be asked of: what lies below 64
@@ -33,7 +31,7 @@ pub fn is_value(value: &Value, schema: &Schema, id: TypeId) -> bool
 pub fn is_value_without_nodes(value: &Value, schema: &Schema, id: TypeId) -> bool
     ensures { IsTrue result ↔ IsValueWithoutNodes schema.now id.index (abstract value.now) }
 {
-    is_within(value, schema, schema.depths(), 64, id)
+    is_within(value, schema, schema.depths(), MAX_LEVELS, id)
 }
 
 /// Whether it is a value of the type with at most this many levels, the limit on nodes apart.

@@ -8,6 +8,7 @@ ghost use Rattle.std.specs.Int.Digits.{AllBelowBase};
 ghost use Rattle.std.specs.List.{AllByRecursion};
 ghost use Rattle.std.specs.Prelude.{◌≡◌, ◌≤◌, ◌<◌, ◌↔◌, ◌++◌, IsTrue, IsUtf8, chars, ◌^◌, length, map};
 
+use limits::MAX_ARCS;
 use crate::bits::bit_count;
 use crate::constraint::{Constraint, Range};
 use crate::law::{abstract_values, integer_within_limit};
@@ -202,7 +203,7 @@ fn has_allowed_characters(size: &Constraint, text: &str) -> bool
 fn is_object_identifier(numbers: &[u64]) -> bool
     ensures { IsTrue result ↔ IsObjectIdentifier numbers.now }
 {
-    if numbers.len() < 2 || numbers.len() > 64 {
+    if numbers.len() < 2 || numbers.len() > MAX_ARCS {
         return false;
     }
     let first = numbers[0];
@@ -216,7 +217,7 @@ fn is_object_identifier(numbers: &[u64]) -> bool
 fn is_relative_oid(numbers: &[u64]) -> bool
     ensures { IsTrue result ↔ IsRelativeOid numbers.now }
 {
-    !numbers.is_empty() && numbers.len() <= 64
+    !numbers.is_empty() && numbers.len() <= MAX_ARCS
 }
 
 /// Whether the value is one of a kind that holds no other values.

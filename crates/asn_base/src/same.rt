@@ -7,6 +7,7 @@ ghost use Rattle.asn_base.specs.Seen.{alternative_of, component_of, kind_of};
 ghost use Rattle.asn_base.specs.Typed.{AreComponents, AreElements, IsValueWithoutNodes, ValueIn, ValueOf};
 ghost use Rattle.std.specs.Prelude.{◌≡◌, ◌↔◌, ◌++◌, ℕ, IsTrue, None, length, map, option_map};
 
+use limits::MAX_LEVELS;
 use crate::decide::{chosen_type, is_value_without_nodes};
 use crate::flat::are_alike_leaves;
 use crate::law::abstract_values;
@@ -22,7 +23,7 @@ pub fn same(first: &Value, second: &Value, schema: &Schema, id: TypeId) -> bool
 {
     is_value_without_nodes(first, schema, id)
         && is_value_without_nodes(second, schema, id)
-        && are_alike(first, second, schema, 64, id)
+        && are_alike(first, second, schema, MAX_LEVELS, id)
 }
 
 /// The same for two that are known to be values of the type, which it doesn't look at again: so a short one is compared
@@ -32,7 +33,7 @@ pub fn same_values(first: &Value, second: &Value, schema: &Schema, id: TypeId) -
     requires second { IsValueWithoutNodes schema.now id.index (abstract second.now) }
     ensures { IsTrue result ↔ Same schema.now id.index (abstract first.now) (abstract second.now) }
 {
-    are_alike(first, second, schema, 64, id)
+    are_alike(first, second, schema, MAX_LEVELS, id)
 }
 
 /// Whether two values of the type with at most this many levels are alike.

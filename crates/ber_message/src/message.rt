@@ -11,6 +11,7 @@ ghost use Rattle.octets.specs.Fronts.{EndsEarly, HeaderAt};
 ghost use Rattle.std.specs.Int.Digits.{AllBelowBase};
 ghost use Rattle.std.specs.Prelude.{◌≡◌, ◌<◌, ◌⊎◌, Bool, Err, IfErr, IfOk, length, map, true, ℕ};
 
+use limits::MAX_MESSAGE;
 use asn_base::schema::TypeId;
 use ber_source::{Cursor, Token};
 use codec_code::Code;
@@ -20,12 +21,6 @@ use octets::law::one_front;
 use octets::{HeaderFault, read_header};
 use reading_law::law::{read_is_said, said_is_read};
 use std::alloc::Global;
-
-/// The most octets of a message.
-pub(crate) const MOST: usize = 16_777_216;
-
-/// How many values may stand one in another.
-pub(crate) const VALUES: usize = 64;
 
 /// The tokens of a message of the type, read by the basic rules (X.690, 8.1 to 8.14) from the front; its strings are slices
 /// of it. Constraints are not judged.
@@ -67,7 +62,7 @@ pub fn read_message<'a>(
     read_is_said();
     said_is_read();
     are_octets(octets);
-    if octets.len() > MOST {
+    if octets.len() > MAX_MESSAGE {
         return Err(ReadFault::MessageLimit);
     }
     if !code.has(id) {

@@ -6,7 +6,7 @@ ghost use Rattle.ber_message.specs.Stops.{IsStop};
 ghost use Rattle.codec_source.specs.declared.fault.ReadFault.TheVariants.{Memory};
 ghost use Rattle.std.specs.Prelude.{◌≡◌, ◌≤◌, false, IfOk, length};
 
-use crate::message::{MOST, VALUES};
+use limits::{MAX_MESSAGE, MAX_OPEN};
 use crate::open::{Open, open_behind};
 use asn_base::schema::TypeId;
 use ber_source::Cursor;
@@ -28,7 +28,7 @@ pub struct Whereabouts {
 pub fn most_values(octets: &[u8]) -> usize
     ensures { length octets.now ≤ 16777216 → result ≡ room_of (length octets.now) }
 {
-    octets.len().min(MOST) * VALUES + VALUES
+    octets.len().min(MAX_MESSAGE) * MAX_OPEN + MAX_OPEN
 }
 
 /// Where reading of the message stops, if so many values may begin at most.
@@ -49,7 +49,7 @@ pub fn stop_of(
         Ok(cursor) => cursor,
         Err(_) => {
             return Ok(Whereabouts {
-                place: MOST,
+                place: MAX_MESSAGE,
                 values: Vec::new(alloc),
             });
         }

@@ -5,6 +5,7 @@ ghost use Rattle.ber_source.specs.Seen.{token_of};
 ghost use Rattle.octet_answers.specs.States.{front};
 ghost use Rattle.std.specs.Prelude.{◌≡◌, ◌<◌, ◌≤◌, IfErr, IfOk, IsTrue, [], ◌↔◌, length, map};
 
+use limits::MAX_MESSAGE;
 use crate::asking::{among_next, choose_next, has_more, skip, stands_next};
 use crate::moves::{begin, close, end, hold, open};
 use crate::place::Place;
@@ -17,9 +18,6 @@ use octet_answers::law::one_answer;
 use octets::Form;
 use std::alloc::Global;
 use std::marker::Model;
-
-/// The most octets of a message.
-const MOST: usize = 16_777_216;
 
 /// A message while it is read, from the front, by the basic rules.
 #[derive(Drop)]
@@ -54,7 +52,7 @@ impl<'c, 'a> Cursor<'c, 'a> {
         ensures few { IfOk result (λ c. length octets.now ≤ 16777216) }
         ensures err { IfErr result (λ e. (e ≡ MessageLimit) × (16777216 < length octets.now)) }
     {
-        if octets.len() > MOST {
+        if octets.len() > MAX_MESSAGE {
             return Err(ReadFault::MessageLimit);
         }
         Ok(Cursor {

@@ -8,7 +8,7 @@ use Rattle.trees.specs.Types.{PresenceTree, mandatory, optional, default}
 use Rattle.trees.specs.declared.types.ListKind.{ListKind}
 use Rattle.type_table.specs.declared.table.Shape.{Shape}
 use Rattle.type_table.specs.declared.table.Shape.TheVariants as shapes
-use Rattle.type_table.specs.declared.table.Component.{Component}
+use Rattle.type_table.specs.declared.table.ListMember.{ListMember}
 use Rattle.type_table.specs.Seen.{kind_of}
 use Rattle.type_table.specs.Table.{Part, Kind, simple, reference, tagged, members, elements, Type', behind, behind_of, Is, IsClosed, HasMembers, HasElements}
 use Rattle.circles.specs.Circles.{IsPart, referred, behind_tag, member, element, Reaches, IsDefaultCircle}
@@ -52,7 +52,7 @@ leads_of_circle ts i t l marker cs e k h =
       reaches = h.back;
     }
 
-no_members : (s : Shape) → ((l : ListKind) (m : Bool) (cs : Vec Component Global) → s ≡ shapes.Members l m cs → ⊥) →
+no_members : (s : Shape) → ((l : ListKind) (m : Bool) (cs : Vec ListMember Global) → s ≡ shapes.Members l m cs → ⊥) →
     (l : ListKind) (m : Bool) (ps : List Part) → kind_of s ≡ members l m ps → ⊥
 no_members (shapes.Simple p) n l m ps e = absurd cc
 no_members (shapes.Reference j) n l m ps e = absurd cc
@@ -62,7 +62,7 @@ no_members (shapes.Elements k j) n l m ps e = absurd cc
 
 -- what is no list is in no circle
 pub no_list : (ts : List Type') (i : ℕ) (t : Type') (s : Shape) → slice_get ts i ≡ Some t → t.kind ≡ kind_of s →
-    ((l : ListKind) (m : Bool) (cs : Vec Component Global) → s ≡ shapes.Members l m cs → ⊥) → IsDefaultCircle ts i → ⊥
+    ((l : ListKind) (m : Bool) (cs : Vec ListMember Global) → s ≡ shapes.Members l m cs → ⊥) → IsDefaultCircle ts i → ⊥
 no_list ts i t s e k n h = no_members s n h.list h.marker h.components (sym k ∙ ap (λ (z : Type'). z.kind) (same_at ts i t h.written e h.there) ∙ h.is)
 
 is_of : (ts : List Type') (i : ℕ) (t : Type') (k : Kind) → slice_get ts i ≡ Some t → t.kind ≡ k →

@@ -6,7 +6,7 @@ use Rattle.std.proofs.lemmas.List.{length-set}
 use Rattle.std.proofs.lemmas.Option.{slice_get_within, slice_get-map, slice_get_read, slice_get-get_or, get_or_from_slice_get, same_Some}
 use Rattle.asn_base.specs.declared.tag.Tag.{Tag}
 use Rattle.trees.specs.declared.types.Keyword.{Keyword}
-use Rattle.type_table.specs.declared.table.Component.{Component}
+use Rattle.type_table.specs.declared.table.ListMember.{ListMember}
 use Rattle.trees.specs.declared.types.ElementsKind.{ElementsKind}
 use Rattle.trees.specs.declared.types.ListKind.{ListKind}
 use Rattle.names.specs.Modules.{StandsIn}
@@ -160,7 +160,7 @@ marks_elements s j e m m' w w' a = marks_alike s (λ i. i ≡ j) (λ i. IsPart i
 
 -- ---- members, one after the other
 
-pub part_at : (cs : List Component) (i : ℕ) (c : Component) → i < length cs → c ≡ get_or cs i c →
+pub part_at : (cs : List ListMember) (i : ℕ) (c : ListMember) → i < length cs → c ≡ get_or cs i c →
     slice_get (map part_of cs) i ≡ Some (part_of c)
 part_at cs i c l e = slice_get-map part_of cs i ∙ ap (option_map part_of) (slice_get_read cs (length cs) i c refl l e)
 

@@ -2,7 +2,7 @@
 use Rattle.std.proofs.Common.{◌≡◌, inl, inr, ℕ, ◌+◌, ◌<◌, ◌≤◌, List, length, map, Some, refl, sym, subst, ap, ◌∙◌, get_or, arith}
 use Rattle.std.specs.Prelude.{slice_get, slice_index, Bool}
 use Rattle.std.proofs.lemmas.Option.{slice_get_within, same_Some}
-use Rattle.type_table.specs.declared.table.Component.{Component}
+use Rattle.type_table.specs.declared.table.ListMember.{ListMember}
 use Rattle.trees.specs.declared.types.ListKind.{ListKind}
 use Rattle.names.specs.Modules.{StandsIn}
 use Rattle.circles.specs.proving.Ranks.{parts, AreFrom, Rise, DefaultsAbove}
@@ -26,7 +26,7 @@ pub from_all : (r : ℕ) (ranks : List ℕ) (k : Kind) →
     ((n j : ℕ) → n < length (parts k) → slice_get (parts k) n ≡ Some j → r ≤ slice_index ranks j) → AreFrom r ranks k
 from_all r ranks k all j h = let s = among j k h in all s.0 j (slice_get_within (parts k) s.0 j s.1) s.1
 
-pub type_there : (cs : List Component) (n : ℕ) (c : Component) → n < length cs → c ≡ get_or cs n c →
+pub type_there : (cs : List ListMember) (n : ℕ) (c : ListMember) → n < length cs → c ≡ get_or cs n c →
     Some c.ty ≡ slice_get (map (λ (p : Part). p.ty) (map part_of cs)) n
 type_there cs n c l e = sym (map_get (λ (p : Part). p.ty) (map part_of cs) n (part_of c) (item_at part_of cs n c l e))
 

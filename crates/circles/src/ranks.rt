@@ -6,7 +6,7 @@ ghost use Rattle.circles.specs.proving.Reach.{HasDefault};
 ghost use Rattle.type_table.specs.Seen.{part_of, type_of, types_of};
 
 use crate::reach::has_default;
-use type_table::{Component, Shape, Written};
+use type_table::{ListMember, Shape, Written};
 
 /// The rank of a type.
 pub(crate) fn rank_at(ranks: &[usize], ty: usize) -> usize
@@ -24,7 +24,7 @@ fn only(ty: usize, number: usize) -> Option<usize>
     if number == 0 { Some(ty) } else { None }
 }
 
-fn member_type(components: &[Component], number: usize) -> Option<usize>
+fn member_type(components: &[ListMember], number: usize) -> Option<usize>
     ensures { result ≡ slice_get (map (λ c. c.ty) (map part_of components.now)) number }
 {
     match components.get(number) {
@@ -96,7 +96,7 @@ pub(crate) fn all_rise(types: &[Written], ranks: &[usize]) -> bool
 }
 
 /// Whether a component has no DEFAULT, or its type has a higher rank than this one.
-fn default_rises(component: &Component, rank: usize, ranks: &[usize]) -> bool
+fn default_rises(component: &ListMember, rank: usize, ranks: &[usize]) -> bool
     ensures { IsTrue result → HasDefault (part_of component.now) → rank < slice_index ranks.now component.now.ty }
 {
     if has_default(component) {
@@ -106,7 +106,7 @@ fn default_rises(component: &Component, rank: usize, ranks: &[usize]) -> bool
 }
 
 /// Whether the type of each component with a DEFAULT has a higher rank than this one.
-pub(crate) fn defaults_rise(components: &[Component], rank: usize, ranks: &[usize]) -> bool
+pub(crate) fn defaults_rise(components: &[ListMember], rank: usize, ranks: &[usize]) -> bool
     ensures { IsTrue result → DefaultsAbove rank ranks.now (map part_of components.now) }
 {
     for component in components {

@@ -9,7 +9,7 @@ ghost use Rattle.circles.specs.proving.Reach.{HasParts, HasDefault, IsDefaulted,
 
 use std::alloc::{AllocError, Global};
 use trees::{ListKind, PresenceSyntax};
-use type_table::{Component, Shape, Written};
+use type_table::{ListMember, Shape, Written};
 
 /// Marks a type, which then waits, unless this search has marked it before.
 fn mark(
@@ -31,7 +31,7 @@ fn mark(
 
 /// Marks the types of all members.
 fn mark_members(
-    components: &[Component],
+    components: &[ListMember],
     search: usize,
     marks: &mut [usize],
     waiting: &mut Vec<usize>,
@@ -50,7 +50,7 @@ fn mark_members(
 }
 
 /// Whether a component has a DEFAULT.
-pub(crate) fn has_default(component: &Component) -> bool
+pub(crate) fn has_default(component: &ListMember) -> bool
     ensures { IsTrue result ↔ HasDefault (part_of component.now) }
 {
     match &component.presence {
@@ -62,7 +62,7 @@ pub(crate) fn has_default(component: &Component) -> bool
 
 /// Marks the type of a component, if it has a DEFAULT.
 fn mark_default(
-    component: &Component,
+    component: &ListMember,
     search: usize,
     marks: &mut [usize],
     waiting: &mut Vec<usize>,
@@ -80,7 +80,7 @@ fn mark_default(
 
 /// Marks the types of the components with a DEFAULT.
 fn mark_defaults(
-    components: &[Component],
+    components: &[ListMember],
     search: usize,
     marks: &mut [usize],
     waiting: &mut Vec<usize>,
@@ -150,7 +150,7 @@ fn mark_reached(
 pub(crate) fn lead_to(
     alloc: Global,
     types: &[Written],
-    components: &[Component],
+    components: &[ListMember],
     ty: usize,
     search: usize,
     marks: &mut [usize],

@@ -11,10 +11,10 @@ use crate::ranking::ranks_of;
 use crate::ranks::{all_rise, defaults_rise, rank_at};
 use crate::reach::lead_to;
 use std::alloc::{AllocError, Global};
-use type_table::{Component, Shape, Written};
+use type_table::{ListMember, Shape, Written};
 
 /// Whether ranks rise, and the components of a list with a DEFAULT have types of higher ranks than the list.
-fn is_above(ranks: &[usize], rise: bool, list: usize, components: &[Component]) -> bool
+fn is_above(ranks: &[usize], rise: bool, list: usize, components: &[ListMember]) -> bool
     ensures { IsTrue result →
         IsTrue rise × DefaultsAbove (slice_index ranks.now list) ranks.now (map part_of components.now) }
 {

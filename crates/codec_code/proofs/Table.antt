@@ -17,7 +17,7 @@ drop_front [] ys = refl
 drop_front (x ∷ xs) ys = drop_front xs ys
 
 -- where a routine stands: what is before it, itself, and what is behind it
-pub record Stands (s : List Resolved) (n : ℕ) (rs : List Resolved) (t : ℕ) (r : Resolved) : Type 0 where
+pub record RoutineStands (s : List Resolved) (n : ℕ) (rs : List Resolved) (t : ℕ) (r : Resolved) : Type 0 where
   pub front : List Step
   pub behind : List Step
   pub whole : flat_map (routine_of s) rs ≡ front ++ (routine_of s r ++ behind)
@@ -28,7 +28,7 @@ starts_first : (s : List Resolved) (n : ℕ) (rs : List Resolved) → slice_get 
 starts_first s n [] = refl
 starts_first s n (r ∷ rs) = refl
 
-pub stands : (s : List Resolved) (n : ℕ) (rs : List Resolved) (t : ℕ) (r : Resolved) → slice_get rs t ≡ Some r → Stands s n rs t r
+pub stands : (s : List Resolved) (n : ℕ) (rs : List Resolved) (t : ℕ) (r : Resolved) → slice_get rs t ≡ Some r → RoutineStands s n rs t r
 stands s n [] t r e = absurd (cc)
 stands s n (q ∷ rs) zero r e =
     let same : q ≡ r = some_same e in

@@ -21,7 +21,7 @@ use crate::limit::Limit;
 use crate::meaning::{has_alphabet, has_size, is_integer};
 use asn_base::constraint::Bounds;
 use asn_base::schema::TypeId;
-use range_ends::Scope;
+use range_ends::ReferenceTable;
 use ranges::Codes;
 use resolve::Linked;
 use std::alloc::Global;
@@ -109,7 +109,7 @@ pub fn bound<'a>(alloc: Global, tagged: &'a Tagged<'a>) -> Result<Bounded<'a>, B
         (Stands tagged.now) }
 {
     let linked = tagged.linked();
-    let scope = match Scope::of(alloc, linked) {
+    let scope = match ReferenceTable::of(alloc, linked) {
         Ok(scope) => scope,
         Err(_) => return Err(BoundFault::Memory),
     };

@@ -9,7 +9,7 @@ ghost use Rattle.constraints.specs.proving.Columns.{AreNoted, AreAllNoted, IsNot
 use crate::limit::{Limit, first_limit, limit_of};
 use crate::meaning::{Rule, Wrong};
 use asn_base::schema::TypeId;
-use range_ends::Scope;
+use range_ends::ReferenceTable;
 use resolve::Linked;
 use std::alloc::{AllocError, Global};
 use type_table::{Shape, Written};
@@ -149,7 +149,7 @@ fn start_of(alloc: Global, linked: &Linked, column: &Column, ty: usize) -> Resul
 fn limit_in(
     alloc: Global,
     linked: &Linked,
-    scope: &Scope<'_>,
+    scope: &ReferenceTable<'_>,
     column: &Column,
     ty: usize,
 ) -> Result<Limit, Fault>
@@ -183,7 +183,7 @@ fn limit_in(
 }
 
 /// The limit of a type, where that of the type behind it is noted.
-fn limit_at(alloc: Global, scope: &Scope<'_>, column: &Column, ty: usize) -> Result<Limit, Fault>
+fn limit_at(alloc: Global, scope: &ReferenceTable<'_>, column: &Column, ty: usize) -> Result<Limit, Fault>
     requires there { ty < length scope.now.types }
     requires noted { AreNoted scope.now column.now.at.items column.now.limits.items }
     requires behind { (j : ℕ) → next scope.now.types ty ≡ Some j → IsNoted column.now.at.items j }
@@ -206,7 +206,7 @@ fn shared(linked: &Linked, ty: usize) -> Option<usize>
 }
 
 /// Notes the limit of a type, where that of the type behind it is noted.
-fn note(alloc: Global, scope: &Scope<'_>, column: &mut Column, ty: usize) -> Result<(), Fault>
+fn note(alloc: Global, scope: &ReferenceTable<'_>, column: &mut Column, ty: usize) -> Result<(), Fault>
     requires there { ty < length scope.now.types }
     requires noted { AreNoted scope.now column.old.at.items column.old.limits.items }
     requires behind { (j : ℕ) → next scope.now.types ty ≡ Some j → IsNoted column.old.at.items j }
@@ -242,7 +242,7 @@ fn note(alloc: Global, scope: &Scope<'_>, column: &mut Column, ty: usize) -> Res
 /// Notes the limits of the types of a trail, the last one first.
 fn note_trail(
     alloc: Global,
-    scope: &Scope<'_>,
+    scope: &ReferenceTable<'_>,
     column: &mut Column,
     start: usize,
     trail: &[usize],
@@ -276,7 +276,7 @@ fn nothing_noted(alloc: Global, count: usize) -> Result<Vec<Option<usize>>, Allo
 }
 
 /// The limits of all types.
-pub(crate) fn column_of(alloc: Global, scope: &Scope<'_>) -> Result<Column, Fault>
+pub(crate) fn column_of(alloc: Global, scope: &ReferenceTable<'_>) -> Result<Column, Fault>
     ensures { MatchResult result
         (λ c. AreAllNoted scope.now c.at.items c.limits.items)
         (IsFault scope.now) }

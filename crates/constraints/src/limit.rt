@@ -10,7 +10,7 @@ ghost use Rattle.constraints.specs.Allowed.{IsCounted};
 
 use crate::meaning::{Meaning, Rule, Wrong, has_alphabet, is_integer, meaning_of};
 use asn_base::constraint::Range;
-use range_ends::Scope;
+use range_ends::ReferenceTable;
 use ranges::law::bounds;
 use ranges::{Codes, Ranges};
 use std::alloc::{AllocError, Global};
@@ -139,7 +139,7 @@ fn is_empty(shape: &Shape, limit: &Limit) -> bool
 /// them.
 fn narrowed_by(
     alloc: Global,
-    scope: &Scope<'_>,
+    scope: &ReferenceTable<'_>,
     shape: &Shape,
     within: &str,
     start: Limit,
@@ -169,7 +169,7 @@ fn narrowed_by(
 /// The same, where something is left.
 pub(crate) fn limit_of(
     alloc: Global,
-    scope: &Scope<'_>,
+    scope: &ReferenceTable<'_>,
     shape: &Shape,
     within: &str,
     start: Limit,

@@ -8,7 +8,7 @@ ghost use Rattle.range_ends.specs.declared.ranges.Counted.{Counted as Counted'};
 ghost use Rattle.constraints.specs.proving.Meanings.{IsMeaningOf, AreNumbersOf, IsWrong, ranged};
 
 use crate::characters::{CharsFault, codes_at};
-use range_ends::{Counted, RangeFault, RangesFault, Scope, Site, ranges_at};
+use range_ends::{Counted, RangeFault, RangesFault, ReferenceTable, Site, ranges_at};
 use ranges::{Codes, Ranges};
 use std::alloc::Global;
 use trees::{ConstraintForm, ConstraintSyntax, RangesSyntax, Simple};
@@ -139,7 +139,7 @@ fn numbers_of(
 /// The meaning of a constraint that the type takes.
 fn taken(
     alloc: Global,
-    scope: &Scope<'_>,
+    scope: &ReferenceTable<'_>,
     shape: &Shape,
     within: &str,
     constraint: &ConstraintSyntax,
@@ -197,7 +197,7 @@ fn taken(
 /// The meaning of a constraint of a type of a shape, read in a module, or what is wrong with it.
 pub(crate) fn meaning_of(
     alloc: Global,
-    scope: &Scope<'_>,
+    scope: &ReferenceTable<'_>,
     shape: &Shape,
     within: &str,
     constraint: &ConstraintSyntax,

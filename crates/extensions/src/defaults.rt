@@ -15,7 +15,7 @@ use asn_base::value::Value;
 use constraints::Bounded;
 use std::alloc::{AllocError, Global};
 use trees::PresenceSyntax;
-use type_table::{Component, Shape, Written};
+use type_table::{ListMember, Shape, Written};
 use typed_values::Defaults;
 
 /// The value of a component's DEFAULT, which is read in this module; None where it has none.
@@ -24,7 +24,7 @@ fn default_of<'a>(
     bounded: &Bounded<'a>,
     defaults: &mut Defaults,
     within: &'a str,
-    component: &'a Component,
+    component: &'a ListMember,
 ) -> Result<Option<Value>, Wrong<'a>>
     requires there { component.now.ty < length bounded.now.types }
     requires sound { AreSound bounded.now.types }
@@ -62,7 +62,7 @@ fn defaults_in<'a>(
     bounded: &Bounded<'a>,
     defaults: &mut Defaults,
     within: &'a str,
-    components: &'a [Component],
+    components: &'a [ListMember],
 ) -> Result<Vec<Option<Value>>, Wrong<'a>>
     requires there { HaveTypes (length bounded.now.types) (map part_of components.now) }
     requires sound { AreSound bounded.now.types }

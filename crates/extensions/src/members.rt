@@ -19,7 +19,7 @@ use asn_base::schema::{Addition, Alternative, Alternatives, Component, Core, Pre
 use asn_base::value::Value;
 use std::alloc::{AllocError, Global};
 use trees::{ListKind, PresenceSyntax, Standing};
-use type_table::Component as Part;
+use type_table::ListMember as Part;
 
 /// Whether a component is OPTIONAL.
 fn is_optional(part: &Part) -> bool

@@ -9,15 +9,15 @@ use asn_base::schema::TypeId;
 use asn_base::tag::Tag;
 use constraints::Bounded;
 use std::alloc::{AllocError, Global};
-use tagging::{Form, FormedTag, tags_of};
+use tagging::{TagForm, FormedTag, tags_of};
 
 /// Whether a tag stands in place of the tag after it.
-fn replaces(form: Form) -> bool
+fn replaces(form: TagForm) -> bool
     ensures { result ≡ is_implicit form }
 {
     match form {
-        Form::Implicit => true,
-        Form::Explicit => false,
+        TagForm::Implicit => true,
+        TagForm::Explicit => false,
     }
 }
 

@@ -5,7 +5,7 @@ use Rattle.grammar.specs.Lexeme.{Lexeme}
 use Rattle.grammar.specs.Grammar.{Grammar}
 use Rattle.grammar.specs.Grows.{Grows}
 use Rattle.grammar.specs.Reading.{Limit, Nesting, Integer, TagNumber, Fault, Unexpected, Beyond, Read, Reader}
-use Rattle.grammar.specs.Laws.{nowhere, past, more, more_than, left_of, Sound, Passes, Stands}
+use Rattle.grammar.specs.Laws.{nowhere, past, more, more_than, left_of, Sound, Passes, ReadsAs}
 use Rattle.grammar.specs.Places.{Limits, Within, raised, Limited, free, between, IsRead, Stops, Ends, PassesLimit}
 
 -- the next lexeme, if there is one, can't go on with u
@@ -48,14 +48,14 @@ pub record Reads {A : Type 0} (g : Limited A) (a : Limits) (read : Reader A) : T
       → Passes (λ l. Within l (joined a b) a) us (read (u ++ us))
   pub whole : (b : Limits) (x : A) (u : List Lexeme)
       → (g (joined a b)).Is x u
-      → Stands (λ l. Within l (joined a b) a) (read (u ++ [])) x []
+      → ReadsAs (λ l. Within l (joined a b) a) (read (u ++ [])) x []
   pub part : (x : A) (u : List Lexeme) → (g a).Is x u → (g a).CanGoOn u
   pub sound : (ts : List Lexeme) → Sound nowhere (g a) ts (read ts)
   pub passed : (l : Limit) → (b : Limits) × ((ts : List Lexeme) → Sound (past l) (g (raised l a b)) ts (read ts))
   pub closed : (x : A) (u us : List Lexeme)
       → (g a).Is x u
       → Closed (free g) u us
-      → Stands (λ l. Within l a a) (read (u ++ us)) x us
+      → ReadsAs (λ l. Within l a a) (read (u ++ us)) x us
 
 pub within_all : (l : Limit) (a : Limits) → Within l a a
 within_all Nesting a = omega arith
@@ -381,6 +381,6 @@ module _ {A : Type 0} (g : Limited A) (a : Limits) (read : Reader A) (reads : Re
   pub whole_read : (ts : List Lexeme) (x : A) → (g a).Is x ts → read ts ≡ Ok (x, [])
   whole_read ts x h = subst (λ (l : List Lexeme). read l ≡ Ok (x, [])) (append-nil ts) (go (reads.closed x ts [] h (λ t r e. absurd cc)))
     where
-      go : Stands (λ l. Within l a a) (read (ts ++ [])) x [] → read (ts ++ []) ≡ Ok (x, [])
+      go : ReadsAs (λ l. Within l a a) (read (ts ++ [])) x [] → read (ts ++ []) ≡ Ok (x, [])
       go (inl e) = e
       go (inr (p, n, e)) = absurd (n (within_all p.0 a))

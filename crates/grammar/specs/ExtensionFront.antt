@@ -5,7 +5,7 @@ use Rattle.text.specs.declared.token.Mark.TheVariants.{Comma, Ellipsis}
 use Rattle.grammar.specs.Lexeme.{Lexeme, Mark}
 use Rattle.grammar.specs.Grammar.{Grammar, IsMany, optional, behind, marked}
 use Rattle.grammar.specs.Reading.{Limit, Unexpected, Beyond, Read, Reader, ◌>>=◌, behind_commas_at, Extensible, next_marker, additions_at, put, or_marker, more_at}
-use Rattle.grammar.specs.Laws.{Follows, Passes, Stands, Finds, passes_on, passes_made, stands_made, is_comma, behind_is, behind_front, front_behind, follows_many, commas_shrink, commas_front, commas_whole}
+use Rattle.grammar.specs.Laws.{Follows, Passes, ReadsAs, Finds, passes_on, passes_made, stands_made, is_comma, behind_is, behind_front, front_behind, follows_many, commas_shrink, commas_front, commas_whole}
 use Rattle.grammar.specs.Lists.{IsSolid, head_is, with_comma}
 use Rattle.grammar.specs.Rules.{either, no_left, no_right}
 use Rattle.grammar.specs.Extension.{commas, tail}
@@ -96,7 +96,7 @@ module _ {A B : Type 0} (within : Limit → Type 0) (a : Grammar A) (b : Grammar
   last_front k w us le (inr (v, e, inr h)) = at_comma k (v ++ us) us (w ++ us) le (ap (λ (l : List Lexeme). l ++ us) e) (λ j lj. marked_front j v us h)
 
   stands_more : (x : A) (us vs : List Lexeme) (r : Read A) (more : Reader (Extensible A B))
-      → Stands within r x vs
+      → ReadsAs within r x vs
       → Passes within us (more vs)
       → Passes within us (r >>= λ x. put x.0 (more x.1))
   stands_more x us vs r more (inl e) h = subst (λ (q : Read A). Passes within us (q >>= λ x. put x.0 (more x.1))) (sym e) (passes_made within us (more vs) (λ e. (x ∷ e.0, e.1)) h)
@@ -194,16 +194,16 @@ module _ {A B : Type 0} (within : Limit → Type 0) (a : Grammar A) (b : Grammar
   whole_at_comma : (k : ℕ) (y : Extensible A B) (rest us ts : List Lexeme)
       → length ts ≤ k
       → ts ≡ Mark Comma ∷ rest
-      → ((j : ℕ) → length rest ≤ j → Stands within (or_marker ra rb (more_at ra rb j) (next_marker rest) rest) y us)
-      → Stands within (more_at ra rb k ts) y us
+      → ((j : ℕ) → length rest ≤ j → ReadsAs within (or_marker ra rb (more_at ra rb j) (next_marker rest) rest) y us)
+      → ReadsAs within (more_at ra rb k ts) y us
   unfolding more_at
   whole_at_comma zero y rest us ts le e go = absurd (omega (arith, ap length e))
-  whole_at_comma (suc k) y rest us ts le e go = subst (λ (l : List Lexeme). Stands within (more_at ra rb (suc k) l) y us) (sym e) (go k (omega (arith, ap length e)))
+  whole_at_comma (suc k) y rest us ts le e go = subst (λ (l : List Lexeme). ReadsAs within (more_at ra rb (suc k) l) y us) (sym e) (go k (omega (arith, ap length e)))
 
   stands_both : (x : A) (y : Extensible A B) (us vs : List Lexeme) (r : Read A) (more : Reader (Extensible A B))
-      → Stands within r x vs
-      → Stands within (more vs) y us
-      → Stands within (r >>= λ x. put x.0 (more x.1)) (x ∷ y.0, y.1) us
+      → ReadsAs within r x vs
+      → ReadsAs within (more vs) y us
+      → ReadsAs within (r >>= λ x. put x.0 (more x.1)) (x ∷ y.0, y.1) us
   stands_both x y us vs r more (inl e) (inl h) = inl (ap (λ (q : Read A). q >>= λ x. put x.0 (more x.1)) e ⋆ ap (put x) h)
   stands_both x y us vs r more (inl e) (inr h) = inr (h.0, h.1, ap (λ (q : Read A). q >>= λ x. put x.0 (more x.1)) e ⋆ ap (put x) h.2)
   stands_both x y us vs r more (inr w) h = inr (w.0, w.1, ap (λ (q : Read A). q >>= λ x. put x.0 (more x.1)) w.2)
@@ -212,19 +212,19 @@ module _ {A B : Type 0} (within : Limit → Type 0) (a : Grammar A) (b : Grammar
   marked_whole : (j : ℕ) (ys : List B) (w us : List Lexeme)
       → (marked b).Is ys w
       → Follows end_of us
-      → Stands within (or_marker ra rb (more_at ra rb j) (next_marker (w ++ us)) (w ++ us)) ([], Some ys) us
+      → ReadsAs within (or_marker ra rb (more_at ra rb j) (next_marker (w ++ us)) (w ++ us)) ([], Some ys) us
   unfolding next_marker additions_at
   marked_whole j ys w us h f =
       let m = behind_is (Mark Ellipsis) (commas b) ys w h in
-      subst (λ (l : List Lexeme). Stands within (or_marker ra rb (more_at ra rb j) (next_marker (l ++ us)) (l ++ us)) ([], Some ys) us) (sym m.1)
+      subst (λ (l : List Lexeme). ReadsAs within (or_marker ra rb (more_at ra rb j) (next_marker (l ++ us)) (l ++ us)) ([], Some ys) us) (sym m.1)
       (stands_made within us (behind_commas_at rb (length (m.0 ++ us)) (m.0 ++ us)) ys (λ ys. ([], Some ys)) (commas_whole within b starts-b ends-b rb fb apart-b (length (m.0 ++ us)) ys m.0 us (le_same (m.0 ++ us)) m.2 (ends_follow_b us f) (no_commas us f)))
 
   last_whole : (k : ℕ) (o : Option (List B)) (w us : List Lexeme)
       → length (w ++ us) ≤ k
       → (optional (behind (Mark Comma) (marked b))).Is o w
       → Follows end_of us
-      → Stands within (more_at ra rb k (w ++ us)) ([], o) us
-  last_whole k None w us le h f = subst (λ (l : List Lexeme). Stands within (more_at ra rb k (l ++ us)) ([], None) us) (sym h) (inl (more_none k us f))
+      → ReadsAs within (more_at ra rb k (w ++ us)) ([], o) us
+  last_whole k None w us le h f = subst (λ (l : List Lexeme). ReadsAs within (more_at ra rb k (l ++ us)) ([], None) us) (sym h) (inl (more_none k us f))
   last_whole k (Some ys) w us le h f =
       let m = behind_is (Mark Comma) (marked b) ys w h in
       whole_at_comma k ([], Some ys) (m.0 ++ us) us (w ++ us) le (ap (λ (l : List Lexeme). l ++ us) m.1) (λ j lj. marked_whole j ys m.0 us m.2 f)
@@ -247,12 +247,12 @@ module _ {A B : Type 0} (within : Limit → Type 0) (a : Grammar A) (b : Grammar
   one_whole : (j : ℕ) (x : A) (y : Extensible A B) (p rest us : List Lexeme)
       → a.Is x p
       → Follows ends (rest ++ us)
-      → Stands within (more_at ra rb j (rest ++ us)) y us
+      → ReadsAs within (more_at ra rb j (rest ++ us)) y us
       →
-      Stands within (or_marker ra rb (more_at ra rb j) (next_marker (p ++ (rest ++ us))) (p ++ (rest ++ us))) (x ∷ y.0, y.1) us
+      ReadsAs within (or_marker ra rb (more_at ra rb j) (next_marker (p ++ (rest ++ us))) (p ++ (rest ++ us))) (x ∷ y.0, y.1) us
   one_whole j x y [] rest us h f m = absurd (solid.no_empty x h)
   one_whole j x y (t ∷ p) rest us h f m =
-      at_part (λ (r : Read (Extensible A B)). Stands within r (x ∷ y.0, y.1) us) t (p ++ (rest ++ us)) (more_at ra rb j) (fa.first t p (fa.part x (t ∷ p) h))
+      at_part (λ (r : Read (Extensible A B)). ReadsAs within r (x ∷ y.0, y.1) us) t (p ++ (rest ++ us)) (more_at ra rb j) (fa.first t p (fa.part x (t ∷ p) h))
       (stands_both x y us (rest ++ us) (ra ((t ∷ p) ++ (rest ++ us))) (more_at ra rb j) (fa.whole x (t ∷ p) (rest ++ us) h f) m)
 
   all_whole : (k : ℕ) (xs : List A) (o : Option (List B)) (v w us : List Lexeme)
@@ -260,8 +260,8 @@ module _ {A B : Type 0} (within : Limit → Type 0) (a : Grammar A) (b : Grammar
       → IsMany (behind (Mark Comma) a) xs v
       → (optional (behind (Mark Comma) (marked b))).Is o w
       → Follows end_of us
-      → Stands within (more_at ra rb k ((v ++ w) ++ us)) (xs, o) us
-  all_whole k [] o v w us le h ho f = subst (λ (l : List Lexeme). Stands within (more_at ra rb k (l ++ us)) ([], o) us) (sym (ap (λ (l : List Lexeme). l ++ w) h)) (last_whole k o w us (omega (arith, le, ap length h, length-append v w, length-append (v ++ w) us, length-append w us)) ho f)
+      → ReadsAs within (more_at ra rb k ((v ++ w) ++ us)) (xs, o) us
+  all_whole k [] o v w us le h ho f = subst (λ (l : List Lexeme). ReadsAs within (more_at ra rb k (l ++ us)) ([], o) us) (sym (ap (λ (l : List Lexeme). l ++ w) h)) (last_whole k o w us (omega (arith, le, ap length h, length-append v w, length-append (v ++ w) us, length-append w us)) ho f)
   all_whole k (x ∷ xs) o v w us le (p, q, e, hp, hq) ho f =
       let c = behind_is (Mark Comma) a x p hp in
       let shape : (v ++ w) ++ us ≡ Mark Comma ∷ (c.0 ++ ((q ++ w) ++ us)) =
@@ -273,8 +273,8 @@ module _ {A B : Type 0} (within : Limit → Type 0) (a : Grammar A) (b : Grammar
   tail_whole : (y : Extensible A B) (u us : List Lexeme)
       → (tail a b).Is y u
       → Follows end_of us
-      → Stands within (more_at ra rb (length (u ++ us)) (u ++ us)) y us
-  tail_whole y u us (v, w, e, hv, hw) f = subst (λ (l : List Lexeme). Stands within (more_at ra rb (length (l ++ us)) (l ++ us)) y us) (sym e) (all_whole (length ((v ++ w) ++ us)) y.0 y.1 v w us (le_same ((v ++ w) ++ us)) hv hw f)
+      → ReadsAs within (more_at ra rb (length (u ++ us)) (u ++ us)) y us
+  tail_whole y u us (v, w, e, hv, hw) f = subst (λ (l : List Lexeme). ReadsAs within (more_at ra rb (length (l ++ us)) (l ++ us)) y us) (sym e) (all_whole (length ((v ++ w) ++ us)) y.0 y.1 v w us (le_same ((v ++ w) ++ us)) hv hw f)
 
   tail_first : (t : Lexeme) (u : List Lexeme) → (tail a b).CanGoOn (t ∷ u) → is_comma t ≡ true
   tail_first t u h = elim (front_begins (t ∷ u) h) [

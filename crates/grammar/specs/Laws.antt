@@ -68,15 +68,15 @@ Passes within us (Ok x) = length x.1 ≤ length us
 Passes within us (Err (Unexpected n)) = n ≤ length us
 Passes within us (Err (Beyond l n)) = (n ≤ length us) ⊎ (within l → ⊥)
 
-abbrev pub Stands : {A : Type 0} → (Limit → Type 0) → Read A → A → List Lexeme → Type 0
-Stands within r x us = (r ≡ Ok (x, us)) ⊎ ((p : Limit × ℕ) × (within p.0 → ⊥) × (r ≡ Err (Beyond p.0 p.1)))
+abbrev pub ReadsAs : {A : Type 0} → (Limit → Type 0) → Read A → A → List Lexeme → Type 0
+ReadsAs within r x us = (r ≡ Ok (x, us)) ⊎ ((p : Limit × ℕ) × (within p.0 → ⊥) × (r ≡ Err (Beyond p.0 p.1)))
 
 -- Each whole is read, and no front is refused.
 pub record Finds {A : Type 0} (within : Limit → Type 0) (g : Grammar A) (starts ends : Lexeme → Bool) (read : Reader A) : Type 0 where
   pub nil : g.CanGoOn []
   pub part : (x : A) (u : List Lexeme) → g.Is x u → g.CanGoOn u
   pub first : (t : Lexeme) (u : List Lexeme) → g.CanGoOn (t ∷ u) → starts t ≡ true
-  pub whole : (x : A) (u us : List Lexeme) → g.Is x u → Follows ends us → Stands within (read (u ++ us)) x us
+  pub whole : (x : A) (u us : List Lexeme) → g.Is x u → Follows ends us → ReadsAs within (read (u ++ us)) x us
   pub front : (u us : List Lexeme) → g.CanGoOn u → Passes within us (read (u ++ us))
 
 -- ---- one after the other
@@ -133,7 +133,7 @@ module _ {A B C : Type 0} (within : Limit → Type 0) (a : Grammar A) (b : Gramm
   first_passes us (Err (Beyond l n)) h = h
 
   stands_then : (x : A) (us vs : List Lexeme) (r : Read A)
-      → Stands within r x vs
+      → ReadsAs within r x vs
       → Passes within us (rb vs)
       → Passes within us (after_read f r rb)
   stands_then x us vs r (inl e) h =
@@ -153,9 +153,9 @@ module _ {A B C : Type 0} (within : Limit → Type 0) (a : Grammar A) (b : Gramm
 
   second_stands : (x : A) (y : B) (us vs : List Lexeme) (r : Read A) (s : Read B)
       → rb vs ≡ s
-      → Stands within r x vs
-      → Stands within s y us
-      → Stands within (after_read f r rb) (f (x, y)) us
+      → ReadsAs within r x vs
+      → ReadsAs within s y us
+      → ReadsAs within (after_read f r rb) (f (x, y)) us
   second_stands x y us vs r s q (inl e) (inl h) = inl (ap (λ (r : Read A). after_read f r rb) e ⋆ ap (λ (s : Read B). s >>= λ y. Ok (f (x, y.0), y.1)) (q ⋆ h))
   second_stands x y us vs r s q (inl e) (inr h) = inr (h.0, h.1, ap (λ (r : Read A). after_read f r rb) e ⋆ ap (λ (s : Read B). s >>= λ y. Ok (f (x, y.0), y.1)) (q ⋆ h.2))
   second_stands x y us vs r s q (inr w) h = inr (w.0, w.1, ap (λ (r : Read A). after_read f r rb) w.2)
@@ -165,10 +165,10 @@ module _ {A B C : Type 0} (within : Limit → Type 0) (a : Grammar A) (b : Gramm
       → (z : C) (u us : List Lexeme)
       → ((a ∙ b) ⇒ f).Is z u
       → Follows ends us
-      → Stands within (then_read f ra rb (u ++ us)) z us
+      → ReadsAs within (then_read f ra rb (u ++ us)) z us
   seq_whole after last z u us (xy, e, (v, w, p, ha, hb)) follows =
       let go = second_stands xy.0 xy.1 us (w ++ us) (ra (v ++ (w ++ us))) (rb (w ++ us)) refl (fa.whole xy.0 v (w ++ us) ha (after xy.1 w us hb follows)) (fb.whole xy.1 w us hb (last us follows)) in
-      subst (λ (l : List Lexeme). Stands within (then_read f ra rb l) z us) (sym (ap (λ (l : List Lexeme). l ++ us) p ⋆ append_assoc v w us)) (subst (λ (c : C). Stands within (then_read f ra rb (v ++ (w ++ us))) c us) (sym e) go)
+      subst (λ (l : List Lexeme). ReadsAs within (then_read f ra rb l) z us) (sym (ap (λ (l : List Lexeme). l ++ us) p ⋆ append_assoc v w us)) (subst (λ (c : C). ReadsAs within (then_read f ra rb (v ++ (w ++ us))) c us) (sym e) go)
 
   pub seq_part : (z : C) (u : List Lexeme) → ((a ∙ b) ⇒ f).Is z u → (a ∙ b).CanGoOn u
   seq_part z u (xy, e, (v, w, p, ha, hb)) = inr (xy.0, v, w, p, ha, fb.part xy.1 w hb)
@@ -258,7 +258,7 @@ module _ {A : Type 0} (within : Limit → Type 0) (a : Grammar A) (starts ends :
 
   -- what was read so far stands, and the rest passes
   stands_more : (x : A) (us vs : List Lexeme) (r : Read A) (more : Reader (List A))
-      → Stands within r x vs
+      → ReadsAs within r x vs
       → Passes within us (more vs)
       → Passes within us (r >>= λ x. more x.1 >>= λ xs. Ok (x.0 ∷ xs.0, xs.1))
   stands_more x us vs r more (inl e) h =
@@ -321,11 +321,11 @@ module _ {A : Type 0} (within : Limit → Type 0) (a : Grammar A) (starts ends :
       → length ts ≤ k
       → ts ≡ (Mark Comma) ∷ rest
       →
-      ((j : ℕ) → length rest ≤ j → Stands within (read rest >>= λ x. behind_commas_at read j x.1 >>= λ xs. Ok (x.0 ∷ xs.0, xs.1)) xs us)
-      → Stands within (behind_commas_at read k ts) xs us
+      ((j : ℕ) → length rest ≤ j → ReadsAs within (read rest >>= λ x. behind_commas_at read j x.1 >>= λ xs. Ok (x.0 ∷ xs.0, xs.1)) xs us)
+      → ReadsAs within (behind_commas_at read k ts) xs us
   unfolding behind_commas_at
   whole_at_comma zero rest us ts xs le e go = absurd (omega (arith, ap length e))
-  whole_at_comma (suc k) rest us ts xs le e go = subst (λ (l : List Lexeme). Stands within (behind_commas_at read (suc k) l) xs us) (sym e) (go k (omega (arith, ap length e)))
+  whole_at_comma (suc k) rest us ts xs le e go = subst (λ (l : List Lexeme). ReadsAs within (behind_commas_at read (suc k) l) xs us) (sym e) (go k (omega (arith, ap length e)))
 
   no_comma : (k : ℕ) (us : List Lexeme) → Follows is_comma us → behind_commas_at read k us ≡ Ok ([], us)
   unfolding behind_commas_at
@@ -345,9 +345,9 @@ module _ {A : Type 0} (within : Limit → Type 0) (a : Grammar A) (starts ends :
       follows_comma apart (u ++ us) ((b.0 ++ q) ++ us) (ap (λ (l : List Lexeme). l ++ us) (e ⋆ ap (λ (l : List Lexeme). l ++ q) b.1))
 
   stands_both : (x : A) (xs : List A) (us vs : List Lexeme) (r : Read A) (more : Reader (List A))
-      → Stands within r x vs
-      → Stands within (more vs) xs us
-      → Stands within (r >>= λ x. more x.1 >>= λ xs. Ok (x.0 ∷ xs.0, xs.1)) (x ∷ xs) us
+      → ReadsAs within r x vs
+      → ReadsAs within (more vs) xs us
+      → ReadsAs within (r >>= λ x. more x.1 >>= λ xs. Ok (x.0 ∷ xs.0, xs.1)) (x ∷ xs) us
   stands_both x xs us vs r more (inl e) (inl h) = inl (ap (λ (r : Read A). r >>= λ x. more x.1 >>= λ xs. Ok (x.0 ∷ xs.0, xs.1)) e ⋆ ap (λ (s : Read (List A)). s >>= λ xs. Ok (x ∷ xs.0, xs.1)) h)
   stands_both x xs us vs r more (inl e) (inr h) = inr (h.0, h.1, ap (λ (r : Read A). r >>= λ x. more x.1 >>= λ xs. Ok (x.0 ∷ xs.0, xs.1)) e ⋆ ap (λ (s : Read (List A)). s >>= λ xs. Ok (x ∷ xs.0, xs.1)) h.2)
   stands_both x xs us vs r more (inr w) h = inr (w.0, w.1, ap (λ (r : Read A). r >>= λ x. more x.1 >>= λ xs. Ok (x.0 ∷ xs.0, xs.1)) w.2)
@@ -358,8 +358,8 @@ module _ {A : Type 0} (within : Limit → Type 0) (a : Grammar A) (starts ends :
       → IsMany (behind (Mark Comma) a) xs u
       → Follows ends us
       → Follows is_comma us
-      → Stands within (behind_commas_at read k (u ++ us)) xs us
-  commas_whole apart k [] u us le h f g = subst (λ (l : List Lexeme). Stands within (behind_commas_at read k (l ++ us)) [] us) (sym h) (inl (no_comma k us g))
+      → ReadsAs within (behind_commas_at read k (u ++ us)) xs us
+  commas_whole apart k [] u us le h f g = subst (λ (l : List Lexeme). ReadsAs within (behind_commas_at read k (l ++ us)) [] us) (sym h) (inl (no_comma k us g))
   commas_whole apart k (x ∷ xs) u us le (p, q, e, hp, hq) f g =
       let b = behind_is (Mark Comma) a x p hp in
       whole_at_comma k (b.0 ++ (q ++ us)) us (u ++ us) (x ∷ xs) le
@@ -369,7 +369,7 @@ module _ {A : Type 0} (within : Limit → Type 0) (a : Grammar A) (starts ends :
       (commas_whole apart j xs q us (omega (arith, length-append b.0 (q ++ us))) hq f g))
 
 pub stands_made : {A B : Type 0} (within : Limit → Type 0) (us : List Lexeme) (r : Read A) (x : A) (f : A → B)
-    → Stands within r x us
-    → Stands within (r >>= λ y. Ok (f y.0, y.1)) (f x) us
+    → ReadsAs within r x us
+    → ReadsAs within (r >>= λ y. Ok (f y.0, y.1)) (f x) us
 stands_made within us r x f (inl e) = inl (ap (λ (r : Read _). r >>= λ y. Ok (f y.0, y.1)) e)
 stands_made within us r x f (inr w) = inr (w.0, w.1, ap (λ (r : Read _). r >>= λ y. Ok (f y.0, y.1)) w.2)

@@ -5,7 +5,7 @@ use Rattle.text.specs.declared.token.Mark.TheVariants.{Comma, OpenBrace, CloseBr
 use Rattle.grammar.specs.Lexeme.{Lexeme, Ident, Mark}
 use Rattle.grammar.specs.Grammar.{Grammar, token, mark, ◌∙◌, ◌∣◌, ◌⇒◌, many, behind, listed, braces}
 use Rattle.grammar.specs.Reading.{Limit, Read, Reader, ◌>>=◌, stop, closed_at, behind_commas_at, listed_at, named_at}
-use Rattle.grammar.specs.Laws.{Sound, Follows, Passes, Stands, Finds, then_read, seq_sound, commas_sound, passes_on, passes_made, seq_front, seq_whole, seq_part, is_comma, begins, follows_many, commas_front, commas_whole}
+use Rattle.grammar.specs.Laws.{Sound, Follows, Passes, ReadsAs, Finds, then_read, seq_sound, commas_sound, passes_on, passes_made, seq_front, seq_whole, seq_part, is_comma, begins, follows_many, commas_front, commas_whole}
 
 -- ---- what is read is so
 
@@ -180,7 +180,7 @@ no_lexeme t = false
 
 pub finds_closed : (within : Limit → Type 0) → Finds within (mark CloseBrace) is_rbrace no_lexeme closed_at
 unfolding closed_at
-finds_closed within = record { nil = inl refl; part = λ x u h. inr (tt, h); first = first; whole = λ x u us h f. subst (λ (l : List Lexeme). Stands within (closed_at (l ++ us)) tt us) (sym h) (inl refl); front = front }
+finds_closed within = record { nil = inl refl; part = λ x u h. inr (tt, h); first = first; whole = λ x u us h f. subst (λ (l : List Lexeme). ReadsAs within (closed_at (l ++ us)) tt us) (sym h) (inl refl); front = front }
   where
     first : (t : Lexeme) (u : List Lexeme) → (mark CloseBrace).CanGoOn (t ∷ u) → is_rbrace t ≡ true
     first t u (inl e) = absurd cc
@@ -276,18 +276,18 @@ module _ {A : Type 0} (within : Limit → Type 0) (v : Grammar A) (starts ends :
       subst (λ (l : List Lexeme). Passes within us (named_at read (l ++ us))) (sym (e ⋆ ap (λ (l : List Lexeme). l ++ q) hp)) (read_named x us (read (q ++ us)) (fv.front q us hq))
 
   named_stands : (x : List ℕ) (y : A) (us : List Lexeme) (r : Read A)
-      → Stands within r y us
-      → Stands {A = List ℕ × A} within (r >>= λ v. Ok ((x, v.0), v.1)) (x, y) us
+      → ReadsAs within r y us
+      → ReadsAs {A = List ℕ × A} within (r >>= λ v. Ok ((x, v.0), v.1)) (x, y) us
   named_stands x y us r (inl e) = inl (ap (put_name x) e)
   named_stands x y us r (inr w) = inr (w.0, w.1, ap (put_name x) w.2)
 
   named_whole : (m : List ℕ × A) (u us : List Lexeme)
       → (token Ident ∙ v).Is m u
       → Follows ends us
-      → Stands within (named_at read (u ++ us)) m us
+      → ReadsAs within (named_at read (u ++ us)) m us
   unfolding named_at
   named_whole m u us (p, q, e, hp, hq) f =
-      subst (λ (l : List Lexeme). Stands within (named_at read (l ++ us)) m us) (sym (e ⋆ ap (λ (l : List Lexeme). l ++ q) hp)) (named_stands m.0 m.1 us (read (q ++ us)) (fv.whole m.1 q us hq f))
+      subst (λ (l : List Lexeme). ReadsAs within (named_at read (l ++ us)) m us) (sym (e ⋆ ap (λ (l : List Lexeme). l ++ q) hp)) (named_stands m.0 m.1 us (read (q ++ us)) (fv.whole m.1 q us hq f))
 
   pub finds_named : Finds within (token Ident ∙ v) is_ident ends (named_at read)
   finds_named = record {

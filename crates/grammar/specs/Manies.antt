@@ -4,7 +4,7 @@ use Rattle.std.proofs.lemmas.List.{append-nil}
 use Rattle.grammar.specs.Lexeme.{Lexeme}
 use Rattle.grammar.specs.Grammar.{Grammar, IsMany, many}
 use Rattle.grammar.specs.Reading.{Limit, Fault, Unexpected, Beyond, Read, Reader, ◌>>=◌, with_front, goes_on_if, many_at}
-use Rattle.grammar.specs.Laws.{nowhere, Sound, Follows, Passes, Stands, Finds, passes_on, passes_made}
+use Rattle.grammar.specs.Laws.{nowhere, Sound, Follows, Passes, ReadsAs, Finds, passes_on, passes_made}
 use Rattle.grammar.specs.Lists.{IsSolid, head_is}
 use Rattle.grammar.specs.Loops.{regroup}
 
@@ -83,7 +83,7 @@ module _ {A : Type 0} (within : Limit → Type 0) (a : Grammar A) (starts ends e
 
     -- what was read so far stands, and the rest passes
     stands_more : (x : A) (us vs : List Lexeme) (r : Read A) (more : Reader (List A))
-        → Stands within r x vs
+        → ReadsAs within r x vs
         → Passes within us (more vs)
         → Passes within us (next r more)
     stands_more x us vs r more (inl e) h =
@@ -162,9 +162,9 @@ module _ {A : Type 0} (within : Limit → Type 0) (a : Grammar A) (starts ends e
         follows_start b.0 (u ++ us) ((b.1 ++ q) ++ us) (ap (λ (l : List Lexeme). l ++ us) (e ⋆ ap (λ (l : List Lexeme). l ++ q) b.2)) b.3
 
     stands_both : (x : A) (xs : List A) (us vs : List Lexeme) (r : Read A) (more : Reader (List A))
-        → Stands within r x vs
-        → Stands within (more vs) xs us
-        → Stands within (next r more) (x ∷ xs) us
+        → ReadsAs within r x vs
+        → ReadsAs within (more vs) xs us
+        → ReadsAs within (next r more) (x ∷ xs) us
     stands_both x xs us vs r more (inl e) (inl h) = inl (ap (λ (r : Read A). next r more) e ⋆ ap (λ (s : Read (List A)). s >>= λ xs. Ok (x ∷ xs.0, xs.1)) h)
     stands_both x xs us vs r more (inl e) (inr h) = inr (h.0, h.1, ap (λ (r : Read A). next r more) e ⋆ ap (λ (s : Read (List A)). s >>= λ xs. Ok (x ∷ xs.0, xs.1)) h.2)
     stands_both x xs us vs r more (inr w) h = inr (w.0, w.1, ap (λ (r : Read A). next r more) w.2)
@@ -173,14 +173,14 @@ module _ {A : Type 0} (within : Limit → Type 0) (a : Grammar A) (starts ends e
         → length (u ++ us) ≤ k
         → IsMany a xs u
         → Follows ends' us
-        → Stands within (many_at starts read k (u ++ us)) xs us
-    many_whole k [] u us le h f = subst (λ (l : List Lexeme). Stands within (many_at starts read k (l ++ us)) [] us) (sym h) (inl (no_more k us f))
+        → ReadsAs within (many_at starts read k (u ++ us)) xs us
+    many_whole k [] u us le h f = subst (λ (l : List Lexeme). ReadsAs within (many_at starts read k (l ++ us)) [] us) (sym h) (inl (no_more k us f))
     many_whole k (x ∷ xs) u us le (p, q, e, hp, hq) f =
         let b = is_begun x p hp in
         let whole : u ++ us ≡ p ++ (q ++ us) = ap (λ (l : List Lexeme). l ++ us) e ⋆ append_assoc p q us in
         let shape : u ++ us ≡ b.0 ∷ (b.1 ++ (q ++ us)) = whole ⋆ ap (λ (l : List Lexeme). l ++ (q ++ us)) b.2 in
-        at_start (λ (r : Read (List A)). Stands within r (x ∷ xs) us) k b.0 (b.1 ++ (q ++ us)) (u ++ us) le shape b.3
-        (λ j lj. subst (λ (l : List Lexeme). Stands within (next (read l) (many_at starts read j)) (x ∷ xs) us) (sym whole) (stands_both x xs us (q ++ us) (read (p ++ (q ++ us))) (many_at starts read j)
+        at_start (λ (r : Read (List A)). ReadsAs within r (x ∷ xs) us) k b.0 (b.1 ++ (q ++ us)) (u ++ us) le shape b.3
+        (λ j lj. subst (λ (l : List Lexeme). ReadsAs within (next (read l) (many_at starts read j)) (x ∷ xs) us) (sym whole) (stands_both x xs us (q ++ us) (read (p ++ (q ++ us))) (many_at starts read j)
         (fa.whole x p (q ++ us) hp (follows_many xs q us hq f))
         (many_whole j xs q us (omega (arith, length-append b.1 (q ++ us))) hq f)))
 

@@ -3,7 +3,7 @@ use Rattle.std.proofs.Common.{◌≡◌, ℕ, zero, suc, ◌≤◌, inl, inr, Bo
 use Rattle.grammar.specs.Lexeme.{Lexeme, Number}
 use Rattle.grammar.specs.Grammar.{Grammar}
 use Rattle.grammar.specs.Reading.{Limit, Integer, Beyond, Read, fitting}
-use Rattle.grammar.specs.Laws.{more, Sound, Passes, Stands, passes_on}
+use Rattle.grammar.specs.Laws.{more, Sound, Passes, ReadsAs, passes_on}
 
 -- what is asked where a limit's fault stands behind the lexeme that passes it
 abbrev pub Past : ℕ → Type 0 → Type 0
@@ -54,7 +54,7 @@ fitting_shrinks within true n us r h = passes_on within (Number n ∷ us) us r (
 fitting_shrinks within false n us r h = inl (omega arith)
 
 pub fitting_stands : {A : Type 0} (within : Limit → Type 0) (b : Bool) (ts us : List Lexeme) (r : Read A) (x : A)
-    → (within Integer → b ≡ true) → Stands within r x us → Stands within (fitting b ts r) x us
+    → (within Integer → b ≡ true) → ReadsAs within r x us → ReadsAs within (fitting b ts r) x us
 fitting_stands within true ts us r x room h = h
 fitting_stands within false ts us r x room h = inr ((Integer, length ts), not_within within room, refl)
 

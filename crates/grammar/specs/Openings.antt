@@ -5,7 +5,7 @@ use Rattle.grammar.specs.Lexeme.{Lexeme, Ident, Mark}
 use Rattle.grammar.specs.Grammar.{Grammar, token, mark, only, ◌∙◌, ◌⇒◌, behind, braces, cut_off, opens}
 use Rattle.grammar.specs.Grows.{same_grows}
 use Rattle.grammar.specs.Reading.{Limit, Nesting, Read, Reader, stop, closed_at, opened, inside_at, braces_at, named_at}
-use Rattle.grammar.specs.Laws.{more, Sound, Follows, Passes, Stands, Finds, passes_on, then_read, after_read}
+use Rattle.grammar.specs.Laws.{more, Sound, Follows, Passes, ReadsAs, Finds, passes_on, then_read, after_read}
 use Rattle.grammar.specs.Single.{is_closed, closed_is}
 use Rattle.grammar.specs.Lists.{no_lexeme, is_ident, seq_first, seq_solid, named_sound, finds_named}
 use Rattle.grammar.specs.Parts.{SoundReader, token_finds, token_solid, cut_off_finds, cut_off_solid, pair_sound, pair_finds, pair_solid, same_sound, same_finds}
@@ -126,7 +126,7 @@ module _ {A : Type 0} (s f : Type 0) (over : Limit → ℕ) (within : Limit → 
   out_stands : (within Nesting → ⊥)
       → (x : A) (t : Lexeme) (ts us : List Lexeme)
       → test t ≡ true
-      → Stands within (opened_by test zero read (t ∷ ts)) x us
+      → ReadsAs within (opened_by test zero read (t ∷ ts)) x us
   out_stands w x t ts us e = inr ((Nesting, length (t ∷ ts)), w, ap (λ (c : Bool). barred c zero (t ∷ ts) (read ts)) e)
 
   out_passes : (within Nesting → ⊥)
@@ -151,7 +151,7 @@ module _ {A : Type 0} (s f : Type 0) (over : Limit → ℕ) (within : Limit → 
       whole : (x : A) (u us : List Lexeme)
           → (behind l b).Is x u
           → Follows ends us
-          → Stands within (opened_by test zero read (u ++ us)) x us
+          → ReadsAs within (opened_by test zero read (u ++ us)) x us
       whole x [] us h g = absurd ((seq_solid (only l) b (λ p. p.1) (token_solid (λ (x : Unit {0}). l))).no_empty x h)
       whole x (t ∷ u) us h g = out_stands w x t (u ++ us) us (first t u (behind_part x (t ∷ u) h))
 

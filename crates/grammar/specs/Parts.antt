@@ -3,7 +3,7 @@ use Rattle.std.proofs.Common.{◌≡◌, ℕ, ◌≤◌, inl, inr, Bool, true, f
 use Rattle.grammar.specs.Lexeme.{Lexeme}
 use Rattle.grammar.specs.Grammar.{Grammar, token, ◌∙◌, ◌∣◌, ◌⇒◌, optional, cut_off}
 use Rattle.grammar.specs.Reading.{Limit, Read, Reader, ◌>>=◌, stop}
-use Rattle.grammar.specs.Laws.{Sound, Follows, Passes, Stands, Finds, then_read, passes_made, stands_made, seq_front, seq_whole, seq_part}
+use Rattle.grammar.specs.Laws.{Sound, Follows, Passes, ReadsAs, Finds, then_read, passes_made, stands_made, seq_front, seq_whole, seq_part}
 use Rattle.grammar.specs.Lists.{IsSolid, head_is, seq_first, seq_solid, no_lexeme, left_sound, right_sound}
 
 abbrev pub SoundReader : {A : Type 0} → (Limit → ℕ) → Grammar A → Reader A → Type 0
@@ -96,8 +96,8 @@ made_finds {A} {B} within a f starts ends read fa = record {
     whole : (y : B) (u us : List Lexeme)
         → (a ⇒ f).Is y u
         → Follows ends us
-        → Stands within (read (u ++ us) >>= λ x. Ok (f x.0, x.1)) y us
-    whole y u us (x, e, h) g = subst (λ (y : B). Stands within (read (u ++ us) >>= λ x. Ok (f x.0, x.1)) y us) (sym e) (stands_made within us (read (u ++ us)) x f (fa.whole x u us h g))
+        → ReadsAs within (read (u ++ us) >>= λ x. Ok (f x.0, x.1)) y us
+    whole y u us (x, e, h) g = subst (λ (y : B). ReadsAs within (read (u ++ us) >>= λ x. Ok (f x.0, x.1)) y us) (sym e) (stands_made within us (read (u ++ us)) x f (fa.whole x u us h g))
 
 pub made_solid : {A B : Type 0} (a : Grammar A) (f : A → B) → IsSolid a → IsSolid (a ⇒ f)
 made_solid a f s = record { no_empty = λ y h. s.no_empty h.0 h.2 }
@@ -241,13 +241,13 @@ module _ {A : Type 0} (within : Limit → Type 0) (a b : Grammar A)
     pick_whole : (x : A) (u us : List Lexeme)
         → (a ∣ b).Is x u
         → Follows ends us
-        → Stands within (pick starts-a ra rb (u ++ us)) x us
+        → ReadsAs within (pick starts-a ra rb (u ++ us)) x us
     pick_whole x [] us (inl h) f = absurd (sa.no_empty x h)
     pick_whole x [] us (inr h) f = absurd (sb.no_empty x h)
     pick_whole x (t ∷ u) us (inl h) f =
-        chosen_is (λ (r : Read A). Stands within r x us) (starts-a t) (ra (t ∷ (u ++ us))) (rb (t ∷ (u ++ us))) (λ e. fa.whole x (t ∷ u) us h (left_ends us f)) (λ e. absurd (either_is (starts-a t) (fa.first t u (fa.part x (t ∷ u) h)) e))
+        chosen_is (λ (r : Read A). ReadsAs within r x us) (starts-a t) (ra (t ∷ (u ++ us))) (rb (t ∷ (u ++ us))) (λ e. fa.whole x (t ∷ u) us h (left_ends us f)) (λ e. absurd (either_is (starts-a t) (fa.first t u (fa.part x (t ∷ u) h)) e))
     pick_whole x (t ∷ u) us (inr h) f =
-        chosen_is (λ (r : Read A). Stands within r x us) (starts-a t) (ra (t ∷ (u ++ us))) (rb (t ∷ (u ++ us))) (λ e. absurd (either_is (starts-a t) e (apart t (fb.first t u (fb.part x (t ∷ u) h))))) (λ e. fb.whole x (t ∷ u) us h (right_ends us f))
+        chosen_is (λ (r : Read A). ReadsAs within r x us) (starts-a t) (ra (t ∷ (u ++ us))) (rb (t ∷ (u ++ us))) (λ e. absurd (either_is (starts-a t) e (apart t (fb.first t u (fb.part x (t ∷ u) h))))) (λ e. fb.whole x (t ∷ u) us h (right_ends us f))
 
     pub pick_finds : Finds within (a ∣ b) starts ends (pick starts-a ra rb)
     pick_finds = record { nil = inl fa.nil; part = part; first = first; whole = pick_whole; front = pick_front }
@@ -299,9 +299,9 @@ module _ {A : Type 0} (within : Limit → Type 0) (a : Grammar A) (starts ends e
   perhaps_front (t ∷ u) us (inr h) =
       chosen_is (Passes within us) (starts t) (read (t ∷ (u ++ us)) >>= λ x. Ok (Some x.0, x.1)) (Ok (None, t ∷ (u ++ us))) (λ e. passes_made within us (read (t ∷ (u ++ us))) (λ x. Some x) (fa.front (t ∷ u) us h)) (λ e. absurd (either_is (starts t) (fa.first t u h) e))
 
-  none_whole : (us : List Lexeme) → Follows ends' us → Stands within (perhaps starts read us) None us
+  none_whole : (us : List Lexeme) → Follows ends' us → ReadsAs within (perhaps starts read us) None us
   none_whole [] f = inl refl
-  none_whole (t ∷ us) f = chosen_is (λ (r : Read (Option A)). Stands within r None (t ∷ us)) (starts t) (read (t ∷ us) >>= λ x. Ok (Some x.0, x.1)) (Ok (None, t ∷ us)) (λ e. absurd (either_is (starts t) e (es t f))) (λ e. inl refl)
+  none_whole (t ∷ us) f = chosen_is (λ (r : Read (Option A)). ReadsAs within r None (t ∷ us)) (starts t) (read (t ∷ us) >>= λ x. Ok (Some x.0, x.1)) (Ok (None, t ∷ us)) (λ e. absurd (either_is (starts t) e (es t f))) (λ e. inl refl)
 
   part_ends : (us : List Lexeme) → Follows ends' us → Follows ends us
   part_ends [] f = tt
@@ -310,11 +310,11 @@ module _ {A : Type 0} (within : Limit → Type 0) (a : Grammar A) (starts ends e
   perhaps_whole : (o : Option A) (u us : List Lexeme)
       → (optional a).Is o u
       → Follows ends' us
-      → Stands within (perhaps starts read (u ++ us)) o us
-  perhaps_whole None u us h f = subst (λ (l : List Lexeme). Stands within (perhaps starts read (l ++ us)) None us) (sym h) (none_whole us f)
+      → ReadsAs within (perhaps starts read (u ++ us)) o us
+  perhaps_whole None u us h f = subst (λ (l : List Lexeme). ReadsAs within (perhaps starts read (l ++ us)) None us) (sym h) (none_whole us f)
   perhaps_whole (Some x) [] us h f = absurd (sa.no_empty x h)
   perhaps_whole (Some x) (t ∷ u) us h f =
-      chosen_is (λ (r : Read (Option A)). Stands within r (Some x) us) (starts t) (read (t ∷ (u ++ us)) >>= λ x. Ok (Some x.0, x.1)) (Ok (None, t ∷ (u ++ us))) (λ e. stands_made within us (read (t ∷ (u ++ us))) x (λ x. Some x) (fa.whole x (t ∷ u) us h (part_ends us f))) (λ e. absurd (either_is (starts t) (fa.first t u (fa.part x (t ∷ u) h)) e))
+      chosen_is (λ (r : Read (Option A)). ReadsAs within r (Some x) us) (starts t) (read (t ∷ (u ++ us)) >>= λ x. Ok (Some x.0, x.1)) (Ok (None, t ∷ (u ++ us))) (λ e. stands_made within us (read (t ∷ (u ++ us))) x (λ x. Some x) (fa.whole x (t ∷ u) us h (part_ends us f))) (λ e. absurd (either_is (starts t) (fa.first t u (fa.part x (t ∷ u) h)) e))
 
   pub optional_finds : Finds within (optional a) starts ends' (perhaps starts read)
   optional_finds = record { nil = inl refl; part = part; first = first; whole = perhaps_whole; front = perhaps_front }
@@ -359,6 +359,6 @@ same_finds within g starts ends r r' e f = record {
   nil = f.nil;
   part = f.part;
   first = f.first;
-  whole = λ z u us h k. subst (λ (q : Read _). Stands within q z us) (e (u ++ us)) (f.whole z u us h k);
+  whole = λ z u us h k. subst (λ (q : Read _). ReadsAs within q z us) (e (u ++ us)) (f.whole z u us h k);
   front = λ u us h. subst (λ (q : Read _). Passes within us q) (e (u ++ us)) (f.front u us h);
 }

@@ -5,7 +5,7 @@ use Rattle.grammar.specs.Lexeme.{Lexeme, Number, Mark}
 use Rattle.grammar.specs.Grammar.{Grammar, token, number_of, ◌∙◌, ◌∣◌, ◌⇒◌, many, optional, behind, listed, only}
 use Rattle.grammar.specs.Grows.{Grows}
 use Rattle.grammar.specs.Reading.{Limit, Integer, Read, Reader, ◌>>=◌, stop, fitting, many_at, listed_at}
-use Rattle.grammar.specs.Laws.{Sound, Follows, Passes, Stands, Finds, then_read, seq_sound, seq_front, seq_whole, seq_part}
+use Rattle.grammar.specs.Laws.{Sound, Follows, Passes, ReadsAs, Finds, then_read, seq_sound, seq_front, seq_whole, seq_part}
 use Rattle.grammar.specs.Lists.{IsSolid, no_lexeme, head_is, seq_first, seq_solid, with_comma, listed_sound, finds_listed}
 use Rattle.grammar.specs.Places.{Limits, Within}
 use Rattle.grammar.specs.Numbers.{Past, fitting_sound, fitting_passes, fitting_shrinks, fitting_stands}
@@ -285,9 +285,9 @@ module _ (over : Limit → ℕ) (within : Limit → Type 0) (fits fits' : ℕ �
   number_front u us (inl e) = subst (λ (l : List Lexeme). Passes within us (number_at fits (l ++ us))) (sym e) (number_passes us)
   number_front u us (inr (n, f, e)) = subst (λ (l : List Lexeme). Passes within us (number_at fits (l ++ us))) (sym e) (fitting_passes within (fits n) us (Number n ∷ us) (Ok (n, us)) (room n f) (le_same us))
 
-  number_whole : (n : ℕ) (u us : List Lexeme) → (number_of fits').Is n u → Stands within (number_at fits (u ++ us)) n us
+  number_whole : (n : ℕ) (u us : List Lexeme) → (number_of fits').Is n u → ReadsAs within (number_at fits (u ++ us)) n us
   unfolding number_at
-  number_whole n u us h = subst (λ (l : List Lexeme). Stands within (number_at fits (l ++ us)) n us) (sym h.1) (fitting_stands within (fits n) (Number n ∷ us) us (Ok (n, us)) n (room n h.0) (inl refl))
+  number_whole n u us h = subst (λ (l : List Lexeme). ReadsAs within (number_at fits (l ++ us)) n us) (sym h.1) (fitting_stands within (fits n) (Number n ∷ us) us (Ok (n, us)) n (room n h.0) (inl refl))
 
   number_first : (t : Lexeme) (u : List Lexeme) → (number_of fits').CanGoOn (t ∷ u) → is_number t ≡ true
   number_first t u (inl e) = absurd cc

@@ -11,13 +11,11 @@ ghost use Rattle.grammar.specs.Lexeme.{digit_of, digits_between, single_quotes, 
 ghost use Rattle.grammar.specs.Places.{small};
 ghost use Rattle.kernel.specs.Given.{IsTokenOf};
 
+use limits::MAX_NUMBER;
 use crate::fault::{Limit, ReadError};
 use std::alloc::{AllocError, Global};
 use text::Token;
 use trees::At;
-
-/// Numbers with no minus before them are less than this.
-const LIMIT: u128 = 1 << 127;
 
 /// The name that a token is.
 pub fn name_of(alloc: Global, text: &[u8], token: Token) -> Result<String, AllocError>
@@ -76,7 +74,7 @@ pub fn small_number(text: &[u8], token: Token, left: usize) -> Result<u128, Read
         × (small (number_value text.now token.span.start token.span.end) ≡ false)) }
 {
     let number = number_of(text, token);
-    if number < LIMIT {
+    if number < MAX_NUMBER {
         Ok(number)
     } else {
         Err(ReadError::Limit(Limit::Integer, left))

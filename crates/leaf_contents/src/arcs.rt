@@ -6,13 +6,14 @@ ghost use Rattle.encodings.specs.Header.{septets};
 ghost use Rattle.leaf_contents.specs.Pieces.{joined_pieces};
 ghost use Rattle.std.specs.Prelude.{◌≡◌, ◌↔◌, IsTrue, flat_map};
 
+use limits::MAX_ARCS;
 use crate::leaf::LeafOctets;
 
 /// Whether these are the numbers of an OBJECT IDENTIFIER (X.680, 32).
 pub(crate) fn is_object_identifier(numbers: &[u64]) -> bool
     ensures { IsTrue result ↔ IsObjectIdentifier numbers.now }
 {
-    if numbers.len() < 2 || numbers.len() > 64 {
+    if numbers.len() < 2 || numbers.len() > MAX_ARCS {
         return false;
     }
     let first = numbers[0];
@@ -26,7 +27,7 @@ pub(crate) fn is_object_identifier(numbers: &[u64]) -> bool
 pub(crate) fn is_relative_oid(numbers: &[u64]) -> bool
     ensures { IsTrue result ↔ IsRelativeOid numbers.now }
 {
-    !numbers.is_empty() && numbers.len() <= 64
+    !numbers.is_empty() && numbers.len() <= MAX_ARCS
 }
 
 /// The octets of an OBJECT IDENTIFIER, whose first two numbers are one (8.19.4).

@@ -9,6 +9,7 @@ ghost use Rattle.leaf_readings.specs.Arcs.{IsTold};
 ghost use Rattle.leaf_readings.specs.proving.Spelled.{Counted, IsJudged};
 ghost use Rattle.std.specs.Prelude.{◌≡◌, ◌<◌, ◌++◌, ◌∷◌, ◌↔◌, IfErr, IfNone, IfOk, IfSome, IsTrue, List, [], flat_map, ℕ};
 
+use limits::MAX_ARCS;
 use crate::fault::LeafFault;
 use crate::septets::read_arc;
 
@@ -91,7 +92,7 @@ pub(crate) fn judge_relative_oid(octets: &[u8]) -> Result<(), LeafFault>
     if !small {
         return Err(LeafFault::OidLimit);
     }
-    if count > 64 {
+    if count > MAX_ARCS {
         return Err(LeafFault::OidLimit);
     }
     Ok(())

@@ -4,7 +4,7 @@ use crate::printed;
 use row_files::Row;
 use row_texts::{Refusal, asked, linked, told, type_at};
 use std::alloc::{AllocError, Global};
-use tagging::{Form, FormedTag, Tagged, tag, tags_of};
+use tagging::{TagForm, FormedTag, Tagged, tag, tags_of};
 
 /// Tags with their forms, the outermost first.
 fn printed_path(alloc: Global, path: &[FormedTag]) -> Result<String, AllocError> {
@@ -12,8 +12,8 @@ fn printed_path(alloc: Global, path: &[FormedTag]) -> Result<String, AllocError>
     for formed in path {
         let tag = printed::tag(alloc, formed.tag)?;
         let form = match formed.form {
-            Form::Implicit => "implicit",
-            Form::Explicit => "explicit",
+            TagForm::Implicit => "implicit",
+            TagForm::Explicit => "explicit",
         };
         let part = format!(in alloc; " {tag} {form}")?;
         text.push_str(part.as_str())?;

@@ -4,7 +4,7 @@ use asn_base::strings::StringKind;
 use asn_base::tag::{Class, Tag};
 use std::alloc::{AllocError, Global};
 use trees::{ElementsKind, Keyword, ListKind, PresenceSyntax, Simple, Standing};
-use type_table::{Component, Shape};
+use type_table::{ListMember, Shape};
 
 /// A tag as the notation writes it, its class in words but for context.
 pub fn tag(alloc: Global, tag: Tag) -> Result<String, AllocError> {
@@ -74,7 +74,7 @@ fn members(
     alloc: Global,
     kind: ListKind,
     marker: bool,
-    members: &[Component],
+    members: &[ListMember],
 ) -> Result<String, AllocError> {
     let mut text = String::from_str(alloc, list(kind))?;
     text.push_str(if marker { " ... {" } else { " {" })?;

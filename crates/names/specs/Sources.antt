@@ -5,7 +5,7 @@ use Rattle.trees.specs.Values.{Name, Tree, name_at, tree_of}
 use Rattle.trees.specs.declared.module.TagDefault.{TagDefault}
 use Rattle.trees.specs.Types.{TypeTree, type_tree_of}
 use Rattle.names.specs.declared.sources.Place.{Place}
-use Rattle.names.specs.declared.sources.Assignment.{Assignment}
+use Rattle.names.specs.declared.sources.AssignedAt.{AssignedAt}
 use Rattle.names.specs.declared.sources.Header.{Header}
 use Rattle.names.specs.declared.sources.ValueAt.{ValueAt}
 use Rattle.names.specs.declared.sources.Source.{Source as SourceAt}
@@ -44,7 +44,7 @@ abbrev pub value_of : ValueAt → Value
 value_of v = record { assignment = v.assignment; ty = v.ty; notation = tree_of v.syntax }
 
 -- an assignment's module and name
-abbrev pub assignment_of : Assignment → ℕ × Name
+abbrev pub assignment_of : AssignedAt → ℕ × Name
 assignment_of a = (a.module, name_at a.name)
 
 abbrev pub header_of : Header → Name × TagDefault

@@ -15,16 +15,16 @@ ghost use Rattle.names.specs.proving.Gathering.{named_by, named_next, IsTwice, I
 use crate::exports::Exports;
 use crate::fault::{NameFault, spot};
 use crate::scope::{Assigned, Origin, Scope, scope_of};
-use crate::sources::{Assignment, Header, Source, ValueAt};
+use crate::sources::{AssignedAt, Header, Source, ValueAt};
 use indexmap::IndexMap;
 use std::alloc::Global;
 use std::collections::VecDeque;
-use trees::{Assignment as Given, At, Import, Module, TypeAssignment, TypeSyntax, ValueAssignment};
+use trees::{Assignment, At, Import, Module, TypeAssignment, TypeSyntax, ValueAssignment};
 
 /// The assignments of modules, with their types and values.
 #[derive(Drop)]
 pub struct Tables {
-    pub assignments: Vec<Assignment>,
+    pub assignments: Vec<AssignedAt>,
     pub roots: VecDeque<Source>,
     pub values: Vec<ValueAt>,
 }
@@ -97,7 +97,7 @@ fn place(
         assignment,
         place: None,
     })?;
-    tables.assignments.push(Assignment {
+    tables.assignments.push(AssignedAt {
         module: owner,
         name,
     })?;
@@ -171,7 +171,7 @@ fn add(
     alloc: Global,
     owner: usize,
     within: &str,
-    given: Given,
+    given: Assignment,
     assigned: &mut IndexMap<String, At<Assigned>>,
     tables: &mut Tables,
 ) -> Result<(), NameFault>
@@ -182,11 +182,11 @@ fn add(
     ensures fault { IfErr result (IsTwice within.now (name_of (given_of given)) (meanings assigned.old.entries)) }
 {
     match given {
-        Given::Type(ty) => match add_type(alloc, owner, within, ty, assigned, tables) {
+        Assignment::Type(ty) => match add_type(alloc, owner, within, ty, assigned, tables) {
             Ok(()) => Ok(()),
             Err(fault) => Err(fault),
         },
-        Given::Value(value) => match add_value(alloc, owner, within, value, assigned, tables) {
+        Assignment::Value(value) => match add_value(alloc, owner, within, value, assigned, tables) {
             Ok(()) => Ok(()),
             Err(fault) => Err(fault),
         },
@@ -198,7 +198,7 @@ fn add_all(
     alloc: Global,
     owner: usize,
     within: &str,
-    givens: Vec<Given>,
+    givens: Vec<Assignment>,
     assigned: &mut IndexMap<String, At<Assigned>>,
     tables: &mut Tables,
 ) -> Result<(), NameFault>
@@ -340,7 +340,7 @@ fn scope_from(
     within: &str,
     exports: Option<Vec<At<String>>>,
     given: Vec<Import>,
-    assignments: Vec<Given>,
+    assignments: Vec<Assignment>,
     tables: &mut Tables,
 ) -> Result<Scope, NameFault>
     ensures scope { IfOk result (λ s.

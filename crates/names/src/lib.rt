@@ -13,5 +13,5 @@ pub mod standing;
 pub use fault::{Limit, NameFault};
 pub use limits::within_limits;
 pub use scope::{Assigned, Names, Origin, Scope};
-pub use sources::{Assignment, Header, Place, Source, ValueAt};
+pub use sources::{AssignedAt, Header, Place, Source, ValueAt};
 pub use standing::all_stand;

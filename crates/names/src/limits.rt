@@ -6,6 +6,7 @@ ghost use Rattle.names.specs.Modules.{AreFew, type_count, value_count, all_assig
 ghost use Rattle.names.specs.proving.Gathering.{IsNamingFault};
 ghost use Rattle.names.specs.proving.Limiting.{IsPastCount};
 
+use limits::{MAX_TYPES, MAX_VALUES};
 use crate::fault::{Limit, NameFault, spot};
 use std::alloc::Global;
 use trees::{Assignment, Module};
@@ -36,7 +37,7 @@ fn count(
     for given in givens {
         match given {
             Assignment::Type(assigned) => {
-                if counts.types == 4096 {
+                if counts.types == MAX_TYPES {
                     let name = &assigned.name;
                     return Err(NameFault::Limit(
                         Limit::Types,
@@ -46,7 +47,7 @@ fn count(
                 counts.types += 1;
             }
             Assignment::Value(assigned) => {
-                if counts.values == 65536 {
+                if counts.values == MAX_VALUES {
                     let name = &assigned.name;
                     return Err(NameFault::Limit(
                         Limit::Values,

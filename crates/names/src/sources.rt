@@ -27,7 +27,7 @@ pub struct Header {
 
 /// Where an assignment stands: its module's number, and its name.
 #[derive(Drop)]
-pub struct Assignment {
+pub struct AssignedAt {
     pub module: usize,
     pub name: At<String>,
 }

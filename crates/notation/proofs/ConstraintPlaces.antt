@@ -6,7 +6,7 @@ use Rattle.grammar.specs.Lexeme.{Lexeme, Number, Word, Mark}
 use Rattle.grammar.specs.Grammar.{Grammar, token, mark, word, number_of, ◌∙◌, ◌∣◌, ◌⇒◌, many, behind}
 use Rattle.grammar.specs.Grows.{Grows, same_grows, number_grows, seq_grows, made_grows, either_grows, many_grows, behind_grows}
 use Rattle.grammar.specs.Reading.{Limit, Nesting, Integer, TagNumber, Read, Reader}
-use Rattle.grammar.specs.Laws.{nowhere, deeper, wider, higher, past, Sound, Follows, Stands, Finds}
+use Rattle.grammar.specs.Laws.{nowhere, deeper, wider, higher, past, Sound, Follows, ReadsAs, Finds}
 use Rattle.grammar.specs.Lists.{no_lexeme}
 use Rattle.grammar.specs.Numbers.{Past}
 use Rattle.grammar.specs.Places.{Limits, any, small, bounded, Within, raised}
@@ -118,8 +118,8 @@ module _ {A : Type 0} (g : (ℕ → Bool) → Grammar A) (starts : Lexeme → Bo
       one_result : (x y : A × List Lexeme) (r : Read A) → r ≡ Ok x → r ≡ Ok y → x ≡ y
       one_result x y r p q = let e = sym p ⋆ q in cc
 
-      same : Stands (λ l. Within l numberless numberless) (read any (u ++ [])) v []
-          → Stands (λ l. Within l numberless numberless) (read any (u ++ [])) w []
+      same : ReadsAs (λ l. Within l numberless numberless) (read any (u ++ [])) v []
+          → ReadsAs (λ l. Within l numberless numberless) (read any (u ++ [])) w []
           → v ≡ w
       same (inl p) (inl q) = ap (λ (x : A × List Lexeme). x.0) (one_result (v, []) (w, []) (read any (u ++ [])) p q)
       same (inl p) (inr (g, n, q)) = absurd (n (within_all g.0 numberless))

@@ -5,7 +5,7 @@ use Rattle.text.specs.declared.token.Mark.TheVariants.{Comma, Colon, CloseBrace}
 use Rattle.grammar.specs.Lexeme.{Lexeme, Ident, Number, Mark}
 use Rattle.grammar.specs.Grammar.{Grammar, token, mark, number_of, ◌∙◌, ◌⇒◌, IsMany, many, listed}
 use Rattle.grammar.specs.Reading.{Limit, Integer, Read, Reader, ◌>>=◌, closed_at, named_at, fitting}
-use Rattle.grammar.specs.Laws.{Follows, Passes, Stands, Finds, seq_front, seq_whole, passes_on, passes_made, stands_made}
+use Rattle.grammar.specs.Laws.{Follows, Passes, ReadsAs, Finds, seq_front, seq_whole, passes_on, passes_made, stands_made}
 use Rattle.grammar.specs.Lists.{IsSolid, Next, head_is, second_is, no_lexeme, is_rbrace, is_ident, finds_closed, finds_body, body_next, finds_named}
 use Rattle.grammar.specs.Numbers.{fitting_passes, fitting_shrinks, fitting_stands, fitting_behind}
 use Rattle.trees.specs.Values.{Tree, numbers, items, fields, trees, members}
@@ -65,18 +65,18 @@ module _ (within : Limit → Type 0) (fits fits' : ℕ → Bool)
 
   stands_more : (n : ℕ) (ns : List ℕ) (ts us : List Lexeme)
       → fits' n ≡ true
-      → Stands within (numbers_at fits ts) ns us
-      → Stands within (numbers_at fits (Number n ∷ ts)) (n ∷ ns) us
+      → ReadsAs within (numbers_at fits ts) ns us
+      → ReadsAs within (numbers_at fits (Number n ∷ ts)) (n ∷ ns) us
   unfolding numbers_at
   stands_more n ns ts us f h = fitting_stands within (fits n) (Number n ∷ ts) us (numbers_at fits ts >>= λ ns. Ok (n ∷ ns.0, ns.1)) (n ∷ ns) (room n f) (stands_made within us (numbers_at fits ts) ns (λ ns. n ∷ ns) h)
 
   numbers_whole' : (ns : List ℕ) (u us : List Lexeme)
       → IsMany (number_of fits') ns u
       → Follows is_num us
-      → Stands within (numbers_at fits (u ++ us)) ns us
+      → ReadsAs within (numbers_at fits (u ++ us)) ns us
   numbers_whole' [] u us h f = inl (ap (λ (l : List Lexeme). numbers_at fits (l ++ us)) h ⋆ numbers_end us f)
   numbers_whole' (n ∷ ns) u us (p, q, e, hp, hq) f =
-      subst (λ (l : List Lexeme). Stands within (numbers_at fits (l ++ us)) (n ∷ ns) us) (sym (e ⋆ ap (λ (l : List Lexeme). l ++ q) hp.1)) (stands_more n ns (q ++ us) us hp.0 (numbers_whole' ns q us hq f))
+      subst (λ (l : List Lexeme). ReadsAs within (numbers_at fits (l ++ us)) (n ∷ ns) us) (sym (e ⋆ ap (λ (l : List Lexeme). l ++ q) hp.1)) (stands_more n ns (q ++ us) us hp.0 (numbers_whole' ns q us hq f))
 
   finds_numbers : Finds within more is_num is_num (numbers_at fits)
   finds_numbers = record {
@@ -102,7 +102,7 @@ module _ (within : Limit → Type 0) (fits fits' : ℕ → Bool)
 
   two_numbers_whole : (a b : ℕ) (z : Tree) (u us : List Lexeme)
       → ((more ∙ mark CloseBrace) ⇒ (λ p. numbers (a ∷ b ∷ p.0))).Is z u
-      → Stands within (two_numbers_at fits a b (u ++ us)) z us
+      → ReadsAs within (two_numbers_at fits a b (u ++ us)) z us
   unfolding two_numbers_at
   two_numbers_whole a b z u us h = seq_whole within more (mark CloseBrace) (λ p. numbers (a ∷ b ∷ p.0)) is_num is_num is_rbrace no_lexeme no_lexeme (numbers_at fits) closed_at finds_numbers (finds_closed within) (λ y v us h g. subst (λ (l : List Lexeme). Follows is_num (l ++ us)) (sym h) refl) (λ us g. g) z u us h (all us)
     where
@@ -217,14 +217,14 @@ module _ (within : Limit → Type 0) (fits fits' : ℕ → Bool)
   to_fields ts us h = h
 
   stands_items : (ts us : List Lexeme) (z : Tree)
-      → Stands within (items_at read ts) z us
-      → Stands within (by_name_at true read ts) z us
+      → ReadsAs within (items_at read ts) z us
+      → ReadsAs within (by_name_at true read ts) z us
   unfolding by_name_at
   stands_items ts us z h = h
 
   stands_fields : (ts us : List Lexeme) (z : Tree)
-      → Stands within (fields_at read ts) z us
-      → Stands within (by_name_at false read ts) z us
+      → ReadsAs within (fields_at read ts) z us
+      → ReadsAs within (by_name_at false read ts) z us
   unfolding by_name_at
   stands_fields ts us z h = h
 
@@ -336,7 +336,7 @@ module _ (within : Limit → Type 0) (fits fits' : ℕ → Bool)
 
   pub items_whole : (z : Tree) (u us : List Lexeme)
       → ((listed v ∙ mark CloseBrace) ⇒ (λ p. items (trees p.0))).Is z u
-      → Stands within (braced_at fits read (u ++ us)) z us
+      → ReadsAs within (braced_at fits read (u ++ us)) z us
   unfolding braced_at by_number_at
   items_whole z [] us h = absurd (body_not_empty v (λ p. items (trees p.0)) z h)
   items_whole z ((Mark CloseBrace) ∷ u) us h = let e = fi.first (Mark CloseBrace) u (fi.part z ((Mark CloseBrace) ∷ u) h) in absurd cc
@@ -346,28 +346,28 @@ module _ (within : Limit → Type 0) (fits fits' : ℕ → Bool)
       fitting_stands within (fits a) (Number a ∷ t ∷ (u ++ us)) us (items_at read (Number a ∷ t ∷ (u ++ us))) z (room a (fi.first (Number a) (t ∷ u) (fi.part z (Number a ∷ t ∷ u) h))) (fi.whole z (Number a ∷ t ∷ u) us h (no_end us))
   items_whole z (Ident x ∷ []) us h = absurd (body_long v solid (λ p. items (trees p.0)) z (Ident x) h)
   items_whole z (Ident x ∷ t ∷ u) us h =
-      subst (λ (b : Bool). Stands within (by_name_at b read (Ident x ∷ t ∷ (u ++ us))) z us) (sym (follows t (u ++ us) ((items_next (Ident x) (behind_name x)).next t u (fi.part z (Ident x ∷ t ∷ u) h)))) (stands_items (Ident x ∷ t ∷ (u ++ us)) us z (fi.whole z (Ident x ∷ t ∷ u) us h (no_end us)))
+      subst (λ (b : Bool). ReadsAs within (by_name_at b read (Ident x ∷ t ∷ (u ++ us))) z us) (sym (follows t (u ++ us) ((items_next (Ident x) (behind_name x)).next t u (fi.part z (Ident x ∷ t ∷ u) h)))) (stands_items (Ident x ∷ t ∷ (u ++ us)) us z (fi.whole z (Ident x ∷ t ∷ u) us h (no_end us)))
   items_whole z (t ∷ u) us h = fi.whole z (t ∷ u) us h (no_end us)
 
   pub fields_whole : (z : Tree) (u us : List Lexeme)
       → ((listed (token Ident ∙ v) ∙ mark CloseBrace) ⇒ (λ p. fields (members p.0))).Is z u
-      → Stands within (braced_at fits read (u ++ us)) z us
+      → ReadsAs within (braced_at fits read (u ++ us)) z us
   unfolding braced_at
   fields_whole z [] us h = absurd (body_not_empty (token Ident ∙ v) (λ p. fields (members p.0)) z h)
   fields_whole z (Ident x ∷ []) us h = absurd (body_long (token Ident ∙ v) member_solid (λ p. fields (members p.0)) z (Ident x) h)
   fields_whole z (Ident x ∷ t ∷ u) us h =
-      subst (λ (b : Bool). Stands within (by_name_at b read (Ident x ∷ t ∷ (u ++ us))) z us) (sym (follows_not fits' t (u ++ us) ((fields_next x).next t u (ff.part z (Ident x ∷ t ∷ u) h)))) (stands_fields (Ident x ∷ t ∷ (u ++ us)) us z (ff.whole z (Ident x ∷ t ∷ u) us h (no_end us)))
+      subst (λ (b : Bool). ReadsAs within (by_name_at b read (Ident x ∷ t ∷ (u ++ us))) z us) (sym (follows_not fits' t (u ++ us) ((fields_next x).next t u (ff.part z (Ident x ∷ t ∷ u) h)))) (stands_fields (Ident x ∷ t ∷ (u ++ us)) us z (ff.whole z (Ident x ∷ t ∷ u) us h (no_end us)))
   fields_whole z (t ∷ u) us h = let e = ff.first t u (ff.part z (t ∷ u) h) in absurd cc
 
   pub numbers_whole : (z : Tree) (u us : List Lexeme)
       → ((three_numbers fits' ∙ mark CloseBrace) ⇒ (λ p. numbers (p.0.0 ∷ p.0.1.0 ∷ p.0.1.1))).Is z u
-      → Stands within (braced_at fits read (u ++ us)) z us
+      → ReadsAs within (braced_at fits read (u ++ us)) z us
   unfolding braced_at by_number_at
   numbers_whole z u us (x, d, (p, q, e, (p1, q1, e1, hp1, (p2, q2, e2, hp2, hm)), hq)) =
       let a = x.0.0 in
       let b = x.0.1.0 in
       let w = (q2 ++ q) ++ us in
-      subst (λ (l : List Lexeme). Stands within (braced_at fits read (l ++ us)) z us)
+      subst (λ (l : List Lexeme). ReadsAs within (braced_at fits read (l ++ us)) z us)
       (sym (e ⋆ ap (λ (l : List Lexeme). l ++ q) (e1 ⋆ ap (λ (l : List Lexeme). l ++ q1) hp1.1 ⋆ ap (λ (l : List Lexeme). Number x.0.0 ∷ l) (e2 ⋆ ap (λ (l : List Lexeme). l ++ q2) hp2.1))))
       (fitting_stands within (fits a) (Number a ∷ Number b ∷ w) us (fitting (fits b) (Number b ∷ w) (two_numbers_at fits a b w)) z (room a hp1.0)
       (fitting_stands within (fits b) (Number b ∷ w) us (two_numbers_at fits a b w) z (room b hp2.0)

@@ -5,7 +5,7 @@ use Rattle.grammar.specs.Lexeme.{Lexeme, Ident, Mark}
 use Rattle.grammar.specs.Grammar.{Grammar, token, number_of, ◌∙◌, many, behind, listed, braces}
 use Rattle.grammar.specs.Grows.{Grows, same_grows, number_grows, seq_grows, made_grows, either_grows, many_grows, behind_grows, listed_grows, braces_grows}
 use Rattle.grammar.specs.Reading.{Limit, Nesting, Integer, TagNumber, Read}
-use Rattle.grammar.specs.Laws.{past, everywhere, Sound, Follows, Stands, Finds, behind_is}
+use Rattle.grammar.specs.Laws.{past, everywhere, Sound, Follows, ReadsAs, Finds, behind_is}
 use Rattle.grammar.specs.Places.{Limits, any, small, bounded, Within, raised, free}
 use Rattle.grammar.specs.Answers.{Closed, joined, joined_second, Reads}
 use Rattle.trees.specs.Values.{Tree, chosen, numbers, items, fields, trees, members}
@@ -35,20 +35,20 @@ module _ (fits fits' : ℕ → Bool) (room : (n : ℕ) → fits' n ≡ true → 
       c t r d (record { nesting = suc a.nesting; number = a.number; tag = a.tag }, subst (λ (l : List Lexeme). (value a.number (suc a.nesting)).CanGoOn (l ++ t ∷ [])) (sym e) (inr (inl (inr (x, Ident x ∷ [], (Mark Colon) ∷ (w ++ t ∷ []), refl, refl, inr (tt, (Mark Colon) ∷ [], w ++ t ∷ [], refl, refl, h))))))
 
   to_zero : (z : Tree) (u us : List Lexeme)
-      → Stands everywhere (step_at fits zero (value_at fits zero) (u ++ us)) z us
-      → Stands everywhere (value_at fits zero (u ++ us)) z us
-  to_zero z u us h = subst (λ (q : Read Tree). Stands everywhere q z us) (zero_step everywhere fits fits' room (u ++ us)) h
+      → ReadsAs everywhere (step_at fits zero (value_at fits zero) (u ++ us)) z us
+      → ReadsAs everywhere (value_at fits zero (u ++ us)) z us
+  to_zero z u us h = subst (λ (q : Read Tree). ReadsAs everywhere q z us) (zero_step everywhere fits fits' room (u ++ us)) h
 
   to_suc : (n : ℕ) (z : Tree) (u us : List Lexeme)
-      → Stands everywhere (step_at fits (suc n) (value_at fits n) (u ++ us)) z us
-      → Stands everywhere (value_at fits (suc n) (u ++ us)) z us
-  to_suc n z u us h = subst (λ (q : Read Tree). Stands everywhere q z us) (suc_step everywhere fits fits' room n (u ++ us)) h
+      → ReadsAs everywhere (step_at fits (suc n) (value_at fits n) (u ++ us)) z us
+      → ReadsAs everywhere (value_at fits (suc n) (u ++ us)) z us
+  to_suc n z u us h = subst (λ (q : Read Tree). ReadsAs everywhere q z us) (suc_step everywhere fits fits' room n (u ++ us)) h
 
   pub value_closed : (n m : ℕ) (z : Tree) (u us : List Lexeme)
       → m ≤ n
       → (value fits' m).Is z u
       → Closed (free values) u us
-      → Stands everywhere (value_at fits n (u ++ us)) z us
+      → ReadsAs everywhere (value_at fits n (u ++ us)) z us
   value_closed zero zero z u us le h c = to_zero z u us (simple_whole everywhere fits fits' room zero (value_at fits zero) (zero_colon everywhere fits fits' room) (zero_brace everywhere fits fits' room) z u us (closed_name u us c) h)
   value_closed zero (suc m) z u us le h c = absurd (omega arith)
   value_closed (suc n) zero z u us le h c =
@@ -116,8 +116,8 @@ one_tree u v w (a, h) (b, l) =
     one_result x y r p q = let e = sym p ⋆ q in cc
 
     same : (n : ℕ)
-        → Stands everywhere (value_at any n (u ++ [])) v []
-        → Stands everywhere (value_at any n (u ++ [])) w []
+        → ReadsAs everywhere (value_at any n (u ++ [])) v []
+        → ReadsAs everywhere (value_at any n (u ++ [])) w []
         → v ≡ w
     same n (inl p) (inl q) = ap (λ (x : Tree × List Lexeme). x.0) (one_result (v, []) (w, []) (value_at any n (u ++ [])) p q)
     same n (inl p) (inr (g, k, q)) = absurd (k tt)
@@ -146,8 +146,8 @@ value_reads n = record {
 }
   where
     within_itself : (r : Read Tree) (x : Tree) (us : List Lexeme)
-        → Stands everywhere r x us
-        → Stands (λ l. Within l (bounded n) (bounded n)) r x us
+        → ReadsAs everywhere r x us
+        → ReadsAs (λ l. Within l (bounded n) (bounded n)) r x us
     within_itself r x us (inl e) = inl e
     within_itself r x us (inr (p, k, e)) = absurd (k tt)
 

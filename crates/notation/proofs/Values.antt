@@ -5,7 +5,7 @@ use Rattle.text.specs.declared.reserved.Word.TheVariants.{True, False, Null}
 use Rattle.grammar.specs.Lexeme.{Lexeme, TypeRef, Ident, Number, BString, HString, CString, Word, Mark}
 use Rattle.grammar.specs.Grammar.{Grammar, token, mark, number_of, ◌∙◌, ◌∣◌, ◌⇒◌, behind, listed, braces}
 use Rattle.grammar.specs.Reading.{Limit, Integer, Read, Reader, ◌>>=◌, opened}
-use Rattle.grammar.specs.Laws.{Follows, Passes, Stands, Finds, passes_on, passes_made, behind_is, behind_front}
+use Rattle.grammar.specs.Laws.{Follows, Passes, ReadsAs, Finds, passes_on, passes_made, behind_is, behind_front}
 use Rattle.grammar.specs.Lists.{IsSolid, Next, braces_is, braces_front}
 use Rattle.grammar.specs.Numbers.{fitting_passes, fitting_shrinks, fitting_stands}
 use Rattle.trees.specs.Values.{Tree, yes, no, null, binary, hex, chars, reference, chosen, nothing, numbers, items, fields, trees, members}
@@ -217,16 +217,16 @@ module _ (within : Limit → Type 0) (fits fits' : ℕ → Bool)
 
     number_whole : (z : Tree) (u us : List Lexeme)
         → (number_of fits' ⇒ positive).Is z u
-        → Stands within (step_at fits n read (u ++ us)) z us
+        → ReadsAs within (step_at fits n read (u ++ us)) z us
     unfolding step_at
     number_whole z u us (x, d, h) =
-        subst (λ (l : List Lexeme). Stands within (step_at fits n read (l ++ us)) z us) (sym h.1)
+        subst (λ (l : List Lexeme). ReadsAs within (step_at fits n read (l ++ us)) z us) (sym h.1)
         (fitting_stands within (fits x) (Number x ∷ us) us (Ok (positive x, us)) z (room x h.0) (inl (ap (λ (t : Tree). Ok (t, us)) (sym d))))
 
     pub simple_whole : (z : Tree) (u us : List Lexeme)
         → ((x : List ℕ) → u ≡ Ident x ∷ [] → Follows goes_on us)
         → (simple fits').Is z u
-        → Stands within (step_at fits n read (u ++ us)) z us
+        → ReadsAs within (step_at fits n read (u ++ us)) z us
     unfolding step_at negative_at ref_dot_at ref_name_at
     simple_whole z u us f (inl h) = inl (is_one (λ (x : Unit {0}). (Word True)) (λ _. yes) (λ x us. refl) z u us h)
     simple_whole z u us f (inr (inl h)) = inl (is_one (λ (x : Unit {0}). (Word False)) (λ _. no) (λ x us. refl) z u us h)
@@ -247,41 +247,41 @@ module _ (within : Limit → Type 0) (fits fits' : ℕ → Bool)
         (one_number : (a : ℕ) → fits' a ≡ true → v.CanGoOn (Number a ∷ []))
         (one_name : (x : List ℕ) → v.CanGoOn (Ident x ∷ [])) (behind_number : (a : ℕ) → Next v (Number a) ends_item_is)
         (behind_name : (x : List ℕ) → Next v (Ident x) ends_item_is)
-        (enters : (ts us : List Lexeme) (z : Tree) (r : Read Tree) → Stands within r z us → Stands within (opened n ts r) z us)
+        (enters : (ts us : List Lexeme) (z : Tree) (r : Read Tree) → ReadsAs within r z us → ReadsAs within (opened n ts r) z us)
       where
         brace_stands : (w u us : List Lexeme) (z : Tree)
             → u ≡ (Mark OpenBrace) ∷ w
-            → Stands within (braced_at fits read (w ++ us)) z us
-            → Stands within (step_at fits n read (u ++ us)) z us
+            → ReadsAs within (braced_at fits read (w ++ us)) z us
+            → ReadsAs within (step_at fits n read (u ++ us)) z us
         unfolding step_at
-        brace_stands w u us z e h = subst (λ (l : List Lexeme). Stands within (step_at fits n read (l ++ us)) z us) (sym e) (enters ((Mark OpenBrace) ∷ (w ++ us)) us z (braced_at fits read (w ++ us)) h)
+        brace_stands w u us z e h = subst (λ (l : List Lexeme). ReadsAs within (step_at fits n read (l ++ us)) z us) (sym e) (enters ((Mark OpenBrace) ∷ (w ++ us)) us z (braced_at fits read (w ++ us)) h)
 
         nothing_stands : (z : Tree) (us : List Lexeme)
             → z ≡ nothing
-            → Stands within (braced_at fits read ((Mark CloseBrace) ∷ us)) z us
+            → ReadsAs within (braced_at fits read ((Mark CloseBrace) ∷ us)) z us
         unfolding braced_at
         nothing_stands z us e = inl (ap (λ (t : Tree). Ok (t, us)) (sym e))
 
         chosen_stands : (x : List ℕ) (y : Tree) (us : List Lexeme) (r : Read Tree)
-            → Stands within r y us
-            → Stands within (r >>= λ v. Ok (chosen x v.0, v.1)) (chosen x y) us
+            → ReadsAs within r y us
+            → ReadsAs within (r >>= λ v. Ok (chosen x v.0, v.1)) (chosen x y) us
         chosen_stands x y us r (inl e) = inl (ap (λ (r : Read Tree). r >>= λ v. Ok (chosen x v.0, v.1)) e)
         chosen_stands x y us r (inr w) = inr (w.0, w.1, ap (λ (r : Read Tree). r >>= λ v. Ok (chosen x v.0, v.1)) w.2)
 
         pub colon_stands : (x : List ℕ) (y z : Tree) (w u us : List Lexeme)
             → z ≡ chosen x y
             → u ≡ Ident x ∷ (Mark Colon) ∷ w
-            → Stands within (read (w ++ us)) y us
-            → Stands within (step_at fits n read (u ++ us)) z us
+            → ReadsAs within (read (w ++ us)) y us
+            → ReadsAs within (step_at fits n read (u ++ us)) z us
         unfolding step_at alternative_at
         colon_stands x y z w u us d e h =
-            subst (λ (t : Tree). Stands within (step_at fits n read (u ++ us)) t us) (sym d)
-            (subst (λ (l : List Lexeme). Stands within (step_at fits n read (l ++ us)) (chosen x y) us) (sym e)
+            subst (λ (t : Tree). ReadsAs within (step_at fits n read (u ++ us)) t us) (sym d)
+            (subst (λ (l : List Lexeme). ReadsAs within (step_at fits n read (l ++ us)) (chosen x y) us) (sym e)
             (enters ((Mark Colon) ∷ (w ++ us)) us (chosen x y) (read (w ++ us) >>= λ v. Ok (chosen x v.0, v.1)) (chosen_stands x y us (read (w ++ us)) h)))
 
         pub braced_whole : (z : Tree) (u us : List Lexeme)
             → (braced_ones fits' v).Is z u
-            → Stands within (step_at fits n read (u ++ us)) z us
+            → ReadsAs within (step_at fits n read (u ++ us)) z us
         braced_whole z u us (inl (x, d, (p, q, e, hp, hq))) =
             brace_stands ((Mark CloseBrace) ∷ []) u us z (e ⋆ ap (λ (l : List Lexeme). l ++ q) hp ⋆ ap (λ (l : List Lexeme). (Mark OpenBrace) ∷ l) hq) (nothing_stands z us d)
         braced_whole z u us (inr (inl (x, d, h))) =
@@ -297,7 +297,7 @@ module _ (within : Limit → Type 0) (fits fits' : ℕ → Bool)
         pub nested_whole : (z : Tree) (u us : List Lexeme)
             → Follows goes_on us
             → (nested fits' v).Is z u
-            → Stands within (step_at fits n read (u ++ us)) z us
+            → ReadsAs within (step_at fits n read (u ++ us)) z us
         nested_whole z u us f (inl (x, d, (p, q, e, hp, hq))) =
             let b = behind_is (Mark Colon) v x.1 q hq in
             colon_stands x.0 x.1 z b.0 u us d (e ⋆ ap (λ (l : List Lexeme). l ++ q) hp ⋆ ap (λ (l : List Lexeme). Ident x.0 ∷ l) b.1) (fv.whole x.1 b.0 us b.2 f)

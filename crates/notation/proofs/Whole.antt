@@ -5,7 +5,7 @@ use Rattle.text.specs.declared.reserved.Word.TheVariants.{True, False, Null}
 use Rattle.grammar.specs.Lexeme.{Lexeme, TypeRef, Ident, Number, BString, HString, CString, Word, Mark}
 use Rattle.grammar.specs.Grammar.{Grammar, token, mark, number_of, ◌∙◌, behind, listed, braces}
 use Rattle.grammar.specs.Reading.{Limit, Integer, Nesting, Read, Reader, ◌>>=◌, stop, opened}
-use Rattle.grammar.specs.Laws.{Follows, Passes, Stands, Finds, behind_front, passes_on, passes_made}
+use Rattle.grammar.specs.Laws.{Follows, Passes, ReadsAs, Finds, behind_front, passes_on, passes_made}
 use Rattle.grammar.specs.Lists.{IsSolid, Next, head_is, second_is}
 use Rattle.trees.specs.Values.{Tree, chosen}
 use Rattle.notation.specs.Value.{simple, nested, value}
@@ -249,7 +249,7 @@ module _ (within : Limit → Type 0) (fits fits' : ℕ → Bool)
       (brace : (us : List Lexeme) → Passes within ((Mark OpenBrace) ∷ us) (opened n ((Mark OpenBrace) ∷ us) (braced_at fits read us)))
       → Finds within (value fits' m) (starts fits') goes_on read
       → ((ts us : List Lexeme) (r : Read Tree) → Passes within us r → Passes within us (opened n ts r))
-      → ((ts us : List Lexeme) (z : Tree) (r : Read Tree) → Stands within r z us → Stands within (opened n ts r) z us)
+      → ((ts us : List Lexeme) (z : Tree) (r : Read Tree) → ReadsAs within r z us → ReadsAs within (opened n ts r) z us)
       → Finds within (value fits' (suc m)) (starts fits') goes_on (step_at fits n read)
   all_finds n m read colon brace fv enter enters = record {
     nil = v_nil fits' (suc m);
@@ -262,7 +262,7 @@ module _ (within : Limit → Type 0) (fits fits' : ℕ → Bool)
       whole : (z : Tree) (u us : List Lexeme)
           → (value fits' (suc m)).Is z u
           → Follows goes_on us
-          → Stands within (step_at fits n read (u ++ us)) z us
+          → ReadsAs within (step_at fits n read (u ++ us)) z us
       whole z u us (inl h) f = simple_whole within fits fits' room n read colon brace z u us (λ x e. f) h
       whole z u us (inr h) f = nested_whole within fits fits' room n read colon brace (value fits' m) fv (v_solid fits' m) (v_number fits' m) (v_name fits' m) (v_behind_number fits' m) (v_behind_name fits' m) enters z u us f h
 
@@ -278,7 +278,7 @@ module _ (within : Limit → Type 0) (fits fits' : ℕ → Bool)
     nil = f.nil;
     part = f.part;
     first = f.first;
-    whole = λ z u us h k. subst (λ (q : Read Tree). Stands within q z us) (e (u ++ us)) (f.whole z u us h k);
+    whole = λ z u us h k. subst (λ (q : Read Tree). ReadsAs within q z us) (e (u ++ us)) (f.whole z u us h k);
     front = λ u us h. subst (λ (q : Read Tree). Passes within us q) (e (u ++ us)) (f.front u us h);
   }
 

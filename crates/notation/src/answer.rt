@@ -8,6 +8,7 @@ ghost use Rattle.notation.specs.Value.{values};
 ghost use Rattle.kernel.specs.Given.{IsLexed};
 ghost use Rattle.notation.specs.Answer.{IsThere, Stands};
 
+use limits::MAX_NESTING;
 use crate::fault::SyntaxFault;
 use crate::reading::value;
 use crate::refused::unexpected;
@@ -15,9 +16,6 @@ use kernel::ReadError;
 use std::alloc::Global;
 use text::Token;
 use trees::ValueSyntax;
-
-/// How many things may be open at one place.
-pub const MAX_NESTING: usize = 128;
 
 /// Reads the value that begins at a place, where `opened` things are open already.
 ///

@@ -12,7 +12,7 @@ pub mod reading;
 pub mod refused;
 pub mod unions;
 
-pub use answer::{MAX_NESTING, value_at};
+pub use answer::value_at;
 pub use constraint_answer::{constraint_at, size_at};
 pub use fault::SyntaxFault;
 pub use kernel::{Limit, ReadError};

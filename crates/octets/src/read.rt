@@ -9,13 +9,11 @@ ghost use Rattle.std.specs.Int.Digits.{number_from_digits_after};
 ghost use Rattle.std.specs.Prelude.{◌≡◌, ◌+◌, ◌<◌, ◌≤◌, ◌++◌, ◌∷◌, Bool, Err, IfErr, IfNone, IfOk, IfSome, IsOk, IsTrue, List, length, ℕ};
 ghost use Rattle.asn_base.specs.declared.tag.Tag.{Tag as Tag'};
 
+use limits::MAX_LENGTH;
 use crate::fault::HeaderFault;
 use crate::form::Form;
 use crate::law::one_front;
 use asn_base::tag::{Class, Tag};
-
-/// The most octets of contents that a header may tell: as many as a message has.
-const MOST: u64 = 16_777_216;
 
 /// What a header tells: the tag, the form, and how many octets of contents follow it; and how many octets it has itself.
 #[derive(Clone, Copy, Debug, PartialEq, Eq)]
@@ -202,7 +200,7 @@ fn number_of(octets: &[u8], high: usize) -> Option<usize>
         return Some(high);
     };
     let worth = high as u64 * 256 + *octet as u64;
-    if worth > MOST {
+    if worth > MAX_LENGTH {
         return None;
     }
     number_of(behind, worth as usize)

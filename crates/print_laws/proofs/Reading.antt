@@ -7,7 +7,7 @@ use Rattle.text.specs.Text.{IsText, max_text}
 use Rattle.grammar.specs.Lexeme.{Lexeme, lexemes}
 use Rattle.grammar.specs.Places.{bounded, small, Within}
 use Rattle.grammar.specs.Reading.{Read, Limit, Nesting, Integer, TagNumber}
-use Rattle.grammar.specs.Laws.{Stands}
+use Rattle.grammar.specs.Laws.{ReadsAs}
 use Rattle.kernel.specs.Given.{IsLexed}
 use Rattle.trees.specs.Values.{Tree}
 use Rattle.notation.specs.Value.{value}
@@ -42,7 +42,7 @@ module _ (s : List Resolved) (n t : ℕ) (v : AbstractValue) (schema : IsSchema 
   within le Integer = λ m e. e
   within le TagNumber = λ m e. e
 
-  only : n ≤ 128 → (r : Read Tree) → Stands (λ l. Within l (bounded n) (bounded 128)) r (tree_of s t v) [] → r ≡ Ok (tree_of s t v, [])
+  only : n ≤ 128 → (r : Read Tree) → ReadsAs (λ l. Within l (bounded n) (bounded 128)) r (tree_of s t v) [] → r ≡ Ok (tree_of s t v, [])
   only le r (inl e) = e
   only le r (inr (p, f, e)) = absurd (f (within le p.0))
 

@@ -2,7 +2,7 @@
 use Rattle.std.proofs.Common.{◌≡◌, ◌↔◌, ℕ, zero, suc, ◌<◌, ℤ, List, [], ◌∷◌, length, Option, Some, None, refl, sym, ap, ◌∙◌, subst, arith}
 use Rattle.std.specs.Prelude.{slice_get, Result, Ok, Err, MatchResult}
 use Rattle.trees.specs.Values.{Name, Tree, number, reference}
-use Rattle.names.specs.declared.scope.Assigned.TheVariants as assigned
+use Rattle.names.specs.declared.references.Assigned.TheVariants as assigned
 use Rattle.names.specs.Names.{Refers}
 use Rattle.type_table.specs.Table.{Kind}
 use Rattle.resolve.specs.Program.{Program, IsWhole}
@@ -12,7 +12,7 @@ use Rattle.range_ends.specs.Answers.{StandsForOnly, IsEndFault}
 use Rattle.range_ends.specs.Ends.{IsValueAt, named, told, Means, LeadsTo, there, onward, StandsFor, IsLost, ComesRound}
 use Rattle.range_ends.specs.proving.Steps.{MeansValue, listed, AreReferred, told_by, told_at, unless, next}
 use Rattle.type_table.specs.Walks as walks
-use Rattle.type_table.specs.Walks.{follow, EndsAt, ComesBack, Reaches, IsWithin}
+use Rattle.type_table.specs.Walks.{follow, EndsAt, ComesBack, ArrivesAt, IsWithin}
 use Rattle.range_ends.specs.proving.Ways.{Ends, EndsWithout, Turns, IsWayFault}
 use Rattle.range_ends.proofs.Circles.{below, ends_next, ends_unique, ends_after}
 use Rattle.type_table.specs.proving.Walks.{ends_not_back}

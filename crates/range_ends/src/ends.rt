@@ -13,7 +13,7 @@ ghost use Rattle.range_ends.specs.proving.Ways.{Ends, IsWayFault};
 ghost use Rattle.range_ends.specs.proving.Far.{AreFar, IsNameless};
 
 use crate::program::{named_value, notation_at};
-use crate::scope::Scope;
+use crate::references::ReferenceTable;
 use resolve::Linked;
 use trees::{EndSyntax, NamedNumber, Reference, Simple, ValueForm, ValueSyntax};
 use type_table::Shape;
@@ -155,7 +155,7 @@ fn followed(
 
 /// The number that an end of a range stands for, read in a module, where a type of a shape is constrained.
 pub(crate) fn end_at(
-    scope: &Scope<'_>,
+    scope: &ReferenceTable<'_>,
     shape: &Shape,
     within: &str,
     end: &EndSyntax,

@@ -5,8 +5,8 @@ mod ends;
 mod far;
 mod program;
 mod ranges;
-mod scope;
+mod references;
 
 pub use ends::EndFault;
 pub use ranges::{Counted, RangeFault, RangesFault, Site, ranges_at};
-pub use scope::Scope;
+pub use references::ReferenceTable;

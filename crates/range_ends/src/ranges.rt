@@ -8,7 +8,7 @@ ghost use Rattle.range_ends.specs.Answers.{IsOf, IsRangeOf, AreRangesOf, IsRange
 ghost use Rattle.range_ends.specs.proving.Bounds.{IsBoundOf, IsBoundFault, floor_of as floor'};
 
 use crate::ends::{EndFault, end_at};
-use crate::scope::Scope;
+use crate::references::ReferenceTable;
 use asn_base::constraint::Range;
 use std::alloc::Global;
 use trees::{EndSyntax, RangeSyntax};
@@ -46,7 +46,7 @@ pub enum RangesFault {
 /// Where ends of ranges stand: in a module, where a type of a shape is constrained.
 #[derive(Clone, Copy)]
 pub struct Site<'a> {
-    pub scope: &'a Scope<'a>,
+    pub scope: &'a ReferenceTable<'a>,
     pub shape: &'a Shape,
     pub within: &'a str,
     pub of: Counted,

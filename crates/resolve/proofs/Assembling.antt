@@ -9,7 +9,7 @@ use Rattle.names.specs.declared.fault.NameFault.TheVariants as faults
 use Rattle.names.specs.declared.gather.Gathered.{Gathered}
 use Rattle.names.specs.declared.scope.Assigned.{Assigned}
 use Rattle.names.specs.declared.scope.Assigned.TheVariants as assigned
-use Rattle.names.specs.declared.sources.Assignment.{Assignment}
+use Rattle.names.specs.declared.sources.AssignedAt.{AssignedAt}
 use Rattle.names.specs.declared.sources.Header.{Header}
 use Rattle.names.specs.Names.{Module, Refers}
 use Rattle.names.specs.Scopes.{seen, module_of}
@@ -37,7 +37,7 @@ pub record Laws : Type 0 where
       ((M x : Name) (N : Option Name) (j : ℕ) → Refers ms M N x (assigned.Type j) → j < length ts) → HaveNoPlace roots → AllUnfold ts → IsLinked ts
 
 -- the table of the parts of what is gathered is its table
-pub table_of : (g : Gathered) (ns : List (Name × Module)) (hs : List Header) (as' : List Assignment)
+pub table_of : (g : Gathered) (ns : List (Name × Module)) (hs : List Header) (as' : List AssignedAt)
     (ts : List Type') → ns ≡ seen module_of g.modules.entries → hs ≡ g.headers.items →
     as' ≡ g.tables.assignments.items →
     AreNumbered ns (map header_of hs) (map assignment_of as') (sources_of g.tables.roots.items) ts → IsTableFrom g ts
@@ -47,7 +47,7 @@ table_of g ns hs as' ts en eh ea all =
     (subst (λ a. AreNumbered ns (map header_of hs) (map assignment_of a) (sources_of g.tables.roots.items) ts) ea all))
 
 -- a type of the table that comes back to itself, told with its module and its assignment
-pub circular_fault : (g : Gathered) (hs : List Header) (as' : List Assignment) (ts : List Type') (i : ℕ) (w : Type')
+pub circular_fault : (g : Gathered) (hs : List Header) (as' : List AssignedAt) (ts : List Type') (i : ℕ) (w : Type')
     (e : NameFault) → hs ≡ g.headers.items → as' ≡ g.tables.assignments.items → IsTableFrom g ts →
     slice_get ts i ≡ Some w → IsCircular ts i →
     TellsType (map header_of hs) (map assignment_of as') w e → IsTablesFault g e

@@ -4,7 +4,7 @@ use Rattle.trees.specs.Values.{Name}
 use Rattle.trees.specs.declared.module.TagDefault.{TagDefault}
 use Rattle.names.specs.declared.scope.Assigned.{Assigned}
 use Rattle.names.specs.declared.scope.Assigned.TheVariants as assigned
-use Rattle.names.specs.declared.sources.Assignment.{Assignment}
+use Rattle.names.specs.declared.sources.AssignedAt.{AssignedAt}
 use Rattle.names.specs.declared.sources.Header.{Header}
 use Rattle.names.specs.declared.sources.ValueAt.{ValueAt}
 use Rattle.names.specs.Names.{Module, Meaning}
@@ -24,7 +24,7 @@ pub record Program : Type 0 where
 
 -- the program that is seen of names, headers, assignments, types and values as they lie in memory
 abbrev pub program_seen :
-    List (Name × Module) → List Header → List Assignment → List Written → List ValueAt → Program
+    List (Name × Module) → List Header → List AssignedAt → List Written → List ValueAt → Program
 program_seen ms hs gs ts vs = record {
   modules = ms;
   headers = map header_of hs;

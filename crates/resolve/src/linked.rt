@@ -14,7 +14,7 @@ ghost use Rattle.resolve.specs.proving.Assembled.{ArePlaced, IsOf, IsTablesFault
 use asn_base::schema::TypeId;
 use names::fault::spot;
 use names::gather::{Gathered, Tables};
-use names::{Assigned, Assignment, Header, NameFault, Names, ValueAt};
+use names::{Assigned, AssignedAt, Header, NameFault, Names, ValueAt};
 use std::alloc::Global;
 use std::marker::Model;
 use trees::ValueSyntax;
@@ -44,7 +44,7 @@ pub struct Home<'a> {
 pub struct Linked {
     names: Names,
     headers: Vec<Header>,
-    assignments: Vec<Assignment>,
+    assignments: Vec<AssignedAt>,
     types: Vec<Written>,
     values: Vec<ValueAt>,
     /// The core of each type.
@@ -73,7 +73,7 @@ impl Model for Linked {
 fn circular_at(
     alloc: Global,
     headers: &[Header],
-    assignments: &[Assignment],
+    assignments: &[AssignedAt],
     written: &Written,
 ) -> NameFault
     requires assigned { written.now.assignment < length assignments.now }
@@ -184,7 +184,7 @@ impl Linked {
     }
 
     /// The assignments, in order.
-    pub fn assignments(&self) -> &[Assignment]
+    pub fn assignments(&self) -> &[AssignedAt]
         ensures { map assignment_of result.now ≡ self.now.assignments }
     {
         &self.assignments

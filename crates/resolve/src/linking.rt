@@ -6,6 +6,7 @@ ghost use Rattle.names.specs.proving.Ready.{IsReady};
 ghost use Rattle.resolve.specs.Links.{Links, IsLinkFault};
 ghost use Rattle.resolve.specs.proving.Assembled.{IsAssembled, IsAssemblyFault};
 
+use limits::MAX_WRITTEN;
 use crate::linked::Linked;
 use crate::sound::sound;
 use names::gather::{Gathered, gather};
@@ -21,8 +22,8 @@ fn assemble(alloc: Global, gathered: Gathered) -> Result<Linked, NameFault>
     ensures assembled { IfOk result (IsAssembled gathered) }
     ensures fault { IfErr result (IsAssemblyFault gathered) }
 {
-    if gathered.tables.roots.len() > 65536 {
-        let source = &gathered.tables.roots[65536];
+    if gathered.tables.roots.len() > MAX_WRITTEN {
+        let source = &gathered.tables.roots[MAX_WRITTEN];
         let assignment = &gathered.tables.assignments[source.assignment];
         let header = &gathered.headers[assignment.module];
         return Err(too_many(alloc, header, assignment, source.syntax.at));

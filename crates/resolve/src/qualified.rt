@@ -16,7 +16,7 @@ use trees::{
     ConstraintForm, ConstraintSyntax, EndSyntax, Named, PresenceSyntax, RangeSyntax, Reference,
     ValueForm, ValueSyntax,
 };
-use type_table::{Component, Shape, Written};
+use type_table::{ListMember, Shape, Written};
 
 /// Whether a name, behind the name of a module, stands for a value.
 fn is_value(linked: &Linked, within: &str, given: &Reference) -> bool
@@ -249,7 +249,7 @@ fn names_in_presence(
     }
 }
 
-impl Naming for Component {
+impl Naming for ListMember {
     ghost use Rattle.type_table.specs.Seen.{part_of};
     ghost use Rattle.type_table.specs.Table.{Part};
     ghost use Rattle.resolve.specs.Qualified.{qualified_part};

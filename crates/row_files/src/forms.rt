@@ -11,7 +11,7 @@ use std::alloc::{AllocError, Global};
 
 /// How the texts of a row are read.
 #[derive(Clone, Copy)]
-pub struct Form {
+pub struct TextForm {
     pub lines: bool,
     pub repeat: bool,
     pub hex: bool,
@@ -25,8 +25,8 @@ pub fn is_among(words: &[String], word: &str) -> bool
 }
 
 /// How a row with these words has its texts read.
-pub fn form_of(words: &[String]) -> Form {
-    Form {
+pub fn form_of(words: &[String]) -> TextForm {
+    TextForm {
         lines: is_among(words, "lines"),
         repeat: is_among(words, "repeat"),
         hex: is_among(words, "hex"),
@@ -83,7 +83,7 @@ fn octets_of_hex(alloc: Global, text: &str, number: usize) -> Result<Vec<u8>, Ro
 }
 
 /// The octets of a text.
-fn octets_of(alloc: Global, form: Form, text: &str, number: usize) -> Result<Vec<u8>, RowFault>
+fn octets_of(alloc: Global, form: TextForm, text: &str, number: usize) -> Result<Vec<u8>, RowFault>
     ensures { IfErr result IsOfText }
 {
     let mut whole = String::from_str(alloc, text)?;
@@ -100,7 +100,7 @@ fn octets_of(alloc: Global, form: Form, text: &str, number: usize) -> Result<Vec
 pub fn put_texts(
     alloc: Global,
     texts: &mut Vec<RowText>,
-    form: Form,
+    form: TextForm,
     written: &Written,
 ) -> Result<(), RowFault>
     ensures { IfErr result IsOfText }
@@ -121,7 +121,7 @@ pub fn put_texts(
 fn put_text(
     alloc: Global,
     texts: &mut Vec<RowText>,
-    form: Form,
+    form: TextForm,
     written: &Written,
     text: &str,
     number: usize,

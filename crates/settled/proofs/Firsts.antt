@@ -14,8 +14,8 @@ use Rattle.type_table.specs.Table.{Part, Kind, Type', simple, reference, tagged,
 use Rattle.type_table.specs.Walks.{follow, onward}
 use Rattle.type_table.specs.proving.Walks.{stops}
 use Rattle.resolve.specs.Program.{Program}
-use Rattle.tagging.specs.declared.path.Form.{Form}
-use Rattle.tagging.specs.declared.path.Form.TheVariants.{Implicit, Explicit}
+use Rattle.tagging.specs.declared.path.TagForm.{TagForm}
+use Rattle.tagging.specs.declared.path.TagForm.TheVariants.{Implicit, Explicit}
 use Rattle.tagging.specs.Tags.{Label, Path, Tags, label, own, Written, core, behind, inside, as_written, numbered}
 use Rattle.tagging.specs.First.{First, outermost, alternative}
 use Rattle.schema_of.specs.SchemaOf.{IsSchemaOf, IsKindOf, IsChosenPart, AreAlternativesOf}
@@ -98,7 +98,7 @@ no_labels : (gs : List Tag) → map label gs ≡ [] → gs ≡ []
 no_labels [] e = refl
 no_labels (g ∷ gs) e = absurd cc
 
-starts_so : (g : Tag) (f : Form) (q : Path) (gs : List Tag) → map label gs ≡ standing ((label g, f) ∷ q) → (rest : List Tag) × (gs ≡ g ∷ rest)
+starts_so : (g : Tag) (f : TagForm) (q : Path) (gs : List Tag) → map label gs ≡ standing ((label g, f) ∷ q) → (rest : List Tag) × (gs ≡ g ∷ rest)
 starts_so g Implicit q [] e = absurd cc
 starts_so g Explicit q [] e = absurd cc
 starts_so g Implicit q (h ∷ hs) e = let z : label h ≡ label g = cc in (hs, ap (λ x. x ∷ hs) (same_tag h g z))
@@ -156,7 +156,7 @@ module _ (p : Program) (A : ℕ → ℤ → Type 0) (C : ℕ → ℕ → Type 0)
   -- ---- and the other way
 
   module _ (unique : (i : ℕ) (x y : Path) → Tags p.types i x → Tags p.types i y → x ≡ y) where
-    outer : (t : ℕ) (g : Tag) (f : Form) (q : Path) (r : Resolved) → slice_get s t ≡ Some r → HasTags p t r → Tags p.types t ((label g, f) ∷ q) → firsts.First s t g
+    outer : (t : ℕ) (g : Tag) (f : TagForm) (q : Path) (r : Resolved) → slice_get s t ≡ Some r → HasTags p t r → Tags p.types t ((label g, f) ∷ q) → firsts.First s t g
     outer t g f q r e h w =
         let z = unique t h.path ((label g, f) ∷ q) h.tags w in
         let n = starts_so g f q r.tags (h.same ∙ ap standing z) in

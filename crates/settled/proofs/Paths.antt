@@ -7,8 +7,8 @@ use Rattle.std.proofs.lemmas.List.{length-map}
 use Rattle.std.proofs.lemmas.Option.{get_or_from_slice_get, slice_get_within}
 use Rattle.asn_base.specs.declared.tag.Tag.{Tag}
 use Rattle.asn_base.specs.declared.tag.Class.TheVariants.{Universal}
-use Rattle.tagging.specs.declared.path.Form.{Form}
-use Rattle.tagging.specs.declared.path.Form.TheVariants.{Implicit, Explicit}
+use Rattle.tagging.specs.declared.path.TagForm.{TagForm}
+use Rattle.tagging.specs.declared.path.TagForm.TheVariants.{Implicit, Explicit}
 use Rattle.tagging.specs.Tags.{Label, Path, label, Written, TagCount, own, core, behind, inside, none_written, as_behind, one_more, Tags, as_written, numbered}
 use Rattle.trees.specs.declared.types.ListKind.TheVariants.{Sequence, Set, Choice}
 use Rattle.type_table.specs.Table.{Type', Kind, simple, reference, tagged, members, elements}
@@ -72,7 +72,7 @@ none_stands ((l, Explicit) ∷ p) e = absurd cc
 
 -- the first tag that stands is the first that is written
 pub record StartsWith (l : Label) (p : Path) : Type 0 where
-  pub form : Form
+  pub form : TagForm
   pub rest : Path
   pub is : p ≡ (l, form) ∷ rest
 

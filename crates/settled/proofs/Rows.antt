@@ -17,7 +17,7 @@ use Rattle.type_table.specs.Table.{IsCore, walk, Kind, Type', simple, reference,
 use Rattle.resolve.specs.Program.{Program, IsAssignment}
 use Rattle.values.specs.Allowing.{Allows, AllowsCode}
 use Rattle.schema_of.specs.SchemaOf.{IsTypeOf, boolean as boolean_kind}
-use Rattle.tagging.specs.declared.path.Form.TheVariants.{Implicit, Explicit}
+use Rattle.tagging.specs.declared.path.TagForm.TheVariants.{Implicit, Explicit}
 use Rattle.tagging.specs.Tags.{Path, label, universal_tag, Written, core, behind, inside, as_written, numbered}
 use Rattle.settled.specs.Settled.{standing, HasTags, ItemsAscend, IsSettledType, IsSettled}
 

@@ -13,7 +13,7 @@ use Rattle.names.specs.Modules.{StandsIn}
 use Rattle.resolve.specs.Program.{Program, IsAssignment}
 use Rattle.type_table.specs.Table.{Type'}
 use Rattle.range_ends.specs.Ends.{IsOfKind}
-use Rattle.tagging.specs.declared.path.Form.TheVariants.{Implicit, Explicit}
+use Rattle.tagging.specs.declared.path.TagForm.TheVariants.{Implicit, Explicit}
 use Rattle.tagging.specs.Tags.{Label, Path, Tags, label}
 use Rattle.constraints.specs.Allowed.{IsConstraintOf, AreCodesOf}
 use Rattle.value_notations.specs.Values.{IsTyped}

@@ -14,7 +14,7 @@ use Rattle.trees.specs.Types.{mandatory, MemberTree, TypeTree, a_type, a_simple,
 use Rattle.notation.specs.ConstraintGrammar.{constraint}
 use Rattle.notation.specs.Value.{value}
 use Rattle.type_parts.specs.PlainGrammar.{type_of_word, one_word, signed, named_number, named_bit, item, integer, bit_string, enumerated, simple, integer_with, bits_with, enumerated_of, ref, referred, keyword, presence, tag, list_size}
-use Rattle.type_syntax.specs.TypeGrammar.{Component, Listing, a_member, additions_from, behind_marker, all_members, of_listing, list_kind, listing_of, list_of, constrained, sequence_or_set, member, alternative, tagged, members, choice, one_type, plain, list, type_with, type}
+use Rattle.type_syntax.specs.TypeGrammar.{ComponentTree, Listing, a_member, additions_from, behind_marker, all_members, of_listing, list_kind, listing_of, list_of, constrained, sequence_or_set, member, alternative, tagged, members, choice, one_type, plain, list, type_with, type}
 use Rattle.type_table.specs.Items.{additions_of}
 use Rattle.spelled.specs.Written.{IsSpelledPlain, roots_in, IsSpelledTree, IsSpelledForm, AreSpelledMembers}
 use Rattle.spelled.proofs.Keeping.{Keeps, Nothing, keeps_nothing, keeps_name, keeps_pair, keeps_either, keeps_made, keeps_behind, keeps_listed, keeps_braces, keeps_cut_off, keeps_opens, OfOption, keeps_optional, OfListing, keeps_extensible, keeps_rootless, OfAddition, keeps_addition, all_joined, all_mapped}
@@ -126,7 +126,7 @@ module _ (fits : ℕ → Bool) (n : ℕ) where
 -- ---- lists of members
 
 -- the name and the type of a member
-abbrev IsMember : Name × Component → Type 0
+abbrev IsMember : Name × ComponentTree → Type 0
 IsMember m = IsIdentifier m.0 × IsSpelledTree m.1.0
 
 abbrev IsSpelledMember : MemberTree → Type 0
@@ -136,7 +136,7 @@ members_are : (ms : List MemberTree) → AllByRecursion IsSpelledMember ms → A
 members_are [] h = tt
 members_are (m ∷ ms) h = (h.0.0, h.0.1, members_are ms h.1)
 
-added_are : (n : ℕ) (xs : List ((Name × Component) ⊎ List (Name × Component)))
+added_are : (n : ℕ) (xs : List ((Name × ComponentTree) ⊎ List (Name × ComponentTree)))
     → AllByRecursion (OfAddition IsMember) xs
     → AllByRecursion IsSpelledMember (additions_from n xs)
 added_are n [] h = tt
@@ -146,7 +146,7 @@ added_are n (inr ms ∷ xs) h =
     (all_mapped IsMember IsSpelledMember (a_member (standings.Addition (Some n))) (λ m h. h) ms h.0)
     (added_are (suc n) xs h.1)
 
-behind_are : (o : Option (List ((Name × Component) ⊎ List (Name × Component))))
+behind_are : (o : Option (List ((Name × ComponentTree) ⊎ List (Name × ComponentTree))))
     → OfOption (AllByRecursion (OfAddition IsMember)) o
     → AllByRecursion IsSpelledMember (behind_marker o)
 behind_are None h = tt
@@ -160,7 +160,7 @@ all_are l h =
     (behind_are l.1 h.1))
 
 -- a member of the root, if there is one, is one of those before the marker
-some_root : (ms : List (Name × Component)) (more : List MemberTree)
+some_root : (ms : List (Name × ComponentTree)) (more : List MemberTree)
     → 1 ≤ length ms
     → 1 ≤ roots_in (type_members (map (a_member standings.Root) ms ++ more))
 some_root [] more h = absurd (omega (arith, h))

@@ -17,6 +17,7 @@ ghost use Rattle.std.specs.Prelude.{◌≡◌, ◌↔◌, ◌∷◌, ◌++◌, �
 ghost use Rattle.asn_base.specs.Abstract.{row_of_list, row_of_options};
 ghost use Rattle.strict_rules.specs.Strict.{ContentsGiven, Decides, ElementsGiven, MemberBy, MemberGiven, PartBy, PartGiven, SequenceBy, SequenceGiven, SetBy, SetGiven, StandsAmong, StandsFirst, ValueGiven, begins_ranked, element_type as element_type', form_of};
 
+use limits::MAX_LEVELS;
 use crate::heads::within_heads;
 use crate::leaf::is_strict_leaf;
 use crate::order::do_ascend;
@@ -431,7 +432,7 @@ pub fn is_strict(code: &Code, id: TypeId, value: &Value, octets: &[u8]) -> bool
     schema_laws();
     der_laws();
     sameness();
-    match strict_value(code, id, 64, value, octets) {
+    match strict_value(code, id, MAX_LEVELS, value, octets) {
         Some(_) => true,
         None => false,
     }

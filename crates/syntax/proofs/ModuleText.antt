@@ -6,7 +6,7 @@ use Rattle.grammar.specs.Grammar.{Grammar, word, ◌∙◌, ◌⇒◌, many}
 use Rattle.grammar.specs.Grows.{Grows, same_grows, seq_grows, made_grows, many_grows}
 use Rattle.grammar.specs.Numbers.{Past}
 use Rattle.grammar.specs.Reading.{Limit, Nesting, Integer, TagNumber, Read, Reader, many_at}
-use Rattle.grammar.specs.Laws.{nowhere, deeper, wider, higher, past, seq_sound, Sound, Follows, Stands, Finds}
+use Rattle.grammar.specs.Laws.{nowhere, deeper, wider, higher, past, seq_sound, Sound, Follows, ReadsAs, Finds}
 use Rattle.grammar.specs.Lists.{IsSolid, no_lexeme}
 use Rattle.grammar.specs.Manies.{many_sound, many_finds}
 use Rattle.grammar.specs.Places.{Limits, any, small, tag_small, bounded, Within, raised, free}
@@ -184,7 +184,7 @@ module _ (laws : ModuleLaws) where
       all Integer = λ k e. refl
       all TagNumber = λ k e. refl
 
-      go : Stands (λ l. Within l (unlimited a.nesting) (unlimited n)) (module_at any n (u ++ [])) v []
+      go : ReadsAs (λ l. Within l (unlimited a.nesting) (unlimited n)) (module_at any n (u ++ [])) v []
           → module_at any n (u ++ []) ≡ Ok (v, [])
       go (inl e) = e
       go (inr (p, k, e)) = absurd (k (all p.0))

@@ -12,7 +12,8 @@ ghost use Rattle.syntax.specs.Syntax.{module_text};
 
 use crate::modules::module;
 use notation::refused::unexpected;
-use notation::{MAX_NESTING, ReadError, SyntaxFault};
+use limits::MAX_NESTING;
+use notation::{ReadError, SyntaxFault};
 use std::alloc::Global;
 use text::Token;
 use trees::Module;

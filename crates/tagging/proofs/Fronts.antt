@@ -10,7 +10,7 @@ use Rattle.trees.specs.declared.types.ListKind.TheVariants.{Sequence, Set, Choic
 use Rattle.type_table.specs.Table.{Type', Kind, simple, reference, tagged, members, elements, behind as behind_kind, behind_of, next, walk, Is, IsCore, IsLinked}
 use Rattle.type_table.specs.Walks.{onward}
 use Rattle.type_table.specs.proving.Walks.{stops}
-use Rattle.tagging.specs.declared.path.Form.{Form}
+use Rattle.tagging.specs.declared.path.TagForm.{TagForm}
 use Rattle.tagging.specs.declared.path.FormedTag.{FormedTag}
 use Rattle.tagging.specs.Tags.{Label, label, Path, path_of, context_tag, outermost, automatic, form_of, Written, core, behind, own, Tags, as_written, numbered}
 use Rattle.tagging.specs.proving.Step.{Outermost, Adds}
@@ -223,7 +223,7 @@ pub written_answer : (ts : List Type') (i : ℕ) (b q : Path) → automatic ts i
     Tags ts i q
 written_answer ts i b q e f a = as_written e (subst (Written ts i) (sym (a.is ∙ ap (λ x. x ++ a.path) f)) a.written)
 
-pub numbered_answer : (ts : List Type') (i n : ℕ) (b q : Path) (f : Form) → automatic ts i ≡ Some n →
+pub numbered_answer : (ts : List Type') (i n : ℕ) (b q : Path) (f : TagForm) → automatic ts i ≡ Some n →
     ((p : Path) → Written ts i p → f ≡ form_of Absent Automatic p) → b ≡ (context_tag n, f) ∷ [] → Adds ts i b q →
     Tags ts i q
 numbered_answer ts i n b q f e g h a = subst (Tags ts i) (sym (a.is ∙ ap (λ x. x ++ a.path) h)) (numbered e a.written (g a.path a.written))

@@ -14,7 +14,7 @@ use Rattle.trees.specs.declared.types.ListKind.{ListKind}
 use Rattle.trees.specs.declared.types.ListKind.TheVariants.{Sequence, Set, Choice}
 use Rattle.trees.specs.declared.types.ElementsKind.TheVariants.{SequenceOf, SetOf}
 use Rattle.type_table.specs.Table.{Part, Type', Kind, simple, reference, tagged, members, elements, Is}
-use Rattle.tagging.specs.declared.path.Form.TheVariants.{Implicit, Explicit}
+use Rattle.tagging.specs.declared.path.TagForm.TheVariants.{Implicit, Explicit}
 use Rattle.tagging.specs.Tags.{Label, Path, own, core, behind, inside, Tags, as_written, numbered, none_written, one_more, bears_tag, automatic}
 use Rattle.tagging.specs.First.{First, is_addition, may_be_absent, outermost, alternative, Together}
 use Rattle.tagging.specs.Tagged.{Bears, IsOverfull, IsImplicit, IsUntagged, IsMixed, HasClash}

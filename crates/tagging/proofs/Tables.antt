@@ -9,7 +9,7 @@ use Rattle.names.specs.Sources.{place_of}
 use Rattle.names.specs.proving.Distinct.{item_at}
 use Rattle.type_table.specs.proving.Tables.{type_at}
 use Rattle.type_table.specs.Seen.{type_of, types_of, kind_of, part_of}
-use Rattle.type_table.specs.declared.table.Component.{Component}
+use Rattle.type_table.specs.declared.table.ListMember.{ListMember}
 use Rattle.type_table.specs.declared.table.Shape.{Shape}
 use Rattle.type_table.specs.declared.table.Shape.TheVariants as shapes
 use Rattle.asn_base.specs.declared.tag.Tag.{Tag}
@@ -34,15 +34,15 @@ pub take_next : {X : Type 0} (xs : List X) (i : ℕ) (x : X) → slice_get xs i 
 take_next xs i x e = take_more xs i x (slice_get_within xs i x e) ∙ ap (λ z. take i xs ++ z ∷ []) (get_or_from_slice_get xs i x x e)
 
 -- the members of a list as they lie in memory
-pub part_at : (cs : List Component) (i : ℕ) (c : Component) → i < length cs → c ≡ get_or cs i c →
+pub part_at : (cs : List ListMember) (i : ℕ) (c : ListMember) → i < length cs → c ≡ get_or cs i c →
     slice_get (map part_of cs) i ≡ Some (part_of c)
 part_at cs i c l e = item_at part_of cs i c l e
 
-pub part_more : (cs : List Component) (i : ℕ) (c : Component) → i < length cs → c ≡ get_or cs i c →
+pub part_more : (cs : List ListMember) (i : ℕ) (c : ListMember) → i < length cs → c ≡ get_or cs i c →
     take (i + 1) (map part_of cs) ≡ take i (map part_of cs) ++ part_of c ∷ []
 part_more cs i c l e = take_next (map part_of cs) i (part_of c) (part_at cs i c l e)
 
-pub parts_long : (cs : List Component) → length (map part_of cs) ≡ length cs
+pub parts_long : (cs : List ListMember) → length (map part_of cs) ≡ length cs
 parts_long cs = length-map cs part_of
 
 -- a list has a member where its members as definitions see them have one

@@ -7,12 +7,12 @@ use Rattle.trees.specs.declared.types.Standing.{Standing}
 use Rattle.trees.specs.declared.types.Standing.TheVariants.{Root, Addition}
 use Rattle.trees.specs.Types.{PresenceTree, mandatory, optional, default}
 use Rattle.type_table.specs.Table.{Part, Type', members, Is, IsCore}
-use Rattle.tagging.specs.declared.path.Form.{Form}
+use Rattle.tagging.specs.declared.path.TagForm.{TagForm}
 use Rattle.tagging.specs.Tags.{Path, Label, Tags}
 
 -- tag t can stand outermost in an encoding of type i
 pub data First (ts : List Type') : ℕ → Label → Type 0 where
-  outermost : {i : ℕ} {t : Label} {f : Form} {p : Path} →
+  outermost : {i : ℕ} {t : Label} {f : TagForm} {p : Path} →
       Tags ts i ((t, f) ∷ p) →
       First ts i t
   alternative : {i : ℕ} {t : Label} {d : TagDefault} {l : Option (ℕ × ℕ)}

@@ -15,8 +15,8 @@ use Rattle.trees.specs.declared.types.ListKind.TheVariants.{Sequence, Set, Choic
 use Rattle.trees.specs.Types.{universal}
 use Rattle.type_table.specs.Table.{Type', Kind, simple, reference, tagged, members, elements, Is}
 use Rattle.tagging.specs.declared.path.FormedTag.{FormedTag}
-use Rattle.tagging.specs.declared.path.Form.{Form}
-use Rattle.tagging.specs.declared.path.Form.TheVariants.{Implicit, Explicit}
+use Rattle.tagging.specs.declared.path.TagForm.{TagForm}
+use Rattle.tagging.specs.declared.path.TagForm.TheVariants.{Implicit, Explicit}
 
 -- a tag's class and number
 abbrev pub Label : Type 0
@@ -27,7 +27,7 @@ label t = (t.class, t.number)
 
 -- tags with their forms, the outermost first
 abbrev pub Path : Type 0
-Path = List (Label × Form)
+Path = List (Label × TagForm)
 
 abbrev pub path_of : List FormedTag → Path
 path_of = map (λ x. (label x.tag, x.form))
@@ -37,7 +37,7 @@ universal_tag n = (Universal, n)
 
 -- the form of a tag before a type with these tags, of which an untagged CHOICE has none (X.680, clause 31.2):
 -- a word says it, and else the module's tag default, but a tag without a word is explicit before an untagged CHOICE
-abbrev pub form_of : Keyword → TagDefault → Path → Form
+abbrev pub form_of : Keyword → TagDefault → Path → TagForm
 form_of ExplicitWord d p = Explicit
 form_of ImplicitWord d p = Implicit
 form_of Absent ExplicitTags p = Explicit
@@ -73,7 +73,7 @@ pub data Written (ts : List Type') : ℕ → Path → Type 0 where
       Is ts i (reference j) d l →
       Written ts j p →
       Written ts i p
-  inside : {i j : ℕ} {t : Tag} {k : Keyword} {d : TagDefault} {l : Option (ℕ × ℕ)} {f : Form} {p : Path} →
+  inside : {i j : ℕ} {t : Tag} {k : Keyword} {d : TagDefault} {l : Option (ℕ × ℕ)} {f : TagForm} {p : Path} →
       Is ts i (tagged t k j) d l →
       Written ts j p →
       f ≡ form_of k d p →
@@ -138,7 +138,7 @@ pub data Tags (ts : List Type') (i : ℕ) : Path → Type 0 where
       automatic ts i ≡ None →
       Written ts i p →
       Tags ts i p
-  numbered : {n : ℕ} {f : Form} {p : Path} →
+  numbered : {n : ℕ} {f : TagForm} {p : Path} →
       automatic ts i ≡ Some n →
       Written ts i p →
       f ≡ form_of Absent Automatic p →

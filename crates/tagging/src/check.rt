@@ -13,6 +13,7 @@ ghost use Rattle.tagging.specs.Tagged.{Bears, BearTags, Breaks, IsTagged};
 ghost use Rattle.tagging.specs.proving.Checks.{IsList, AreThere, HasFew, IsNumbered, Suits, SuitsAutomatic, SuitsList, SuitsTag};
 ghost use Rattle.tagging.specs.proving.Checks.{IsGood, Checked, StandsAt, BearsHere, BearsAt};
 
+use limits::AUTOMATIC_NUMBERS;
 use crate::automatic::automatic_number;
 use crate::columns::Columns;
 use crate::first::{FrontFault, first_tags, fronts};
@@ -20,10 +21,7 @@ use crate::lists::clash;
 use crate::path::{Label, has_few, written_outermost};
 use std::alloc::Global;
 use trees::{Keyword, ListKind, Standing, TagDefault};
-use type_table::{Component, Shape, Written};
-
-/// The number of a tag is below this one.
-const NUMBERS: usize = 2147483648;
+use type_table::{ListMember, Shape, Written};
 
 /// What a type can break.
 #[derive(Clone, Copy, Debug, PartialEq)]
@@ -52,7 +50,7 @@ pub(crate) enum Fault {
 fn collect(
     alloc: Global,
     columns: &Columns<'_>,
-    components: &[Component],
+    components: &[ListMember],
 ) -> Result<Vec<Vec<Label>>, FrontFault>
     requires parts { AreThere columns.now.types (map part_of components.now) }
     ensures { MatchResult result
@@ -74,7 +72,7 @@ fn collect(
 }
 
 /// Whether a member is an addition.
-fn is_addition(component: &Component) -> bool
+fn is_addition(component: &ListMember) -> bool
     ensures { result ≡ Rattle.tagging.specs.First.is_addition (part_of component.now).standing }
 {
     match component.standing {
@@ -84,14 +82,14 @@ fn is_addition(component: &Component) -> bool
 }
 
 /// Whether a member is one of the additions, or of the root's members, and bears a tag that is written in the list.
-fn bears(columns: &Columns<'_>, component: &Component, additions: bool) -> bool
+fn bears(columns: &Columns<'_>, component: &ListMember, additions: bool) -> bool
     ensures { IsTrue result ↔ BearsHere columns.now.types (part_of component.now) additions }
 {
     is_addition(component) == additions && columns.bears_tag(component.ty)
 }
 
 /// The first of the additions, or of the root's members, with a tag that is written in the list.
-fn bearing(columns: &Columns<'_>, components: &[Component], additions: bool) -> Option<usize>
+fn bearing(columns: &Columns<'_>, components: &[ListMember], additions: bool) -> Option<usize>
     ensures { MatchOption result
         (Bears columns.now.types (map part_of components.now) additions → ⊥)
         (BearsAt columns.now.types (map part_of components.now) additions) }
@@ -109,7 +107,7 @@ fn check_automatic(
     columns: &Columns<'_>,
     list: usize,
     default: TagDefault,
-    components: &[Component],
+    components: &[ListMember],
 ) -> Result<(), Fault>
     requires there { (k : ListKind) × IsList columns.now.types list k default (map part_of components.now) }
     ensures { Checked columns.now.types result (SuitsAutomatic columns.now.types (map part_of components.now) default) }
@@ -134,7 +132,7 @@ fn bear_tags(
     columns: &Columns<'_>,
     list: usize,
     kind: ListKind,
-    components: &[Component],
+    components: &[ListMember],
 ) -> Result<(), FrontFault>
     requires parts { AreThere columns.now.types (map part_of components.now) }
     requires there { (d : TagDefault) × IsList columns.now.types list kind d (map part_of components.now) }
@@ -166,7 +164,7 @@ fn check_distinct(
     columns: &Columns<'_>,
     list: usize,
     kind: ListKind,
-    components: &[Component],
+    components: &[ListMember],
 ) -> Result<(), Fault>
     requires parts { AreThere columns.now.types (map part_of components.now) }
     requires there { (d : TagDefault) × IsList columns.now.types list kind d (map part_of components.now) }
@@ -191,7 +189,7 @@ fn check_list(
     list: usize,
     default: TagDefault,
     kind: ListKind,
-    components: &[Component],
+    components: &[ListMember],
 ) -> Result<(), Fault>
     requires parts { AreThere columns.now.types (map part_of components.now) }
     requires there { IsList columns.now.types list kind default (map part_of components.now) }
@@ -264,7 +262,7 @@ fn broken(columns: &Columns<'_>, ty: usize) -> Option<Rule>
         return Some(Rule::Tags);
     }
     match automatic_number(columns, ty) {
-        Some(number) if number >= NUMBERS => Some(Rule::TagNumber),
+        Some(number) if number >= AUTOMATIC_NUMBERS => Some(Rule::TagNumber),
         _ => None,
     }
 }

@@ -15,7 +15,7 @@ use resolve::{Home, Linked};
 use std::alloc::{AllocError, Global};
 use std::marker::Model;
 use trees::TagDefault;
-use type_table::{Component, Shape, Written};
+use type_table::{ListMember, Shape, Written};
 
 /// The type that a type refers to, if it is a reference.
 fn referred(written: &Written) -> Option<usize>
@@ -112,7 +112,7 @@ fn bears_tag_at(types: &[Written], ty: usize) -> bool
     }
 }
 
-fn any_tagged(types: &[Written], members: &[Component]) -> bool
+fn any_tagged(types: &[Written], members: &[ListMember]) -> bool
     ensures { result ≡ list_any (λ c. bears_tag (slice_get (types_of types.now) c.ty)) members.now }
 {
     members.iter().any(|c| bears_tag_at(types, c.ty))

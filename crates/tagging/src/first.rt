@@ -10,7 +10,7 @@ use crate::automatic::head;
 use crate::columns::Columns;
 use crate::path::Label;
 use std::alloc::Global;
-use type_table::{Component, Shape, Written};
+use type_table::{ListMember, Shape, Written};
 
 /// Why members have no outermost tags: want of memory, or this member is an untagged CHOICE, where it is written.
 #[derive(Clone, Copy, Debug, PartialEq)]
@@ -19,7 +19,7 @@ pub(crate) enum FrontFault {
     Untagged(usize, usize),
 }
 
-fn members(written: &Written) -> &[Component]
+fn members(written: &Written) -> &[ListMember]
     ensures { map part_of result.now ≡ members_of (kind_of written.now.shape) }
 {
     match &written.shape {
@@ -42,7 +42,7 @@ fn single(alloc: Global, tag: Label) -> Result<Vec<Label>, FrontFault>
 pub(crate) fn fronts(
     alloc: Global,
     columns: &Columns<'_>,
-    members: &[Component],
+    members: &[ListMember],
 ) -> Result<Vec<Label>, FrontFault>
     requires parts { AreThere columns.now.types (map part_of members.now) }
     ensures { MatchResult result

@@ -13,7 +13,7 @@ use asn_base::tag::Class;
 use std::alloc::{AllocError, Global};
 use std::collections::BTreeSet;
 use trees::{ListKind, PresenceSyntax, Standing};
-use type_table::Component;
+use type_table::ListMember;
 
 fn class_number(class: Class) -> u8
     ensures { result ≡ class_rank class }
@@ -34,7 +34,7 @@ fn key(tag: Label) -> (u8, usize)
 }
 
 /// Whether a component may be absent: OPTIONAL or DEFAULT stands behind it, or it is an addition (X.680, clause 25.6).
-fn may_be_absent(component: &Component) -> bool
+fn may_be_absent(component: &ListMember) -> bool
     ensures { result ≡ Rattle.tagging.specs.First.may_be_absent (part_of component.now) }
 {
     match (component.standing, &component.presence) {
@@ -47,7 +47,7 @@ fn may_be_absent(component: &Component) -> bool
 
 /// Whether the member behind one can be the next that stands where this one could be: in a SEQUENCE where this one may be
 /// absent, else always.
-fn passes(kind: ListKind, member: &Component) -> bool
+fn passes(kind: ListKind, member: &ListMember) -> bool
     ensures { IsTrue result ↔ Passes kind (part_of member.now) }
 {
     match kind {
@@ -89,7 +89,7 @@ fn put_all(seen: &mut BTreeSet<(u8, usize)>, tags: &[Label]) -> Result<(), Alloc
 fn behind(
     alloc: Global,
     kind: ListKind,
-    member: &Component,
+    member: &ListMember,
     tags: &[Label],
     seen: BTreeSet<(u8, usize)>,
 ) -> Result<BTreeSet<(u8, usize)>, AllocError>
@@ -112,7 +112,7 @@ fn behind(
 pub(crate) fn clash(
     alloc: Global,
     kind: ListKind,
-    members: &[Component],
+    members: &[ListMember],
     firsts: &[Vec<Label>],
 ) -> Result<Option<usize>, AllocError>
     requires as_long { length firsts.now ≡ length members.now }

@@ -8,6 +8,7 @@ ghost use Rattle.tagging.specs.proving.Step.{ending, form_before, Outermost, Add
 ghost use Rattle.tagging.specs.Tagged.{IsOverfull};
 ghost use Rattle.tagging.specs.Tags.{Path, form_of, label, own, path_of, Written as HasWritten};
 
+use limits::MAX_TAGS;
 use crate::columns::Columns;
 use asn_base::strings::StringKind;
 use asn_base::tag::{Class, Tag};
@@ -16,12 +17,9 @@ use std::alloc::AllocError;
 use trees::{ElementsKind, Keyword, ListKind, Simple, TagDefault};
 use type_table::{Shape, Written};
 
-/// The most tags that may be written on one type, through references.
-pub(crate) const TAGS: usize = 4;
-
 /// Whether a tag stands in place of the tag after it, or before it (X.680, clause 31.2).
 #[derive(Clone, Copy, Debug, PartialEq, Eq)]
-pub enum Form {
+pub enum TagForm {
     /// It stands in place of the tag after it.
     Implicit,
     /// It stands before the tag after it, or it is the last.
@@ -32,7 +30,7 @@ pub enum Form {
 #[derive(Clone, Copy, Debug, PartialEq, Eq)]
 pub struct FormedTag {
     pub tag: Tag,
-    pub form: Form,
+    pub form: TagForm,
 }
 
 impl Default for FormedTag {
@@ -42,7 +40,7 @@ impl Default for FormedTag {
                 class: Class::Context,
                 number: 0,
             },
-            form: Form::Explicit,
+            form: TagForm::Explicit,
         }
     }
 }
@@ -148,7 +146,7 @@ pub(crate) fn has_few(columns: &Columns<'_>, ty: usize) -> bool
 {
     columns.whole();
     let mut at = ty;
-    for passed in 0..TAGS + 1 {
+    for passed in 0..MAX_TAGS + 1 {
         match step_at(columns, at) {
             Step::Ends(_) => return true,
             Step::Inside(_, _, _, j) => at = j,
@@ -157,18 +155,18 @@ pub(crate) fn has_few(columns: &Columns<'_>, ty: usize) -> bool
     false
 }
 
-pub(crate) fn form_with(keyword: Keyword, default: TagDefault, untagged: bool) -> Form
+pub(crate) fn form_with(keyword: Keyword, default: TagDefault, untagged: bool) -> TagForm
     ensures { result ≡ form_before keyword default untagged }
 {
     match (keyword, default) {
-        (Keyword::Explicit, _) => Form::Explicit,
-        (Keyword::Implicit, _) => Form::Implicit,
-        (Keyword::Absent, TagDefault::Explicit) => Form::Explicit,
+        (Keyword::Explicit, _) => TagForm::Explicit,
+        (Keyword::Implicit, _) => TagForm::Implicit,
+        (Keyword::Absent, TagDefault::Explicit) => TagForm::Explicit,
         (Keyword::Absent, _) => {
             if untagged {
-                Form::Explicit
+                TagForm::Explicit
             } else {
-                Form::Implicit
+                TagForm::Implicit
             }
         }
     }
@@ -180,7 +178,7 @@ pub(crate) fn form_at(
     keyword: Keyword,
     default: TagDefault,
     inner: usize,
-) -> Form
+) -> TagForm
     requires { inner < length columns.now.types }
     ensures { (p : Path) → HasWritten columns.now.types inner p → result ≡ form_of keyword default p }
 {
@@ -207,11 +205,11 @@ pub(crate) fn with_written(
     columns.whole();
     let mut path = before;
     let mut at = start;
-    for passed in 0..TAGS + 1 {
+    for passed in 0..MAX_TAGS + 1 {
         match step_at(columns, at) {
             Step::Ends(None) => return Ok(path),
             Step::Ends(Some(tag)) => {
-                let form = Form::Explicit;
+                let form = TagForm::Explicit;
                 path.push(FormedTag { tag, form })?;
                 return Ok(path);
             }

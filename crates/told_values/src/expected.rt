@@ -9,7 +9,7 @@ use asn_base::strings::StringKind;
 use constraints::{Bounded, alphabet, constraint, range};
 use std::alloc::{AllocError, Global};
 use trees::{EnumeratedSyntax, ListKind, NamedBit, Simple, ValueSyntax};
-use type_table::{Component, Shape};
+use type_table::{ListMember, Shape};
 use typed_values::{Cause, ValueFault};
 
 /// How many characters words in a row take up at most.
@@ -56,7 +56,7 @@ fn shown(alloc: Global, name: &str) -> Result<String, AllocError> {
     }
 }
 
-fn component_names(alloc: Global, components: &[Component]) -> Result<String, AllocError> {
+fn component_names(alloc: Global, components: &[ListMember]) -> Result<String, AllocError> {
     let mut list = List::new(alloc, ", ");
     for component in components {
         list.add(component.name.it.as_str())?;

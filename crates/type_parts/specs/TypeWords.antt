@@ -6,7 +6,7 @@ use Rattle.std.specs.Prelude.{nat_lt}
 use Rattle.text.specs.declared.reserved.Word.{Word as Word'}
 use Rattle.grammar.specs.Lexeme.{Lexeme, Number, Word}
 use Rattle.grammar.specs.Reading.{Limit, TagNumber as TagLimit, Beyond}
-use Rattle.grammar.specs.Laws.{more, Sound, Passes, Stands}
+use Rattle.grammar.specs.Laws.{more, Sound, Passes, ReadsAs}
 use Rattle.grammar.specs.Lists.{no_lexeme, head_is}
 use Rattle.grammar.specs.Numbers.{Past}
 use Rattle.grammar.specs.Parts.{SoundReader}
@@ -157,15 +157,15 @@ module _ (over : Limit → ℕ) (within : Limit → Type 0) (fits tags : ℕ →
     tag_front u us (inr (n, h, e)) = subst (λ (l : List Lexeme). Passes within us (tag_number_at fits (l ++ us))) (sym e) (limit_front (fits (2 ^ 127)) refl n (nat_lt n 2147483648) refl us h)
 
     limit_whole : (u : Bool) (x : TagNumber) (b : Bool) (e : nat_lt x.0 2147483648 ≡ b) (us : List Lexeme)
-        → Stands within (by_limit u x.0 b e us) x us
+        → ReadsAs within (by_limit u x.0 b e us) x us
     limit_whole u x true e us = inl (ap (λ (z : TagNumber). Ok (z, us)) (number_same x.0 _ x.1))
     limit_whole u x false e us = absurd (not_below x.0 e x.1)
 
     tag_whole : (x : TagNumber) (u us : List Lexeme)
         → (tag_number tags).Is x u
-        → Stands within (tag_number_at fits (u ++ us)) x us
+        → ReadsAs within (tag_number_at fits (u ++ us)) x us
     unfolding tag_number_at
-    tag_whole x u us h = subst (λ (l : List Lexeme). Stands within (tag_number_at fits (l ++ us)) x us) (sym h.1) (limit_whole (fits (2 ^ 127)) x (nat_lt x.0 2147483648) refl us)
+    tag_whole x u us h = subst (λ (l : List Lexeme). ReadsAs within (tag_number_at fits (l ++ us)) x us) (sym h.1) (limit_whole (fits (2 ^ 127)) x (nat_lt x.0 2147483648) refl us)
 
     tag_first : (t : Lexeme) (u : List Lexeme) → (tag_number tags).CanGoOn (t ∷ u) → is_number t ≡ true
     tag_first t u (inl e) = absurd cc

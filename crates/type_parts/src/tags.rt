@@ -8,14 +8,12 @@ ghost use Rattle.kernel.specs.Given.{AreTokens};
 ghost use Rattle.kernel.specs.Reads.{ReadsAs};
 ghost use Rattle.type_parts.specs.PlainReading.{keyword_at, low_number_at, low_end_at, class_at, tag_at};
 
+use limits::TAG_NUMBERS;
 use asn_base::tag::{Class, Tag};
 use kernel::decode::number_of;
 use kernel::{Limit, Read, ReadError};
 use text::{Token, kind, mark, word};
 use trees::Keyword;
-
-/// The numbers of tags are less than this.
-const LIMIT: u128 = 1 << 31;
 
 /// Reads the number of a tag.
 #[tactic(auto, unfolding(crate::specs::PlainReading::low_number_at))]
@@ -28,7 +26,7 @@ fn number<'a>(text: &[u8], tokens: &'a [Token]) -> Read<'a, u32>
     match tokens {
         [number @ kind!(Number), rest @ ..] => {
             let value = number_of(text, *number);
-            if value < LIMIT {
+            if value < TAG_NUMBERS {
                 Ok((value as u32, rest))
             } else {
                 Err(ReadError::Limit(Limit::TagNumber, tokens.len()))

@@ -4,7 +4,7 @@ use Rattle.std.proofs.lemmas.List.{append-nil}
 use Rattle.trees.specs.Values.{Name}
 use Rattle.trees.specs.declared.types.Standing.TheVariants as standings
 use Rattle.trees.specs.Types.{MemberTree}
-use Rattle.type_syntax.specs.TypeGrammar.{Component, a_member, additions_from}
+use Rattle.type_syntax.specs.TypeGrammar.{ComponentTree, a_member, additions_from}
 
 pub same_items : {A : Type 0} (l : List A) → map (λ (x : A). x) l ≡ l
 same_items [] = refl
@@ -16,14 +16,14 @@ map_behind f [] x rest = refl
 map_behind f (y ∷ l) x rest = ap (λ (l : List _). f y ∷ l) (map_behind f l x rest)
 
 abbrev pub Added : Type 0
-Added = (Name × Component) ⊎ List (Name × Component)
+Added = (Name × ComponentTree) ⊎ List (Name × ComponentTree)
 
 -- what the members so far are, of the additions that are taken; n brackets have been passed
 abbrev pub Taken : List MemberTree → List MemberTree → List Added → ℕ → Type 0
 Taken members root taken n = (rest : List Added) → members ++ additions_from n rest ≡ root ++ additions_from 0 (taken ++ rest)
 
 pub one_alone : {A : Type 0} (f : A → Added) (members members' root : List MemberTree) (taken : List A) (n : ℕ) (x : A)
-    (m : Name × Component)
+    (m : Name × ComponentTree)
     → f x ≡ inl m
     → members' ≡ members ++ a_member (standings.Addition None) m ∷ []
     → Taken members root (map f taken) n
@@ -34,7 +34,7 @@ one_alone f members members' root taken n x m e d h rest =
     ⋆ ap (λ (l : List Added). root ++ additions_from 0 l) (sym (map_behind f taken x rest))
 
 pub one_bracket : {A : Type 0} (f : A → Added) (members members' root : List MemberTree) (taken : List A) (n : ℕ)
-    (x : A) (ms : List (Name × Component))
+    (x : A) (ms : List (Name × ComponentTree))
     → f x ≡ inr ms
     → members' ≡ members ++ map (a_member (standings.Addition (Some n))) ms
     → Taken members root (map f taken) n

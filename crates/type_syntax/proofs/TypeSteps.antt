@@ -28,7 +28,7 @@ use Rattle.type_parts.specs.TypeLexemes.{is_choice_word, is_sequence_word, is_se
 use Rattle.type_parts.specs.TypeWords.{TagRule}
 use Rattle.type_parts.specs.TypeParts.{is_keyword, loose_keyword, ref_read, ref_same, rule_ref, simple_starts, rule_simple, rule_tag}
 use Rattle.grammar.specs.Single.{is_closed, is_typeref}
-use Rattle.type_syntax.specs.TypeGrammar.{Component, Listing, of_listing, list_kind, listing_of, list_of, constrained, sequence_or_set, member, alternative, members, choice, tagged, one_type, type_with}
+use Rattle.type_syntax.specs.TypeGrammar.{ComponentTree, Listing, of_listing, list_kind, listing_of, list_of, constrained, sequence_or_set, member, alternative, members, choice, tagged, one_type, type_with}
 use Rattle.type_syntax.specs.TypeLaws.{type_ends}
 use Rattle.type_syntax.specs.TypeReading.{component_at, bare_at, is_listing, listing_at, body_at, alternatives_at, choice_at, inside_tag_at, tagged_at, plain_form_at, one_type_at, with_constraints_at, plain_at, of_at, list_at, structure_at, behind_at, type_step}
 
@@ -150,7 +150,7 @@ body_same : (fits : ℕ → Bool) (n : ℕ) (read : Reader TypeTree) (value : Re
 unfolding body_at
 body_same fits n read value ts = refl
 
-listing_same : (fits : ℕ → Bool) (part : Reader (Name × Component)) (ts : List Lexeme)
+listing_same : (fits : ℕ → Bool) (part : Reader (Name × ComponentTree)) (ts : List Lexeme)
     → perhaps is_listing (rootless_at part (addition_at fits part)) ts ≡ listing_at fits part ts
 unfolding listing_at
 listing_same fits part ts = refl

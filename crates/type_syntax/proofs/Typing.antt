@@ -4,7 +4,7 @@ use Rattle.grammar.specs.Lexeme.{Lexeme}
 use Rattle.grammar.specs.Grammar.{Grammar, cut_off}
 use Rattle.grammar.specs.Grows.{Grows}
 use Rattle.grammar.specs.Reading.{Unexpected, Beyond, Read, Reader, Limit, Nesting, Integer, TagNumber as TagLimit, stop}
-use Rattle.grammar.specs.Laws.{nowhere, deeper, wider, higher, Passes, Stands, Finds}
+use Rattle.grammar.specs.Laws.{nowhere, deeper, wider, higher, Passes, ReadsAs, Finds}
 use Rattle.grammar.specs.Lists.{IsSolid, no_lexeme}
 use Rattle.grammar.specs.Numbers.{Past}
 use Rattle.grammar.specs.Parts.{SoundReader, cut_off_finds, cut_off_solid}
@@ -111,7 +111,7 @@ finds_weaker {A} within within' g starts ends read less f = record {
   front = λ u us h. passes us (read (u ++ us)) (f.front u us h);
 }
   where
-    stands : (r : Read A) (x : A) (us : List Lexeme) → Stands within' r x us → Stands within r x us
+    stands : (r : Read A) (x : A) (us : List Lexeme) → ReadsAs within' r x us → ReadsAs within r x us
     stands r x us (inl e) = inl e
     stands r x us (inr (p, k, e)) = inr (p, (λ w. k (less p.0 w)), e)
 

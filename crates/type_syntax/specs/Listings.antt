@@ -9,16 +9,16 @@ use Rattle.trees.specs.declared.types.TypeForm.{TypeForm}
 use Rattle.trees.specs.declared.types.TypeForm.TheVariants as forms
 use Rattle.trees.specs.declared.types.TypeSyntax.{TypeSyntax}
 use Rattle.trees.specs.Types.{presence_of, plain_of, FormTree, a_simple, a_reference, a_list, an_elements, a_tagged, type_members, type_tree_of, type_member_of}
-use Rattle.type_syntax.specs.declared.listing.Component.{Component as Component'}
-use Rattle.type_syntax.specs.TypeGrammar.{Component, Listing}
+use Rattle.type_syntax.specs.declared.listing.ComponentSyntax.{ComponentSyntax}
+use Rattle.type_syntax.specs.TypeGrammar.{ComponentTree, Listing}
 
-abbrev pub component_of : Component' → Component
+abbrev pub component_of : ComponentSyntax → ComponentTree
 component_of c = (type_tree_of c.syntax, presence_of c.presence)
 
-abbrev pub named_component : Named Component' → Name × Component
+abbrev pub named_component : Named ComponentSyntax → Name × ComponentTree
 named_component n = (name_at n.name, component_of n.value)
 
-abbrev pub listing_tree : Extensible (Named Component') (Addition (Named Component')) → Listing
+abbrev pub listing_tree : Extensible (Named ComponentSyntax) (Addition (Named ComponentSyntax)) → Listing
 listing_tree l = extensible_of named_component (addition_of named_component) l
 
 -- what a form holds

@@ -22,23 +22,23 @@ use Rattle.type_parts.specs.PlainGrammar.{ref, keyword, presence, tag, simple, l
 -- ---- lists of members
 
 -- a member's type, and whether it may be absent
-abbrev pub Component : Type 0
-Component = TypeTree × PresenceTree
+abbrev pub ComponentTree : Type 0
+ComponentTree = TypeTree × PresenceTree
 
 -- the members of the root, and what stands behind the marker, if it is there: members, alone or in version brackets
 abbrev pub Listing : Type 0
-Listing = List (Name × Component) × Option (List ((Name × Component) ⊎ List (Name × Component)))
+Listing = List (Name × ComponentTree) × Option (List ((Name × ComponentTree) ⊎ List (Name × ComponentTree)))
 
-abbrev pub a_member : Standing → Name × Component → MemberTree
+abbrev pub a_member : Standing → Name × ComponentTree → MemberTree
 a_member s m = record { name = m.0; type = m.1.0; presence = m.1.1; standing = s }
 
 -- additions, the first version brackets of which are the n-th
-abbrev pub additions_from : ℕ → List ((Name × Component) ⊎ List (Name × Component)) → List MemberTree
+abbrev pub additions_from : ℕ → List ((Name × ComponentTree) ⊎ List (Name × ComponentTree)) → List MemberTree
 additions_from n [] = []
 additions_from n (inl m ∷ xs) = a_member (standings.Addition None) m ∷ additions_from n xs
 additions_from n (inr ms ∷ xs) = map (a_member (standings.Addition (Some n))) ms ++ additions_from (suc n) xs
 
-abbrev pub behind_marker : Option (List ((Name × Component) ⊎ List (Name × Component))) → List MemberTree
+abbrev pub behind_marker : Option (List ((Name × ComponentTree) ⊎ List (Name × ComponentTree))) → List MemberTree
 behind_marker None = []
 behind_marker (Some xs) = additions_from 0 xs
 
@@ -80,10 +80,10 @@ constrained p = a_type p.0 p.1
 abbrev pub sequence_or_set : Grammar Bool
 sequence_or_set = word words.Sequence ⇒ (λ _. false) ∣ word words.Set ⇒ (λ _. true)
 
-abbrev pub member : Grammar TypeTree → Grammar Tree → Grammar (Name × Component)
+abbrev pub member : Grammar TypeTree → Grammar Tree → Grammar (Name × ComponentTree)
 member t v = token Ident ∙ (t ∙ presence v)
 
-abbrev pub alternative : Grammar TypeTree → Grammar (Name × Component)
+abbrev pub alternative : Grammar TypeTree → Grammar (Name × ComponentTree)
 alternative t = token Ident ∙ (t ⇒ (λ t. (t, mandatory)))
 
 -- A limit on the numbers of tags is a test that they meet.

@@ -13,14 +13,14 @@ use Rattle.notation.specs.Reading.{value_at}
 use Rattle.trees.specs.declared.types.ListKind.TheVariants as lists
 use Rattle.trees.specs.Types.{mandatory, TypeTree, a_type, FormTree, a_simple, a_tagged}
 use Rattle.type_parts.specs.PlainReading.{ref_at, keyword_at, presence_at, tag_at, simple_at, constraints_at, list_size_at}
-use Rattle.type_syntax.specs.TypeGrammar.{Component, Listing, of_listing, list_kind, listing_of, list_of, constrained}
+use Rattle.type_syntax.specs.TypeGrammar.{ComponentTree, Listing, of_listing, list_kind, listing_of, list_of, constrained}
 
 -- ---- members and alternatives; read reads a type inside, and value a value
 
-unfoldable pub component_at : Reader TypeTree → Reader Tree → Reader Component
+unfoldable pub component_at : Reader TypeTree → Reader Tree → Reader ComponentTree
 component_at read value ts = read ts >>= λ t. presence_at value t.1 >>= λ p. Ok ((t.0, p.0), p.1)
 
-unfoldable pub bare_at : Reader TypeTree → Reader Component
+unfoldable pub bare_at : Reader TypeTree → Reader ComponentTree
 bare_at read ts = read ts >>= λ t. Ok ((t.0, mandatory), t.1)
 
 -- a list of members begins with one of these lexemes

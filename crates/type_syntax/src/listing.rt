@@ -12,16 +12,16 @@ use trees::{Member, Named, PresenceSyntax, Standing, TypeSyntax};
 
 /// A member's type, and whether it may be absent.
 #[derive(Drop)]
-pub struct Component {
+pub struct ComponentSyntax {
     pub syntax: TypeSyntax,
     pub presence: PresenceSyntax,
 }
 
 /// Members as they are read: those of the root, and those behind an extension marker, if it is there.
-pub type Listing = Extensible<Named<Component>, Addition<Named<Component>>>;
+pub type Listing = Extensible<Named<ComponentSyntax>, Addition<Named<ComponentSyntax>>>;
 
 /// A member where it stands.
-fn member(part: Named<Component>, standing: Standing) -> Member<TypeSyntax>
+fn member(part: Named<ComponentSyntax>, standing: Standing) -> Member<TypeSyntax>
     ensures { type_member_of result ≡ a_member standing (named_component part) }
 {
     Member {
@@ -35,7 +35,7 @@ fn member(part: Named<Component>, standing: Standing) -> Member<TypeSyntax>
 /// Puts members that stand so behind others.
 fn put_parts(
     members: Vec<Member<TypeSyntax>>,
-    parts: Vec<Named<Component>>,
+    parts: Vec<Named<ComponentSyntax>>,
     standing: Standing,
 ) -> Result<Vec<Member<TypeSyntax>>, AllocError>
     ensures { IfOk result
@@ -52,7 +52,7 @@ fn put_parts(
 /// Puts additions behind the members of the root.
 fn put_additions(
     members: Vec<Member<TypeSyntax>>,
-    additions: Vec<Addition<Named<Component>>>,
+    additions: Vec<Addition<Named<ComponentSyntax>>>,
 ) -> Result<Vec<Member<TypeSyntax>>, AllocError>
     ensures { IfOk result
         (λ v. map type_member_of v.items

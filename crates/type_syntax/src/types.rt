@@ -14,7 +14,7 @@ ghost use Rattle.type_syntax.specs.TypeReading.{component_at, bare_at, listing_a
 ghost use Rattle.type_syntax.specs.Listings.{component_of, listing_tree, form_tree};
 
 use crate::braces::{alternatives, members};
-use crate::listing::{Component, Listing, all_members};
+use crate::listing::{ComponentSyntax, Listing, all_members};
 use kernel::{Extensible, Limit, Production, Read, ReadError, WithName, reads_by};
 use std::alloc::{AllocError, Global};
 use std::marker::PhantomData;
@@ -35,10 +35,10 @@ impl Production for Components {
     ghost use Rattle.grammar.specs.Places.{small};
     ghost use Rattle.notation.specs.Reading.{value_at};
     ghost use Rattle.type_syntax.specs.Listings.{component_of};
-    ghost use Rattle.type_syntax.specs.TypeGrammar.{Component as ComponentTree};
+    ghost use Rattle.type_syntax.specs.TypeGrammar.{ComponentTree};
     ghost use Rattle.type_syntax.specs.TypeReading.{component_at, type_at};
 
-    type Tree = Component;
+    type Tree = ComponentSyntax;
 
     ghost Shape = { ComponentTree };
 
@@ -53,10 +53,10 @@ pub struct Alternatives;
 impl Production for Alternatives {
     ghost use Rattle.grammar.specs.Places.{small};
     ghost use Rattle.type_syntax.specs.Listings.{component_of};
-    ghost use Rattle.type_syntax.specs.TypeGrammar.{Component as ComponentTree};
+    ghost use Rattle.type_syntax.specs.TypeGrammar.{ComponentTree};
     ghost use Rattle.type_syntax.specs.TypeReading.{bare_at, type_at};
 
-    type Tree = Component;
+    type Tree = ComponentSyntax;
 
     ghost Shape = { ComponentTree };
 
@@ -331,14 +331,14 @@ fn inside_choice<'a>(
 /// Reads the type of an alternative.
 #[tactic(auto, unfolding(crate::specs::TypeReading::bare_at))]
 #[cycle(type_syntax)]
-fn bare<'a>(alloc: Global, text: &[u8], tokens: &'a [Token], depth: usize) -> Read<'a, Component>
+fn bare<'a>(alloc: Global, text: &[u8], tokens: &'a [Token], depth: usize) -> Read<'a, ComponentSyntax>
     requires tokens { AreTokens text.now tokens.now }
     ensures read { ReadsAs component_of (bare_at (type_at small depth)) text.now tokens.now result }
     ensures rest { IfOk result (λ x. AreTokens text.now x.1.now) }
 {
     let (syntax, rest) = type_syntax(alloc, text, tokens, depth)?;
     let presence = PresenceSyntax::Mandatory;
-    Ok((Component { syntax, presence }, rest))
+    Ok((ComponentSyntax { syntax, presence }, rest))
 }
 
 /// Reads what stands behind `SEQUENCE`, or behind `SET` where `set` holds.
@@ -473,7 +473,7 @@ fn component<'a>(
     text: &[u8],
     tokens: &'a [Token],
     depth: usize,
-) -> Read<'a, Component>
+) -> Read<'a, ComponentSyntax>
     requires tokens { AreTokens text.now tokens.now }
     ensures read { ReadsAs component_of (component_at (type_at small depth) (value_at small depth))
         text.now tokens.now result }
@@ -481,7 +481,7 @@ fn component<'a>(
 {
     let (syntax, rest) = type_syntax(alloc, text, tokens, depth)?;
     let (presence, rest) = presence(alloc, text, rest, depth)?;
-    Ok((Component { syntax, presence }, rest))
+    Ok((ComponentSyntax { syntax, presence }, rest))
 }
 
 /// Reads a list type behind `SEQUENCE`, or behind `SET` where `set` holds (X.680, clauses 26.1 and 28.1).

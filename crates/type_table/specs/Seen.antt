@@ -8,14 +8,14 @@ use Rattle.trees.specs.Values.{name_at}
 use Rattle.trees.specs.Constraints.{constraint_of}
 use Rattle.trees.specs.Types.{FormTree, a_simple, a_reference, a_list, an_elements, a_tagged, plain_of, presence_of, type_members, type_member_of, type_tree_of, item_of}
 use Rattle.names.specs.Sources.{place_of}
-use Rattle.type_table.specs.declared.table.Component.{Component}
+use Rattle.type_table.specs.declared.table.ListMember.{ListMember}
 use Rattle.type_table.specs.declared.table.Shape.{Shape}
 use Rattle.type_table.specs.declared.table.Shape.TheVariants as shapes
 use Rattle.type_table.specs.declared.table.Written.{Written}
 use Rattle.type_table.specs.Items.{Item, additions_of}
 use Rattle.type_table.specs.Table.{Part, Kind, simple, reference, tagged, members, elements, Type'}
 
-abbrev pub part_of : Component → Part
+abbrev pub part_of : ListMember → Part
 part_of c = record { name = name_at c.name; ty = c.ty; presence = presence_of c.presence; standing = c.standing }
 
 abbrev pub kind_of : Shape → Kind

@@ -26,6 +26,6 @@ abbrev pub IsWithin : (ℕ → Option ℕ) → ℕ → Type 0
 IsWithin next n = (i j : ℕ) → next i ≡ Some j → j < n
 
 -- the references from place i on lead to place p
-pub record Reaches (next : ℕ → Option ℕ) (i p : ℕ) : Type 0 where
+pub record ArrivesAt (next : ℕ → Option ℕ) (i p : ℕ) : Type 0 where
   pub steps : ℕ
   pub leads : follow next steps i ≡ Some p

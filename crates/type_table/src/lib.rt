@@ -9,4 +9,4 @@ pub mod table;
 pub mod unfolding;
 
 pub use items::{NumberFault, item_numbers};
-pub use table::{Component, Shape, Written};
+pub use table::{ListMember, Shape, Written};

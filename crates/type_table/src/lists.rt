@@ -13,8 +13,9 @@ ghost use Rattle.type_table.specs.Table.{Part, simple, members as list_of};
 ghost use Rattle.type_table.specs.proving.Checks.{texts, TellsLimit, TellsName, IsNumberFault, IsKindFault};
 ghost use Rattle.type_table.specs.proving.Sets.{Puts, IsSetOf};
 
+use limits::{MAX_ADDITIONS, MAX_ITEMS, MAX_MEMBERS};
 use crate::items::{NumberFault, additions, item_numbers};
-use crate::table::{Component, Shape};
+use crate::table::{ListMember, Shape};
 use indexmap::IndexSet;
 use names::fault::spot;
 use names::{Limit, NameFault};
@@ -163,13 +164,13 @@ fn few_items(
     ensures fault { IfErr result
         (IsKindFault within.now assigns.now (simple (an_enumerated (root_of given.now) (behind_marker given.now)))) }
 {
-    if given.root.len() > 1024 {
-        let place = given.root[1024].name.at;
+    if given.root.len() > MAX_ITEMS {
+        let place = given.root[MAX_ITEMS].name.at;
         return Err(passed(alloc, Limit::Items, within, assigns, place));
     }
     let more = additions(given);
-    if more.len() > 64 {
-        let place = more[64].name.at;
+    if more.len() > MAX_ADDITIONS {
+        let place = more[MAX_ADDITIONS].name.at;
         return Err(passed(alloc, Limit::Items, within, assigns, place));
     }
     Ok(())
@@ -318,7 +319,7 @@ fn few_members(
     alloc: Global,
     within: &str,
     assigns: &str,
-    given: &[Component],
+    given: &[ListMember],
 ) -> Result<(), NameFault>
     ensures root { OnOk result (root_count (map part_of given.now) ≤ 256) }
     ensures more { OnOk result (addition_count (map part_of given.now) ≤ 64) }
@@ -329,10 +330,10 @@ fn few_members(
     for component in given {
         let place = component.name.at;
         count_member(component.standing, &mut counted);
-        if counted.root > 256 {
+        if counted.root > MAX_MEMBERS {
             return Err(passed(alloc, Limit::Members, within, assigns, place));
         }
-        if counted.more > 64 {
+        if counted.more > MAX_ADDITIONS {
             return Err(passed(alloc, Limit::Members, within, assigns, place));
         }
     }
@@ -340,7 +341,7 @@ fn few_members(
 }
 
 /// Members of a list have distinct identifiers (X.680, clauses 25.7, 27.3 and 29.3).
-fn member_names(alloc: Global, within: &str, given: &[Component]) -> Result<(), NameFault>
+fn member_names(alloc: Global, within: &str, given: &[ListMember]) -> Result<(), NameFault>
     ensures distinct { OnOk result (AreDistinct (map (λ (c : Part). c.name) (map part_of given.now))) }
     ensures fault { IfErr result (IsRepeated within.now (map (λ (c : Part). c.name) (map part_of given.now))) }
 {
@@ -361,7 +362,7 @@ fn list_members(
     assigns: &str,
     kind: ListKind,
     marker: bool,
-    given: &[Component],
+    given: &[ListMember],
 ) -> Result<(), NameFault>
     ensures good { OnOk result (IsSoundKind (list_of kind marker (map part_of given.now))) }
     ensures fault { IfErr result (IsKindFault within.now assigns.now (list_of kind marker (map part_of given.now))) }

@@ -5,7 +5,7 @@ ghost use Rattle.trees.specs.Types.{type_tree_of, type_members, type_member_of};
 ghost use Rattle.trees.specs.Values.{name_at};
 ghost use Rattle.names.specs.declared.scope.Assigned.TheVariants as assigned;
 ghost use Rattle.names.specs.declared.fault.NameFault.TheVariants as faults;
-ghost use Rattle.names.specs.declared.sources.Assignment.{Assignment};
+ghost use Rattle.names.specs.declared.sources.AssignedAt.{AssignedAt};
 ghost use Rattle.names.specs.Names.{Refers};
 ghost use Rattle.names.specs.Sources.{header_of, assignment_of, source_of, sources_of, AllAssigned};
 ghost use Rattle.type_table.specs.Faults.{IsNumberingFault};
@@ -13,9 +13,10 @@ ghost use Rattle.type_table.specs.Numbering.{member_sources, inner_source, numbe
 ghost use Rattle.type_table.specs.Seen.{types_of, kind_of, part_of, type_of, form_seen};
 ghost use Rattle.type_table.specs.proving.Checks.{IsNothing, IsUnknown, IsTypesLimit, IsSourceFault};
 
-use crate::table::{Component, Shape, Written};
+use limits::MAX_WRITTEN;
+use crate::table::{ListMember, Shape, Written};
 use names::fault::spot;
-use names::{Assigned, Assignment, Header, Limit, NameFault, Names, Place, Source};
+use names::{Assigned, AssignedAt, Header, Limit, NameFault, Names, Place, Source};
 use std::alloc::{AllocError, Global};
 use std::collections::VecDeque;
 use trees::{Member, Reference, TypeForm, TypeSyntax};
@@ -28,7 +29,7 @@ fn components_of(
     list: usize,
     first: usize,
     parts: &mut VecDeque<Source>,
-) -> Result<Vec<Component>, AllocError>
+) -> Result<Vec<ListMember>, AllocError>
     requires few { first + length members.items ≤ 65536 }
     ensures components { IfOk result
         (λ v. map part_of v.items ≡ numbered first (type_members (map type_member_of members.items))) }
@@ -49,7 +50,7 @@ fn components_of(
             assignment,
             place: Some(Place { list, number }),
         })?;
-        components.push(Component {
+        components.push(ListMember {
             name,
             ty: first + number,
             presence,
@@ -146,7 +147,7 @@ fn take_apart(
 }
 
 /// The fault that more types are written than may be, at a type in an assignment.
-pub fn too_many(alloc: Global, header: &Header, assignment: &Assignment, at: usize) -> NameFault
+pub fn too_many(alloc: Global, header: &Header, assignment: &AssignedAt, at: usize) -> NameFault
     ensures { IsTypesLimit (name_at header.now.name) (name_at assignment.now.name) result }
 {
     match spot(
@@ -165,13 +166,13 @@ fn written_of(
     alloc: Global,
     names: &Names,
     headers: &[Header],
-    assignments: &[Assignment],
+    assignments: &[AssignedAt],
     source: Source,
     number: usize,
     parts: &mut VecDeque<Source>,
 ) -> Result<Written, NameFault>
     requires assigned { source.assignment < length assignments.now }
-    requires placed { (k : ℕ) (a : Assignment) → slice_get assignments.now k ≡ Some a → a.module < length headers.now }
+    requires placed { (k : ℕ) (a : AssignedAt) → slice_get assignments.now k ≡ Some a → a.module < length headers.now }
     requires few { number + 1 + length parts.old.items ≤ 65536 }
     ensures top { IfOk result
         (λ w. IsTop names.now (map header_of headers.now) (map assignment_of assignments.now)
@@ -187,7 +188,7 @@ fn written_of(
     let assignment = &assignments[source.assignment];
     let header = &headers[assignment.module];
     let first = number + 1 + parts.len();
-    if 65536 - first < parts_count(&source.syntax) {
+    if MAX_WRITTEN - first < parts_count(&source.syntax) {
         return Err(too_many(alloc, header, assignment, source.syntax.at));
     }
     let Source {
@@ -227,11 +228,11 @@ pub fn number_all(
     alloc: Global,
     names: &Names,
     headers: &[Header],
-    assignments: &[Assignment],
+    assignments: &[AssignedAt],
     roots: VecDeque<Source>,
 ) -> Result<Vec<Written>, NameFault>
     requires assigned { AllAssigned (length assignments.now) (sources_of roots.items) }
-    requires placed { (k : ℕ) (a : Assignment) → slice_get assignments.now k ≡ Some a → a.module < length headers.now }
+    requires placed { (k : ℕ) (a : AssignedAt) → slice_get assignments.now k ≡ Some a → a.module < length headers.now }
     requires few { length roots.items ≤ 65536 }
     ensures ok { IfOk result
         (λ v. AreNumbered names.now (map header_of headers.now) (map assignment_of assignments.now)
@@ -243,7 +244,7 @@ pub fn number_all(
 {
     let mut sources = roots;
     let mut types = Vec::new(alloc);
-    for number in 0..65536 {
+    for number in 0..MAX_WRITTEN {
         match sources.pop_front() {
             None => return Ok(types),
             Some(source) => {

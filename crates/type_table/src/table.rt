@@ -9,7 +9,7 @@ use trees::{
 
 /// A member of a list: its identifier, its type's number, whether it may be absent, and where it stands in the list.
 #[derive(Drop)]
-pub struct Component {
+pub struct ListMember {
     pub name: At<String>,
     pub ty: usize,
     pub presence: PresenceSyntax,
@@ -27,7 +27,7 @@ pub enum Shape {
     Tagged(Tag, Keyword, usize),
     /// SEQUENCE, SET or CHOICE, whether it has an extension marker, and its members: those of the root in order, and then the
     /// additions.
-    Members(ListKind, bool, Vec<Component>),
+    Members(ListKind, bool, Vec<ListMember>),
     /// SEQUENCE OF or SET OF, and the type of its elements.
     Elements(ElementsKind, usize),
 }

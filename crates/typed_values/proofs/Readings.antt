@@ -12,7 +12,7 @@ use Rattle.names.specs.proving.Distinct.{same_bytes, equal_bytes, stands_map}
 use Rattle.type_table.specs.declared.table.Written.{Written}
 use Rattle.type_table.specs.Seen.{kind_of, part_of, type_of, types_of}
 use Rattle.values.specs.Arranged.{IsArranged, place_of}
-use Rattle.type_table.specs.declared.table.Component.{Component}
+use Rattle.type_table.specs.declared.table.ListMember.{ListMember}
 use Rattle.typed_values.proofs.Rows.{got, got_or, got_plain, place_below, split, taken, map_end, one_more, none_yet, one_field_more, no_field_yet}
 use Rattle.asn_base.specs.declared.value.Value.{Value}
 use Rattle.asn_base.specs.Abstract.{AbstractValue, abstract, Row, row_of_list, row_of_options, fields, list, alternative}
@@ -453,7 +453,7 @@ wrong_as {p} {levels} {left} {os} {ps} {K} {N} {fs} {c} {f} e h =
     subst (λ (x : List ℕ). IsWrongField p levels left x K N fs c f) e h
 
 pub fields_wrong : {p : Program} {levels before between : ℕ} {os ps : List ℕ} {K N : Name} {fs : List (Name × Tree)}
-    {f : ValueFault} (vs : List (Option Value)) (xs : List Component) (i : ℕ) (x : Component) →
+    {f : ValueFault} (vs : List (Option Value)) (xs : List ListMember) (i : ℕ) (x : ListMember) →
     i < length xs → x ≡ get_or xs i x →
     MeanFields p levels before between os K N fs (map part_of (take i xs)) (row_of_options (map (option_map abstract) vs)) →
     ps ≡ os →
@@ -478,7 +478,7 @@ field_as : (p : Program) (levels : ℕ) {os ps : List ℕ} (K N : Name) (fs : Li
 field_as p levels {os} {ps} K N fs c o e h = subst (λ (x : List ℕ). IsField p levels x K N fs c o) e h
 
 pub fields_more : {p : Program} {levels before between after : ℕ} {os ps : List ℕ} {K N : Name} {fs : List (Name × Tree)}
-    (vs ws : List (Option Value)) (v : Option Value) (xs : List Component) (i : ℕ) (x : Component) →
+    (vs ws : List (Option Value)) (v : Option Value) (xs : List ListMember) (i : ℕ) (x : ListMember) →
     i < length xs → x ≡ get_or xs i x →
     ws ≡ vs ++ v ∷ [] →
     MeanFields p levels before between os K N fs (map part_of (take i xs)) (row_of_options (map (option_map abstract) vs)) →
@@ -502,18 +502,18 @@ fields_none p levels left os K N fs vs e =
     (no_field_yet p levels os K N fs left)
 
 -- alternatives
-pub alternative_below : (xs : List Component) (i : ℕ) (x : Name) → slice_get (part_names (map part_of xs)) i ≡ Some x → i < length xs
+pub alternative_below : (xs : List ListMember) (i : ℕ) (x : Name) → slice_get (part_names (map part_of xs)) i ≡ Some x → i < length xs
 alternative_below xs i x e =
     let l = place_below (part_names (map part_of xs)) i x e in
     let a = length-map (map part_of xs) (λ (c : Part). c.name) in
     let b = length-map xs part_of in
     omega (arith, l, a, b)
 
-pub alternative_at : (xs : List Component) (i : ℕ) (d : Component) (x : Name) → slice_get (part_names (map part_of xs)) i ≡ Some x →
+pub alternative_at : (xs : List ListMember) (i : ℕ) (d : ListMember) (x : Name) → slice_get (part_names (map part_of xs)) i ≡ Some x →
     slice_get (map part_of xs) i ≡ Some (part_of (get_or xs i d))
 alternative_at xs i d x e = got_or part_of xs i d (alternative_below xs i x e)
 
-pub alternative_name : (xs : List Component) (i : ℕ) (d : Component) (x : Name) → slice_get (part_names (map part_of xs)) i ≡ Some x →
+pub alternative_name : (xs : List ListMember) (i : ℕ) (d : ListMember) (x : Name) → slice_get (part_names (map part_of xs)) i ≡ Some x →
     (part_of (get_or xs i d)).name ≡ x
 alternative_name xs i d x e = named_there (map part_of xs) i (part_of (get_or xs i d)) x (alternative_at xs i d x e) e
 
@@ -538,16 +538,16 @@ no_alternative {p} {i} {e} {cs} {N} {os} {ps} {M} {K} {t} x m w h q none =
     }
 
 -- absent components
-pub absent_addition : {p : Program} {levels : ℕ} {N : Name} (c : Component) (g : Option ℕ) → c.standing ≡ Addition g →
+pub absent_addition : {p : Program} {levels : ℕ} {N : Name} (c : ListMember) (g : Option ℕ) → c.standing ≡ Addition g →
     MayBeAbsent p (Allows p) (AllowsCode p) levels N (part_of c)
 absent_addition c g e = values.where_addition e
 
-pub absent_optional : {p : Program} {levels : ℕ} {N : Name} (c : Component) → c.presence ≡ syntax.Optional →
+pub absent_optional : {p : Program} {levels : ℕ} {N : Name} (c : ListMember) → c.presence ≡ syntax.Optional →
     MayBeAbsent p (Allows p) (AllowsCode p) levels N (part_of c)
 absent_optional c e = values.where_optional (ap presence_of e)
 
 -- one that has to be there isn't absent
-pub absent_mandatory : {p : Program} {levels : ℕ} {N : Name} (c : Component) → c.standing ≡ Root → c.presence ≡ syntax.Mandatory →
+pub absent_mandatory : {p : Program} {levels : ℕ} {N : Name} (c : ListMember) → c.standing ≡ Root → c.presence ≡ syntax.Mandatory →
     may_be_absent (part_of c) ≡ true →
     MayBeAbsent p (Allows p) (AllowsCode p) levels N (part_of c)
 absent_mandatory {p} {levels} {N} c e f m = absurd (by (presence_of c.presence) c.standing (ap presence_of f) e m)

@@ -9,7 +9,7 @@ ghost use Rattle.typed_values.specs.Known.{AreKnown, IsListed};
 use constraints::Bounded;
 use std::alloc::{AllocError, Global};
 use std::marker::Model;
-use type_table::Component;
+use type_table::ListMember;
 
 /// The levels of a DEFAULT that was not read yet.
 const UNREAD: u8 = 255;
@@ -50,7 +50,7 @@ impl Defaults {
     pub(crate) fn allows(
         &mut self,
         bounded: &Bounded<'_>,
-        component: &Component,
+        component: &ListMember,
         home: &str,
         levels: u8,
     ) -> bool
@@ -75,7 +75,7 @@ impl Defaults {
     pub(crate) fn note(
         &mut self,
         bounded: &Bounded<'_>,
-        component: &Component,
+        component: &ListMember,
         home: &str,
         levels: u8,
     )

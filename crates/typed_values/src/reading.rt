@@ -20,6 +20,7 @@ ghost use Rattle.typed_values.specs.Faults.{IsWritten, Stands};
 ghost use Rattle.typed_values.specs.Known.{AreKnown, AreListed, IsListed};
 ghost use Rattle.typed_values.specs.proving.Reading.{ArePlaced, IsField, IsWrongDefault, IsWrongField, MeanFields, MeanRow, StandsInField, StandsInOne, Tells, option_nodes};
 
+use limits::MAX_NODES;
 use crate::fault::{Cause, Place, ValueFault, unarranged, unfollowed};
 use crate::forms::{chosen_in, fields_in, values_in};
 use crate::levels::Defaults;
@@ -32,7 +33,7 @@ use asn_base::value::Value;
 use constraints::{Bounded, allows_size};
 use std::alloc::Global;
 use trees::{ListKind, Named, PresenceSyntax, Standing, ValueSyntax};
-use type_table::{Component, Shape};
+use type_table::{ListMember, Shape};
 use value_notations::opened::Opened;
 use value_notations::references::follow;
 use values::law::{groups_whole, stands_for_fields};
@@ -40,9 +41,6 @@ use values::{alternative, arranged};
 
 /// A value has at most this many levels.
 const MOST_LEVELS: u8 = 64;
-
-/// A value has at most this many nodes, 2^24.
-const MOST_NODES: u32 = 16_777_216;
 
 /// Is it a CHOICE?
 fn is_choice(kind: ListKind) -> bool
@@ -273,7 +271,7 @@ fn chosen<'a>(
     left: &mut u32,
     opened: &mut Opened,
     at: Place<'a>,
-    alternatives: &'a [Component],
+    alternatives: &'a [ListMember],
     within: &'a str,
     last: &'a ValueSyntax,
 ) -> Result<Value, ValueFault<'a>>
@@ -331,7 +329,7 @@ fn fields<'a>(
     opened: &mut Opened,
     at: Place<'a>,
     kind: ListKind,
-    components: &'a [Component],
+    components: &'a [ListMember],
     home: &'a str,
     within: &'a str,
     last: &'a ValueSyntax,
@@ -395,7 +393,7 @@ fn all_fields<'a>(
     left: &mut u32,
     opened: &mut Opened,
     at: Place<'a>,
-    components: &'a [Component],
+    components: &'a [ListMember],
     home: &'a str,
     within: &'a str,
     given: &'a [Named<ValueSyntax>],
@@ -444,7 +442,7 @@ fn field<'a>(
     levels: u8,
     left: &mut u32,
     opened: &mut Opened,
-    component: &'a Component,
+    component: &'a ListMember,
     home: &'a str,
     within: &'a str,
     given: &'a [Named<ValueSyntax>],
@@ -494,7 +492,7 @@ fn default<'a>(
     bounded: &Bounded<'a>,
     defaults: &mut Defaults,
     levels: u8,
-    component: &'a Component,
+    component: &'a ListMember,
     home: &'a str,
 ) -> Result<(), ValueFault<'a>>
     requires there { component.now.ty < length bounded.now.types }
@@ -526,7 +524,7 @@ fn whole_default<'a>(
     bounded: &Bounded<'a>,
     defaults: &mut Defaults,
     levels: u8,
-    component: &'a Component,
+    component: &'a ListMember,
     home: &'a str,
     notation: &'a ValueSyntax,
 ) -> Result<(), ValueFault<'a>>
@@ -566,7 +564,7 @@ fn read_default<'a>(
     bounded: &Bounded<'a>,
     defaults: &mut Defaults,
     levels: u8,
-    component: &'a Component,
+    component: &'a ListMember,
     home: &'a str,
     notation: &'a ValueSyntax,
 ) -> Result<(), ValueFault<'a>>
@@ -587,7 +585,7 @@ fn read_default<'a>(
         within: home,
         notation,
     };
-    let mut left = MOST_NODES;
+    let mut left = MAX_NODES;
     let mut opened = Opened::new(alloc);
     match read(alloc, bounded, defaults, levels, &mut left, &mut opened, at) {
         Ok(_) => Ok(()),
@@ -618,7 +616,7 @@ pub fn typed_with<'a>(
         within,
         notation,
     };
-    let mut left = MOST_NODES;
+    let mut left = MAX_NODES;
     let mut opened = Opened::new(alloc);
     read(
         alloc,

@@ -11,6 +11,7 @@ ghost use Rattle.value_notations.specs.Leaves.{IsLeaf, IsRooted};
 ghost use Rattle.value_notations.specs.proving.Forms.{IsNone, Tells, ArePastLimit, StandsPastLimit, IsLimitFault};
 ghost use Rattle.value_notations.specs.declared.leaf.NumbersFault.TheVariants.{Memory as no_memory};
 
+use limits::MAX_ARCS;
 use crate::digits::{are_below, bit_octets, hex_octets};
 use crate::forms::{
     alone_in, binary_in, hex_in, is_null, items_in, name_in, number_in, numbers_in, text_in,
@@ -144,7 +145,7 @@ fn within_limit(alloc: Global, numbers: &[u128]) -> Result<Vec<u64>, NumbersFaul
     ensures within { OnOk result (ArePastLimit numbers.now → ⊥) }
     ensures fault { IfErr result (IsLimitFault (ArePastLimit numbers.now)) }
 {
-    if numbers.len() > 64 {
+    if numbers.len() > MAX_ARCS {
         return Err(NumbersFault::Oid);
     }
     let mut all = Vec::new(alloc);

@@ -8,7 +8,7 @@ use Rattle.trees.specs.declared.value.ValueSyntax.{ValueSyntax}
 use Rattle.trees.specs.Values.{Name, name_at, member_of}
 use Rattle.names.specs.Modules.{StandsIn, StandsTwice, AreDistinct}
 use Rattle.names.specs.proving.Distinct.{same_bytes, equal_bytes, item_at, stands_map}
-use Rattle.type_table.specs.declared.table.Component.{Component}
+use Rattle.type_table.specs.declared.table.ListMember.{ListMember}
 use Rattle.type_table.specs.Seen.{part_of}
 use Rattle.type_table.specs.Table.{Part}
 use Rattle.value_notations.specs.Notations.{field_names, part_names}
@@ -152,14 +152,14 @@ pub field_at : (fs : List (Named ValueSyntax)) (i : ℕ) (f : Named ValueSyntax)
     slice_get (field_names (map member_of fs)) i ≡ Some (name_at f.name)
 field_at fs i f l e = stands_map (λ (g : _ × _). g.0) (map member_of fs) i (member_of f) (item_at member_of fs i f l e)
 
-pub part_at : (cs : List Component) (i : ℕ) (c : Component) → i < length cs → c ≡ get_or cs i c →
+pub part_at : (cs : List ListMember) (i : ℕ) (c : ListMember) → i < length cs → c ≡ get_or cs i c →
     slice_get (part_names (map part_of cs)) i ≡ Some (name_at c.name)
 part_at cs i c l e = stands_map (λ (p : Part). p.name) (map part_of cs) i (part_of c) (item_at part_of cs i c l e)
 
 pub fields_long : (fs : List (Named ValueSyntax)) → length (field_names (map member_of fs)) ≡ length fs
 fields_long fs = length-map (map member_of fs) (λ f. f.0) ∙ length-map fs member_of
 
-pub parts_long : (cs : List Component) → length (part_names (map part_of cs)) ≡ length cs
+pub parts_long : (cs : List ListMember) → length (part_names (map part_of cs)) ≡ length cs
 parts_long cs = length-map (map part_of cs) (λ (c : Part). c.name) ∙ length-map cs part_of
 
 -- ---- walks over names
@@ -194,20 +194,20 @@ pub first_all : (fs : List Name) (i : ℕ) → length fs ≤ i → AreFirst fs i
 first_all fs i l a = distinct_firsts fs (λ k x e. let w = slice_get_within fs k x e in a k (omega (arith, w, l)) x e)
 
 -- the places of fields, in one pass
-abbrev pub place_in : List Name → Component → Option ℕ
+abbrev pub place_in : List Name → ListMember → Option ℕ
 place_in fs c = place_of (name_at c.name) fs
 
-pub places_all : (fs : List Name) (cs : List Component) →
+pub places_all : (fs : List Name) (cs : List ListMember) →
     map (place_in fs) cs ≡ map (λ x. place_of x fs) (part_names (map part_of cs))
 places_all fs [] = refl
 places_all fs (c ∷ cs) = ap (λ ps. place_of (name_at c.name) fs ∷ ps) (places_all fs cs)
 
-pub places_more : {A : Type 0} (ps : List A) (f : Component → A) (cs : List Component) (i : ℕ) (c : Component) → i < length cs →
+pub places_more : {A : Type 0} (ps : List A) (f : ListMember → A) (cs : List ListMember) (i : ℕ) (c : ListMember) → i < length cs →
     c ≡ get_or cs i c → ps ≡ map f (take i cs) → ps ++ f c ∷ [] ≡ map f (take (i + 1) cs)
 places_more ps f cs i c l e h =
     ap (λ qs. qs ++ f c ∷ []) h ∙ mapped_more f cs i c (slice_get_read cs (length cs) i c refl l e)
   where
-    mapped_more : {A : Type 0} (f : Component → A) (cs : List Component) (i : ℕ) (c : Component) → slice_get cs i ≡ Some c →
+    mapped_more : {A : Type 0} (f : ListMember → A) (cs : List ListMember) (i : ℕ) (c : ListMember) → slice_get cs i ≡ Some c →
         map f (take i cs) ++ f c ∷ [] ≡ map f (take (i + 1) cs)
     mapped_more f [] i c e = absurd cc
     mapped_more f (d ∷ cs) zero c e = let q : d ≡ c = same_Some d c e in ap (λ z. f z ∷ []) (sym q)

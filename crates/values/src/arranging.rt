@@ -12,7 +12,7 @@ use crate::lookup::{places, repeated, unknown};
 use crate::order::{jumbled, missing, missing_in_group};
 use std::alloc::Global;
 use trees::{ListKind, Named, ValueSyntax};
-use type_table::Component;
+use type_table::ListMember;
 
 /// Why the names of fields are not those of components as they have to be. Fields and components are counted from 0.
 #[derive(Clone, Copy, Debug, PartialEq, Eq)]
@@ -36,7 +36,7 @@ pub enum NamesFault {
 pub fn arranged(
     alloc: Global,
     kind: ListKind,
-    components: &[Component],
+    components: &[ListMember],
     fields: &[Named<ValueSyntax>],
 ) -> Result<Vec<Option<usize>>, NamesFault>
     requires list { kind ≡ choice → ⊥ }

@@ -10,7 +10,7 @@ ghost use Rattle.values.specs.proving.Arranging.{IsUnknownAt, IsRepeatedAt};
 
 use std::alloc::{AllocError, Global};
 use trees::{Named, ValueSyntax};
-use type_table::Component;
+use type_table::ListMember;
 
 /// The place of the first field of a name.
 pub(crate) fn field_of(fields: &[Named<ValueSyntax>], name: &str) -> Option<usize>
@@ -25,7 +25,7 @@ pub(crate) fn field_of(fields: &[Named<ValueSyntax>], name: &str) -> Option<usiz
 }
 
 /// The place of the first component of a name.
-pub(crate) fn component_of(components: &[Component], name: &str) -> Option<usize>
+pub(crate) fn component_of(components: &[ListMember], name: &str) -> Option<usize>
     ensures { result ≡ place_of name.now (part_names (map part_of components.now)) }
 {
     for i in 0..components.len() {
@@ -37,7 +37,7 @@ pub(crate) fn component_of(components: &[Component], name: &str) -> Option<usize
 }
 
 /// The place of a field whose name no component has.
-pub(crate) fn unknown(components: &[Component], fields: &[Named<ValueSyntax>]) -> Option<usize>
+pub(crate) fn unknown(components: &[ListMember], fields: &[Named<ValueSyntax>]) -> Option<usize>
     ensures { IsUnknownAt (part_names (map part_of components.now)) (field_names (map member_of fields.now)) result }
 {
     for i in 0..fields.len() {
@@ -69,7 +69,7 @@ pub(crate) fn repeated(fields: &[Named<ValueSyntax>]) -> Option<usize>
 /// For each component the place of its field, if it has one.
 pub(crate) fn places(
     alloc: Global,
-    components: &[Component],
+    components: &[ListMember],
     fields: &[Named<ValueSyntax>],
 ) -> Result<Vec<Option<usize>>, AllocError>
     ensures { IfOk result (λ v. v.items
@@ -84,7 +84,7 @@ pub(crate) fn places(
 
 /// The place of the alternative of a name, counted over root and additions (X.680, clause 29.11), if there is one. The cost
 /// is that of comparing the name with each alternative's.
-pub fn alternative(alternatives: &[Component], name: &str) -> Option<usize>
+pub fn alternative(alternatives: &[ListMember], name: &str) -> Option<usize>
     ensures { MatchOption result
         (StandsIn (part_names (map part_of alternatives.now)) name.now → ⊥)
         (λ i. slice_get (part_names (map part_of alternatives.now)) i ≡ Some name.now) }

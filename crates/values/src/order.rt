@@ -10,10 +10,10 @@ ghost use Rattle.values.specs.proving.Arranging.{HasOther, IsDue, IsJumbledAt, I
 
 use crate::lookup::component_of;
 use trees::{Named, PresenceSyntax, Standing, ValueSyntax};
-use type_table::Component;
+use type_table::ListMember;
 
 /// Whether a component may be absent.
-pub(crate) fn may_be_absent(component: &Component) -> bool
+pub(crate) fn may_be_absent(component: &ListMember) -> bool
     ensures { result ≡ may_be_absent' (part_of component.now) }
 {
     match component.standing {
@@ -31,7 +31,7 @@ pub(crate) fn may_be_absent(component: &Component) -> bool
 }
 
 /// Whether a component that has to be there has no field.
-fn is_missing(component: &Component, place: Option<usize>) -> bool
+fn is_missing(component: &ListMember, place: Option<usize>) -> bool
     ensures { IsTrue result ↔ (place ≡ None) × (may_be_absent' (part_of component.now) ≡ false) }
 {
     match place {
@@ -41,7 +41,7 @@ fn is_missing(component: &Component, place: Option<usize>) -> bool
 }
 
 /// The place of a component that has no field, though it has to be there.
-pub(crate) fn missing(components: &[Component], places: &[Option<usize>]) -> Option<usize>
+pub(crate) fn missing(components: &[ListMember], places: &[Option<usize>]) -> Option<usize>
     requires { length places.now ≡ length components.now }
     ensures { IsMissingAt (map part_of components.now) places.now result }
 {
@@ -54,7 +54,7 @@ pub(crate) fn missing(components: &[Component], places: &[Option<usize>]) -> Opt
 }
 
 /// The group of an addition, if it stands in one.
-fn group_of(component: &Component) -> Option<usize>
+fn group_of(component: &ListMember) -> Option<usize>
     ensures { result ≡ group_in (part_of component.now).standing }
 {
     match component.standing {
@@ -64,7 +64,7 @@ fn group_of(component: &Component) -> Option<usize>
 }
 
 /// The group of an addition that has to be there wherever another one of the group is.
-fn needed_in(component: &Component) -> Option<usize>
+fn needed_in(component: &ListMember) -> Option<usize>
     ensures { result ≡ needed_in' (part_of component.now).presence (part_of component.now).standing }
 {
     match &component.presence {
@@ -75,7 +75,7 @@ fn needed_in(component: &Component) -> Option<usize>
 }
 
 /// Whether an addition of a group has a field.
-fn is_of_group(group: usize, component: &Component, place: Option<usize>) -> bool
+fn is_of_group(group: usize, component: &ListMember, place: Option<usize>) -> bool
     ensures { IsTrue result
         ↔ ((field : ℕ) × (place ≡ Some field)) × (group_in (part_of component.now).standing ≡ Some group) }
 {
@@ -89,7 +89,7 @@ fn is_of_group(group: usize, component: &Component, place: Option<usize>) -> boo
 }
 
 /// Whether one of the additions of a group has a field.
-fn has_other(group: usize, components: &[Component], places: &[Option<usize>]) -> bool
+fn has_other(group: usize, components: &[ListMember], places: &[Option<usize>]) -> bool
     requires { length places.now ≡ length components.now }
     ensures { IsTrue result ↔ HasOther group (map part_of components.now) places.now }
 {
@@ -102,7 +102,7 @@ fn has_other(group: usize, components: &[Component], places: &[Option<usize>]) -
 }
 
 /// Whether a component has to be there, since another one of its group is.
-fn is_due(component: &Component, components: &[Component], places: &[Option<usize>]) -> bool
+fn is_due(component: &ListMember, components: &[ListMember], places: &[Option<usize>]) -> bool
     requires { length places.now ≡ length components.now }
     ensures { IsTrue result ↔ IsDue (part_of component.now) (map part_of components.now) places.now }
 {
@@ -114,9 +114,9 @@ fn is_due(component: &Component, components: &[Component], places: &[Option<usiz
 
 /// Whether a component that has no field has to be there, since another one of its group is.
 fn is_lacking(
-    component: &Component,
+    component: &ListMember,
     place: Option<usize>,
-    components: &[Component],
+    components: &[ListMember],
     places: &[Option<usize>],
 ) -> bool
     requires { length places.now ≡ length components.now }
@@ -130,7 +130,7 @@ fn is_lacking(
 }
 
 /// The place of an addition that has no field, though another one of its group has.
-pub(crate) fn missing_in_group(components: &[Component], places: &[Option<usize>]) -> Option<usize>
+pub(crate) fn missing_in_group(components: &[ListMember], places: &[Option<usize>]) -> Option<usize>
     requires { length places.now ≡ length components.now }
     ensures { IsMissingInGroupAt (map part_of components.now) places.now result }
 {
@@ -143,7 +143,7 @@ pub(crate) fn missing_in_group(components: &[Component], places: &[Option<usize>
 }
 
 /// The place of a field which stands directly behind that of a later component.
-pub(crate) fn jumbled(components: &[Component], fields: &[Named<ValueSyntax>]) -> Option<usize>
+pub(crate) fn jumbled(components: &[ListMember], fields: &[Named<ValueSyntax>]) -> Option<usize>
     requires known { AreIn (field_names (map member_of fields.now)) (part_names (map part_of components.now)) }
     requires distinct { AreDistinct (field_names (map member_of fields.now)) }
     ensures { IsJumbledAt (part_names (map part_of components.now)) (field_names (map member_of fields.now)) result }

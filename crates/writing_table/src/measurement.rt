@@ -10,6 +10,7 @@ ghost use Rattle.std.specs.Prelude.{◌≡◌, ◌<◌, ◌≤◌, Err, IfErr, I
 ghost use Rattle.der_parts.specs.Parts.{Spell};
 ghost use Rattle.writing_table.specs.declared.fault.MeasureFault.TheVariants.{NotOfType, TooLong};
 
+use limits::MAX_MESSAGE;
 use crate::fault::MeasureFault;
 use crate::table::Table;
 use account_rows::law::told_rows;
@@ -23,9 +24,6 @@ use encodings::account_laws;
 use octet_account::law::accounts_within_bounds;
 use octet_account::row::Row;
 use std::alloc::Global;
-
-/// The most octets of an encoding.
-const MOST_OCTETS: usize = 16_777_216;
 
 /// No more rows than these are guessed.
 const MOST_GUESSED: usize = 1 << 20;
@@ -134,7 +132,7 @@ fn table_of<'a>(
     let mut table = Table::new(alloc, guessed_rows(value));
     match run(alloc, code, id, value, &mut table) {
         Ok(()) => {
-            if table.count > MOST_OCTETS {
+            if table.count > MAX_MESSAGE {
                 Err(MeasureFault::TooLong)
             } else {
                 Ok(Measured {

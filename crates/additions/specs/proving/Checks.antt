@@ -2,7 +2,7 @@
 use Rattle.std.specs.Prelude.{◌≡◌, ◌<◌, ◌-◌, ℕ, Bool, ℤ, List, Option, Some, None, option_map, slice_get}
 use Rattle.trees.specs.declared.module.TagDefault.{TagDefault}
 use Rattle.trees.specs.declared.types.ListKind.{ListKind}
-use Rattle.type_table.specs.declared.table.Component.{Component}
+use Rattle.type_table.specs.declared.table.ListMember.{ListMember}
 use Rattle.type_table.specs.declared.table.Shape.{Shape}
 use Rattle.type_table.specs.declared.table.Shape.TheVariants as shapes
 use Rattle.trees.specs.declared.types.Simple.TheVariants as simples
@@ -83,8 +83,8 @@ IsItemAt None n at = ⊥
 IsItemAt (Some is) n at = (i : EnumeratedItem) × (slice_get is n ≡ Some i) × (i.name.at ≡ at)
 
 -- the name of member n is written at this place
-abbrev pub IsMemberAt : List Component → ℕ → ℕ → Type 0
-IsMemberAt cs n at = (c : Component) × (slice_get cs n ≡ Some c) × (c.name.at ≡ at)
+abbrev pub IsMemberAt : List ListMember → ℕ → ℕ → Type 0
+IsMemberAt cs n at = (c : ListMember) × (slice_get cs n ≡ Some c) × (c.name.at ≡ at)
 
 -- the name of member n, or of item n behind the marker, is written at this place of the text
 abbrev pub IsNamedAt : Shape → ℕ → ℕ → Type 0

@@ -6,8 +6,8 @@ use Rattle.trees.specs.Values.{Name, Tree}
 use Rattle.trees.specs.Types.{PresenceTree, mandatory, optional, default}
 use Rattle.type_table.specs.Table.{Kind, Part, Type', IsCore}
 use Rattle.resolve.specs.Program.{Program, IsAssignment}
-use Rattle.tagging.specs.declared.path.Form.{Form}
-use Rattle.tagging.specs.declared.path.Form.TheVariants.{Implicit, Explicit}
+use Rattle.tagging.specs.declared.path.TagForm.{TagForm}
+use Rattle.tagging.specs.declared.path.TagForm.TheVariants.{Implicit, Explicit}
 use Rattle.tagging.specs.Tags.{Label, Path}
 use Rattle.values.specs.Allowing.{Allows, AllowsCode}
 use Rattle.schema_of.specs.SchemaOf.{IsKindOf}
@@ -16,7 +16,7 @@ use Rattle.settled.specs.Settled.{IsConstrained, ItemsAscend, standing, without_
 
 -- ---- tags
 
-abbrev pub is_implicit : Form → Bool
+abbrev pub is_implicit : TagForm → Bool
 is_implicit Implicit = true
 is_implicit Explicit = false
 

@@ -4,7 +4,7 @@ use Rattle.trees.specs.Values.{Name}
 use Rattle.names.specs.declared.gather.Gathered.{Gathered}
 use Rattle.names.specs.declared.scope.Assigned.{Assigned}
 use Rattle.names.specs.declared.scope.Assigned.TheVariants as assigned
-use Rattle.names.specs.declared.sources.Assignment.{Assignment}
+use Rattle.names.specs.declared.sources.AssignedAt.{AssignedAt}
 use Rattle.names.specs.declared.sources.ValueAt.{ValueAt}
 use Rattle.names.specs.Names.{Meaning, IsApart}
 use Rattle.names.specs.Scopes.{scopes}
@@ -21,7 +21,7 @@ pub record IsReady (g : Gathered) : Type 0 where
   pub pairs : length g.tables.roots.items ≡ length g.tables.assignments.items
   pub assigned : AllAssigned (length g.tables.assignments.items) (sources_of g.tables.roots.items)
   pub unplaced : HaveNoPlace (sources_of g.tables.roots.items)
-  pub placed : (k : ℕ) (a : Assignment) →
+  pub placed : (k : ℕ) (a : AssignedAt) →
       slice_get g.tables.assignments.items k ≡ Some a →
       a.module < length g.headers.items
   pub named : (M x : Name) (a : Assigned) →

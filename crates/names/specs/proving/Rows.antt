@@ -1,12 +1,12 @@
 -- Headers and assignments as they lie in memory, and as definitions see them.
 use Rattle.std.proofs.Common.{◌≡◌, ℕ, ◌<◌, List, length, Some, map, get_or}
 use Rattle.std.specs.Prelude.{slice_get}
-use Rattle.names.specs.declared.sources.Assignment.{Assignment}
+use Rattle.names.specs.declared.sources.AssignedAt.{AssignedAt}
 use Rattle.names.specs.declared.sources.Header.{Header}
 use Rattle.names.specs.proving.Distinct.{item_at}
 use Rattle.names.specs.Sources.{assignment_of, header_of}
 
-pub assignment_at : (gs : List Assignment) (i : ℕ) (g : Assignment) → i < length gs → g ≡ get_or gs i g →
+pub assignment_at : (gs : List AssignedAt) (i : ℕ) (g : AssignedAt) → i < length gs → g ≡ get_or gs i g →
     slice_get (map assignment_of gs) i ≡ Some (assignment_of g)
 assignment_at gs i g l e = item_at assignment_of gs i g l e
 

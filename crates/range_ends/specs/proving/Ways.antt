@@ -5,7 +5,7 @@ use Rattle.resolve.specs.Program.{Program}
 use Rattle.range_ends.specs.declared.ends.EndFault.{EndFault}
 use Rattle.range_ends.specs.declared.ends.EndFault.TheVariants as ends
 use Rattle.range_ends.specs.proving.Steps.{next, told_at, listed}
-use Rattle.type_table.specs.Walks.{EndsAt, Reaches, ComesBack}
+use Rattle.type_table.specs.Walks.{EndsAt, ArrivesAt, ComesBack}
 
 -- number z is told there
 pub record Ends (p : Program) (k : Kind) (os : List (Option ℕ)) (i : ℕ) (z : ℤ) : Type 0 where
@@ -22,7 +22,7 @@ pub record EndsWithout (p : Program) (k : Kind) (os : List (Option ℕ)) (i : �
 
 -- they come to value v, which comes back to itself
 pub record Turns (p : Program) (k : Kind) (os : List (Option ℕ)) (i v : ℕ) : Type 0 where
-  pub reaches : Reaches (next p k os) i v
+  pub reaches : ArrivesAt (next p k os) i v
   pub back : ComesBack (next p k os) v
 
 abbrev pub IsWayFault : Program → Kind → List (Option ℕ) → ℕ → EndFault → Type 0

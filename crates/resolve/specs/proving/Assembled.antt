@@ -6,7 +6,7 @@ use Rattle.trees.specs.declared.module.TagDefault.{TagDefault}
 use Rattle.names.specs.declared.fault.NameFault.{NameFault}
 use Rattle.names.specs.declared.fault.NameFault.TheVariants as faults
 use Rattle.names.specs.declared.gather.Gathered.{Gathered}
-use Rattle.names.specs.declared.sources.Assignment.{Assignment}
+use Rattle.names.specs.declared.sources.AssignedAt.{AssignedAt}
 use Rattle.names.specs.declared.sources.Header.{Header}
 use Rattle.names.specs.declared.sources.ValueAt.{ValueAt}
 use Rattle.names.specs.Faults.{module_told, name_told}
@@ -56,8 +56,8 @@ IsTablesFault g e =
     (map assignment_of g.tables.assignments.items) (sources_of g.tables.roots.items) e
 
 -- the module of each assignment is there
-abbrev pub ArePlaced : List Assignment → List Header → Type 0
-ArePlaced gs hs = (k : ℕ) (a : Assignment) → slice_get gs k ≡ Some a → a.module < length hs
+abbrev pub ArePlaced : List AssignedAt → List Header → Type 0
+ArePlaced gs hs = (k : ℕ) (a : AssignedAt) → slice_get gs k ≡ Some a → a.module < length hs
 
 -- memory ran out, or the fault tells that the type comes back to itself, with its module and its assignment
 abbrev pub TellsType : List (Name × TagDefault) → List (ℕ × Name) → Type' → NameFault → Type 0
@@ -71,7 +71,7 @@ TellsType hs gs t e = ⊥
 
 -- what Linked keeps: a whole program, and the cores of its types
 abbrev pub IsKept :
-    List (Name × Module) → List Header → List Assignment → List Written → List ValueAt → Vec ℕ Global → Type 0
+    List (Name × Module) → List Header → List AssignedAt → List Written → List ValueAt → Vec ℕ Global → Type 0
 IsKept ms hs gs ts vs cores = IsWhole (program_seen ms hs gs ts vs) × AreCores (types_of ts) cores.items
 
 -- why it can't be put together

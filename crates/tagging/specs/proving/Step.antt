@@ -8,8 +8,8 @@ use Rattle.trees.specs.declared.module.TagDefault.TheVariants.{Explicit as Expli
 use Rattle.type_table.specs.Table.{Type'}
 use Rattle.tagging.specs.declared.path.Step.{Step}
 use Rattle.tagging.specs.declared.path.Step.TheVariants.{Ends, Inside}
-use Rattle.tagging.specs.declared.path.Form.{Form}
-use Rattle.tagging.specs.declared.path.Form.TheVariants.{Implicit, Explicit}
+use Rattle.tagging.specs.declared.path.TagForm.{TagForm}
+use Rattle.tagging.specs.declared.path.TagForm.TheVariants.{Implicit, Explicit}
 use Rattle.tagging.specs.Tags.{Label, label, Path, form_of, outermost, Written, TagCount}
 
 -- the tags of a type that ends the way, by its universal tag
@@ -35,7 +35,7 @@ pub record Outermost (ts : List Type') (i : ℕ) (o : Option Label) : Type 0 whe
   pub is : o ≡ outermost path
 
 -- the form of a tag, by whether an untagged CHOICE is behind it
-abbrev pub form_before : Keyword → TagDefault → Bool → Form
+abbrev pub form_before : Keyword → TagDefault → Bool → TagForm
 form_before ExplicitWord d b = Explicit
 form_before ImplicitWord d b = Implicit
 form_before Absent ExplicitTags b = Explicit

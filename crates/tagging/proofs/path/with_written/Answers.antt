@@ -1,6 +1,6 @@
 use Rattle.std.proofs.Common.{◌∷◌, [], ◌++◌, Some, refl, sym, ◌∙◌, arith, subst, append-nil}
 use Rattle.std.proofs.lemmas.List.{length-append}
-use Rattle.tagging.specs.declared.path.Form.TheVariants.{Explicit}
+use Rattle.tagging.specs.declared.path.TagForm.TheVariants.{Explicit}
 use Rattle.tagging.specs.Tags.{Path, label, path_of, Written}
 use Rattle.tagging.specs.proving.Step.{ending}
 use Rattle.tagging.proofs.Paths.{path_long, pushed_last, pushed, written_exists, added_long}

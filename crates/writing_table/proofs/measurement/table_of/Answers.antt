@@ -16,7 +16,7 @@ returns-in-Ok-clause-der c =
     let empty : Empty a = record { parts = n.parts; count = n.count; rows = ap flat n.rows; members = n.members } in
     let w = whole c.told_rows.ensures.stand s t v ran.events a (state_of c.run.new.backend)
     (c.routine_laws.ensures.tells s t v ran.events c.accepted.ensures c.requires.shaped ran.steps)
-    ran.added empty c.if-table-gt-MOST_OCTETS.false in
+    ran.added empty c.if-table-gt-MAX_MESSAGE.false in
     (w.octets, w.spelled, w.counted_all, w.der)
 
 pub returns-in-Ok-clause-account : goal.returns-in-Ok-clause-account
@@ -31,11 +31,11 @@ returns-in-Ok-clause-account c =
     let w = whole_rows s t v ran.events a (state_of c.run.new.backend)
     (λ o b l h. c.accounts_within_bounds.ensures s t v o b c.accepted.ensures c.requires.shaped l h)
     (c.told_rows.ensures.rows s t v ran.events c.accepted.ensures c.requires.shaped ran.steps)
-    ran.added empty c.if-table-gt-MOST_OCTETS.false in
+    ran.added empty c.if-table-gt-MAX_MESSAGE.false in
     (w.account, w.octets, w.spelled, w.tells, w.are)
 
-pub returns-then-table-gt-MOST_OCTETS-clause-longer : goal.returns-then-table-gt-MOST_OCTETS-clause-longer
-returns-then-table-gt-MOST_OCTETS-clause-longer c = λ e.
+pub returns-then-table-gt-MAX_MESSAGE-clause-longer : goal.returns-then-table-gt-MAX_MESSAGE-clause-longer
+returns-then-table-gt-MAX_MESSAGE-clause-longer c = λ e.
     let s = c.args.code.now in
     let t = c.args.id.index in
     let v = abstract c.args.value.now in
@@ -46,4 +46,4 @@ returns-then-table-gt-MOST_OCTETS-clause-longer c = λ e.
     longer s t v ran.events a (state_of c.run.new.backend)
     (λ o d. c.account_laws.ensures.exists s t v o c.accepted.ensures d)
     (c.told_rows.ensures.rows s t v ran.events c.accepted.ensures c.requires.shaped ran.steps)
-    ran.added empty c.if-table-gt-MOST_OCTETS.true
+    ran.added empty c.if-table-gt-MAX_MESSAGE.true

@@ -13,13 +13,13 @@ use std::marker::Model;
 /// A linked program, and of each value the one that it refers to, and where its references end. Both are found once, in time
 /// as n log n for n values.
 #[derive(Drop)]
-pub struct Scope<'a> {
+pub struct ReferenceTable<'a> {
     linked: &'a Linked,
     behind: Vec<Option<usize>>,
     far: Vec<usize>,
 }
 
-impl<'a> Model for Scope<'a> {
+impl<'a> Model for ReferenceTable<'a> {
     ghost use Rattle.std.specs.Coded.{codes};
     ghost use Rattle.resolve.specs.Codes.{tree_code};
     ghost use Rattle.resolve.specs.Program.{Program};
@@ -49,15 +49,15 @@ fn referred_by_all(alloc: Global, linked: &Linked) -> Result<Vec<Option<usize>>,
     Ok(behind)
 }
 
-impl<'a> Scope<'a> {
+impl<'a> ReferenceTable<'a> {
     /// The scope of a program.
-    pub fn of(alloc: Global, linked: &'a Linked) -> Result<Scope<'a>, AllocError>
+    pub fn of(alloc: Global, linked: &'a Linked) -> Result<ReferenceTable<'a>, AllocError>
         ensures { IfOk result (λ s. s ≡ linked.now) }
     {
         linked.whole();
         let behind = referred_by_all(alloc, linked)?;
         let far = farthest(alloc, &behind)?;
-        Ok(Scope {
+        Ok(ReferenceTable {
             linked,
             behind,
             far,
