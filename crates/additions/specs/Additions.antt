@@ -77,8 +77,8 @@ pub record Keeps (ts : List Type') (k : ListKind) (marker : Bool) (cs : List Par
 abbrev pub IsAboveEarlier : List ℤ → ℕ → Type 0
 IsAboveEarlier zs n = (m : ℕ) (y z : ℤ) → m < n → slice_get zs m ≡ Some y → slice_get zs n ≡ Some z → y <ℤ z
 
--- Place n of type i keeps what is asked: where the type is a list, its member n does, and where it is an enumeration, the
--- number of item n behind the marker.
+-- Place n of type i keeps what is asked: where the type is a list, its member n does, and where it is an enumeration,
+-- the number of item n behind the marker.
 pub record KeepsAt (ts : List Type') (i n : ℕ) : Type 0 where
   pub member : (k : ListKind) (marker : Bool) (cs : List Part) (d : TagDefault) (p : Option (ℕ × ℕ)) (c : Part) →
       Is ts i (members k marker cs) d p →

@@ -17,16 +17,17 @@ pub enum ExtFault {
     /// There was not enough memory.
     #[error("1 Memory")]
     Memory,
-    /// The member at the place stands where the extension marker of its list doesn't let it: it is an addition in a list
-    /// without a marker, a member of the root behind an addition, or a member of version brackets that were left before
-    /// it (X.680, clauses 25.1 and 29.1). No text gives such a list.
+    /// The member at the place stands where the extension marker of its list doesn't let it: it is an addition in a
+    /// list without a marker, a member of the root behind an addition, or a member of version brackets that were left
+    /// before it (X.680, clauses 25.1 and 29.1). No text gives such a list.
     #[error("55 MarkerPlace: {0}")]
     MarkerPlace(Spot),
     /// The addition at the place doesn't ascend: to an enumeration in its number (X.680, clause 20), to a CHOICE in the
     /// canonical order of tags (X.680, clauses 8.6 and 29).
     #[error("56 AdditionOrder: {0}")]
     AdditionOrder(Spot),
-    /// The addition at the place, in version brackets or not, has a DEFAULT. X.680 allows it; this compiler leaves it out.
+    /// The addition at the place, in version brackets or not, has a DEFAULT. X.680 allows it; this compiler leaves it
+    /// out.
     #[error("57 DefaultAddition: {0}")]
     DefaultAddition(Spot),
 }

@@ -37,9 +37,10 @@ fn told(alloc: Global, linked: &Linked, rule: Rule, ty: usize, at: usize) -> Ext
     }
 }
 
-/// Whether bounded modules keep what extension markers ask (X.680, clauses 20, 25, 27 and 29), or the first fault that stands in
-/// them, by the numbers of types and in each from the front, with its module, the name of the assignment and the place:
-/// `MarkerPlace`, `AdditionOrder` or `DefaultAddition`, or `Memory`. The modules' lists are sound, as linking leaves them.
+/// Whether bounded modules keep what extension markers ask (X.680, clauses 20, 25, 27 and 29), or the first fault that
+/// stands in them, by the numbers of types and in each from the front, with its module, the name of the assignment and
+/// the place: `MarkerPlace`, `AdditionOrder` or `DefaultAddition`, or `Memory`. The modules' lists are sound, as
+/// linking leaves them.
 pub fn additions(alloc: Global, bounded: &Bounded<'_>) -> Result<(), ExtFault>
     requires sound { AreSound bounded.now.types }
     ensures { MatchResult result (λ _. KeepAdditions bounded.now.types) (Stands bounded.now) }

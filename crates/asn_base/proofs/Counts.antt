@@ -1,5 +1,5 @@
--- How often values of a type stand in two rows, up to being alike: as often in both just where the rows are alike in any
--- order.
+-- How often values of a type stand in two rows, up to being alike: as often in both just where the rows are alike in
+-- any order.
 use Rattle.std.proofs.Common.{arith, ◌≡◌, ℕ, suc, inl, inr, List, [], ◌∷◌, refl, sym, ap, subst, ◌∙◌}
 use Rattle.asn_base.specs.Abstract.{AbstractValue, Row, present, row_of_list}
 use Rattle.asn_base.specs.Decided.{Count, no_more, counted, passed, IsAsOften, AreAsOften}

@@ -1,4 +1,5 @@
--- The levels of defaults, kept beside a schema: a table with a row for each type, and in it a number for each component.
+-- The levels of defaults, kept beside a schema: a table with a row for each type, and in it a number for each
+-- component.
 use Rattle.std.specs.Prelude.{◌≡◌, ◌≤◌, ◌↔◌, ℕ, List, [], ◌∷◌, map, zero, suc, Option, Some, IfSome, slice_get, Vec}
 use Rattle.std.specs.declared.alloc.Global.{Global}
 use Rattle.asn_base.specs.Abstract.{AbstractValue}

@@ -17,8 +17,8 @@ impl BitString {
 }
 
 impl Value {
-    /// An equal value in memory of its own, or `AllocError` for want of memory alone. It calls itself once for each level
-    /// of the value, as letting a value go does: a value of a schema has at most 64 levels.
+    /// An equal value in memory of its own, or `AllocError` for want of memory alone. It calls itself once for each
+    /// level of the value, as letting a value go does: a value of a schema has at most 64 levels.
     pub fn copy(&self, alloc: Global) -> Result<Value, AllocError>
         ensures { IfOk result (λ v. abstract v ≡ abstract self.now) }
     {

@@ -8,7 +8,6 @@ ghost use Rattle.asn_base.specs.Typed.{AreComponents, AreElements, GroupsAreWhol
 ghost use Rattle.asn_base.specs.Types.{Alternative};
 ghost use Rattle.std.specs.Prelude.{◌≡◌, ◌↔◌, ◌++◌, ◌-◌, IfSome, IsTrue, MatchOption, None, Some, length, map, option_map, slice_get};
 
-use limits::{MAX_LEVELS, MAX_NODES};
 use crate::constraint::Constraint;
 use crate::depths::depth_of;
 use crate::groups::are_whole;
@@ -17,6 +16,7 @@ use crate::leaf::{fits, is_allowed_size};
 use crate::nodes::nodes_left;
 use crate::schema::{Alternatives, Component, Core, Presence, Schema, TypeId};
 use crate::value::Value;
+use limits::{MAX_LEVELS, MAX_NODES};
 
 /// Whether it is a value of the type: shape, constraints, items, named bits, alphabets, groups of additions, at most 64
 /// levels and at most 2^24 nodes. It is none where the schema lacks the type. It takes no memory.
@@ -26,8 +26,8 @@ pub fn is_value(value: &Value, schema: &Schema, id: TypeId) -> bool
     is_value_without_nodes(value, schema, id) && nodes_left(value, MAX_NODES).is_some()
 }
 
-/// Whether it is a value of the type, the limit on nodes apart. A value of any depth may be asked of: what lies below 64
-/// levels isn't looked at.
+/// Whether it is a value of the type, the limit on nodes apart. A value of any depth may be asked of: what lies below
+/// 64 levels isn't looked at.
 pub fn is_value_without_nodes(value: &Value, schema: &Schema, id: TypeId) -> bool
     ensures { IsTrue result ↔ IsValueWithoutNodes schema.now id.index (abstract value.now) }
 {
@@ -187,7 +187,8 @@ fn is_component(
 ) -> bool
     requires known { AreKnown schema.now levels depths.now }
     requires depth { IfSome depth (IsDepth schema.now levels (component_of component.now)) }
-    ensures { IsTrue result ↔ IsComponent schema.now levels (component_of component.now) (option_map abstract value.now) }
+    ensures { IsTrue result
+        ↔ IsComponent schema.now levels (component_of component.now) (option_map abstract value.now) }
 {
     match value {
         Some(value) => is_within(value, schema, depths, levels, component.ty),

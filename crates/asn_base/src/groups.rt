@@ -87,8 +87,8 @@ fn is_kept(
     }
 }
 
-/// Whether groups are whole: where a component of one is present, all of it that are not OPTIONAL are. Each component of
-/// a group that is present costs one look at all components.
+/// Whether groups are whole: where a component of one is present, all of it that are not OPTIONAL are. Each component
+/// of a group that is present costs one look at all components.
 pub(crate) fn are_whole(components: &[Component], values: &[Option<Value>]) -> bool
     requires { length components.now ≡ length values.now }
     ensures { IsTrue result

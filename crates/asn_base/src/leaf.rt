@@ -8,12 +8,12 @@ ghost use Rattle.std.specs.Int.Digits.{AllBelowBase};
 ghost use Rattle.std.specs.List.{AllByRecursion};
 ghost use Rattle.std.specs.Prelude.{◌≡◌, ◌≤◌, ◌<◌, ◌↔◌, ◌++◌, IsTrue, IsUtf8, chars, ◌^◌, length, map};
 
-use limits::MAX_ARCS;
 use crate::bits::bit_count;
 use crate::constraint::{Constraint, Range};
 use crate::law::{abstract_values, integer_within_limit};
 use crate::schema::{Core, Item, Items};
 use crate::value::Value;
+use limits::MAX_ARCS;
 
 /// Whether the range has the number.
 fn is_in_range(range: &Range, number: i128) -> bool
@@ -106,21 +106,24 @@ fn has_item(items: &[Item], number: i128) -> bool
 
 /// Whether an item of the root or behind the marker has the number.
 fn has_number(items: &Items, number: i128) -> bool
-    ensures { IsTrue result ↔ HasNumber (map item_of items.now.root.items ++ map item_of items.now.additions.items) number }
+    ensures { IsTrue result
+        ↔ HasNumber (map item_of items.now.root.items ++ map item_of items.now.additions.items) number }
 {
     has_item(items.root.as_slice(), number) || has_item(items.additions.as_slice(), number)
 }
 
 /// Whether an item of the root or behind the marker has the number, where both ascend. Of others it may answer false.
 fn finds_number(items: &Items, number: i128) -> bool
-    ensures { IsTrue result → HasNumber (map item_of items.now.root.items ++ map item_of items.now.additions.items) number }
+    ensures { IsTrue result
+        → HasNumber (map item_of items.now.root.items ++ map item_of items.now.additions.items) number }
 {
     finds_item(items.root.as_slice(), number) || finds_item(items.additions.as_slice(), number)
 }
 
 /// Whether an item has the number, which is looked for in each only where none has it: items ascend.
 fn is_item(items: &Items, number: i128) -> bool
-    ensures { IsTrue result ↔ HasNumber (map item_of items.now.root.items ++ map item_of items.now.additions.items) number }
+    ensures { IsTrue result
+        ↔ HasNumber (map item_of items.now.root.items ++ map item_of items.now.additions.items) number }
 {
     finds_number(items, number) || has_number(items, number)
 }

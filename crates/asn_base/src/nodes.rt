@@ -7,7 +7,8 @@ ghost use Rattle.std.specs.Prelude.{◌≡◌, ◌+◌, ◌<◌, MatchOption, ma
 use crate::law::abstract_values;
 use crate::value::Value;
 
-/// How many of so many nodes the value leaves, None where it has more. It calls itself once for each level of the value.
+/// How many of so many nodes the value leaves, None where it has more. It calls itself once for each level of the
+/// value.
 #[cycle(nodes)]
 pub(crate) fn nodes_left(value: &Value, left: u32) -> Option<u32>
     ensures { MatchOption result (left < nodes (abstract value.now)) (λ r. r + nodes (abstract value.now) ≡ left) }

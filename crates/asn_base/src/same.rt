@@ -7,12 +7,12 @@ ghost use Rattle.asn_base.specs.Seen.{alternative_of, component_of, kind_of};
 ghost use Rattle.asn_base.specs.Typed.{AreComponents, AreElements, IsValueWithoutNodes, ValueIn, ValueOf};
 ghost use Rattle.std.specs.Prelude.{◌≡◌, ◌↔◌, ◌++◌, ℕ, IsTrue, None, length, map, option_map};
 
-use limits::MAX_LEVELS;
 use crate::decide::{chosen_type, is_value_without_nodes};
 use crate::flat::are_alike_leaves;
 use crate::law::abstract_values;
 use crate::schema::{Alternatives, Component, Core, Presence, Schema, TypeId};
 use crate::value::Value;
+use limits::MAX_LEVELS;
 
 /// Whether both are values of the type, the limit on nodes apart, and the same: equal up to the order in a SET OF,
 /// trailing zeros under named bits, and an absent component taken as its DEFAULT, at every level. It takes no memory.

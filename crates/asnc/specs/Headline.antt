@@ -1,5 +1,5 @@
--- The headline, from the octets of texts to the octets of an encoding, and from octets to a printed value, in the words of
--- the standards alone: no routine, table or kit occurs.
+-- The headline, from the octets of texts to the octets of an encoding, and from octets to a printed value, in the words
+-- of the standards alone: no routine, table or kit occurs.
 use Rattle.std.specs.Prelude.{◌≡◌, ℕ, ◌≤◌, List, length}
 use Rattle.asn_base.specs.Abstract.{AbstractValue}
 use Rattle.asn_base.specs.Same.{Same}
@@ -15,7 +15,8 @@ use Rattle.front_end.specs.Accepted.{Accepted}
 use Rattle.front_end.specs.Untyped.{StandsFor}
 use Rattle.asnc.specs.Named.{AreNamed, TypeNamed}
 
--- For these texts of modules, the name of a type and the name of a value, the octets and the account are as they have to be.
+-- For these texts of modules, the name of a type and the name of a value, the octets and the account are as they have
+-- to be.
 pub record IsRight (texts : List (List ℕ)) (first second o : List ℕ) (a : Account) : Type 0 where
   -- the texts are accepted, as this program with these types
   pub program : Program
@@ -55,8 +56,8 @@ pub record IsRightlyRead (texts : List (List ℕ)) (name o printed : List ℕ) (
   -- and whichever value they are an encoding of, it is the same, with as many additions
   pub same : (v : AbstractValue) (j : ℕ) → Ber types type v j o → Same types type v value × (j ≡ k)
 
--- The octets are an encoding of v, a value of the type of this name, by the basic rules, in whichever definite lengths, and
--- within the limits of messages.
+-- The octets are an encoding of v, a value of the type of this name, by the basic rules, in whichever definite lengths,
+-- and within the limits of messages.
 pub record IsMessageOf (p : Program) (s : List Resolved) (name o : List ℕ) (v : AbstractValue) : Type 0 where
   pub type : ℕ
   pub named : TypeNamed p name type

@@ -19,8 +19,9 @@ pub record Names (p : Program) (name : List ℕ) (t : ℕ) : Type 0 where
   pub is : TypeNamed p name t
   pub only : (u : ℕ) → TypeNamed p name u → u ≡ t
 
--- The octets, at most as many as a message has and with at most 400 levels of headers, encode a value of type t as it stands
--- there, with k additions that the type lacks, and neither another value nor another number of them. The value is printed so.
+-- The octets, at most as many as a message has and with at most 400 levels of headers, encode a value of type t as it
+-- stands there, with k additions that the type lacks, and neither another value nor another number of them. The value
+-- is printed so.
 pub record IsRead (s : List Resolved) (t : ℕ) (o printed : List ℕ) (k : ℕ) : Type 0 where
   pub value : AbstractValue
   pub encodes : Encodes s Basic t value k o
@@ -60,8 +61,8 @@ pub record IsUnreadAs (p : Program) (s : List Resolved) (name o : List ℕ) (e :
   pub named : Names p name type
   pub unread : IsUnread s type o e
 
--- Nothing is read, as the refusal tells: the text names no type, and is told; it does, and the octets are refused. Memory speaks
--- of neither.
+-- Nothing is read, as the refusal tells: the text names no type, and is told; it does, and the octets are refused.
+-- Memory speaks of neither.
 abbrev pub IsNotReadAs : Program → List Resolved → List ℕ → List ℕ → Fault → Type 0
 IsNotReadAs p s name o faults.Memory = Unit {0}
 IsNotReadAs p s name o (faults.NoType x) = (string_bytes x ≡ name) × ((t : ℕ) → TypeNamed p name t → ⊥)

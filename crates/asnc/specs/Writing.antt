@@ -60,8 +60,8 @@ pub record StandsForLong (p : Program) (s : List Resolved) (first second : List 
   pub meant : IsMeant p first second type value
   pub longer : (o : List ℕ) → Der s type value 0 o → 16777216 < length o
 
--- The texts mean no value, as the refusal tells: the first one names no type; it does, and the second names no value; the
--- value's notation stands for none of the type. The text that names nothing is told. Memory speaks of none of them.
+-- The texts mean no value, as the refusal tells: the first one names no type; it does, and the second names no value;
+-- the value's notation stands for none of the type. The text that names nothing is told. Memory speaks of none of them.
 abbrev pub IsNotMeant : Program → List ℕ → List ℕ → Fault → Type 0
 IsNotMeant p first second faults.Memory = Unit {0}
 IsNotMeant p first second (faults.NoType x) = (string_bytes x ≡ first) × ((t : ℕ) → TypeNamed p first t → ⊥)

@@ -85,11 +85,12 @@ fn kit_of(alloc: Global, linked: Linked, schema: Schema) -> Result<Kit, Fault>
 }
 
 impl Kit {
-    /// Reads the texts of modules, links them, and compiles their types. No texts at all are accepted too, and name nothing.
+    /// Reads the texts of modules, links them, and compiles their types. No texts at all are accepted too, and name
+    /// nothing.
     ///
-    /// The first fault is answered, in this order: of the octets and then of the tokens of each text in turn; of the names of
-    /// all modules; of tags; of constraints; of what stands behind markers, of DEFAULTs and of value assignments. `Memory`
-    /// where there was not enough of it.
+    /// The first fault is answered, in this order: of the octets and then of the tokens of each text in turn; of the
+    /// names of all modules; of tags; of constraints; of what stands behind markers, of DEFAULTs and of value
+    /// assignments. `Memory` where there was not enough of it.
     pub fn open(alloc: Global, texts: &[Vec<u8>]) -> Result<Kit, Fault>
         // The texts are accepted, as this program with these types.
         ensures opened { IfOk result (λ k. Accepted (map octets_of texts.now) k.program k.types) }
@@ -122,10 +123,12 @@ impl Kit {
     /// `Module.Name`, where they are assigned or where they are imported. The value's notation is read under this type,
     /// whichever it is assigned with.
     ///
-    /// `NoType` where the first name is no type's, else `NoValue` where the second is no value's; `Value` where the value's
-    /// notation stands for no value of the type; `TooLong` where the encoding has more than 16,777,216 octets; `Memory`.
+    /// `NoType` where the first name is no type's, else `NoValue` where the second is no value's; `Value` where the
+    /// value's notation stands for no value of the type; `TooLong` where the encoding has more than 16,777,216 octets;
+    /// `Memory`.
     pub fn der(&self, alloc: Global, ty: &str, value: &str) -> Result<(Vec<u8>, Account), Fault>
-        // The octets are the one encoding of what the value's notation stands for under the type; the account is theirs.
+        // The octets are the one encoding of what the value's notation stands for under the type; the account is
+        // theirs.
         ensures encoded { IfOk result (λ r.
             IsEncoded self.now.program self.now.types ty.now value.now r.0.items r.1) }
         // A refusal stands.
@@ -145,8 +148,8 @@ impl Kit {
 
     /// Writes what [`Kit::der`] answers to a sink, one octet behind the other, and answers the account of it.
     ///
-    /// `NoType`, `NoValue`, `Value`, `TooLong` and `Memory` as there, before the first octet; `Device` where one call of the
-    /// sink failed, which isn't tried again, with how many octets went out before it.
+    /// `NoType`, `NoValue`, `Value`, `TooLong` and `Memory` as there, before the first octet; `Device` where one call
+    /// of the sink failed, which isn't tried again, with how many octets went out before it.
     pub fn der_to<S: Sink>(
         &self,
         alloc: Global,
@@ -184,11 +187,11 @@ impl Kit {
         }
     }
 
-    /// The value of a type that octets encode by the basic rules, printed, and how many additions that the type lacks were
-    /// skipped. The type is named as `Module.Name`, where it is assigned or where it is imported.
+    /// The value of a type that octets encode by the basic rules, printed, and how many additions that the type lacks
+    /// were skipped. The type is named as `Module.Name`, where it is assigned or where it is imported.
     ///
-    /// `NoType` where the name is no type's; `Unread` where the octets encode no value of it, in 400 levels of headers, or are
-    /// more than 16,777,216; `Memory`.
+    /// `NoType` where the name is no type's; `Unread` where the octets encode no value of it, in 400 levels of headers,
+    /// or are more than 16,777,216; `Memory`.
     pub fn ber(&self, alloc: Global, ty: &str, octets: &[u8]) -> Result<(String, u64), Fault>
         // The octets encode one value of the type with one number of additions; it is printed, and they are told.
         ensures read { IfOk result (λ r.
@@ -199,8 +202,8 @@ impl Kit {
         read_as(alloc, &self.modules, &self.schema, &self.code, ty, octets)
     }
 
-    /// All types in the order of their numbers, to be read by people: of each its number, where it is written, its tags, and
-    /// the steps of its routine. Refused for want of memory alone.
+    /// All types in the order of their numbers, to be read by people: of each its number, where it is written, its
+    /// tags, and the steps of its routine. Refused for want of memory alone.
     pub fn list(&self, alloc: Global) -> Result<String, Fault>
         ensures { IfErr result (λ e. e ≡ Memory) }
     {

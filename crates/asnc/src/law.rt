@@ -22,8 +22,8 @@ pub fn headline()
         IsRight xs first second o a }
 {}
 
-/// What [`crate::Kit::ber`] answers of texts that [`crate::Kit::open`] took is right, and each encoding of a value by the basic
-/// rules is answered with that value, memory aside.
+/// What [`crate::Kit::ber`] answers of texts that [`crate::Kit::open`] took is right, and each encoding of a value by
+/// the basic rules is answered with that value, memory aside.
 pub fn reading()
     // What is printed is a value of the type that the octets encode, and the only one.
     ensures right { (xs : List (List ℕ)) (p : Program) (s : List Resolved) (name o printed : List ℕ) (k : ℕ) →

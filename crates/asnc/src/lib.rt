@@ -1,5 +1,5 @@
-//! The compiler behind one door: a command line, the texts of modules, a type and a value go in, octets come out; a type and octets go in, a printed
-//! value comes out.
+//! The compiler behind one door: a command line, the texts of modules, a type and a value go in, octets come out; a
+//! type and octets go in, a printed value comes out.
 #![tactic(auto)]
 
 mod kit;

@@ -36,9 +36,9 @@ fn typed(
     }
 }
 
-/// The type that the first text names, and the value that the notation of the value which the second one names stands for
-/// under it. `NoType` where the first is no type's name, else `NoValue` where the second is no value's; `Value` where the
-/// notation stands for no value of the type; `Memory`.
+/// The type that the first text names, and the value that the notation of the value which the second one names stands
+/// for under it. `NoType` where the first is no type's name, else `NoValue` where the second is no value's; `Value`
+/// where the notation stands for no value of the type; `Memory`.
 pub(crate) fn meant(
     alloc: Global,
     modules: &Modules,

@@ -27,8 +27,8 @@ fn refusal(fault: ReadFault) -> Fault
     }
 }
 
-/// The value of a type that octets encode by the basic rules, printed, and how many additions were skipped. `Unread` where
-/// they encode none; `Memory`.
+/// The value of a type that octets encode by the basic rules, printed, and how many additions were skipped. `Unread`
+/// where they encode none; `Memory`.
 fn read_text(
     alloc: Global,
     schema: &Schema,
@@ -48,8 +48,8 @@ fn read_text(
     Ok((text, read.skipped))
 }
 
-/// The value of the type that a text names, printed. `NoType` where it names none; `Unread` where the octets encode no value of
-/// the type; `Memory`.
+/// The value of the type that a text names, printed. `NoType` where it names none; `Unread` where the octets encode no
+/// value of the type; `Memory`.
 pub(crate) fn read_as(
     alloc: Global,
     modules: &Modules,

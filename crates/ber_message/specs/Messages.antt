@@ -17,9 +17,9 @@ use Rattle.octet_answers.specs.Left.{Leaves}
 use Rattle.octet_answers.specs.States.{State, Token, front}
 use Rattle.reading_law.specs.Shows.{Shows, passed_in, StandIn}
 
--- octets say a value of the type as it stands, with so many unknown additions, by the basic rules; they are at most as many
--- as a message has, with at most 400 levels of headers. The tokens show the value, and as many skipped additions; contents
--- octets stand in the message where they are told to.
+-- octets say a value of the type as it stands, with so many unknown additions, by the basic rules; they are at most as
+-- many as a message has, with at most 400 levels of headers. The tokens show the value, and as many skipped additions;
+-- contents octets stand in the message where they are told to.
 pub record IsMessage (s : List Resolved) (t : TypeNumber) (o : Octets) (told : List Token) : Type 0 where
   pub value : AbstractValue
   pub count : ℕ
@@ -57,8 +57,8 @@ pub record EndsTooSoon (s : List Resolved) (t : TypeId) (o : Octets) : Type 0 wh
       StopsReading (λ u. routine_at s u) Takes (λ a b. Leaves a b Missing) t (front s o (room_of (length o))) last
   pub at_end : last.here.octets ≡ []
 
--- Octets say something of the type's shape that is no value of it: a constraint isn't met, an ENUMERATED lacks the number, a
--- group is not whole, or an absent component's DEFAULT has too many levels.
+-- Octets say something of the type's shape that is no value of it: a constraint isn't met, an ENUMERATED lacks the
+-- number, a group is not whole, or an absent component's DEFAULT has too many levels.
 pub record SaysNoValue (s : List Resolved) (t : TypeNumber) (o : Octets) : Type 0 where
   pub value : AbstractValue
   pub count : ℕ
@@ -67,8 +67,8 @@ pub record SaysNoValue (s : List Resolved) (t : TypeNumber) (o : Octets) : Type 
   pub short : length o ≤ 16777216
   pub is_none : IsValueWithoutNodes s t value → ⊥
 
--- Octets say a value of the type, constraints included, within 400 levels; they are at most as many as a message has. By the
--- definition of values it has at most 64 levels.
+-- Octets say a value of the type, constraints included, within 400 levels; they are at most as many as a message has.
+-- By the definition of values it has at most 64 levels.
 pub record IsEncoding (s : List Resolved) (t : TypeNumber) (o : Octets) : Type 0 where
   pub value : AbstractValue
   pub count : ℕ

@@ -14,15 +14,15 @@ use Rattle.reading_law.specs.Shows.{StandsIn}
 use Rattle.ber_message.specs.Opened.{opens}
 use Rattle.ber_message.specs.declared.stop.Whereabouts.{Whereabouts}
 
--- the place of the octets that aren't read, which stand there in the message, and the values that are open behind what was
--- read
+-- the place of the octets that aren't read, which stand there in the message, and the values that are open behind what
+-- was read
 pub record IsAt (o : Octets) (w : Whereabouts) (z : State) : Type 0 where
   pub place : w.place ≡ z.here.at
   pub unread : StandsIn o w.place z.here.octets
   pub values : w.values.items ≡ opens z.told
 
--- From the front of the octets, where so many values may begin, the type's routine comes to a question without an answer,
--- or reads a value; or there are more octets than a message has, and the first one behind those is told.
+-- From the front of the octets, where so many values may begin, the type's routine comes to a question without an
+-- answer, or reads a value; or there are more octets than a message has, and the first one behind those is told.
 pub data IsStop (s : List Resolved) (t : TypeId) (o : Octets) (most : ℕ) (w : Whereabouts) : Type 0 where
   stops : (z : State) (e : ReadFault)
       → StopsReading (λ u. routine_at s u) Takes (λ a b. Leaves a b e) t (front s o most) z

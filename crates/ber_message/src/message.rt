@@ -11,22 +11,22 @@ ghost use Rattle.octets.specs.Fronts.{EndsEarly, HeaderAt};
 ghost use Rattle.std.specs.Int.Digits.{AllBelowBase};
 ghost use Rattle.std.specs.Prelude.{◌≡◌, ◌<◌, ◌⊎◌, Bool, Err, IfErr, IfOk, length, map, true, ℕ};
 
-use limits::MAX_MESSAGE;
 use asn_base::schema::TypeId;
 use ber_source::{Cursor, Token};
 use codec_code::Code;
 use codec_source::{ReadFault, read};
 use encodings::schema_laws;
+use limits::MAX_MESSAGE;
 use octets::law::one_front;
 use octets::{HeaderFault, read_header};
 use reading_law::law::{read_is_said, said_is_read};
 use std::alloc::Global;
 
-/// The tokens of a message of the type, read by the basic rules (X.690, 8.1 to 8.14) from the front; its strings are slices
-/// of it. Constraints are not judged.
+/// The tokens of a message of the type, read by the basic rules (X.690, 8.1 to 8.14) from the front; its strings are
+/// slices of it. Constraints are not judged.
 ///
-/// `MessageLimit`: it has more than 16,777,216 octets. `Trailing`: a value ends before the octets do. The first fault met
-/// is told. A type that the code lacks is `UnexpectedTag`.
+/// `MessageLimit`: it has more than 16,777,216 octets. `Trailing`: a value ends before the octets do. The first fault
+/// met is told. A type that the code lacks is `UnexpectedTag`.
 pub fn read_message<'a>(
     alloc: Global,
     code: &Code,
@@ -42,8 +42,8 @@ pub fn read_message<'a>(
     ensures limit { 16777216 < length octets.now → result ≡ Err MessageLimit }
     ensures long { result ≡ Err MessageLimit → 16777216 < length octets.now }
     ensures trailing { result ≡ Err Trailing → HasMessageFirst code.now id.index octets.now }
-    // Whatever encodes a value of the type is read, memory apart; 89 is told where its encoding is a proper front of them, and
-    // 80 where they are one of it.
+    // Whatever encodes a value of the type is read, memory apart; 89 is told where its encoding is a proper front of
+    // them, and 80 where they are one of it.
     ensures read { IsEncoding code.now id.index octets.now → IfErr result (λ e. e ≡ Memory) }
     ensures more { HasEncodingFirst code.now id.index octets.now → (result ≡ Err Trailing) ⊎ (result ≡ Err Memory) }
     ensures less { BeginsEncoding code.now id.index octets.now → result ≡ Err Truncated }

@@ -6,12 +6,12 @@ ghost use Rattle.ber_message.specs.Stops.{IsStop};
 ghost use Rattle.codec_source.specs.declared.fault.ReadFault.TheVariants.{Memory};
 ghost use Rattle.std.specs.Prelude.{◌≡◌, ◌≤◌, false, IfOk, length};
 
-use limits::{MAX_MESSAGE, MAX_OPEN};
 use crate::open::{Open, open_behind};
 use asn_base::schema::TypeId;
 use ber_source::Cursor;
 use codec_code::Code;
 use codec_source::{ReadFault, read};
+use limits::{MAX_MESSAGE, MAX_OPEN};
 use reading_law::law::stops_in_place;
 use std::alloc::{AllocError, Global};
 
@@ -23,8 +23,8 @@ pub struct Whereabouts {
     pub values: Vec<Open>,
 }
 
-/// How many values begin in the message at most: each octet but the last begins a header at most, and 64 values stand one
-/// in another.
+/// How many values begin in the message at most: each octet but the last begins a header at most, and 64 values stand
+/// one in another.
 pub fn most_values(octets: &[u8]) -> usize
     ensures { length octets.now ≤ 16777216 → result ≡ room_of (length octets.now) }
 {

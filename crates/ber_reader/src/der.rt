@@ -20,8 +20,8 @@ use std::alloc::Global;
 use strict_rules::is_strict;
 
 /// The value of the type that the octets encode by the distinguished rules (X.690, 10 and 11), as it stands there, as
-/// `read_ber` tells it. Additions that the type lacks are not judged, nor is their place in a SET, and a component that is
-/// the same as its DEFAULT may stand where additions were skipped within it.
+/// `read_ber` tells it. Additions that the type lacks are not judged, nor is their place in a SET, and a component that
+/// is the same as its DEFAULT may stand where additions were skipped within it.
 ///
 /// `NotDer`: the octets encode the value by the basic rules alone. The other faults are those of `read_ber`.
 pub fn read_der<'a>(
@@ -46,8 +46,8 @@ pub fn read_der<'a>(
     ensures basic { (i : IsEncoding code.now id.index octets.now)
         → (Says code.now Distinguished id.index i.value i.count octets.now → ⊥)
         → (result ≡ Err NotDer) ⊎ (result ≡ Err Memory) }
-    // Whatever encodes a value of the type by the distinguished rules is read, memory apart; 89 is told where an encoding by
-    // the basic rules is a proper front of them, and 80 where they are one of it.
+    // Whatever encodes a value of the type by the distinguished rules is read, memory apart; 89 is told where an
+    // encoding by the basic rules is a proper front of them, and 80 where they are one of it.
     ensures read { (i : IsEncoding code.now id.index octets.now)
         → Says code.now Distinguished id.index i.value i.count octets.now
         → IfErr result (λ e. e ≡ Memory) }

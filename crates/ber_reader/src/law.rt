@@ -12,9 +12,9 @@ ghost use Rattle.std.specs.Prelude.{◌≡◌, ◌≤◌, length, List, ℕ};
 
 use encodings::{der_laws, level_laws, message_laws, reading_laws};
 
-/// An encoding of a value by the distinguished rules, of at most 16,777,216 octets, is one that `read_ber` refuses for want
-/// of memory alone; and whatever value it encodes by the basic rules is the same, with no unknown additions. So what a
-/// writer of these rules answers is read back.
+/// An encoding of a value by the distinguished rules, of at most 16,777,216 octets, is one that `read_ber` refuses for
+/// want of memory alone; and whatever value it encodes by the basic rules is the same, with no unknown additions. So
+/// what a writer of these rules answers is read back.
 pub fn written_is_read()
     ensures read { (s : List Resolved) (t : ℕ) (v : AbstractValue) (o : List ℕ)
         → IsSchema s

@@ -1,4 +1,5 @@
-//! Messages by the basic rules, and by the distinguished ones, read as views of their values (X.690, 8.1 to 8.14, 10 and 11).
+//! Messages by the basic rules, and by the distinguished ones, read as views of their values (X.690, 8.1 to 8.14, 10
+//! and 11).
 #![tactic(auto)]
 
 mod arcs;

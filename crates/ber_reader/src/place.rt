@@ -16,13 +16,14 @@ use codec_code::Code;
 use codec_source::ReadFault;
 use std::alloc::{AllocError, Global};
 
-/// Where a message is refused that `read_ber` refuses, other than for want of memory: the place of the octet, from 0, and
-/// the values that were open there, the outermost first, each with the part of it that was being read.
+/// Where a message is refused that `read_ber` refuses, other than for want of memory: the place of the octet, from 0,
+/// and the values that were open there, the outermost first, each with the part of it that was being read.
 ///
 /// `Truncated`, `Indefinite`, `BadLength`, `BadTag`, `UnexpectedTag`: the header. `BadContents`, `IntegerLimit`,
-/// `OidLimit`: the first of the contents octets. `Missing`: the end of the contents. `TooDeep`: the header one too many.
-/// `Trailing`: the first octet behind the value. `MessageLimit`: the first octet behind those that a message may have. Where
-/// all of a message was read and is no value of the type, the header of the innermost value that is none of its own.
+/// `OidLimit`: the first of the contents octets. `Missing`: the end of the contents. `TooDeep`: the header one too
+/// many. `Trailing`: the first octet behind the value. `MessageLimit`: the first octet behind those that a message may
+/// have. Where all of a message was read and is no value of the type, the header of the innermost value that is none of
+/// its own.
 pub fn whereabouts(
     alloc: Global,
     code: &Code,

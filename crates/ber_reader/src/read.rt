@@ -34,10 +34,11 @@ pub struct Read<'a> {
 /// strings are slices of the octets where they were primitive, and joined copies where they were in segments.
 ///
 /// `MessageLimit`: there are more than 16,777,216 octets. `Trailing`: a value ends before the octets do.
-/// The first fault met from the front is told; a type that the code lacks is `UnexpectedTag`. Where all of them was read and
-/// says what is no value of the type, it is the fault of the innermost value in it that is none of its own: `BadContents` of
-/// an ENUMERATED that lacks the number, `Missing` of components of which one of a group must stand beside others,
-/// `TooDeep` where the levels of an absent component's DEFAULT are too many, `OutsideConstraint` of any other.
+/// The first fault met from the front is told; a type that the code lacks is `UnexpectedTag`. Where all of them was
+/// read and says what is no value of the type, it is the fault of the innermost value in it that is none of its own:
+/// `BadContents` of an ENUMERATED that lacks the number, `Missing` of components of which one of a group must stand
+/// beside others, `TooDeep` where the levels of an absent component's DEFAULT are too many, `OutsideConstraint` of any
+/// other.
 pub fn read_ber<'a>(
     alloc: Global,
     code: &Code,
@@ -53,8 +54,8 @@ pub fn read_ber<'a>(
     ensures limit { 16777216 < length octets.now → result ≡ Err MessageLimit }
     ensures long { result ≡ Err MessageLimit → 16777216 < length octets.now }
     ensures trailing { result ≡ Err Trailing → HasMessageFirst code.now id.index octets.now }
-    // Whatever encodes a value of the type is read, memory apart; 89 is told where its encoding is a proper front of them, and
-    // 80 where they are one of it.
+    // Whatever encodes a value of the type is read, memory apart; 89 is told where its encoding is a proper front of
+    // them, and 80 where they are one of it.
     ensures read { IsEncoding code.now id.index octets.now → IfErr result (λ e. e ≡ Memory) }
     ensures more { HasEncodingFirst code.now id.index octets.now → (result ≡ Err Trailing) ⊎ (result ≡ Err Memory) }
     ensures less { BeginsEncoding code.now id.index octets.now → result ≡ Err Truncated }

@@ -183,8 +183,8 @@ fn without_additions(
     Ok(Value::Fields(root))
 }
 
-/// Why components are no value of the type, though each is one of its own: one of a group that must stand beside those of
-/// it that stand is missing, if they are a value without additions; or else the levels of a DEFAULT are too many.
+/// Why components are no value of the type, though each is one of its own: one of a group that must stand beside those
+/// of it that stand is missing, if they are a value without additions; or else the levels of a DEFAULT are too many.
 fn fault_of_components(
     alloc: Global,
     code: &Code,
@@ -222,7 +222,8 @@ pub(crate) fn fault_of(alloc: Global, code: &Code, id: TypeId, value: &Value) ->
     }
 }
 
-/// At which token the innermost value begins that is none of its type, in one that is none of its, which the tokens show.
+/// At which token the innermost value begins that is none of its type, in one that is none of its, which the tokens
+/// show.
 pub(crate) fn wrong_from(code: &Code, id: TypeId, value: &Value, tokens: &[Token<'_>]) -> usize {
     let mut at = 0;
     let mut ty = id;

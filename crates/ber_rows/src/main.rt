@@ -1,8 +1,8 @@
 //! Answers rows of messages by the public calls that read them, and prints each answer below its row's words.
 //!
 //! The files that its words name are files of rows. A row's first word is a command and its second the row's own name:
-//! `der`, `place`, `read`, `sweep` and `view`, described where they are answered. The answers that the stored run compares are
-//! written by hand, or counted by a second reader, not taken from this program.
+//! `der`, `place`, `read`, `sweep` and `view`, described where they are answered. The answers that the stored run
+//! compares are written by hand, or counted by a second reader, not taken from this program.
 #![tactic(auto)]
 
 mod message;

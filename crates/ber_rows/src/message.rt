@@ -51,7 +51,8 @@ fn push_token(text: &mut String, alloc: Global, token: &Token) -> Result<(), All
     }
 }
 
-/// The tokens in order: a value in parentheses, a component's number before its value, contents octets with their place.
+/// The tokens in order: a value in parentheses, a component's number before its value, contents octets with their
+/// place.
 fn text_of(alloc: Global, tokens: &[Token]) -> Result<String, AllocError> {
     let mut text = String::new(alloc);
     for i in 0..tokens.len().min(MOST_TOKENS) {

@@ -29,8 +29,8 @@ fn shown(alloc: Global, fault: ReadFault, found: &Whereabouts) -> Result<String,
     Ok(text)
 }
 
-/// `place NAME TYPE HEX..`: the fault for which the message is refused, the place of its octet, from 0, and the parts that
-/// were being read.
+/// `place NAME TYPE HEX..`: the fault for which the message is refused, the place of its octet, from 0, and the parts
+/// that were being read.
 pub fn answer(alloc: Global, code: &Code, row: &Row) -> Result<String, Refusal> {
     let id = type_of(alloc, row)?;
     let octets = octets_of(alloc, row)?;

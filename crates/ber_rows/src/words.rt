@@ -30,8 +30,8 @@ fn push_times(octets: &mut Vec<u8>, some: &[u8], times: usize) -> Result<(), All
     Ok(())
 }
 
-/// The octets that the words from the fourth on tell, one behind the other: hexadecimal digits, and `399*24` for so many
-/// times the same ones.
+/// The octets that the words from the fourth on tell, one behind the other: hexadecimal digits, and `399*24` for so
+/// many times the same ones.
 pub fn octets_of(alloc: Global, row: &Row) -> Result<Vec<u8>, Refusal> {
     let mut octets = Vec::new(alloc);
     for word in row.words.iter().skip(3) {

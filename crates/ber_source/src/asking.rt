@@ -139,8 +139,8 @@ fn marks_from(marks: &[usize], from: usize) -> &[usize]
     }
 }
 
-/// The component of a SET that stands next behind additions, of those that the steps begin with, or None where none does
-/// and all that must were read.
+/// The component of a SET that stands next behind additions, of those that the steps begin with, or None where none
+/// does and all that must were read.
 pub(crate) fn among_next<'c, 'a>(
     place: &mut Place<'c, 'a>,
     steps: &[Step],

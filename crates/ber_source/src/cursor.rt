@@ -5,7 +5,6 @@ ghost use Rattle.ber_source.specs.Seen.{token_of};
 ghost use Rattle.octet_answers.specs.States.{front};
 ghost use Rattle.std.specs.Prelude.{◌≡◌, ◌<◌, ◌≤◌, IfErr, IfOk, IsTrue, [], ◌↔◌, length, map};
 
-use limits::MAX_MESSAGE;
 use crate::asking::{among_next, choose_next, has_more, skip, stands_next};
 use crate::moves::{begin, close, end, hold, open};
 use crate::place::Place;
@@ -14,6 +13,7 @@ use crate::window::Window;
 use asn_base::schema::TypeId;
 use codec_code::{Code, Field, Head, LeafKind, Step};
 use codec_source::{ReadFault, Source};
+use limits::MAX_MESSAGE;
 use octet_answers::law::one_answer;
 use octets::Form;
 use std::alloc::Global;

@@ -7,7 +7,8 @@ use codec_code::Code;
 use std::alloc::Global;
 
 /// The contents of the nearest open header, and what stands behind each of the open ones; the types of the values that
-/// are open; the components that were read of the SETs that are open; what was read; and how many values may still begin.
+/// are open; the components that were read of the SETs that are open; what was read; and how many values may still
+/// begin.
 #[derive(Drop)]
 pub(crate) struct Place<'c, 'a> {
     pub alloc: Global,

@@ -1,6 +1,6 @@
-//! Finds what the constraints of modules leave, each at two sizes, and writes how many types each module has; then reads,
-//! types and prints long values, and writes how long their texts are. How long `bound` took, the least of five runs, and
-//! `value_at`, `typed` and `print`, in microseconds, is written on standard error.
+//! Finds what the constraints of modules leave, each at two sizes, and writes how many types each module has; then
+//! reads, types and prints long values, and writes how long their texts are. How long `bound` took, the least of five
+//! runs, and `value_at`, `typed` and `print`, in microseconds, is written on standard error.
 #![tactic(auto)]
 
 mod notations;

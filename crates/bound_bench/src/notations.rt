@@ -17,8 +17,8 @@ use trees::ValueSyntax;
 use typed_values::typed;
 use value_text::print;
 
-/// The types of the notations, as sample types have them too but for the last one, whose components have a DEFAULT of so
-/// many empty lists.
+/// The types of the notations, as sample types have them too but for the last one, whose components have a DEFAULT of
+/// so many empty lists.
 const TYPES: &str =
     "M DEFINITIONS ::= BEGIN N ::= SEQUENCE OF INTEGER L ::= SEQUENCE OF L O ::= OCTET STRING \
     D ::= SEQUENCE OF SEQUENCE {a L DEFAULT {{}";
@@ -205,8 +205,8 @@ fn read_once(
     type_once(rt, bounded, samples, notation, &syntax, times)
 }
 
-/// Reads, types and prints a notation of about so many octets. How many octets were printed is written on standard output, how
-/// long it took on standard error.
+/// Reads, types and prints a notation of about so many octets. How many octets were printed is written on standard
+/// output, how long it took on standard error.
 fn measure(
     rt: &HostRuntime,
     bounded: &Bounded<'_>,

@@ -1,5 +1,5 @@
-//! Numbers types so that those which lead to one another have one rank, and what a type leads to otherwise a higher one.
-//! Each part of a type is looked at twice, however the types are chained. The numbering is only searched for here:
+//! Numbers types so that those which lead to one another have one rank, and what a type leads to otherwise a higher
+//! one. Each part of a type is looked at twice, however the types are chained. The numbering is only searched for here:
 //! whoever uses the ranks tests that they rise.
 
 use crate::ranks::{part, rank_at};
@@ -17,8 +17,8 @@ struct Visit {
 /// A search through all types, deep parts first.
 #[derive(Drop)]
 struct Ranking {
-    /// For each type 0 until the search comes to it; then its number in the order of coming, or the number of an earlier type
-    /// that it leads to; at last its rank, which is greater than all those numbers.
+    /// For each type 0 until the search comes to it; then its number in the order of coming, or the number of an
+    /// earlier type that it leads to; at last its rank, which is greater than all those numbers.
     numbers: Vec<usize>,
     way: Vec<Visit>,
     /// Types that lead to a type on the way and have no rank yet.
@@ -75,7 +75,8 @@ impl Ranking {
         self.close(visit)
     }
 
-    /// Looks at the next part of a type. A part that the search comes to for the first time is looked at again afterwards.
+    /// Looks at the next part of a type. A part that the search comes to for the first time is looked at again
+    /// afterwards.
     fn look(&mut self, visit: Visit, part: usize) -> Result<(), AllocError> {
         let number = rank_at(&self.numbers, part);
         if number == 0 && part < self.numbers.len() {

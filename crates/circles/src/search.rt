@@ -21,8 +21,8 @@ fn is_above(ranks: &[usize], rise: bool, list: usize, components: &[ListMember])
     rise && defaults_rise(components, rank_at(ranks, list), ranks)
 }
 
-/// Whether a type is a list that its own components with a DEFAULT lead back to. Where ranks rise and those components have
-/// higher ones, they don't; what they lead to is searched for the list otherwise.
+/// Whether a type is a list that its own components with a DEFAULT lead back to. Where ranks rise and those components
+/// have higher ones, they don't; what they lead to is searched for the list otherwise.
 fn is_in_circle(
     alloc: Global,
     types: &[Written],

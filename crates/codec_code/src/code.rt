@@ -15,7 +15,8 @@ use asn_base::schema::{Schema, TypeId};
 use asn_base::value::Value;
 use std::marker::Model;
 
-/// The codec programs of a schema's types. It keeps a copy of the schema, by which contracts name its types, and lends none.
+/// The codec programs of a schema's types. It keeps a copy of the schema, by which contracts name its types, and lends
+/// none.
 #[derive(Drop)]
 pub struct Code {
     schema: Schema,
@@ -81,8 +82,8 @@ impl Code {
         is_value(value, &self.schema, id)
     }
 
-    /// Whether the component at this place of the type, from 0 in order of definition, has a DEFAULT that the value is the
-    /// same as; false where there is no such component, or it has none. It takes no memory.
+    /// Whether the component at this place of the type, from 0 in order of definition, has a DEFAULT that the value is
+    /// the same as; false where there is no such component, or it has none. It takes no memory.
     pub fn is_default(&self, id: TypeId, place: usize, value: &Value) -> bool
         ensures { IsTrue result ↔ IsDefaultAt self.now id.index place (abstract value.now) }
     {

@@ -59,8 +59,8 @@ fn components_of(core: &Core) -> &[Component]
     }
 }
 
-/// Whether the component has a DEFAULT that the value is the same as. The default is known to be a value of its type, and
-/// is looked at no further than the value goes.
+/// Whether the component has a DEFAULT that the value is the same as. The default is known to be a value of its type,
+/// and is looked at no further than the value goes.
 #[tactic(auto, using(crate::proofs::Defaults::of_default, crate::proofs::Defaults::of_mandatory, crate::proofs::Defaults::of_optional, crate::proofs::Defaults::of_addition, crate::proofs::Defaults::is_known))]
 fn is_the_default(schema: &Schema, component: &Component, value: &Value) -> bool
     requires { HasValue schema.now (component_of component.now) }

@@ -216,8 +216,8 @@ pub(crate) fn first_step(steps: &[Step]) -> Option<(Step, &[Step])>
     }
 }
 
-/// The header and the kind of contents, where the steps are a header of a value that holds no others, its contents and the
-/// end: those of a type with one tag.
+/// The header and the kind of contents, where the steps are a header of a value that holds no others, its contents and
+/// the end: those of a type with one tag.
 pub(crate) fn leaf_routine(steps: &[Step]) -> Option<(Head, LeafKind)>
     ensures steps { IfSome result (λ p. steps.now ≡ HeadStep p.0 ∷ Leaf p.1 ∷ End ∷ []) }
     ensures row { IfSome result (λ p. p.0.row ≡ LeafRow) }

@@ -2,8 +2,9 @@
 //! words.
 //!
 //! The files that its words name are files of rows. A row's first word is a command and its second the row's own name:
-//! `front`, `header`, `octets`, `bits`, `print`, `value`, `same`, `default` and `listing`, each described where it is answered
-//! and at the head of the file that uses it. The answers that the stored run compares are written by hand, not taken from this program.
+//! `front`, `header`, `octets`, `bits`, `print`, `value`, `same`, `default` and `listing`, each described where it is
+//! answered and at the head of the file that uses it. The answers that the stored run compares are written by hand, not
+//! taken from this program.
 #![tactic(auto)]
 
 mod buffer;

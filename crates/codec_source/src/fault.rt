@@ -6,8 +6,8 @@ ghost use Rattle.std.specs.Prelude.{◌≡◌};
 use std::alloc::{AllocError, AllocFailed};
 use thiserror::Error;
 
-/// Why a message is not read. `Memory`: more memory was asked for and refused. The machine tells no other by itself: they
-/// are its source's.
+/// Why a message is not read. `Memory`: more memory was asked for and refused. The machine tells no other by itself:
+/// they are its source's.
 #[derive(Clone, Copy, Debug, PartialEq, Eq, Error)]
 pub enum ReadFault {
     #[error("1 Memory")]

@@ -16,9 +16,9 @@ use asn_base::schema::TypeId;
 use codec_code::{Code, Coding, Step};
 use std::alloc::Global;
 
-/// Reads a value by the type's routine for encodings with tags: what was read is in the source. A refusal but for want of
-/// memory says that the routine reads nothing. It calls nothing in itself, and takes memory for one frame a value that is
-/// open.
+/// Reads a value by the type's routine for encodings with tags: what was read is in the source. A refusal but for want
+/// of memory says that the routine reads nothing. It calls nothing in itself, and takes memory for one frame a value
+/// that is open.
 pub fn read<S: Source>(
     alloc: Global,
     code: &Code,

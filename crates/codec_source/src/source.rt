@@ -17,7 +17,8 @@ pub trait Source {
     /// The second state is the first behind the answer.
     ghost takes: { Self → Event → Self → Type 0 };
 
-    /// A question that has no answer in the first state is refused with this fault, and leaves the source in the second.
+    /// A question that has no answer in the first state is refused with this fault, and leaves the source in the
+    /// second.
     ghost leaves: { Self → Self → ReadFault' → Type 0 };
 
     /// How many values may still begin, at most.
@@ -71,7 +72,8 @@ pub trait Source {
         ensures err { IfRefused result ((yes : Bool) (b : Self) → takes self.old (more id sorted yes) b → ⊥) }
         ensures left { IfRefusedWith result (leaves self.old self.new) };
 
-    /// The type of the component of a SET that stands next, of those that the steps begin with, or None where none does.
+    /// The type of the component of a SET that stands next, of those that the steps begin with, or None where none
+    /// does.
     fn next_component(&mut self, steps: &[Step]) -> Result<Option<TypeId>, ReadFault>
         ensures ok { IfOk result (λ id. takes self.old (among steps.now id) self.new) }
         ensures err { IfRefused result ((id : Option' TypeId') (b : Self) → takes self.old (among steps.now id) b → ⊥) }

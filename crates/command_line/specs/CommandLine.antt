@@ -114,8 +114,8 @@ IsFaultOf k (faults.BadWords t) =
     (k ≡ kinds.OutOfMemory → ⊥) × (k ≡ kinds.DisplayHelp → ⊥) × (k ≡ kinds.DisplayVersion → ⊥)
 IsFaultOf k fault = ⊥
 
--- The words are refused: they ask for help or for the version, or something else is wrong with them. Memory speaks of no
--- words.
+-- The words are refused: they ask for help or for the version, or something else is wrong with them. Memory speaks of
+-- no words.
 abbrev pub IsRefused : List Text → Fault → Type 0
 IsRefused words faults.Memory = ⊤
 IsRefused words (faults.Help t) =

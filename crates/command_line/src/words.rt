@@ -246,7 +246,8 @@ fn job_of(alloc: Global, command: &str, found: &ArgMatches<'_>) -> Result<Job, A
 
 /// The job that the words ask for. The first word is the program's name.
 ///
-/// `BadWords` where the words ask for nothing that the program does, and `Help` where they ask for help or for the version.
+/// `BadWords` where the words ask for nothing that the program does, and `Help` where they ask for help or for the
+/// version.
 pub fn job(alloc: Global, words: &[String]) -> Result<Job, Fault>
     ensures asked { IfOk result (IsAsked (map string_bytes words.now)) }
     ensures refused { IfErr result (IsRefused (map string_bytes words.now)) }

@@ -30,8 +30,8 @@ use tagging::Tagged;
 use trees::Simple;
 use type_table::Shape;
 
-/// Tagged modules in which every constraint has a meaning and leaves something. It borrows the modules, so the numbers of
-/// types are theirs.
+/// Tagged modules in which every constraint has a meaning and leaves something. It borrows the modules, so the numbers
+/// of types are theirs.
 #[derive(Drop)]
 pub struct Bounded<'a> {
     tagged: &'a Tagged<'a>,
@@ -101,8 +101,8 @@ impl<'a> Bounded<'a> {
 }
 
 /// Tagged modules with what their constraints leave (X.680, clauses 49 to 51), or a fault that stands in them, with its
-/// module, the name of the assignment and the place: `Circular`, `Empty`, `WrongKind`, `Reconstrained`, `LowerAboveUpper`,
-/// `MarkerPlace`, or `Memory`.
+/// module, the name of the assignment and the place: `Circular`, `Empty`, `WrongKind`, `Reconstrained`,
+/// `LowerAboveUpper`, `MarkerPlace`, or `Memory`.
 pub fn bound<'a>(alloc: Global, tagged: &'a Tagged<'a>) -> Result<Bounded<'a>, BoundFault>
     ensures { MatchResult result
         (λ b. (b ≡ tagged.now) × AreBounded tagged.now)
@@ -136,7 +136,8 @@ pub(crate) fn seen(limit: &Limit) -> Bounds
 /// What the packed encoding sees of the numbers or sizes of a type.
 fn visible(bounded: &Bounded<'_>, ty: usize) -> Option<Bounds>
     requires { ty < length bounded.now.types }
-    ensures { IsSomeAnd result (λ b. (k : Kind) → IsOfKind bounded.now.types ty k → AreVisible bounded.now k ty (bounds_of b)) }
+    ensures { IsSomeAnd result (λ b. (k : Kind) → IsOfKind bounded.now.types ty k
+        → AreVisible bounded.now k ty (bounds_of b)) }
 {
     let _shape = bounded.shape(ty);
     match bounded.limit(ty) {
@@ -170,9 +171,9 @@ fn leaves(limit: &Limit, shape: &Shape, number: i128) -> bool
     limit.numbers.has(number) || (limit.extensible && counted(shape, number))
 }
 
-/// What the packed encoding sees of the numbers of an INTEGER type (X.691, clauses 10.3 and 12.1): the least and the greatest
-/// that its constraints leave, None where there is no bound, and whether an extension marker stands in them. None for any
-/// other type. It takes no memory.
+/// What the packed encoding sees of the numbers of an INTEGER type (X.691, clauses 10.3 and 12.1): the least and the
+/// greatest that its constraints leave, None where there is no bound, and whether an extension marker stands in them.
+/// None for any other type. It takes no memory.
 pub fn range(bounded: &Bounded<'_>, ty: TypeId) -> Option<Bounds>
     requires { ty.index < length bounded.now.types }
     ensures { (k : Kind) → IsOfKind bounded.now.types ty.index k → MatchOption result
@@ -186,10 +187,10 @@ pub fn range(bounded: &Bounded<'_>, ty: TypeId) -> Option<Bounds>
     }
 }
 
-/// What the packed encoding sees of the sizes of a BIT STRING without named bits, an OCTET STRING, one of the four restricted
-/// strings, or a SEQUENCE OF or SET OF (X.691, clauses 10.3, 16, 17, 20, 22 and 30): as [`range`], in bits, octets, characters or
-/// elements, from 0 where no constraint stands. None for any other type; the size of a UTF8String is not seen. It takes no
-/// memory.
+/// What the packed encoding sees of the sizes of a BIT STRING without named bits, an OCTET STRING, one of the four
+/// restricted strings, or a SEQUENCE OF or SET OF (X.691, clauses 10.3, 16, 17, 20, 22 and 30): as [`range`], in bits,
+/// octets, characters or elements, from 0 where no constraint stands. None for any other type; the size of a UTF8String
+/// is not seen. It takes no memory.
 pub fn size(bounded: &Bounded<'_>, ty: TypeId) -> Option<Bounds>
     requires { ty.index < length bounded.now.types }
     ensures { (k : Kind) → IsOfKind bounded.now.types ty.index k → MatchOption result
@@ -203,9 +204,9 @@ pub fn size(bounded: &Bounded<'_>, ty: TypeId) -> Option<Bounds>
     }
 }
 
-/// The characters of one of the four restricted strings that its constraints leave (X.691, clause 30.5), by their codes; all of
-/// its characters where no constraint stands. None for any other type. It takes no memory: the codes are the bits of a
-/// `u128`.
+/// The characters of one of the four restricted strings that its constraints leave (X.691, clause 30.5), by their
+/// codes; all of its characters where no constraint stands. None for any other type. It takes no memory: the codes are
+/// the bits of a `u128`.
 pub fn alphabet(bounded: &Bounded<'_>, ty: TypeId) -> Option<Codes>
     requires { ty.index < length bounded.now.types }
     ensures { (k : Kind) → IsOfKind bounded.now.types ty.index k → MatchOption result
@@ -221,8 +222,8 @@ pub fn alphabet(bounded: &Bounded<'_>, ty: TypeId) -> Option<Codes>
     }
 }
 
-/// Whether a number may be the value of an INTEGER type: its constraints allow it, or they have an extension marker. It takes
-/// no memory.
+/// Whether a number may be the value of an INTEGER type: its constraints allow it, or they have an extension marker. It
+/// takes no memory.
 pub fn allows_number(bounded: &Bounded<'_>, ty: TypeId, number: i128) -> bool
     requires { ty.index < length bounded.now.types }
     ensures { (k : Kind) → IsOfKind bounded.now.types ty.index k →
@@ -234,8 +235,8 @@ pub fn allows_number(bounded: &Bounded<'_>, ty: TypeId, number: i128) -> bool
     }
 }
 
-/// Whether a value of a type that is no INTEGER may have this size, in bits, octets, characters or elements: the constraints
-/// of the type allow it, or they have an extension marker. It takes no memory.
+/// Whether a value of a type that is no INTEGER may have this size, in bits, octets, characters or elements: the
+/// constraints of the type allow it, or they have an extension marker. It takes no memory.
 pub fn allows_size(bounded: &Bounded<'_>, ty: TypeId, size: usize) -> bool
     requires { ty.index < length bounded.now.types }
     ensures { (k : Kind) → IsOfKind bounded.now.types ty.index k →
@@ -244,8 +245,8 @@ pub fn allows_size(bounded: &Bounded<'_>, ty: TypeId, size: usize) -> bool
     allows_number(bounded, ty, size as i128)
 }
 
-/// Whether the character of this code may stand in a value of one of the four restricted strings: it is one of that type's
-/// characters, and constraints allow it. It takes no memory.
+/// Whether the character of this code may stand in a value of one of the four restricted strings: it is one of that
+/// type's characters, and constraints allow it. It takes no memory.
 pub fn allows_character(bounded: &Bounded<'_>, ty: TypeId, code: u32) -> bool
     requires { ty.index < length bounded.now.types }
     ensures { (s : StringKind) → IsOfKind bounded.now.types ty.index (simple (a_restricted_string s)) →

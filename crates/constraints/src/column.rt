@@ -183,7 +183,12 @@ fn limit_in(
 }
 
 /// The limit of a type, where that of the type behind it is noted.
-fn limit_at(alloc: Global, scope: &ReferenceTable<'_>, column: &Column, ty: usize) -> Result<Limit, Fault>
+fn limit_at(
+    alloc: Global,
+    scope: &ReferenceTable<'_>,
+    column: &Column,
+    ty: usize,
+) -> Result<Limit, Fault>
     requires there { ty < length scope.now.types }
     requires noted { AreNoted scope.now column.now.at.items column.now.limits.items }
     requires behind { (j : ℕ) → next scope.now.types ty ≡ Some j → IsNoted column.now.at.items j }
@@ -206,7 +211,12 @@ fn shared(linked: &Linked, ty: usize) -> Option<usize>
 }
 
 /// Notes the limit of a type, where that of the type behind it is noted.
-fn note(alloc: Global, scope: &ReferenceTable<'_>, column: &mut Column, ty: usize) -> Result<(), Fault>
+fn note(
+    alloc: Global,
+    scope: &ReferenceTable<'_>,
+    column: &mut Column,
+    ty: usize,
+) -> Result<(), Fault>
     requires there { ty < length scope.now.types }
     requires noted { AreNoted scope.now column.old.at.items column.old.limits.items }
     requires behind { (j : ℕ) → next scope.now.types ty ≡ Some j → IsNoted column.old.at.items j }

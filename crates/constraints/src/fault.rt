@@ -27,12 +27,12 @@ pub enum BoundFault {
     /// An end of a range leads to this value, whose notation leads back to the value itself.
     #[error("33 Circular: {0}")]
     Circular(Spot),
-    /// The constraints of the type at the place, and those of the types behind it, leave no number, no size or no character
-    /// (X.680, clause 49.1).
+    /// The constraints of the type at the place, and those of the types behind it, leave no number, no size or no
+    /// character (X.680, clause 49.1).
     #[error("50 Empty: {0}")]
     Empty(Spot),
-    /// The type doesn't take the constraint at the place; or an end of a range at the place is no number, is a size below
-    /// 0, or is not one character (X.680, clauses 51.2, 51.4, 51.5 and 51.7).
+    /// The type doesn't take the constraint at the place; or an end of a range at the place is no number, is a size
+    /// below 0, or is not one character (X.680, clauses 51.2, 51.4, 51.5 and 51.7).
     #[error("51 WrongKind: {0}")]
     WrongKind(Spot),
     /// The constraint at the place stands behind one with an extension marker. X.680 allows it; this compiler leaves it
@@ -42,8 +42,8 @@ pub enum BoundFault {
     /// The lower end of a range, at the place, is above its upper end (X.680, clause 51.4.3).
     #[error("53 LowerAboveUpper: {0}")]
     LowerAboveUpper(Spot),
-    /// An extension marker stands where this compiler doesn't take it: behind several values or ranges, or in the SIZE of
-    /// a character string, in the constraint at the place.
+    /// An extension marker stands where this compiler doesn't take it: behind several values or ranges, or in the SIZE
+    /// of a character string, in the constraint at the place.
     #[error("55 MarkerPlace: {0}")]
     MarkerPlace(Spot),
 }

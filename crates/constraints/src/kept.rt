@@ -29,9 +29,9 @@ fn allowed_ranges(alloc: Global, limit: &Limit) -> Result<Option<Vec<Range>>, Al
     Ok(Some(ranges.into_ranges()))
 }
 
-/// What the constraints of a type leave of its numbers or sizes, as a resolved type keeps it: the ranges that are allowed, None
-/// where an extension marker allows all, and the bounds of the root (X.680, clauses 49 to 51; X.691, clause 10.3). Err where
-/// memory is wanting.
+/// What the constraints of a type leave of its numbers or sizes, as a resolved type keeps it: the ranges that are
+/// allowed, None where an extension marker allows all, and the bounds of the root (X.680, clauses 49 to 51; X.691,
+/// clause 10.3). Err where memory is wanting.
 pub fn constraint(
     alloc: Global,
     bounded: &Bounded<'_>,
@@ -58,8 +58,8 @@ pub fn constraint(
     }
 }
 
-/// The characters of one of the four restricted strings that its constraints leave, as a resolved type keeps them: their codes,
-/// in order (X.691, clause 30.5). No code of any other type. Err where memory is wanting.
+/// The characters of one of the four restricted strings that its constraints leave, as a resolved type keeps them:
+/// their codes, in order (X.691, clause 30.5). No code of any other type. Err where memory is wanting.
 pub fn codes(alloc: Global, bounded: &Bounded<'_>, ty: TypeId) -> Result<Vec<u8>, AllocError>
     requires { ty.index < length bounded.now.types }
     ensures strings { (s : StringKind) → IsOfKind bounded.now.types ty.index (simple (a_restricted_string s)) →

@@ -1,4 +1,5 @@
-//! Constraints of tagged types: which numbers, sizes and characters they allow, and what the packed encoding sees of them.
+//! Constraints of tagged types: which numbers, sizes and characters they allow, and what the packed encoding sees of
+//! them.
 #![tactic(auto)]
 
 mod bounded;

@@ -17,8 +17,8 @@ use std::alloc::{AllocError, Global};
 use trees::{ConstraintSyntax, Simple};
 use type_table::Shape;
 
-/// What constraints leave of the numbers or sizes of a type and, of one of the four restricted strings, of its characters; and
-/// whether an extension marker stands in one.
+/// What constraints leave of the numbers or sizes of a type and, of one of the four restricted strings, of its
+/// characters; and whether an extension marker stands in one.
 #[derive(Drop)]
 pub(crate) struct Limit {
     pub numbers: Ranges,
@@ -135,8 +135,8 @@ fn is_empty(shape: &Shape, limit: &Limit) -> bool
     limit.numbers.is_empty() || (has_alphabet(shape) && limit.codes.is_empty())
 }
 
-/// What constraints of a type of a shape, read in a module, leave of what was left before them; or what is wrong with one of
-/// them.
+/// What constraints of a type of a shape, read in a module, leave of what was left before them; or what is wrong with
+/// one of them.
 fn narrowed_by(
     alloc: Global,
     scope: &ReferenceTable<'_>,

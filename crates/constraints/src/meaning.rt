@@ -35,8 +35,8 @@ pub(crate) enum Wrong {
     At(Rule, usize),
 }
 
-/// What a constraint means: the numbers or sizes that it allows, or the characters; and whether an extension marker stands in
-/// it.
+/// What a constraint means: the numbers or sizes that it allows, or the characters; and whether an extension marker
+/// stands in it.
 #[derive(Drop)]
 pub(crate) struct Meaning {
     pub numbers: Option<Ranges>,

@@ -10,8 +10,8 @@ use asn_base::tag::{Class, Tag};
 use leaf_contents::{push_digits, push_septets};
 use std::alloc::AllocError;
 
-/// Adds the header with the fewest octets that tells the tag, the form and so many octets of contents (X.690, 8.1.2, 8.1.3
-/// and 10.1). An `Err` is want of memory, and adds nothing.
+/// Adds the header with the fewest octets that tells the tag, the form and so many octets of contents (X.690, 8.1.2,
+/// 8.1.3 and 10.1). An `Err` is want of memory, and adds nothing.
 pub fn push_header(
     out: &mut Vec<u8>,
     tag: Tag,

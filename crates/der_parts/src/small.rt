@@ -19,8 +19,8 @@ pub struct Small {
     pub octets: [u8; 23],
 }
 
-/// The header with the fewest octets and the contents behind it, where both have few octets and their octets stand in one
-/// piece; None for all others.
+/// The header with the fewest octets and the contents behind it, where both have few octets and their octets stand in
+/// one piece; None for all others.
 pub fn small_part(tag: Tag, constructed: bool, octets: &LeafOctets) -> Option<Small>
     ensures held { IfSome result (λ s. held s
         ≡ shortest_header tag constructed (length (joined_pieces octets.now)) ++ joined_pieces octets.now) }

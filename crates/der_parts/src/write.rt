@@ -11,8 +11,8 @@ use leaf_contents::law::one_contents;
 use leaf_contents::leaf_octets;
 use sinks::Sink;
 
-/// Writes the parts to the sink, one behind the other, and takes no memory of its own. An `Err` tells how many octets went
-/// out before the one call of the sink that failed, which isn't tried again.
+/// Writes the parts to the sink, one behind the other, and takes no memory of its own. An `Err` tells how many octets
+/// went out before the one call of the sink that failed, which isn't tried again.
 pub fn write_parts<S: Sink>(sink: &mut S, parts: &[Part]) -> Result<(), u64>
     requires room { S.failed sink.old < u64.MAX }
     requires spelled { (o : List ℕ) × Spell parts.now o × (length o < 2 ^ 64) }

@@ -1,4 +1,5 @@
--- Values that hold no others have contents by the distinguished rules, and contents have headers or are too long for any.
+-- Values that hold no others have contents by the distinguished rules, and contents have headers or are too long for
+-- any.
 use Rattle.std.proofs.Common.{arith, ℕ, ◌+◌, ◌*◌, ◌/◌, ◌<◌, ◌≤◌, ◌^◌, ◌⊎◌, inl, inr, ⊎_elim, Bool, true, false, cond, List, [], ◌∷◌, ◌++◌, length, refl, ◌∙◌, length-append}
 use Rattle.std.proofs.lemmas.List.{append-nil}
 use Rattle.std.proofs.lemmas.Int.Digits.{length-digits_of-le}

@@ -1,4 +1,5 @@
--- Worked rows: identifier and length octets at the edges of their forms, and the greatest numbers in seven bits an octet.
+-- Worked rows: identifier and length octets at the edges of their forms, and the greatest numbers in seven bits an
+-- octet.
 use Rattle.std.proofs.Common.{arith, lit<, ◌≡◌, ℕ, zero, suc, ◌+◌, ◌*◌, ◌/◌, ◌%◌, ◌<◌, ◌≤◌, true, false, cond, List, [], ◌∷◌, ◌++◌, length, map, refl, ap, ◌∙◌, length-append}
 use Rattle.std.proofs.lemmas.Int.Digits.{digits_of_step}
 use Rattle.std.specs.Prelude.{flat_map, nat_lt}
@@ -8,7 +9,8 @@ use Rattle.encodings.specs.Header.{septets, identifier, LengthOf, short, long, L
 use Rattle.encodings.specs.Fewest.{shortest_size}
 use Rattle.encodings.specs.Contents.{joined}
 
--- ---- identifiers: [APPLICATION 30] is 5E, [APPLICATION 31] is 5F1F, [127] is 9F7F, [128] is 9F8100 and constructed BF8100
+-- ---- identifiers: [APPLICATION 30] is 5E, [APPLICATION 31] is 5F1F, [127] is 9F7F, [128] is 9F8100 and constructed
+-- BF8100
 
 number_30 : identifier Application 30 false ≡ 94 ∷ []
 unfolding identifier
@@ -180,7 +182,8 @@ two_and_8 = more 128 8796093022208 1125899906842624 (2 ∷ 0 ∷ 0 ∷ 0 ∷ 0 �
 two_and_9 : digits_of 128 144115188075855872 ≡ 2 ∷ 0 ∷ 0 ∷ 0 ∷ 0 ∷ 0 ∷ 0 ∷ 0 ∷ 0 ∷ []
 two_and_9 = more 128 1125899906842624 144115188075855872 (2 ∷ 0 ∷ 0 ∷ 0 ∷ 0 ∷ 0 ∷ 0 ∷ 0 ∷ []) (lit< tt) (lit< tt) refl two_and_8
 
--- {2 18446744073709551615} begins with 18446744073709551695, 8280808080808080804F; {0 39} is 27, {1 39} is 4F and {2 0} 50
+-- {2 18446744073709551615} begins with 18446744073709551695, 8280808080808080804F; {0 39} is 27, {1 39} is 4F and {2 0}
+-- 50
 greatest_arcs : septets 18446744073709551695 ≡ 130 ∷ 128 ∷ 128 ∷ 128 ∷ 128 ∷ 128 ∷ 128 ∷ 128 ∷ 128 ∷ 79 ∷ []
 greatest_arcs = in_septets 18446744073709551695 144115188075855872 (2 ∷ 0 ∷ 0 ∷ 0 ∷ 0 ∷ 0 ∷ 0 ∷ 0 ∷ 0 ∷ []) refl two_and_9
 

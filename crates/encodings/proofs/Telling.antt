@@ -1,4 +1,5 @@
--- What an account tells is an encoding by the distinguished rules but for the order in sets, and the only one that it tells.
+-- What an account tells is an encoding by the distinguished rules but for the order in sets, and the only one that it
+-- tells.
 use Rattle.std.proofs.Common.{arith, ◌≡◌, ℕ, suc, Bool, true, List, [], ◌∷◌, refl, sym, ap, subst, ◌∙◌}
 use Rattle.std.specs.List.{concat, AllByRecursion}
 use Rattle.std.proofs.lemmas.List.{append-nil}

@@ -211,8 +211,8 @@ pub fn message_laws()
         → IsValue s t w }
 {}
 
-/// An account of an encoding tells its octets, and they are a shortest one: whatever the order in SET and SET OF, none by
-/// the basic rules has fewer. Each encoding by the distinguished rules has one.
+/// An account of an encoding tells its octets, and they are a shortest one: whatever the order in SET and SET OF, none
+/// by the basic rules has fewer. Each encoding by the distinguished rules has one.
 pub fn account_laws()
     // A type, a value and an account have one list of octets.
     ensures one { (s : List Resolved) (t : ℕ) (v : AbstractValue) (o p : List ℕ) (a : Account)

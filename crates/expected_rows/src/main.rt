@@ -1,8 +1,9 @@
 //! Compares what can come next in modules' texts by the rules of `expected_tokens` with what the parser takes.
 //!
-//! The words of the command line are files of rows. Each text of a row is a module; its line tells at how many places, from the
-//! front of the text to its end, and with how many kinds of tokens at all of them the text can go on, where both agree at each
-//! place about each kind. Where they don't, a line tells the place, the token and which of the two takes it.
+//! The words of the command line are files of rows. Each text of a row is a module; its line tells at how many places,
+//! from the front of the text to its end, and with how many kinds of tokens at all of them the text can go on, where
+//! both agree at each place about each kind. Where they don't, a line tells the place, the token and which of the two
+//! takes it.
 #![tactic(auto)]
 
 use expected_tokens::{ALL, expected};

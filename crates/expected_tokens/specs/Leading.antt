@@ -13,8 +13,8 @@ abbrev pub IsOne : {X : Type 0} → List X → X → Type 0
 IsOne [] x = ⊥
 IsOne (y ∷ ys) x = (y ≡ x) ⊎ IsOne ys x
 
--- Parts that stand for a text which begins with these tokens; behind them the other parts stand for what follows. A part is its
--- token, or what a rule of its symbol says.
+-- Parts that stand for a text which begins with these tokens; behind them the other parts stand for what follows. A
+-- part is its token, or what a rule of its symbol says.
 pub data Leads : List Part → List TokenKind → List Part → Type 0 where
   here : {is : List Part} → Leads is [] is
   token : {is js : List Part} {ts : List TokenKind} (k : TokenKind) → Leads is ts js → Leads (Is k ∷ is) (k ∷ ts) js

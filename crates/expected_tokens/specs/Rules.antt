@@ -1,5 +1,6 @@
--- The rules of the notation (X.680, clauses 13 to 51), each with a token in front or none. They say what the productions of
--- modules, types, constraints and values say (the specs of module_head, type_parts, type_syntax, notation and syntax).
+-- The rules of the notation (X.680, clauses 13 to 51), each with a token in front or none. They say what the
+-- productions of modules, types, constraints and values say (the specs of module_head, type_parts, type_syntax,
+-- notation and syntax).
 use Rattle.std.specs.Prelude.{List, [], ◌∷◌}
 use Rattle.text.specs.declared.token.TokenKind.{TokenKind}
 use Rattle.text.specs.declared.token.TokenKind.TheVariants as kinds

@@ -68,8 +68,8 @@ fn put_those_that_go(
 
 /// The kinds of tokens that can come next behind some tokens in a module's text.
 ///
-/// None can where a module ends there, or where no module begins with these tokens. Linear in the number of tokens, where
-/// things nest as deep as a module may have them. `AllocError` where memory runs out.
+/// None can where a module ends there, or where no module begins with these tokens. Linear in the number of tokens,
+/// where things nest as deep as a module may have them. `AllocError` where memory runs out.
 pub fn expected(alloc: Global, tokens: &[Token]) -> Result<Vec<TokenKind>, AllocError>
     ensures { IfOk result (λ v. (k : TokenKind') → IsOne v.items k ↔ CanFollow (kinds_of tokens.now) k) }
 {

@@ -1,4 +1,5 @@
-//! Which tokens can come next in a module's text: the rules of the notation, and what can stand behind a front of a text by them.
+//! Which tokens can come next in a module's text: the rules of the notation, and what can stand behind a front of a
+//! text by them.
 #![tactic(auto)]
 
 mod following;

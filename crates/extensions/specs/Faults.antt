@@ -1,6 +1,6 @@
--- What faults say of bounded modules: of a program p. Each is the first in this order: what stands behind markers, then the
--- DEFAULTs, by the numbers of the types that they are written in and in each from the front, then the values that are
--- assigned, by number.
+-- What faults say of bounded modules: of a program p. Each is the first in this order: what stands behind markers, then
+-- the DEFAULTs, by the numbers of the types that they are written in and in each from the front, then the values that
+-- are assigned, by number.
 use Rattle.std.specs.Prelude.{◌≡◌, ◌<◌, ℕ, Bool, Some, [], List, slice_get}
 use Rattle.trees.specs.declared.types.ListKind.{ListKind}
 use Rattle.trees.specs.Values.{Name, Tree}
@@ -19,8 +19,8 @@ use Rattle.extensions.specs.Settles.{HasValue}
 use Rattle.extensions.specs.declared.fault.ExtFault.{ExtFault}
 use Rattle.extensions.specs.declared.fault.ExtFault.TheVariants.{Memory, Additions, Default, Assigned}
 
--- the fault, which is no want of memory, stands in notation n, read in module M under type i: so that stands for no value of
--- the type
+-- the fault, which is no want of memory, stands in notation n, read in module M under type i: so that stands for no
+-- value of the type
 pub record IsWrong (p : Program) (M : Name) (i : ℕ) (n : Tree) (f : ValueFault) : Type 0 where
   pub caused : f.cause ≡ causes.Memory → ⊥
   pub stands : typed.Stands p 64 16777216 [] M i n f

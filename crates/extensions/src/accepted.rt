@@ -28,9 +28,9 @@ fn accepted(bounded: &Bounded<'_>, types: Vec<Resolved>) -> Schema
     Schema::of(types)
 }
 
-/// The schema of bounded modules: a type for each written one, by the same number ([`settled_types`]), which keeps what an accepted
-/// schema does. Or the first fault: 55, 56 or 57, what is wrong with the notation of a DEFAULT or of a value assignment, or `Memory`.
-/// The modules are as parsing and linking leave them.
+/// The schema of bounded modules: a type for each written one, by the same number ([`settled_types`]), which keeps what
+/// an accepted schema does. Or the first fault: 55, 56 or 57, what is wrong with the notation of a DEFAULT or of a
+/// value assignment, or `Memory`. The modules are as parsing and linking leave them.
 pub fn settle<'a>(alloc: Global, bounded: &Bounded<'a>) -> Result<Schema, ExtFault<'a>>
     requires { IsRead bounded.now }
     ensures { MatchResult result (Settles bounded.now) (Stands bounded.now) }

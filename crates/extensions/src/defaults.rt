@@ -126,7 +126,8 @@ fn put(table: &mut Vec<Vec<Option<Value>>>, values: Vec<Option<Value>>) -> Resul
     Ok(())
 }
 
-/// The values of all DEFAULTs, by the numbers of the types that they are written in; or the first fault that stands in one.
+/// The values of all DEFAULTs, by the numbers of the types that they are written in; or the first fault that stands in
+/// one.
 pub(crate) fn all_defaults<'a>(
     alloc: Global,
     bounded: &Bounded<'a>,

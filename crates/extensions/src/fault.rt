@@ -44,7 +44,8 @@ pub(crate) fn of_additions<'a>(fault: AdditionFault) -> ExtFault<'a>
 
 /// The fault that a value assignment stands for no value.
 pub(crate) fn of_assigned<'a>(wrong: Wrong<'a>) -> ExtFault<'a>
-    ensures { (p : Program) → KeepAdditions p.types → AreTypedDefaults p → Tells (IsFirstValue p) wrong.entry → Stands p result }
+    ensures { (p : Program) → KeepAdditions p.types → AreTypedDefaults p → Tells (IsFirstValue p) wrong.entry
+        → Stands p result }
 {
     match wrong {
         Wrong::Memory => ExtFault::Memory,

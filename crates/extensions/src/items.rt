@@ -122,8 +122,8 @@ fn has_marker(given: &EnumeratedSyntax) -> bool
     }
 }
 
-/// What an ENUMERATED type is in a schema: its items with their numbers (X.680, clauses 20.5 and 20.6), those of the root and
-/// those behind the marker each in order of number.
+/// What an ENUMERATED type is in a schema: its items with their numbers (X.680, clauses 20.5 and 20.6), those of the
+/// root and those behind the marker each in order of number.
 pub(crate) fn enumeration(alloc: Global, given: &EnumeratedSyntax) -> Result<Core, AllocError>
     requires { IsSoundEnumeration (root_of given.now) (more_of given.now) }
     ensures { (p : Program) (i : ℕ) (M : Name) → IfOk result (λ c.

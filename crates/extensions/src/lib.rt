@@ -1,4 +1,5 @@
-//! The schema of bounded modules, once their additions, their DEFAULTs and their value assignments are as they have to be.
+//! The schema of bounded modules, once their additions, their DEFAULTs and their value assignments are as they have to
+//! be.
 #![tactic(auto)]
 
 mod accepted;

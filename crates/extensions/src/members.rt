@@ -35,7 +35,8 @@ fn is_optional(part: &Part) -> bool
 /// A copy of the value of a DEFAULT.
 fn default_value(alloc: Global, default: &Option<Value>) -> Result<Presence, AllocError>
     requires { default.now ≡ None → ⊥ }
-    ensures { IfOk result (λ r. (v : AbstractValue) → option_map abstract default.now ≡ Some v → presence_seen r ≡ types.default v) }
+    ensures { IfOk result (λ r. (v : AbstractValue) → option_map abstract default.now ≡ Some v
+        → presence_seen r ≡ types.default v) }
 {
     match default {
         None => unreachable!(),

@@ -16,10 +16,11 @@ use constraints::Bounded;
 use std::alloc::Global;
 use typed_values::Defaults;
 
-/// The types of the schema of bounded modules: one for each written type, by the same number. What stands behind extension markers
-/// is checked first, then each DEFAULT is typed (X.680, clause 25.1), in the order of written types, then each value assignment (clause
-/// 16.2). Or the first fault in this order: 55, 56 or 57, what is wrong with a notation, or `Memory`. The modules are as
-/// parsing and linking leave them.
+/// The types of the schema of bounded modules: one for each written type, by the same number. What stands behind
+/// extension markers is checked first, then each DEFAULT is typed (X.680, clause 25.1), in the order of written types,
+/// then each value assignment (clause
+/// 16.2). Or the first fault in this order: 55, 56 or 57, what is wrong with a notation, or `Memory`. The modules are
+/// as parsing and linking leave them.
 pub fn settled_types<'a>(
     alloc: Global,
     bounded: &Bounded<'a>,

@@ -9,7 +9,7 @@ use asn_base::schema::TypeId;
 use asn_base::tag::Tag;
 use constraints::Bounded;
 use std::alloc::{AllocError, Global};
-use tagging::{TagForm, FormedTag, tags_of};
+use tagging::{FormedTag, TagForm, tags_of};
 
 /// Whether a tag stands in place of the tag after it.
 fn replaces(form: TagForm) -> bool
@@ -44,8 +44,8 @@ fn standing(alloc: Global, path: &[FormedTag]) -> Result<Vec<Tag>, AllocError>
     Ok(tags)
 }
 
-/// The tags that stand before the contents of a type, the outermost first: of those that are written, automatic or its own
-/// each but one that an implicit tag stands in place of (X.680, clause 31.2.7; X.690, clause 8.14).
+/// The tags that stand before the contents of a type, the outermost first: of those that are written, automatic or its
+/// own each but one that an implicit tag stands in place of (X.680, clause 31.2.7; X.690, clause 8.14).
 pub(crate) fn tags(alloc: Global, bounded: &Bounded<'_>, ty: TypeId) -> Result<Vec<Tag>, AllocError>
     requires { ty.index < length bounded.now.types }
     ensures { IfOk result (λ v. (p : Path) × Tags bounded.now.types ty.index p × (map label v.items ≡ standing' p)) }

@@ -36,7 +36,8 @@ fn elements_core(
 ) -> Result<Core, AllocError>
     requires there { ty.index < length bounded.now.types }
     requires is { IsOfKind bounded.now.types ty.index (elements kind element) }
-    ensures { (M : Name) → IfOk result (λ c. IsCoreOf bounded.now ty.index M (elements kind element) (resolved_kind c)) }
+    ensures { (M : Name)
+        → IfOk result (λ c. IsCoreOf bounded.now ty.index M (elements kind element) (resolved_kind c)) }
 {
     let element = TypeId { index: element };
     match constraint(alloc, bounded, ty) {
@@ -80,10 +81,10 @@ fn core(
     }
 }
 
-/// The resolved type of a written one (X.680, clauses 17 to 33, 41 and 49 to 51): the tags that stand before its contents, what
-/// it is behind its references and tags, with what its constraints leave, the items of an enumeration by number, components
-/// and alternatives in order, and of a list the DEFAULTs, which are handed in, one of each component, None where it has none.
-/// It refuses for want of memory alone.
+/// The resolved type of a written one (X.680, clauses 17 to 33, 41 and 49 to 51): the tags that stand before its
+/// contents, what it is behind its references and tags, with what its constraints leave, the items of an enumeration by
+/// number, components and alternatives in order, and of a list the DEFAULTs, which are handed in, one of each
+/// component, None where it has none. It refuses for want of memory alone.
 pub(crate) fn resolved(
     alloc: Global,
     bounded: &Bounded<'_>,

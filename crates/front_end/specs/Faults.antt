@@ -1,6 +1,6 @@
 -- Why texts are not accepted: which fault stands, the first one in reading order. Each text is read in turn, its octets
--- and then its tokens; behind all texts come names, tags, constraints, and last what stands behind markers, DEFAULTs and
--- value assignments.
+-- and then its tokens; behind all texts come names, tags, constraints, and last what stands behind markers, DEFAULTs
+-- and value assignments.
 use Rattle.std.specs.Prelude.{◌≡◌, ◌<◌, ℕ, List, Some, slice_get}
 use Rattle.std.specs.List.{AllZip}
 use Rattle.text.specs.declared.fault.LexFault.{LexFault}
@@ -62,8 +62,8 @@ pub record Tells (p : Program) (P : ValueFault → Type 0) (t : ValueTold) : Typ
   pub stands : P fault
   pub told : IsTold p fault t
 
--- The fault stands in linked modules: in their tags; else in their constraints; else behind a marker, in a DEFAULT, or in
--- a value assignment. Memory says nothing.
+-- The fault stands in linked modules: in their tags; else in their constraints; else behind a marker, in a DEFAULT, or
+-- in a value assignment. Memory says nothing.
 abbrev pub IsLinkedFault : Program → FrontFault → Type 0
 IsLinkedFault p faults.Memory = Unit {0}
 IsLinkedFault p (faults.Tag f) = (f ≡ tags.Memory → ⊥) × tagging.Stands p f

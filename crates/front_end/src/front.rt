@@ -25,9 +25,9 @@ pub struct Front {
 
 /// The program and the types of texts, each of which is one module.
 ///
-/// The first fault is answered, in this order: of the octets and then of the tokens of each text in turn; of the names of
-/// all modules; of tags; of constraints; of what stands behind markers, of DEFAULTs and of value assignments. `Memory`
-/// where there was not enough of it.
+/// The first fault is answered, in this order: of the octets and then of the tokens of each text in turn; of the names
+/// of all modules; of tags; of constraints; of what stands behind markers, of DEFAULTs and of value assignments.
+/// `Memory` where there was not enough of it.
 pub fn open(alloc: Global, texts: &[Vec<u8>]) -> Result<Front, FrontFault>
     // The texts are accepted, as this program with these types.
     ensures accepted { IfOk result (λ f. Accepted (map octets_of texts.now) f.linked f.schema) }

@@ -16,8 +16,8 @@ ghost use Rattle.front_end.specs.Untyped.{StandsFor};
 ghost use Rattle.front_end.specs.declared.fault.FrontFault.{FrontFault as FrontFault'};
 ghost use Rattle.front_end.specs.declared.fault.FrontFault.TheVariants.{Memory};
 
-/// Texts in which a fault stands, other than want of memory, are not accepted: so [`crate::open`] succeeds, memory apart, just
-/// where they are.
+/// Texts in which a fault stands, other than want of memory, are not accepted: so [`crate::open`] succeeds, memory
+/// apart, just where they are.
 pub fn faults_exclude()
     ensures { (xs : List (List ℕ)) (p : Program) (e : FrontFault') →
         (e ≡ Memory → ⊥) →
@@ -54,7 +54,8 @@ pub fn one_program()
 
 /// Modules that texts are, once they are linked, are what settling takes.
 pub fn modules_are_read()
-    ensures { (xs : List (List ℕ)) (ms : List ModuleTree) (p : Program) → AllZip IsModule xs ms → Links ms p → IsRead p }
+    ensures { (xs : List (List ℕ)) (ms : List ModuleTree) (p : Program) → AllZip IsModule xs ms → Links ms p
+        → IsRead p }
 {
     spelled::law::modules_are_spelled();
     extensions::law::linked_are_read();

@@ -29,7 +29,8 @@ pub enum Untyped {
     Told(ValueTold),
 }
 
-/// The modules of accepted texts, whose names have their meanings, and whose types, DEFAULTs and values are as they have to be.
+/// The modules of accepted texts, whose names have their meanings, and whose types, DEFAULTs and values are as they
+/// have to be.
 #[derive(Drop)]
 pub struct Modules {
     linked: Linked,
@@ -147,9 +148,9 @@ impl Modules {
         let _linked = &self.linked;
     }
 
-    /// The value that a notation, read in the module `within`, stands for under a type (X.680, clause 17). Where it stands for
-    /// none, what is told of it: the reason, the module, the name and the place, and what was expected there. `Memory` where
-    /// there was not enough of it.
+    /// The value that a notation, read in the module `within`, stands for under a type (X.680, clause 17). Where it
+    /// stands for none, what is told of it: the reason, the module, the name and the place, and what was expected
+    /// there. `Memory` where there was not enough of it.
     pub fn typed(
         &self,
         alloc: Global,

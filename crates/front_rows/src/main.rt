@@ -16,9 +16,9 @@
 //!
 //! Trees are written as notation that tells apart what one notation may mean. `numbers{1 2}`, `items{1, 2}` and
 //! `fields{a = 1, b = 2}` are values in braces; a text stands between back quotes, two quotes as one. `<..>` stands
-//! around a type and the constraints behind it. Sizes and alphabets are `(SIZE 1..2)` and ``(FROM `a`..`z`)``. A list or an
-//! enumeration with an extension marker has `...` behind its word or its root items; a member behind the marker stands
-//! behind `+`, and one in version brackets behind `+` and their number.
+//! around a type and the constraints behind it. Sizes and alphabets are `(SIZE 1..2)` and ``(FROM `a`..`z`)``. A list
+//! or an enumeration with an extension marker has `...` behind its word or its root items; a member behind the marker
+//! stands behind `+`, and one in version brackets behind `+` and their number.
 #![tactic(auto)]
 
 mod ask;

@@ -16,7 +16,8 @@ abbrev pub more : ℕ → ℕ → ℕ
 more zero n = n
 more (suc over) n = suc n
 
--- That number where n lexemes are behind what can go on: where over is 1 at a limit, the lexeme that passes it can go on too.
+-- That number where n lexemes are behind what can go on: where over is 1 at a limit, the lexeme that passes it can go
+-- on too.
 abbrev pub more_than : Fault → (Limit → ℕ) → ℕ → ℕ
 more_than (Unexpected k) over n = n
 more_than (Beyond l k) over n = more (over l) n

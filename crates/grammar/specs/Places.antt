@@ -4,7 +4,8 @@ use Rattle.grammar.specs.Lexeme.{Lexeme}
 use Rattle.grammar.specs.Grammar.{Grammar}
 use Rattle.grammar.specs.Reading.{Limit, Nesting, Integer, TagNumber}
 
--- What each limit allows: how many things may be open at one place, which numbers with no minus, and which numbers of tags.
+-- What each limit allows: how many things may be open at one place, which numbers with no minus, and which numbers of
+-- tags.
 pub record Limits : Type 0 where
   pub nesting : ℕ
   pub number : ℕ → Bool

@@ -12,7 +12,8 @@ use Rattle.grammar.specs.Numbers.{Past, fitting_sound, fitting_passes, fitting_s
 use Rattle.grammar.specs.Parts.{SoundReader, IsKind, token_sound, token_finds, token_solid, made_sound, made_finds, made_solid, seq_finds, open_finds, open_solid, pair_sound, pair_finds, pair_solid, pick, pick_sound, pick_finds, either_solid, perhaps, optional_sound, optional_finds, same_sound, same_finds}
 use Rattle.grammar.specs.Manies.{many_sound, many_finds}
 
--- What a reader owes a production: where s is asked, what is read is so; where f is asked, no front is refused and each whole is read.
+-- What a reader owes a production: where s is asked, what is read is so; where f is asked, no front is refused and each
+-- whole is read.
 pub record OwesLoosely {A : Type 0} (s f : Type 0) (over : Limit → ℕ) (within : Limit → Type 0) (g : Grammar A) (starts ends : Lexeme → Bool) (read : Reader A) : Type 0 where
   pub sound : s → SoundReader over g read
   pub finds : f → Finds within g starts ends read

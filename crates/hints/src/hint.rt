@@ -110,8 +110,8 @@ fn expected_near<'a>(expected: &'a str, name: &str) -> Option<&'a str> {
     None
 }
 
-/// What a name that means nothing may have been meant for, in words: a name among those that were expected, a word of the
-/// notation, or a name of the texts; nothing where none of them is near.
+/// What a name that means nothing may have been meant for, in words: a name among those that were expected, a word of
+/// the notation, or a name of the texts; nothing where none of them is near.
 pub fn did_you_mean(
     alloc: Global,
     texts: &[Vec<u8>],

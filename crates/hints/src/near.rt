@@ -32,8 +32,9 @@ fn are_swapped(one: &[u8], other: &[u8]) -> bool {
     }
 }
 
-/// Whether one name may have been meant for the other: they are not the same, and differ in the case of letters alone, or in
-/// one octet that is another one, is missing or is too many, or in two that are swapped. Short names differ in their case alone.
+/// Whether one name may have been meant for the other: they are not the same, and differ in the case of letters alone,
+/// or in one octet that is another one, is missing or is too many, or in two that are swapped. Short names differ in
+/// their case alone.
 pub fn is_near(one: &[u8], other: &[u8]) -> bool {
     if one == other {
         return false;

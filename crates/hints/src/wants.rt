@@ -118,7 +118,8 @@ fn join(words: &mut String, thing: &str) -> Result<(), AllocError> {
     Ok(())
 }
 
-/// Kinds of tokens in words: as a type or a value, where all stand there that one of these begins with, else one by one.
+/// Kinds of tokens in words: as a type or a value, where all stand there that one of these begins with, else one by
+/// one.
 fn list(alloc: Global, kinds: &[TokenKind]) -> Result<String, AllocError> {
     let mut words = String::new(alloc);
     let types = is_place_of_type(kinds);

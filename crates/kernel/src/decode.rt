@@ -11,8 +11,8 @@ ghost use Rattle.grammar.specs.Lexeme.{digit_of, digits_between, single_quotes, 
 ghost use Rattle.grammar.specs.Places.{small};
 ghost use Rattle.kernel.specs.Given.{IsTokenOf};
 
-use limits::MAX_NUMBER;
 use crate::fault::{Limit, ReadError};
+use limits::MAX_NUMBER;
 use std::alloc::{AllocError, Global};
 use text::Token;
 use trees::At;

@@ -1,5 +1,5 @@
-//! Tests of a kit's calls, where each growth is refused in turn and each call of a sink fails in turn. There is no code but
-//! tests, and it stands at the top, so that no crate below is proved again for them.
+//! Tests of a kit's calls, where each growth is refused in turn and each call of a sink fails in turn. There is no code
+//! but tests, and it stands at the top, so that no crate below is proved again for them.
 #![tactic(auto)]
 
 #[cfg(test)]

@@ -112,8 +112,8 @@ abbrev pub leads : List Resolved → ℕ → List ℕ → Option ℕ
 leads s t [] = Some t
 leads s t (i ∷ places) = elim (slice_get (members_of s t) i) [ None ↦ None | Some u ↦ leads s u places ]
 
--- Type t' of schema s' is a later version of type t of schema s: wherever one list of places leads from both, it leads to
--- a type and a later one.
+-- Type t' of schema s' is a later version of type t of schema s: wherever one list of places leads from both, it leads
+-- to a type and a later one.
 abbrev pub Later : (s : List Resolved) (t : ℕ) (s' : List Resolved) (t' : ℕ) → Type 0
 Later s t s' t' =
     (places : List ℕ) (u u' : ℕ) (q r : Resolved)

@@ -76,8 +76,8 @@ fn are_later_lists(
     }
 }
 
-/// Whether what a type of the first schema holds is what it may hold in a later version, of the second schema. The types of
-/// members aren't looked at. It refuses for want of memory alone.
+/// Whether what a type of the first schema holds is what it may hold in a later version, of the second schema. The
+/// types of members aren't looked at. It refuses for want of memory alone.
 pub(crate) fn is_later_kind(
     alloc: Global,
     first: &Schema,

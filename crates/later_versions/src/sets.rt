@@ -122,8 +122,8 @@ fn agree_at_all(ranges: &[Range], one: &Ranges, other: &Ranges) -> bool
     true
 }
 
-/// Whether two sets have the same numbers: they agree below all edges of their ranges and at each. For n ranges it takes
-/// time as n log n, and no memory.
+/// Whether two sets have the same numbers: they agree below all edges of their ranges and at each. For n ranges it
+/// takes time as n log n, and no memory.
 pub(crate) fn have_same(one: &Ranges, other: &Ranges) -> bool
     ensures { IsTrue result ↔ ((z : ℤ) → IsInSome z one.now ↔ IsInSome z other.now) }
 {

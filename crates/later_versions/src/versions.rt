@@ -100,10 +100,10 @@ fn are_later(
 
 /// Whether the second type, of the second schema, is a later version of the first: the same with additions appended at
 /// extension markers, at any depth (X.680, 7, 20, 25 and 29). Kinds, tags, markers, names, numbers, named bits, what
-/// constraints leave and what the packed encoding sees of them, and OPTIONAL and DEFAULT are alike; a group of additions is
-/// appended whole; a default of the later version has what was appended absent and is else the same. The order in which root
-/// items of an enumeration and named bits were written doesn't count. Each pair of types that one list of members' places
-/// leads to is compared once. It refuses with `AllocError` for want of memory alone.
+/// constraints leave and what the packed encoding sees of them, and OPTIONAL and DEFAULT are alike; a group of
+/// additions is appended whole; a default of the later version has what was appended absent and is else the same. The
+/// order in which root items of an enumeration and named bits were written doesn't count. Each pair of types that one
+/// list of members' places leads to is compared once. It refuses with `AllocError` for want of memory alone.
 pub fn later(
     alloc: Global,
     first: &Schema,

@@ -6,8 +6,8 @@ ghost use Rattle.encodings.specs.Header.{septets};
 ghost use Rattle.leaf_contents.specs.Pieces.{joined_pieces};
 ghost use Rattle.std.specs.Prelude.{◌≡◌, ◌↔◌, IsTrue, flat_map};
 
-use limits::MAX_ARCS;
 use crate::leaf::LeafOctets;
+use limits::MAX_ARCS;
 
 /// Whether these are the numbers of an OBJECT IDENTIFIER (X.680, 32).
 pub(crate) fn is_object_identifier(numbers: &[u64]) -> bool

@@ -35,8 +35,8 @@ fn push_high_septets(out: &mut ArrayVec<u8, 24>, number: u128)
     out.push((number % 128) as u8 + 128);
 }
 
-/// Adds a number in septets, the greatest first, with the top bit set in all but the last (X.690, 8.1.2.4.2 and 8.19.2).
-/// There is room for them.
+/// Adds a number in septets, the greatest first, with the top bit set in all but the last (X.690, 8.1.2.4.2 and
+/// 8.19.2). There is room for them.
 #[tactic(auto, using(crate::proofs::Digits::room_septets, crate::proofs::Digits::length_high))]
 pub fn push_septets(out: &mut ArrayVec<u8, 24>, number: u128)
     requires { length out.old.items + length (septets number) ≤ 24 }

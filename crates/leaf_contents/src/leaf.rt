@@ -34,8 +34,8 @@ pub enum LeafOctets<'a> {
     Arcs(u128, &'a [u64]),
 }
 
-/// The contents octets of the value, where it has contents of this kind, and None where it has none: it is of another kind,
-/// or its numbers are those of no OBJECT IDENTIFIER or RELATIVE-OID.
+/// The contents octets of the value, where it has contents of this kind, and None where it has none: it is of another
+/// kind, or its numbers are those of no OBJECT IDENTIFIER or RELATIVE-OID.
 pub fn leaf_octets(kind: LeafKind, value: &Value) -> Option<LeafOctets<'_>>
     ensures { MatchOption result
         (HasNone kind (abstract value.now))

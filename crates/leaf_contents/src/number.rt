@@ -44,7 +44,8 @@ fn low_octet(number: u128) -> Option<u8>
     }
 }
 
-/// The fewest octets of a number that is not negative: its digits, behind a 0 where they would stand for a negative number.
+/// The fewest octets of a number that is not negative: its digits, behind a 0 where they would stand for a negative
+/// number.
 fn unsigned_octets(number: u128) -> ArrayVec<u8, 24>
     ensures number { Number (pos number) result.items }
     ensures few { length result.items ≤ 17 }

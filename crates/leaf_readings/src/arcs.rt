@@ -9,9 +9,9 @@ ghost use Rattle.leaf_readings.specs.Arcs.{IsTold};
 ghost use Rattle.leaf_readings.specs.proving.Spelled.{Counted, IsJudged};
 ghost use Rattle.std.specs.Prelude.{◌≡◌, ◌<◌, ◌++◌, ◌∷◌, ◌↔◌, IfErr, IfNone, IfOk, IfSome, IsTrue, List, [], flat_map, ℕ};
 
-use limits::MAX_ARCS;
 use crate::fault::LeafFault;
 use crate::septets::read_arc;
+use limits::MAX_ARCS;
 
 /// Whether numbers are below 2^64 with one more.
 #[tactic(auto, using(crate::proofs::Spelling::judged_small, crate::proofs::Spelling::judged_great, crate::proofs::Spelling::judged_before))]

@@ -10,9 +10,9 @@ ghost use Rattle.std.specs.Prelude.{◌≡◌, ◌<◌, ◌↔◌, Bool, IsTrue,
 
 use codec_code::LeafKind;
 
-/// Whether primitive contents octets of this kind, which are read by the basic rules, keep the distinguished ones too: TRUE
-/// has all bits set (11.1), the unused bits of a BIT STRING are zeros (11.2.1), and named bits end in a one (11.2.2). It
-/// takes no memory.
+/// Whether primitive contents octets of this kind, which are read by the basic rules, keep the distinguished ones too:
+/// TRUE has all bits set (11.1), the unused bits of a BIT STRING are zeros (11.2.1), and named bits end in a one
+/// (11.2.2). It takes no memory.
 pub fn is_distinguished(kind: LeafKind, contents: &[u8]) -> bool
     ensures { (v : AbstractValue) → Contents Basic (plain kind) v false contents.now
         → IsTrue result ↔ Contents Distinguished (plain kind) v false contents.now }

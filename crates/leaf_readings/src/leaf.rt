@@ -33,12 +33,12 @@ pub enum Leaf<'a> {
     RelativeOid(&'a [u8]),
 }
 
-/// Reads primitive contents octets of this kind by the basic rules (X.690, 8.2 to 8.8, 8.19, 8.20 and 8.23). It takes no
-/// memory. Constraints, and the numbers of an ENUMERATED's items, are not judged.
+/// Reads primitive contents octets of this kind by the basic rules (X.690, 8.2 to 8.8, 8.19, 8.20 and 8.23). It takes
+/// no memory. Constraints, and the numbers of an ENUMERATED's items, are not judged.
 ///
-/// `BadContents` is told where the octets haven't the form of such contents: a number longer than its shortest form, more
-/// than seven unused bits, a text of other characters than its type's. Where they have it, `IntegerLimit` is told of a
-/// number that 16 octets don't hold, and `OidLimit` of more than 64 numbers or one that is 2^64 or greater.
+/// `BadContents` is told where the octets haven't the form of such contents: a number longer than its shortest form,
+/// more than seven unused bits, a text of other characters than its type's. Where they have it, `IntegerLimit` is told
+/// of a number that 16 octets don't hold, and `OidLimit` of more than 64 numbers or one that is 2^64 or greater.
 pub fn read_leaf(kind: LeafKind, contents: &[u8]) -> Result<Leaf<'_>, LeafFault>
     ensures ok { IfOk result (λ l. Reads kind contents.now l) }
     ensures err { IfErr result (λ e. Stands e kind contents.now) }

@@ -1,5 +1,6 @@
-//! The limits within which texts, schemas, values and messages are taken, each written once. Contracts state their numbers in
-//! digits, so that a reader sees them there; what is beyond a limit is refused with a fault of its own, never cut off.
+//! The limits within which texts, schemas, values and messages are taken, each written once. Contracts state their
+//! numbers in digits, so that a reader sees them there; what is beyond a limit is refused with a fault of its own,
+//! never cut off.
 
 #![tactic(auto)]
 

@@ -1,5 +1,5 @@
-//! Each call answers `Memory` or what it answers with ample memory. After a refusal, what it was lent to change is as it
-//! was, and the same call with ample memory gives the answer.
+//! Each call answers `Memory` or what it answers with ample memory. After a refusal, what it was lent to change is as
+//! it was, and the same call with ample memory gives the answer.
 
 mod front;
 mod headers;

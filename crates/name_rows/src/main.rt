@@ -1,8 +1,10 @@
-//! Answers rows of data by the public calls of the crates that link and tag modules, and prints each answer below its row's words.
+//! Answers rows of data by the public calls of the crates that link and tag modules, and prints each answer below its
+//! row's words.
 //!
-//! The files that its words name are files of rows. A row's first word is a command and its second the row's own name: `link` or
-//! `tags`, described where it is answered and at the head of the files that use it. The answers that the stored run compares are
-//! written by hand, not taken from this program. A row with `numbered` among its words has each `#` of its texts counted, from 0.
+//! The files that its words name are files of rows. A row's first word is a command and its second the row's own name:
+//! `link` or `tags`, described where it is answered and at the head of the files that use it. The answers that the
+//! stored run compares are written by hand, not taken from this program. A row with `numbered` among its words has each
+//! `#` of its texts counted, from 0.
 #![tactic(auto)]
 
 mod links;

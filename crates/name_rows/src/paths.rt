@@ -4,7 +4,7 @@ use crate::printed;
 use row_files::Row;
 use row_texts::{Refusal, asked, linked, told, type_at};
 use std::alloc::{AllocError, Global};
-use tagging::{TagForm, FormedTag, Tagged, tag, tags_of};
+use tagging::{FormedTag, TagForm, Tagged, tag, tags_of};
 
 /// Tags with their forms, the outermost first.
 fn printed_path(alloc: Global, path: &[FormedTag]) -> Result<String, AllocError> {

@@ -36,8 +36,8 @@ pub enum NameFault {
     /// A limit is passed in this assignment.
     #[error("2 Limit({0:?}): {1}")]
     Limit(Limit, Spot),
-    /// In the module this name is given twice: by modules, by assignments and imports, by the identifiers of one list, or
-    /// by the names of one number. The place is that of the second of two names.
+    /// In the module this name is given twice: by modules, by assignments and imports, by the identifiers of one list,
+    /// or by the names of one number. The place is that of the second of two names.
     #[error("30 Twice: {0}")]
     Twice(Spot),
     /// In the module this name stands for nothing.

@@ -1,11 +1,11 @@
 //! What the names of modules stand for: their assignments, imports and exports.
 #![tactic(auto)]
 
+pub mod counts;
 mod exports;
 pub mod fault;
 pub mod gather;
 pub mod law;
-pub mod limits;
 pub mod scope;
 pub mod sources;
 pub mod standing;

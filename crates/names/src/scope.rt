@@ -27,8 +27,8 @@ pub struct Origin {
     pub module: At<String>,
 }
 
-/// A module's names: its assignments, each where its name is written, its imports with their modules, and the names that it exports (all that it assigns
-/// where it lists none).
+/// A module's names: its assignments, each where its name is written, its imports with their modules, and the names
+/// that it exports (all that it assigns where it lists none).
 #[derive(Drop)]
 pub struct Scope {
     pub assigned: IndexMap<String, At<Assigned>>,
@@ -75,8 +75,8 @@ impl Names {
         find_among(&self.modules, within, name)
     }
 
-    /// What a name, behind the name of a module if one is given, stands for in a module. `M.x` may stand in M itself, or where
-    /// x is imported from M.
+    /// What a name, behind the name of a module if one is given, stands for in a module. `M.x` may stand in M itself,
+    /// or where x is imported from M.
     #[tactic(auto, using(crate::specs::proving::Meanings::refers_bare, crate::specs::proving::Meanings::refers_within, crate::specs::proving::Meanings::refers_across, crate::specs::proving::Meanings::refers_not))]
     pub fn refers(&self, within: &str, owner: &Option<String>, name: &str) -> Option<Assigned>
         ensures { (a : Assigned) →

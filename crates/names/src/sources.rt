@@ -9,8 +9,8 @@ pub struct Place {
     pub number: usize,
 }
 
-/// A type that has a number and is still to be taken apart: the number of the assignment that it stands in, and where it
-/// is a member.
+/// A type that has a number and is still to be taken apart: the number of the assignment that it stands in, and where
+/// it is a member.
 #[derive(Drop)]
 pub struct Source {
     pub syntax: TypeSyntax,

@@ -20,8 +20,8 @@ pub struct Unit<'a> {
     pub rest: &'a [u8],
 }
 
-/// The encoding at the front of octets (X.690, 8.1.1), or why none stands there: as `read_header`, which it takes the header
-/// by. It takes no memory.
+/// The encoding at the front of octets (X.690, 8.1.1), or why none stands there: as `read_header`, which it takes the
+/// header by. It takes no memory.
 pub fn next_unit(octets: &[u8]) -> Result<Unit<'_>, HeaderFault>
     ensures ok { IfOk result (λ u. UnitAt u.tag (is_constructed u.form) u.count u.contents.now u.rest.now octets.now) }
     ensures none { IfErr result (λ e. (g : Tag') (c : Bool) (k : ℕ) (x r : List ℕ) → UnitAt g c k x r octets.now → ⊥) }

@@ -179,7 +179,8 @@ pub fn are_read(marks: &[usize], steps: &[Step]) -> bool
 
 /// Whether the component that the step reads was read, if it must stand.
 fn is_read(marks: &[usize], step: Step) -> bool
-    ensures { IsTrue result ↔ ((f : Field') → field_in' step ≡ Some' f → may_be_absent' f.need ≡ false' → IsMember f.place marks.now) }
+    ensures { IsTrue result
+        ↔ ((f : Field') → field_in' step ≡ Some' f → may_be_absent' f.need ≡ false' → IsMember f.place marks.now) }
 {
     match field_in(step) {
         Some(field) => may_be_absent(field.need) || is_in(field.place, marks),

@@ -8,11 +8,11 @@ ghost use Rattle.notation.specs.Value.{values};
 ghost use Rattle.kernel.specs.Given.{IsLexed};
 ghost use Rattle.notation.specs.Answer.{IsThere, Stands};
 
-use limits::MAX_NESTING;
 use crate::fault::SyntaxFault;
 use crate::reading::value;
 use crate::refused::unexpected;
 use kernel::ReadError;
+use limits::MAX_NESTING;
 use std::alloc::Global;
 use text::Token;
 use trees::ValueSyntax;

@@ -79,9 +79,9 @@ pub data AreRead (marks : List ℕ) : List Step → Type 0 where
       → AreRead marks ss
       → AreRead marks (p ∷ ss)
 
--- Additions that the type lacks, as far as they stand: up to a component of which the next tag can be the first, or to the
--- end of the contents. Each is a header, and as many octets as it tells, which are not looked into; none stands in a
--- type that isn't extensible, nor below 400 levels of headers.
+-- Additions that the type lacks, as far as they stand: up to a component of which the next tag can be the first, or to
+-- the end of the contents. Each is a header, and as many octets as it tells, which are not looked into; none stands in
+-- a type that isn't extensible, nor below 400 levels of headers.
 pub data Passes (s : List Resolved) (ss : List Step) (extensible : Bool) : State → Option Field' → State → Type 0 where
   at_end_of_contents : {a : State} → a.here.octets ≡ [] → Passes s ss extensible a None a
   at_component : {a : State} {g : Tag} {c : Bool} {k : ℕ} {x rest : Octets} {f : Field'}

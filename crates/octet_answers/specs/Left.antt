@@ -22,8 +22,8 @@ standing a n = record {
   room = a.room;
 }
 
--- Where the question was asked, behind additions that were passed for it, or at one of the segments of contents. Something
--- is missing only where contents are at their end.
+-- Where the question was asked, behind additions that were passed for it, or at one of the segments of contents.
+-- Something is missing only where contents are at their end.
 pub data Leaves : State → State → ReadFault → Type 0 where
   stays : {a : State} {e : ReadFault} → (e ≡ Missing → a.here.octets ≡ []) → Leaves a a e
   behind_addition : {a b : State} {e : ReadFault} {g : Tag} {c : Bool} {k : ℕ} {x rest : Octets}

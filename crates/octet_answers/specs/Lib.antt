@@ -1,6 +1,6 @@
--- What octets answer to each question of a routine, by the basic rules: an encoding at the front (`Units`), where a reader
--- stands and what it was told (`States`), components and alternatives by the next tag (`Found`), the answers (`Answers`),
--- and where a question without an answer leaves a reader (`Left`).
+-- What octets answer to each question of a routine, by the basic rules: an encoding at the front (`Units`), where a
+-- reader stands and what it was told (`States`), components and alternatives by the next tag (`Found`), the answers
+-- (`Answers`), and where a question without an answer leaves a reader (`Left`).
 pub mod Units
 pub mod States
 pub mod Found

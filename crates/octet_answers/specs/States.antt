@@ -5,8 +5,8 @@ use Rattle.asn_base.specs.Types.{Resolved}
 use Rattle.encodings.specs.Header.{Octets}
 use Rattle.codec_code.specs.declared.step.LeafKind.{LeafKind}
 
--- Contents octets, constructed or not, as far as they are not read; the place in the message of the first of them; and how
--- many components of the SETs around them were read.
+-- Contents octets, constructed or not, as far as they are not read; the place in the message of the first of them; and
+-- how many components of the SETs around them were read.
 pub record Window : Type 0 where
   pub constructed : Bool
   pub octets : Octets

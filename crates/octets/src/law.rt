@@ -10,7 +10,8 @@ ghost use Rattle.std.specs.Prelude.{◌≡◌, ◌≤◌, Bool, List, length, �
 
 use encodings::{header_laws, part_laws};
 
-/// No header of a tag, form and length has fewer octets than the one that is written, and two with the fewest are equal.
+/// No header of a tag, form and length has fewer octets than the one that is written, and two with the fewest are
+/// equal.
 pub fn shortest_headers()
     ensures fewest { (t : Tag) (c : Bool) (n : ℕ) (h : List ℕ)
         → Header t c n h → length (shortest_header t c n) ≤ length h }

@@ -9,13 +9,14 @@ ghost use Rattle.std.specs.Int.Digits.{number_from_digits_after};
 ghost use Rattle.std.specs.Prelude.{◌≡◌, ◌+◌, ◌<◌, ◌≤◌, ◌++◌, ◌∷◌, Bool, Err, IfErr, IfNone, IfOk, IfSome, IsOk, IsTrue, List, length, ℕ};
 ghost use Rattle.asn_base.specs.declared.tag.Tag.{Tag as Tag'};
 
-use limits::MAX_LENGTH;
 use crate::fault::HeaderFault;
 use crate::form::Form;
 use crate::law::one_front;
 use asn_base::tag::{Class, Tag};
+use limits::MAX_LENGTH;
 
-/// What a header tells: the tag, the form, and how many octets of contents follow it; and how many octets it has itself.
+/// What a header tells: the tag, the form, and how many octets of contents follow it; and how many octets it has
+/// itself.
 #[derive(Clone, Copy, Debug, PartialEq, Eq)]
 pub struct Header {
     pub tag: Tag,
@@ -27,8 +28,8 @@ pub struct Header {
 /// Reads the header at the front of octets, in any of its definite forms (X.690, 8.1.2 and 8.1.3). It takes no memory,
 /// and reads nothing behind the header.
 ///
-/// `BadTag` is told where the octets begin with what is no tag's identifier. Behind an identifier `Indefinite` is told of
-/// the octet `80`, and `BadLength` of the octet `FF` and of a length above 16,777,216, once its octets are there.
+/// `BadTag` is told where the octets begin with what is no tag's identifier. Behind an identifier `Indefinite` is told
+/// of the octet `80`, and `BadLength` of the octet `FF` and of a length above 16,777,216, once its octets are there.
 /// `Truncated` is told where the octets end within a header, or before the contents that it tells.
 pub fn read_header(octets: &[u8]) -> Result<Header, HeaderFault>
     ensures ok { IfOk result (λ h. HeaderAt h.tag (is_constructed h.form) h.contents h.octets octets.now) }

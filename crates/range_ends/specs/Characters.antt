@@ -1,5 +1,5 @@
--- The characters that texts and ranges of characters allow (X.680, clauses 51.4 and 51.7). Texts are lists of octets, in
--- UTF-8. A character with a code below 128 is one octet, its code, which stands in no other character.
+-- The characters that texts and ranges of characters allow (X.680, clauses 51.4 and 51.7). Texts are lists of octets,
+-- in UTF-8. A character with a code below 128 is one octet, its code, which stands in no other character.
 use Rattle.std.specs.Prelude.{◌≡◌, ◌⊎◌, ℕ, ◌<◌, ◌≤◌, List, [], ◌∷◌, Option, Some, None}
 use Rattle.std.specs.List.{AllByRecursion}
 use Rattle.std.specs.Str.{IsUtf8, chars}

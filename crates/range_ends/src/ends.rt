@@ -102,8 +102,8 @@ fn farthest_told(
     }
 }
 
-/// The number that a value stands for where a type of a shape is constrained: that which is told at the first named number of
-/// the type, or at the end of the references.
+/// The number that a value stands for where a type of a shape is constrained: that which is told at the first named
+/// number of the type, or at the end of the references.
 fn first_told(
     linked: &Linked,
     behind: &[Option<usize>],

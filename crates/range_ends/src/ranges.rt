@@ -162,8 +162,9 @@ fn range_at(site: &Site<'_>, range: &RangeSyntax) -> Result<Range, RangeFault>
     }
 }
 
-/// Ranges in numbers (X.680, clauses 50.1, 51.2 and 51.4), one for each: a number is in one of them just where the ranges as
-/// they are written allow it. The fault is that of one of the ranges, or tells that there was not enough memory.
+/// Ranges in numbers (X.680, clauses 50.1, 51.2 and 51.4), one for each: a number is in one of them just where the
+/// ranges as they are written allow it. The fault is that of one of the ranges, or tells that there was not enough
+/// memory.
 pub fn ranges_at(
     alloc: Global,
     site: &Site<'_>,

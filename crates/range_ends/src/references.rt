@@ -10,8 +10,8 @@ use resolve::Linked;
 use std::alloc::{AllocError, Global};
 use std::marker::Model;
 
-/// A linked program, and of each value the one that it refers to, and where its references end. Both are found once, in time
-/// as n log n for n values.
+/// A linked program, and of each value the one that it refers to, and where its references end. Both are found once, in
+/// time as n log n for n values.
 #[derive(Drop)]
 pub struct ReferenceTable<'a> {
     linked: &'a Linked,

@@ -79,7 +79,8 @@ impl Ranges {
 
     /// The numbers that are in both sets, in time linear in the number of their ranges. Err where memory is wanting.
     pub fn meet(&self, alloc: Global, other: &Ranges) -> Result<Self, AllocError>
-        ensures members { IfOk result (λ both. (z : ℤ) → IsInSome z both ↔ (IsInSome z self.now × IsInSome z other.now)) }
+        ensures members { IfOk result (λ both. (z : ℤ) → IsInSome z both
+            ↔ (IsInSome z self.now × IsInSome z other.now)) }
     {
         let items = meet(alloc, &self.items, &other.items)?;
         Ok(Ranges { items })

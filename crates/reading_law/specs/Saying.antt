@@ -14,9 +14,9 @@ use Rattle.octet_answers.specs.Answers.{Takes}
 use Rattle.octet_answers.specs.States.{State, front}
 use Rattle.reading_law.specs.Shows.{Shows, passed_in, StandIn}
 
--- A front of the octets says a value of the type as it stands, with so many unknown additions, by the basic rules; it has
--- at most 400 levels of headers, and what is left stands behind it. What was told shows the value, and as many skipped
--- additions; contents octets were told with their places.
+-- A front of the octets says a value of the type as it stands, with so many unknown additions, by the basic rules; it
+-- has at most 400 levels of headers, and what is left stands behind it. What was told shows the value, and as many
+-- skipped additions; contents octets were told with their places.
 pub record IsSaid (s : List Resolved) (t : TypeNumber) (o : Octets) (z : State) : Type 0 where
   pub value : AbstractValue
   pub count : ℕ
@@ -28,8 +28,8 @@ pub record IsSaid (s : List Resolved) (t : TypeNumber) (o : Octets) (z : State) 
   pub counted : passed_in z.told ≡ count
   pub stand : StandIn o z.told
 
--- From the front of a message, where so many values may begin, the type's routine reads the octets that stand first, and
--- no others.
+-- From the front of a message, where so many values may begin, the type's routine reads the octets that stand first,
+-- and no others.
 pub record IsReadTo (s : List Resolved) (t : TypeId) (o rest : Octets) (room : ℕ) : Type 0 where
   pub last : State
   pub reads : Reads (λ u. routine_at s u) Takes t (front s (o ++ rest) room) last

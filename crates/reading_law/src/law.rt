@@ -55,8 +55,8 @@ pub fn said_is_read()
     message_laws();
 }
 
-/// Where the routine of a type stops at the front of octets, what isn't read of them stands at the place that is told, and
-/// contents octets that were read at theirs.
+/// Where the routine of a type stops at the front of octets, what isn't read of them stands at the place that is told,
+/// and contents octets that were read at theirs.
 pub fn stops_in_place()
     ensures stopped { (s : List Resolved) (t : TypeId) (o : List ℕ) (room : ℕ) (z : State) (e : ReadFault)
         → StopsReading (λ u. routine_at s u) Takes (λ a b. Leaves a b e) t (front s o room) z

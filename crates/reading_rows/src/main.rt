@@ -1,8 +1,8 @@
 //! Answers rows of encodings of values that hold no others, read by the public calls of `octets`, `leaf_readings` and
 //! `segmented_strings`, and prints each answer below its row's words.
 //!
-//! The files that its words name are files of rows, each described at its head. The answers that the stored run compares are
-//! written by hand, not taken from this program.
+//! The files that its words name are files of rows, each described at its head. The answers that the stored run
+//! compares are written by hand, not taken from this program.
 #![tactic(auto)]
 
 mod leaf;

@@ -58,7 +58,8 @@ fn join_encoding(
 }
 
 /// `segments NAME KIND LEVELS HEX`: the string that a constructed encoding holds, where so many levels of headers may
-/// stand in its contents; or the fault of its header, or of its contents and at which of their octets it stands, from 0.
+/// stand in its contents; or the fault of its header, or of its contents and at which of their octets it stands, from
+/// 0.
 pub fn answer(alloc: Global, row: &Row) -> Result<String, Refusal> {
     let (Some(name), Some(levels), Some(digits)) = (
         row.words.get(2),

@@ -57,8 +57,8 @@ fn is_value_assigned(tokens: &[Token], place: usize) -> bool {
     is_kind(tokens, next, TokenKind::Mark(Mark::Assign))
 }
 
-/// The number of the text in which something stands: that of its module; of two modules with one name the second, where the
-/// fault is that there are two.
+/// The number of the text in which something stands: that of its module; of two modules with one name the second, where
+/// the fault is that there are two.
 fn text_of_spot(
     alloc: Global,
     texts: &[Vec<u8>],

@@ -116,10 +116,10 @@ fn told_behind(
 }
 
 /// One line that tells a user of a fault that a job met in the texts of its files, as
-/// `error 20 Unexpected: m.asn:3:14: found '}', expected a type`: the number and the name of the fault, the file, the line and
-/// the column of the place, both counted from 1, the column in characters, and what was found and expected there. Where the
-/// job asks for the context and the fault stands at an octet of a text, its line and a line with a caret follow. Of the texts
-/// and of names at most 60 characters are shown at once.
+/// `error 20 Unexpected: m.asn:3:14: found '}', expected a type`: the number and the name of the fault, the file, the
+/// line and the column of the place, both counted from 1, the column in characters, and what was found and expected
+/// there. Where the job asks for the context and the fault stands at an octet of a text, its line and a line with a
+/// caret follow. Of the texts and of names at most 60 characters are shown at once.
 pub fn report(
     alloc: Global,
     job: &Job,

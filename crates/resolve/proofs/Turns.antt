@@ -48,7 +48,8 @@ module _ (ms : List (Name × Module)) (M : Name) where
   pub left_start : (whole : List (Name × Name)) → Left whole whole
   left_start whole = record { good = λ h. h; fault = λ e u. u }
 
-  -- a list of things, of which f tells the names once they are seen by g: thing x stands at i, and those before it are done
+  -- a list of things, of which f tells the names once they are seen by g: thing x stands at i, and those before it are
+  -- done
   module _ {X Y : Type 0} (f : Y → List (Name × Name)) (g : X → Y) (xs : List X) (whole : List (Name × Name)) (i : ℕ) where
     front : (x : X) → i < length xs → x ≡ get_or xs i x →
         each f (map g (drop i xs)) ≡ f (g x) ++ each f (map g (drop (i + 1) xs))

@@ -6,9 +6,9 @@ ghost use Rattle.names.specs.proving.Ready.{IsReady};
 ghost use Rattle.resolve.specs.Links.{Links, IsLinkFault};
 ghost use Rattle.resolve.specs.proving.Assembled.{IsAssembled, IsAssemblyFault};
 
-use limits::MAX_WRITTEN;
 use crate::linked::Linked;
 use crate::sound::sound;
+use limits::MAX_WRITTEN;
 use names::gather::{Gathered, gather};
 use names::law::{ready, stood};
 use names::{NameFault, all_stand, within_limits};

@@ -4,8 +4,8 @@ use crate::refusal::Refusal;
 use row_files::Row;
 use std::alloc::{AllocError, Global};
 
-/// A row's words, and below them the lines of its answer, each behind two blanks. Err where memory is wanting, for the answer
-/// or for the text.
+/// A row's words, and below them the lines of its answer, each behind two blanks. Err where memory is wanting, for the
+/// answer or for the text.
 pub fn entry(
     alloc: Global,
     row: &Row,

@@ -1,5 +1,5 @@
-//! What the texts of a row are, for the programs that answer rows: the modules that they hold, linked, and the types that
-//! words name in them; how a place in a text is told; and how an answer is printed below its row's words.
+//! What the texts of a row are, for the programs that answer rows: the modules that they hold, linked, and the types
+//! that words name in them; how a place in a text is told; and how an answer is printed below its row's words.
 #![tactic(auto)]
 
 mod entries;

@@ -50,8 +50,8 @@ fn member_type(linked: &Linked, list: TypeId, name: &str) -> Option<TypeId> {
     }
 }
 
-/// The type that is named as `Module.Type`, or its member that is named as `Module.Type.member`; None where there is no such
-/// name.
+/// The type that is named as `Module.Type`, or its member that is named as `Module.Type.member`; None where there is no
+/// such name.
 pub fn type_at(linked: &Linked, path: &str) -> Option<TypeId> {
     let (within, rest) = path.split_once('.')?;
     let (name, member) = match rest.split_once('.') {

@@ -1,12 +1,13 @@
-//! Answers rows of data by the calls that the program `asnc` makes, prints each answer below its row's words, and says where it
-//! is another one than the row wants.
+//! Answers rows of data by the calls that the program `asnc` makes, prints each answer below its row's words, and says
+//! where it is another one than the row wants.
 //!
-//! The files that its words name are files of rows. A row's first word is a command and its second the row's own name: `line`,
-//! `asnc` and `job`, each described where it is answered and at the head of the files that use it. A text of a row that is named
-//! `wanted` is the answer that it has to have, as `wanted` says; nothing of it is known here. The answers that the stored run
-//! compares, and what rows want, are written by hand or made by other tools, not taken from this program, but for those of
-//! `hints.rows` and lists of expected tokens, which were compared by hand with the grammar. A row with `caret` among its words is
-//! told with the line of its fault, and a row with `numbered` among its words has each `#` of its texts counted, from 0.
+//! The files that its words name are files of rows. A row's first word is a command and its second the row's own name:
+//! `line`, `asnc` and `job`, each described where it is answered and at the head of the files that use it. A text of a
+//! row that is named `wanted` is the answer that it has to have, as `wanted` says; nothing of it is known here. The
+//! answers that the stored run compares, and what rows want, are written by hand or made by other tools, not taken from
+//! this program, but for those of `hints.rows` and lists of expected tokens, which were compared by hand with the
+//! grammar. A row with `caret` among its words is told with the line of its fault, and a row with `numbered` among its
+//! words has each `#` of its texts counted, from 0.
 #![tactic(auto)]
 
 mod programs;
@@ -31,7 +32,8 @@ fn answer_of(alloc: Global, row: &Row) -> Result<String, Refusal> {
     }
 }
 
-/// A row's words, and below them the lines of its answer, each behind two blanks, and what is wanted where that is another.
+/// A row's words, and below them the lines of its answer, each behind two blanks, and what is wanted where that is
+/// another.
 fn entry(alloc: Global, row: &Row, count: &mut Count) -> Result<String, AllocError> {
     let mut text = String::from_str(alloc, row.command())?;
     for word in row.words.iter().skip(1) {

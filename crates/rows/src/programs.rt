@@ -74,7 +74,8 @@ fn names_of(alloc: Global, texts: &[RowText]) -> Result<Vec<String>, AllocError>
     Ok(names)
 }
 
-/// `line NAME [TYPE [VALUE]]`: what is told of a value in the row's texts, `M.v` under `M.T` where no other names are given.
+/// `line NAME [TYPE [VALUE]]`: what is told of a value in the row's texts, `M.v` under `M.T` where no other names are
+/// given.
 pub fn line(alloc: Global, row: &Row) -> Result<String, Refusal> {
     let words = asked(alloc, row)?;
     let job = Job {

@@ -1,6 +1,7 @@
 //! What a row wants its answer to be: its text that is named `wanted`.
 //!
-//! Blanks and ends of lines don't count. Where the text ends with `..`, the answer begins with what stands before these.
+//! Blanks and ends of lines don't count. Where the text ends with `..`, the answer begins with what stands before
+//! these.
 
 use row_files::{Row, RowText};
 use std::alloc::{AllocError, Global};

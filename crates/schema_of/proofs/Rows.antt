@@ -20,7 +20,8 @@ use Rattle.value_notations.specs.Notations.{Notation, notation, of_leaf}
 use Rattle.schema_of.specs.SchemaOf as schema_of
 use Rattle.schema_of.specs.SchemaOf.{IsSchemaOf, IsTypeOf, IsComponentOf, IsPresenceOf, IsKindOf, numbered_item, AreItemsOf, IsRootItem, IsAddedItem}
 
--- `S ::= SEQUENCE {a B, b B DEFAULT TRUE, ..., c INTEGER {o(1)} OPTIONAL}` and `B ::= BOOLEAN` in module M, AUTOMATIC TAGS
+-- `S ::= SEQUENCE {a B, b B DEFAULT TRUE, ..., c INTEGER {o(1)} OPTIONAL}` and `B ::= BOOLEAN` in module M, AUTOMATIC
+-- TAGS
 a_part : Part
 a_part = record { name = 97 ∷ []; ty = 1; presence = mandatory; standing = Root }
 

@@ -5,8 +5,8 @@ use Rattle.encodings.specs.Header.{Octets, Header}
 use Rattle.encodings.specs.Strings.{Pieces, Segments, BitPieces, BitSegments}
 use Rattle.encodings.specs.Levels.{piece_levels, segment_levels, bit_piece_levels, bit_segment_levels}
 
--- at the front of o stands a header of tag g, constructed or not by c; x are the contents that it tells, and rest stands
--- behind them
+-- at the front of o stands a header of tag g, constructed or not by c; x are the contents that it tells, and rest
+-- stands behind them
 pub record UnitAt (g : Tag) (c : Bool) (x rest o : Octets) : Type 0 where
   pub header : Octets
   pub is_header : Header g c (length x) header

@@ -39,8 +39,8 @@ fn whole_bits(octets: &[u8]) -> Option<(u8, &[u8])>
     Some((unused, behind))
 }
 
-/// Adds the octets of segments' bits, where so many levels of headers may stand, and answers how many bits of the last one
-/// are unused. A refused call may have added some.
+/// Adds the octets of segments' bits, where so many levels of headers may stand, and answers how many bits of the last
+/// one are unused. A refused call may have added some.
 #[cycle(bits)]
 pub(crate) fn add_bits(out: &mut Vec<u8>, contents: &[u8], room: usize) -> Result<u8, SegmentsFault>
     requires { length contents.now ≤ 16777216 }
@@ -67,8 +67,8 @@ pub(crate) fn add_bits(out: &mut Vec<u8>, contents: &[u8], room: usize) -> Resul
     }
 }
 
-/// Adds the octets of the bits of the segment at the front, and answers how many bits of the last one are unused, and what
-/// stands behind the segment.
+/// Adds the octets of the bits of the segment at the front, and answers how many bits of the last one are unused, and
+/// what stands behind the segment.
 #[cycle(bits)]
 fn add_bit_segment<'a>(
     out: &mut Vec<u8>,

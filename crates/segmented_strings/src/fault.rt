@@ -16,8 +16,8 @@ pub enum Why {
     /// A header of another tag than a segment's.
     #[error("84 UnexpectedTag")]
     UnexpectedTag,
-    /// Contents of no bits; unused bits in a segment that isn't the last; or a joined string with a character that its type
-    /// lacks.
+    /// Contents of no bits; unused bits in a segment that isn't the last; or a joined string with a character that its
+    /// type lacks.
     #[error("86 BadContents")]
     BadContents,
     /// A constructed BIT STRING, or such a segment of one, without segments.

@@ -25,10 +25,10 @@ pub enum Joined {
     Text(String),
 }
 
-/// Reads the contents octets of a constructed string of this kind by the basic rules, where so many levels of headers may
-/// stand in them (X.690, 8.6.4, 8.7.3 and 8.23). Each segment is a BIT STRING, or else an OCTET STRING, which may be
-/// constructed again; of a BIT STRING's only the last may have unused bits. Time and memory grow with the octets, and no
-/// told length is trusted before it is seen to lie within them.
+/// Reads the contents octets of a constructed string of this kind by the basic rules, where so many levels of headers
+/// may stand in them (X.690, 8.6.4, 8.7.3 and 8.23). Each segment is a BIT STRING, or else an OCTET STRING, which may
+/// be constructed again; of a BIT STRING's only the last may have unused bits. Time and memory grow with the octets,
+/// and no told length is trusted before it is seen to lie within them.
 ///
 /// The fault that stands first from the front is told, with its place among the octets: `Header` where no header stands
 /// with its contents within those of the header round it, then `TooDeep` of a header past the limit, `UnexpectedTag` of

@@ -1,9 +1,11 @@
-//! Answers rows of data by the front end and by `later`, and says of each row whether the answer is the one that is wanted.
+//! Answers rows of data by the front end and by `later`, and says of each row whether the answer is the one that is
+//! wanted.
 //!
 //! The files that its words name are files of rows. A row's first word is a command and its second the row's own name:
-//! `settled`, `later` or `speed`, described where it is answered and at the head of its file. A text of a row named `wanted` is
-//! the answer that is wanted, written by hand from the rules, not taken from this program; where another one is given, both
-//! are printed. A text named `later` is a module of the second schema, and each other text one of the first.
+//! `settled`, `later` or `speed`, described where it is answered and at the head of its file. A text of a row named
+//! `wanted` is the answer that is wanted, written by hand from the rules, not taken from this program; where another
+//! one is given, both are printed. A text named `later` is a module of the second schema, and each other text one of
+//! the first.
 #![tactic(auto)]
 
 mod faults;

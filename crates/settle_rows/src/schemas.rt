@@ -33,8 +33,9 @@ fn lines(alloc: Global, row: &Row, front: &Front) -> Result<String, AllocError> 
     Ok(text)
 }
 
-/// `settled NAME [TYPE ..]`: how many types the schema of the row's modules has, and below that each type that is named, as
-/// `Module.Type` or `Module.Type.member`, with the types that it holds; or the fault that stands in the modules.
+/// `settled NAME [TYPE ..]`: how many types the schema of the row's modules has, and below that each type that is
+/// named, as `Module.Type` or `Module.Type.member`, with the types that it holds; or the fault that stands in the
+/// modules.
 pub fn answer(alloc: Global, row: &Row) -> Result<String, Refusal> {
     let texts = modules(alloc, row, false)?;
     match open(alloc, texts.as_slice()) {

@@ -93,9 +93,9 @@ fn number(word: &str) -> usize {
     word.parse::<usize>().unwrap_or(0)
 }
 
-/// `speed NAME SHAPE NUMBER ..`: opens a module of each number of types, full of `values` or of `defaults`. `speed NAME later NUMBER
-/// NUMBER`: asks `later` of the first types of two modules of so many lists, each of which holds the next one and the last one the
-/// first. How long it took is written on standard error.
+/// `speed NAME SHAPE NUMBER ..`: opens a module of each number of types, full of `values` or of `defaults`.
+/// `speed NAME later NUMBER NUMBER`: asks `later` of the first types of two modules of so many lists, each of which
+/// holds the next one and the last one the first. How long it took is written on standard error.
 pub fn measure(rt: &HostRuntime, row: &Row) -> io::Result<()> {
     let words = asked(rt.alloc(), row)?;
     let name = word(&words, 0);

@@ -9,7 +9,8 @@ pub enum Shape {
     Values,
     /// So many lists, each of 15 components with a DEFAULT.
     Defaults,
-    /// So many lists, each with a component of its own type and one of the next one's, the last one's next being the first.
+    /// So many lists, each with a component of its own type and one of the next one's, the last one's next being the
+    /// first.
     Circle,
     /// The same with an addition in each.
     LaterCircle,

@@ -1,10 +1,10 @@
 //! Types of a schema in words.
 //!
-//! Each type stands behind all its tags, `[1]` a context tag, and each member's type in its place; `..` stands for a type that is
-//! more levels down than are told. Behind the word of a list or an enumeration with an extension marker stands `...`; a member
-//! behind the marker stands behind `+`, and one in version brackets behind `+` and their number. Of a constraint the bounds
-//! that the packed encoding sees stand in parentheses, and behind them the ranges that a value may lie in; nothing where
-//! all is allowed. A DEFAULT is the printed value.
+//! Each type stands behind all its tags, `[1]` a context tag, and each member's type in its place; `..` stands for a
+//! type that is more levels down than are told. Behind the word of a list or an enumeration with an extension marker
+//! stands `...`; a member behind the marker stands behind `+`, and one in version brackets behind `+` and their number.
+//! Of a constraint the bounds that the packed encoding sees stand in parentheses, and behind them the ranges that a
+//! value may lie in; nothing where all is allowed. A DEFAULT is the printed value.
 
 use asn_base::constraint::{Constraint, Range};
 use asn_base::schema::{

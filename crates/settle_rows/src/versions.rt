@@ -38,8 +38,9 @@ fn both_ways(
     })
 }
 
-/// `later NAME TYPE [TYPE]`: whether the type, or the second one if there is one, of the modules named `later` is a later version of
-/// the type of the other modules, and that one of it. Where no module is named `later`, both types are of the same modules.
+/// `later NAME TYPE [TYPE]`: whether the type, or the second one if there is one, of the modules named `later` is a
+/// later version of the type of the other modules, and that one of it. Where no module is named `later`, both types are
+/// of the same modules.
 pub fn answer(alloc: Global, row: &Row) -> Result<String, Refusal> {
     let words = asked(alloc, row)?;
     let name = word(&words, 0);

@@ -37,8 +37,8 @@ module _ (p : Program) (A : ℕ → ℤ → Type 0) (C : ℕ → ℕ → Type 0)
         reached = joined (reaches_core p.types t f.core f.leads) (onward u f.type f.there (part_of u f.kind h) r.reached);
       }
 
-  -- Two lists of the program of which the schema has the same component at the same place are one: a type is a member of
-  -- one list alone.
+  -- Two lists of the program of which the schema has the same component at the same place are one: a type is a member
+  -- of one list alone.
   one_list : (n : ℕ) (d : Component) (c e : ℕ) (t u : Type') (M N : Name) → slice_get p.types c ≡ Some t → slice_get p.types e ≡ Some u →
       IsListWith p M t.kind n d → IsListWith p N u.kind n d → c ≡ e
   one_list n d c e t u M N a b f g =

@@ -74,7 +74,8 @@ pub record IsSettled (p : Program) (s : List Resolved) : Type 0 where
 
 -- ---- values that are written
 
--- component c of a list that is written in module M has no DEFAULT, or one whose notation stands for a value of its type
+-- component c of a list that is written in module M has no DEFAULT, or one whose notation stands for a value of its
+-- type
 abbrev pub IsTypedDefault : Program → Name → Part → Type 0
 IsTypedDefault p M c = (n : Tree) →
     c.presence ≡ default n →

@@ -34,11 +34,11 @@ pub fn same_tags()
     tagging::law::one_path();
 }
 
-/// The tags of a settled schema are as those of an accepted schema have to be, where the program's types bear their tags
-/// as X.680 asks: a type without a tag is a CHOICE (clause 31.2), components and alternatives are told apart by their
-/// first tags (clauses 25.6, 27.3 and 29.3), a type has at most six tags (a limit of this compiler), each component of a
-/// SET and each alternative of a CHOICE has one of its own (narrower than X.680), and behind the marker of a CHOICE the
-/// first tags ascend, where the program keeps what extension markers ask (clause 29).
+/// The tags of a settled schema are as those of an accepted schema have to be, where the program's types bear their
+/// tags as X.680 asks: a type without a tag is a CHOICE (clause 31.2), components and alternatives are told apart by
+/// their first tags (clauses 25.6, 27.3 and 29.3), a type has at most six tags (a limit of this compiler), each
+/// component of a SET and each alternative of a CHOICE has one of its own (narrower than X.680), and behind the marker
+/// of a CHOICE the first tags ascend, where the program keeps what extension markers ask (clause 29).
 pub fn tags_are_kept()
     ensures tagged { (p : Program) (s : List types.Resolved)
         → IsSettled p s
@@ -75,9 +75,10 @@ pub fn tags_are_kept()
     schema_of::law::parts_are_written();
 }
 
-/// Each type of a settled schema keeps what a schema asks of it: its constraints have bounds, its items, bits, components
-/// and alternatives have distinct identifiers for names and stand where they may, the types in it are those of the schema,
-/// its defaults are values of their types, and no limit is passed (X.680, clauses 20, 22, 25, 27, 29, 41 and 51).
+/// Each type of a settled schema keeps what a schema asks of it: its constraints have bounds, its items, bits,
+/// components and alternatives have distinct identifiers for names and stand where they may, the types in it are those
+/// of the schema, its defaults are values of their types, and no limit is passed (X.680, clauses 20, 22, 25, 27, 29, 41
+/// and 51).
 pub fn types_are_sound()
     ensures { (p : Program) (s : List Resolved) (t : ℕ) (tags : List Tag) (k : Kind)
         → IsChecked p

@@ -42,8 +42,8 @@ fn behind(text: &[u8], octet: usize) -> &[u8] {
     rest
 }
 
-/// The line in which an octet stands, as far as 100 octets before and behind it, and below it a caret at its place; each
-/// begins behind a line end. Control characters are shown as blanks.
+/// The line in which an octet stands, as far as 100 octets before and behind it, and below it a caret at its place;
+/// each begins behind a line end. Control characters are shown as blanks.
 pub fn context(alloc: Global, text: &[u8], octet: usize) -> Result<String, AllocError> {
     let front = std::str::from_utf8(before(text, octet)).unwrap_or("");
     let rest = std::str::from_utf8(behind(text, octet)).unwrap_or("");

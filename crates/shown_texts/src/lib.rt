@@ -1,4 +1,5 @@
-//! What a message shows of texts that others wrote: their tokens, names, lines and characters, and where in them it stands.
+//! What a message shows of texts that others wrote: their tokens, names, lines and characters, and where in them it
+//! stands.
 #![tactic(auto)]
 
 mod caret;

@@ -35,8 +35,8 @@ fn by_code(alloc: Global, c: char) -> Result<String, AllocError> {
     format!(in alloc; "\\u{{{code:X}}}")
 }
 
-/// A token or a name as a message shows it: its first 60 characters, with two dots behind them where it has more; control
-/// characters and those past ASCII by their code points.
+/// A token or a name as a message shows it: its first 60 characters, with two dots behind them where it has more;
+/// control characters and those past ASCII by their code points.
 pub fn shown(alloc: Global, text: &str) -> Result<String, AllocError> {
     let mut line = String::new(alloc);
     let mut left = SHOWN;

@@ -77,8 +77,8 @@ fn is_begin(text: &[u8], place: usize) -> bool
     text[place] < 128 || text[place] >= 192
 }
 
-/// The line and the column of an octet, both from 1, the column in characters; those of the end of the text where the octet
-/// stands behind it.
+/// The line and the column of an octet, both from 1, the column in characters; those of the end of the text where the
+/// octet stands behind it.
 #[tactic(auto, unfolding(crate::specs::Lines::line_of, crate::specs::Lines::column_of))]
 pub fn line_and_column(text: &[u8], octet: usize) -> (usize, usize)
     ensures line { result.0 ≡ min (line_of text.now (min octet (length text.now))) (2 ^ 64 - 1) }

@@ -6,7 +6,8 @@ use crate::sink::Sink;
 use std::io;
 use std::io::Write;
 
-/// A sink over a writer: a call of `put` is one call of its `write`, and its octets are the writer's, where those are known.
+/// A sink over a writer: a call of `put` is one call of its `write`, and its octets are the writer's, where those are
+/// known.
 #[derive(Drop)]
 pub struct Counted<W: Write> {
     writer: W,

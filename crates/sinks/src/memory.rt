@@ -6,8 +6,8 @@ use crate::sink::Sink;
 use std::io;
 use std::io::ErrorKind;
 
-/// A sink that keeps octets in a list. A call of `put` takes all its octets, or none, where more memory was asked for and
-/// refused.
+/// A sink that keeps octets in a list. A call of `put` takes all its octets, or none, where more memory was asked for
+/// and refused.
 #[derive(Drop)]
 pub struct InMemory {
     octets: Vec<u8>,

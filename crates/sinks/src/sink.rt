@@ -13,7 +13,8 @@ pub trait Sink {
     /// How many calls failed.
     ghost failed: { Self → ℕ };
 
-    /// How many calls failed: those that answered an error, and those that took nothing. Nothing else changes the count.
+    /// How many calls failed: those that answered an error, and those that took nothing. Nothing else changes the
+    /// count.
     fn failures(&self) -> u64
         ensures { result ≡ failed self.now };
 

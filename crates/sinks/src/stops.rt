@@ -6,8 +6,8 @@ use crate::sink::Sink;
 use std::io;
 use std::io::ErrorKind;
 
-/// A sink for tests: it keeps octets in a list, takes at most `most` of them a call, and fails where it holds `limit` of
-/// them, by an error or by taking none.
+/// A sink for tests: it keeps octets in a list, takes at most `most` of them a call, and fails where it holds `limit`
+/// of them, by an error or by taking none.
 #[derive(Drop)]
 pub struct Stops {
     octets: Vec<u8>,
@@ -18,8 +18,8 @@ pub struct Stops {
 }
 
 impl Stops {
-    /// A sink that takes `limit` octets, at most `most` of them a call, and then fails: by taking none, where it is silent,
-    /// and by an error, where it isn't.
+    /// A sink that takes `limit` octets, at most `most` of them a call, and then fails: by taking none, where it is
+    /// silent, and by an error, where it isn't.
     pub fn at(octets: Vec<u8>, limit: usize, most: usize, silent: bool) -> Self
         ensures octets { result.octets ≡ octets }
         ensures limit { result.limit ≡ limit }

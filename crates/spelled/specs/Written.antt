@@ -1,6 +1,6 @@
--- How the types of modules are spelled, as the notation has them: the names of components, alternatives, items, bits and
--- numbers are identifiers (X.680, clauses 19.1, 20.1, 22.1, 25.1, 27.1 and 29.1, with 12.3), and an enumeration and a
--- CHOICE have an item or an alternative before the marker (X.680, clauses 20.1 and 29.1).
+-- How the types of modules are spelled, as the notation has them: the names of components, alternatives, items, bits
+-- and numbers are identifiers (X.680, clauses 19.1, 20.1, 22.1, 25.1, 27.1 and 29.1, with 12.3), and an enumeration and
+-- a CHOICE have an item or an alternative before the marker (X.680, clauses 20.1 and 29.1).
 use Rattle.std.specs.Prelude.{◌≤◌, ◌+◌, ℕ, ◌++◌, length, map}
 use Rattle.std.specs.List.{AllByRecursion}
 use Rattle.asn_base.specs.Names.{IsIdentifier}

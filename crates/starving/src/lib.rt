@@ -1,5 +1,5 @@
-//! Calls whose memory is refused, growth by growth: all memory is taken first, and then a call is left a few octets more
-//! each turn.
+//! Calls whose memory is refused, growth by growth: all memory is taken first, and then a call is left a few octets
+//! more each turn.
 #![tactic(auto)]
 
 mod hog;

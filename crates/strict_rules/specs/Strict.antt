@@ -1,5 +1,5 @@
--- What is decided of octets that say a value by the basic rules: whether they do by the distinguished ones, and if so whether
--- additions were skipped.
+-- What is decided of octets that say a value by the basic rules: whether they do by the distinguished ones, and if so
+-- whether additions were skipped.
 use Rattle.std.specs.Prelude.{◌≡◌, ℕ, ◌+◌, ◌≤◌, ◌++◌, ◌↔◌, Bool, true, false, List, [], ◌∷◌, length, Option, Some, None, slice_get, IsTrue, MatchOption}
 use Rattle.asn_base.specs.declared.tag.Tag.{Tag}
 use Rattle.asn_base.specs.Abstract.{AbstractValue, row_of_options, row_of_list}
@@ -103,8 +103,8 @@ pub record MemberGiven (s : List Resolved) (t : TypeNumber) (n : ℕ) (ss : List
   pub stands : slice_get all i ≡ Some c
   pub given : ValueGiven s c.type n v x
 
--- octets say the component's value by the distinguished rules, and it isn't the same as its DEFAULT, unless additions were
--- skipped within it (X.690, 11.5)
+-- octets say the component's value by the distinguished rules, and it isn't the same as its DEFAULT, unless additions
+-- were skipped within it (X.690, 11.5)
 pub record MemberBy (s : List Resolved) (c : Component) (v : AbstractValue) (x : Octets) (j : ℕ) : Type 0 where
   pub says_it : Says s Distinguished c.type v j x
   pub no_default : j ≡ 0 → IsDefault s c v → ⊥

@@ -33,8 +33,8 @@ fn leaf_of(steps: &[Step]) -> Option<LeafKind>
     }
 }
 
-/// Whether primitive contents of the kind that the steps begin with keep the distinguished rules, where they keep the basic
-/// ones.
+/// Whether primitive contents of the kind that the steps begin with keep the distinguished rules, where they keep the
+/// basic ones.
 pub(crate) fn is_strict_leaf(steps: &[Step], contents: &[u8]) -> bool
     ensures { (k : LeafKind') (ss : List Step') (v : AbstractValue)
         → steps.now ≡ Leaf k ∷ ss

@@ -97,8 +97,8 @@ fn is_behind(last: Option<Tag>, tag: Tag) -> bool
     }
 }
 
-/// The last tag of a component's encoding, behind an encoding of this tag, and whether that is a component's: None where
-/// it is one, and out of order.
+/// The last tag of a component's encoding, behind an encoding of this tag, and whether that is a component's: None
+/// where it is one, and out of order.
 fn next_last(
     code: &Code,
     steps: &[Step],

@@ -17,7 +17,6 @@ ghost use Rattle.std.specs.Prelude.{◌≡◌, ◌↔◌, ◌∷◌, ◌++◌, �
 ghost use Rattle.asn_base.specs.Abstract.{row_of_list, row_of_options};
 ghost use Rattle.strict_rules.specs.Strict.{ContentsGiven, Decides, ElementsGiven, MemberBy, MemberGiven, PartBy, PartGiven, SequenceBy, SequenceGiven, SetBy, SetGiven, StandsAmong, StandsFirst, ValueGiven, begins_ranked, element_type as element_type', form_of};
 
-use limits::MAX_LEVELS;
 use crate::heads::within_heads;
 use crate::leaf::is_strict_leaf;
 use crate::order::do_ascend;
@@ -28,6 +27,7 @@ use asn_base::schema::TypeId;
 use asn_base::value::Value;
 use codec_code::{Code, Coding, Step};
 use encodings::{der_laws, header_laws, reading_laws, schema_laws};
+use limits::MAX_LEVELS;
 
 /// Whether the steps begin with a component of a SET.
 fn is_ranked(steps: &[Step]) -> bool
@@ -271,7 +271,8 @@ fn strict_next<'o>(
     }
 }
 
-/// Components in any order, those present in ascending order of their tags, and additions that the type lacks among them.
+/// Components in any order, those present in ascending order of their tags, and additions that the type lacks among
+/// them.
 #[cycle(strict)]
 fn strict_set(
     code: &Code,
@@ -327,7 +328,8 @@ fn strict_known(
     }
 }
 
-/// The value of the component at a place, which is not to be the same as its DEFAULT, unless additions were skipped within it.
+/// The value of the component at a place, which is not to be the same as its DEFAULT, unless additions were skipped
+/// within it.
 #[cycle(strict)]
 fn strict_member(
     code: &Code,
@@ -418,10 +420,11 @@ fn strict_elements(
 }
 
 /// Whether octets that encode the value by the basic rules, with additions that its type lacks or without, do so by the
-/// distinguished ones (X.690, 10 and 11): each header has the fewest octets, strings are whole, TRUE has all bits set, unused
-/// bits are zeros, named bits end in a one, a SET's components ascend by their tags and a SET OF's elements by their octets,
-/// and no component is the same as its DEFAULT, unless additions were skipped within it. Those additions, and where they stand
-/// in a SET, are not judged. It takes no memory, and time as many times that of the octets as values stand one in another.
+/// distinguished ones (X.690, 10 and 11): each header has the fewest octets, strings are whole, TRUE has all bits set,
+/// unused bits are zeros, named bits end in a one, a SET's components ascend by their tags and a SET OF's elements by
+/// their octets, and no component is the same as its DEFAULT, unless additions were skipped within it. Those additions,
+/// and where they stand in a SET, are not judged. It takes no memory, and time as many times that of the octets as
+/// values stand one in another.
 pub fn is_strict(code: &Code, id: TypeId, value: &Value, octets: &[u8]) -> bool
     ensures { (k : ℕ)
         → Encodes code.now Basic id.index (abstract value.now) k octets.now

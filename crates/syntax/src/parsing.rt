@@ -11,8 +11,8 @@ ghost use Rattle.trees.specs.Modules.{ModuleTree, module_tree_of};
 ghost use Rattle.syntax.specs.Syntax.{module_text};
 
 use crate::modules::module;
-use notation::refused::unexpected;
 use limits::MAX_NESTING;
+use notation::refused::unexpected;
 use notation::{ReadError, SyntaxFault};
 use std::alloc::Global;
 use text::Token;

@@ -13,12 +13,12 @@ ghost use Rattle.tagging.specs.Tagged.{Bears, BearTags, Breaks, IsTagged};
 ghost use Rattle.tagging.specs.proving.Checks.{IsList, AreThere, HasFew, IsNumbered, Suits, SuitsAutomatic, SuitsList, SuitsTag};
 ghost use Rattle.tagging.specs.proving.Checks.{IsGood, Checked, StandsAt, BearsHere, BearsAt};
 
-use limits::AUTOMATIC_NUMBERS;
 use crate::automatic::automatic_number;
 use crate::columns::Columns;
 use crate::first::{FrontFault, first_tags, fronts};
 use crate::lists::clash;
 use crate::path::{Label, has_few, written_outermost};
+use limits::AUTOMATIC_NUMBERS;
 use std::alloc::Global;
 use trees::{Keyword, ListKind, Standing, TagDefault};
 use type_table::{ListMember, Shape, Written};

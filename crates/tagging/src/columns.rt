@@ -29,8 +29,8 @@ fn referred(written: &Written) -> Option<usize>
     }
 }
 
-/// The first type, from one on through references, that is no reference. The way ends where it comes to a type for which
-/// that is noted.
+/// The first type, from one on through references, that is no reference. The way ends where it comes to a type for
+/// which that is noted.
 fn front_by(types: &[Written], fronts: &[usize], start: usize) -> usize
     requires linked { IsLinked (types_of types.now) }
     requires long { length fronts.now ≡ length types.now }

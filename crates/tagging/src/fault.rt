@@ -37,11 +37,12 @@ pub enum TagFault {
     /// The word IMPLICIT stands before an untagged CHOICE (X.680, clause 31.2), behind the tag at the place.
     #[error("41 ImplicitChoice: {0}")]
     ImplicitChoice(Spot),
-    /// An untagged CHOICE is directly a component of a SET or an alternative of a CHOICE: the member at the place. X.680
-    /// allows it; this compiler leaves it out.
+    /// An untagged CHOICE is directly a component of a SET or an alternative of a CHOICE: the member at the place.
+    /// X.680 allows it; this compiler leaves it out.
     #[error("42 UntaggedChoice: {0}")]
     UntaggedChoice(Spot),
-    /// In an AUTOMATIC module additions of a list bear written tags, the first of them at the place, and its root bears none.
+    /// In an AUTOMATIC module additions of a list bear written tags, the first of them at the place, and its root bears
+    /// none.
     #[error("43 MixedAutomatic: {0}")]
     MixedAutomatic(Spot),
 }

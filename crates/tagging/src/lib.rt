@@ -12,5 +12,5 @@ mod path;
 mod tagged;
 
 pub use fault::{Limit, TagFault};
-pub use path::{TagForm, FormedTag, TagPath};
+pub use path::{FormedTag, TagForm, TagPath};
 pub use tagged::{Tagged, tag, tags_of};

@@ -45,8 +45,8 @@ fn may_be_absent(component: &ListMember) -> bool
     }
 }
 
-/// Whether the member behind one can be the next that stands where this one could be: in a SEQUENCE where this one may be
-/// absent, else always.
+/// Whether the member behind one can be the next that stands where this one could be: in a SEQUENCE where this one may
+/// be absent, else always.
 fn passes(kind: ListKind, member: &ListMember) -> bool
     ensures { IsTrue result ↔ Passes kind (part_of member.now) }
 {
@@ -107,8 +107,8 @@ fn behind(
     Ok(BTreeSet::new(alloc))
 }
 
-/// The first member that clashes with one before it. The first tags of those before it which can be the next one together
-/// with it are held in order, so each tag is looked up once.
+/// The first member that clashes with one before it. The first tags of those before it which can be the next one
+/// together with it are held in order, so each tag is looked up once.
 pub(crate) fn clash(
     alloc: Global,
     kind: ListKind,

@@ -8,10 +8,10 @@ ghost use Rattle.tagging.specs.proving.Step.{ending, form_before, Outermost, Add
 ghost use Rattle.tagging.specs.Tagged.{IsOverfull};
 ghost use Rattle.tagging.specs.Tags.{Path, form_of, label, own, path_of, Written as HasWritten};
 
-use limits::MAX_TAGS;
 use crate::columns::Columns;
 use asn_base::strings::StringKind;
 use asn_base::tag::{Class, Tag};
+use limits::MAX_TAGS;
 use smallvec::SmallVec;
 use std::alloc::AllocError;
 use trees::{ElementsKind, Keyword, ListKind, Simple, TagDefault};
@@ -51,8 +51,8 @@ pub type TagPath = SmallVec<FormedTag, 4>;
 /// The class and the number of a tag.
 pub(crate) type Label = (Class, usize);
 
-/// What stands at a type behind its references: the end of its tags, with the universal one if there is one, or one more
-/// tag, with the word behind it, its module's tag default and the type that it stands before.
+/// What stands at a type behind its references: the end of its tags, with the universal one if there is one, or one
+/// more tag, with the word behind it, its module's tag default and the type that it stands before.
 #[derive(Clone, Copy)]
 pub(crate) enum Step {
     Ends(Option<Tag>),

@@ -16,7 +16,8 @@ use std::alloc::{AllocError, Global};
 use std::marker::Model;
 
 /// Linked modules whose types have their tags as X.680 asks: every list is distinct, and each SET component and each
-/// CHOICE alternative has exactly one tag that can stand first. It borrows the modules, so the numbers of types are theirs.
+/// CHOICE alternative has exactly one tag that can stand first. It borrows the modules, so the numbers of types are
+/// theirs.
 #[derive(Drop)]
 pub struct Tagged<'a> {
     columns: Columns<'a>,
@@ -74,9 +75,10 @@ fn named(alloc: Global, columns: &Columns<'_>, rule: Rule, ty: usize, at: usize)
     fault_at(alloc, rule, home.module, home.name, at)
 }
 
-/// Linked modules with their tags (X.680, clauses 25, 27, 29 and 31), or a fault that stands in them, with its module, the
-/// name of the assignment and the place: `TagClash`, `ImplicitChoice`, `UntaggedChoice`, `MixedAutomatic`, `Limit(Tags)`
-/// where more than four tags are written on a type, those behind its references with them, `Limit(TagNumber)`, or `Memory`.
+/// Linked modules with their tags (X.680, clauses 25, 27, 29 and 31), or a fault that stands in them, with its module,
+/// the name of the assignment and the place: `TagClash`, `ImplicitChoice`, `UntaggedChoice`, `MixedAutomatic`,
+/// `Limit(Tags)` where more than four tags are written on a type, those behind its references with them,
+/// `Limit(TagNumber)`, or `Memory`.
 pub fn tag(alloc: Global, linked: &Linked) -> Result<Tagged<'_>, TagFault>
     ensures { MatchResult result
         (λ t. (t ≡ linked.now) × IsTagged linked.now.types)
@@ -93,10 +95,10 @@ pub fn tag(alloc: Global, linked: &Linked) -> Result<Tagged<'_>, TagFault>
     }
 }
 
-/// The tags of a type (X.680, clauses 8, 25, 27, 29 and 31): those that are written and the automatic one, the outermost
-/// first, each implicit or explicit, and last the universal tag of the type behind them, which counts as explicit; a CHOICE
-/// has no such tag. An implicit tag stands in place of the tag after it. Up to four tags take no memory; where there are
-/// more, the error tells that there was not enough.
+/// The tags of a type (X.680, clauses 8, 25, 27, 29 and 31): those that are written and the automatic one, the
+/// outermost first, each implicit or explicit, and last the universal tag of the type behind them, which counts as
+/// explicit; a CHOICE has no such tag. An implicit tag stands in place of the tag after it. Up to four tags take no
+/// memory; where there are more, the error tells that there was not enough.
 pub fn tags_of(alloc: Global, tagged: &Tagged<'_>, ty: TypeId) -> Result<TagPath, AllocError>
     requires { ty.index < length tagged.now.types }
     ensures ok { IfOk result (λ v. Tags tagged.now.types ty.index (path_of v.items)) }

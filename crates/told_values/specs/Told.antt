@@ -97,8 +97,8 @@ pub record IsComponentName (p : Program) (i j : ℕ) (x : Name) : Type 0 where
   pub is : IsOfKind p.types i kind
   pub name : x ≡ name_in_part (slice_get (parts_in kind) j)
 
--- What is told of what is wrong at a place: T holds of the reason, the module, the name and the place in its text. Want of
--- memory is never told so.
+-- What is told of what is wrong at a place: T holds of the reason, the module, the name and the place in its text. Want
+-- of memory is never told so.
 abbrev pub IsOf : (T : Reason → (M x : Name) → ℕ → Type 0) → Program → Place → Cause → Type 0
 IsOf T p a cause.Memory = ⊥
 IsOf T p a cause.Depth = T reasons.Depth a.within.now [] (begins a.notation.now)

@@ -66,15 +66,15 @@ pub enum Reason {
 #[error("{reason}: {spot}, expected {expected}")]
 pub struct ValueTold {
     pub reason: Reason,
-    /// The module, the name that is wrong (empty where it is the notation itself), and the place in the module's text, in
-    /// octets counted from 0.
+    /// The module, the name that is wrong (empty where it is the notation itself), and the place in the module's text,
+    /// in octets counted from 0.
     pub spot: Spot,
     /// What was expected there.
     pub expected: String,
 }
 
-/// The number of a reason's class: 2 Limit, 31 UnknownName, 33 Circular, 60 NotOfType, 61 OutsideConstraint, 62 UnknownItem, 63 Missing,
-/// 64 Repeated.
+/// The number of a reason's class: 2 Limit, 31 UnknownName, 33 Circular, 60 NotOfType, 61 OutsideConstraint, 62
+/// UnknownItem, 63 Missing, 64 Repeated.
 pub fn number(reason: Reason) -> u8
     ensures { result ≡ number_of reason }
 {
@@ -187,8 +187,8 @@ fn points_at<'a>(linked: &'a Linked, at: Place<'a>, cause: Cause<'a>) -> Option<
     }
 }
 
-/// What a user is told of a fault: the reason, the module, the name and the place are the fault's own; what was expected is
-/// put into words. The error tells that there was not enough memory, here or in the fault.
+/// What a user is told of a fault: the reason, the module, the name and the place are the fault's own; what was
+/// expected is put into words. The error tells that there was not enough memory, here or in the fault.
 pub fn told<'a>(
     alloc: Global,
     bounded: &Bounded<'a>,

@@ -11,8 +11,8 @@ pub struct At<T> {
     pub it: T,
 }
 
-/// Where something is wrong: the name of the module, the name that is told, and the place in the module's text, in octets
-/// counted from 0.
+/// Where something is wrong: the name of the module, the name that is told, and the place in the module's text, in
+/// octets counted from 0.
 #[derive(Debug, Drop)]
 pub struct Spot {
     pub module: String,

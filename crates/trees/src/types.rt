@@ -7,8 +7,8 @@ use asn_base::strings::StringKind;
 use asn_base::tag::Tag;
 
 /// A type as it is written (X.680, clause 17.1), with the constraints behind it, in order (X.680, clause 49.1).
-/// The size of a list type is its only constraint: `SEQUENCE SIZE (1..4) OF` says what a constraint behind the list would say.
-/// A tagged type has no constraints: they belong to the type behind the tag.
+/// The size of a list type is its only constraint: `SEQUENCE SIZE (1..4) OF` says what a constraint behind the list
+/// would say. A tagged type has no constraints: they belong to the type behind the tag.
 #[derive(Drop)]
 pub struct TypeSyntax {
     /// Where it begins.
@@ -24,8 +24,8 @@ pub enum TypeForm<T> {
     Simple(Simple),
     /// The name of a type.
     Reference(Reference),
-    /// SEQUENCE, SET or CHOICE, whether it has an extension marker, and its members: those of the root in order and then the
-    /// additions (X.680, clauses 25.1, 27.1 and 29.1).
+    /// SEQUENCE, SET or CHOICE, whether it has an extension marker, and its members: those of the root in order and
+    /// then the additions (X.680, clauses 25.1, 27.1 and 29.1).
     List(ListKind, bool, Vec<Member<T>>),
     /// SEQUENCE OF or SET OF, and the type of the elements (X.680, clauses 26.1 and 28.1).
     Elements(ElementsKind, Box<T>),
@@ -100,7 +100,8 @@ pub struct NamedBit {
     pub place: u128,
 }
 
-/// The items of an enumeration: those of the root, one at least, and those behind the extension marker, if there is one.
+/// The items of an enumeration: those of the root, one at least, and those behind the extension marker, if there is
+/// one.
 #[derive(Drop)]
 pub struct EnumeratedSyntax {
     pub root: Vec<EnumeratedItem>,
@@ -114,8 +115,8 @@ pub struct EnumeratedItem {
     pub number: Option<i128>,
 }
 
-/// A member of a SEQUENCE, a SET or a CHOICE (X.680, clauses 25.1 and 29.1): its name, its type, whether it may be absent (an
-/// alternative is mandatory), and where it stands in the list.
+/// A member of a SEQUENCE, a SET or a CHOICE (X.680, clauses 25.1 and 29.1): its name, its type, whether it may be
+/// absent (an alternative is mandatory), and where it stands in the list.
 #[derive(Drop)]
 pub struct Member<T> {
     pub name: At<String>,

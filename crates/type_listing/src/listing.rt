@@ -7,8 +7,8 @@ use codec_code::{Code, Coding, listing};
 use resolve::Linked;
 use std::alloc::{AllocError, Global};
 
-/// A line of the routines' text: one that begins a type is told by what is known of the type, any other one stands as it is.
-/// Answers the number of the next type.
+/// A line of the routines' text: one that begins a type is told by what is known of the type, any other one stands as
+/// it is. Answers the number of the next type.
 fn push_line(
     out: &mut String,
     linked: &Linked,
@@ -27,9 +27,9 @@ fn push_line(
     Ok(next)
 }
 
-/// The types of linked modules, whose routines these are, in the order of their numbers. For each a line with its number and
-/// where it is written, a line with its tags, the outermost first, and a line for each step of its routine, as
-/// [`codec_code::listing`] writes it. Refused for want of memory alone.
+/// The types of linked modules, whose routines these are, in the order of their numbers. For each a line with its
+/// number and where it is written, a line with its tags, the outermost first, and a line for each step of its routine,
+/// as [`codec_code::listing`] writes it. Refused for want of memory alone.
 pub fn list(alloc: Global, linked: &Linked, code: &Code) -> Result<String, AllocError> {
     let Ok(routines) = listing(alloc, code) else {
         return Err(AllocError);

@@ -26,8 +26,8 @@ fn push_heads(out: &mut String, steps: &[Step]) -> Result<(), AllocError> {
     Ok(())
 }
 
-/// The line of a type's tags, the outermost first: those of the headers with which its routine begins. An untagged CHOICE has
-/// none.
+/// The line of a type's tags, the outermost first: those of the headers with which its routine begins. An untagged
+/// CHOICE has none.
 pub(crate) fn push_tags(out: &mut String, steps: &[Step]) -> Result<(), AllocError> {
     out.push_str("  tags")?;
     match steps.first() {

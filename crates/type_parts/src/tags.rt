@@ -8,10 +8,10 @@ ghost use Rattle.kernel.specs.Given.{AreTokens};
 ghost use Rattle.kernel.specs.Reads.{ReadsAs};
 ghost use Rattle.type_parts.specs.PlainReading.{keyword_at, low_number_at, low_end_at, class_at, tag_at};
 
-use limits::TAG_NUMBERS;
 use asn_base::tag::{Class, Tag};
 use kernel::decode::number_of;
 use kernel::{Limit, Read, ReadError};
+use limits::TAG_NUMBERS;
 use text::{Token, kind, mark, word};
 use trees::Keyword;
 

@@ -331,7 +331,12 @@ fn inside_choice<'a>(
 /// Reads the type of an alternative.
 #[tactic(auto, unfolding(crate::specs::TypeReading::bare_at))]
 #[cycle(type_syntax)]
-fn bare<'a>(alloc: Global, text: &[u8], tokens: &'a [Token], depth: usize) -> Read<'a, ComponentSyntax>
+fn bare<'a>(
+    alloc: Global,
+    text: &[u8],
+    tokens: &'a [Token],
+    depth: usize,
+) -> Read<'a, ComponentSyntax>
     requires tokens { AreTokens text.now tokens.now }
     ensures read { ReadsAs component_of (bare_at (type_at small depth)) text.now tokens.now result }
     ensures rest { IfOk result (λ x. AreTokens text.now x.1.now) }

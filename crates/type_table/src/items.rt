@@ -149,8 +149,8 @@ fn number_or_free(used: &BTreeSet<i128>, from: u128, written: Option<i128>) -> O
     }
 }
 
-/// The numbers of root items, and behind them those of additions: what is written, and for the others the least number from
-/// 0 that no root item has and that lies above each earlier addition's.
+/// The numbers of root items, and behind them those of additions: what is written, and for the others the least number
+/// from 0 that no root item has and that lies above each earlier addition's.
 fn with_additions(
     alloc: Global,
     root: Vec<i128>,
@@ -187,7 +187,8 @@ pub(crate) fn additions(given: &EnumeratedSyntax) -> &[EnumeratedItem]
     }
 }
 
-/// The numbers of the items of an enumeration, those of the root in order and then those of the additions (X.680, clauses
+/// The numbers of the items of an enumeration, those of the root in order and then those of the additions (X.680,
+/// clauses
 /// 20.5 and 20.6).
 pub fn item_numbers(alloc: Global, given: &EnumeratedSyntax) -> Result<Vec<i128>, NumberFault>
     ensures numbers { IfOk result (λ v. v.items ≡ numbers_of (root_of given.now) (more_of given.now)) }

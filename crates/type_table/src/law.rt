@@ -51,7 +51,8 @@ pub fn numbered_there()
         t.assignment < length gs }
 {}
 
-/// Types that are numbered, whose references stand for types of the table, keep what a table of linked types keeps once they unfold.
+/// Types that are numbered, whose references stand for types of the table, keep what a table of linked types keeps once
+/// they unfold.
 pub fn numbered_linked()
     ensures closed { (ms : List (Name × Module)) (hs : List (Name × Default)) (gs : List (ℕ × Name))
         (roots : List Source) (ts : List Type') →

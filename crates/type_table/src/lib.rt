@@ -1,4 +1,5 @@
-//! The written types of modules, each by its number: what they refer to, what they unfold to, and what their lists keep.
+//! The written types of modules, each by its number: what they refer to, what they unfold to, and what their lists
+//! keep.
 #![tactic(auto)]
 
 pub mod items;

@@ -13,10 +13,10 @@ ghost use Rattle.type_table.specs.Table.{Part, simple, members as list_of};
 ghost use Rattle.type_table.specs.proving.Checks.{texts, TellsLimit, TellsName, IsNumberFault, IsKindFault};
 ghost use Rattle.type_table.specs.proving.Sets.{Puts, IsSetOf};
 
-use limits::{MAX_ADDITIONS, MAX_ITEMS, MAX_MEMBERS};
 use crate::items::{NumberFault, additions, item_numbers};
 use crate::table::{ListMember, Shape};
 use indexmap::IndexSet;
+use limits::{MAX_ADDITIONS, MAX_ITEMS, MAX_MEMBERS};
 use names::fault::spot;
 use names::{Limit, NameFault};
 use std::alloc::{AllocError, Global};

@@ -13,8 +13,8 @@ ghost use Rattle.type_table.specs.Numbering.{member_sources, inner_source, numbe
 ghost use Rattle.type_table.specs.Seen.{types_of, kind_of, part_of, type_of, form_seen};
 ghost use Rattle.type_table.specs.proving.Checks.{IsNothing, IsUnknown, IsTypesLimit, IsSourceFault};
 
-use limits::MAX_WRITTEN;
 use crate::table::{ListMember, Shape, Written};
+use limits::MAX_WRITTEN;
 use names::fault::spot;
 use names::{Assigned, AssignedAt, Header, Limit, NameFault, Names, Place, Source};
 use std::alloc::{AllocError, Global};

@@ -25,8 +25,8 @@ pub enum Shape {
     Reference(usize),
     /// A tag, the word behind it, and the type.
     Tagged(Tag, Keyword, usize),
-    /// SEQUENCE, SET or CHOICE, whether it has an extension marker, and its members: those of the root in order, and then the
-    /// additions.
+    /// SEQUENCE, SET or CHOICE, whether it has an extension marker, and its members: those of the root in order, and
+    /// then the additions.
     Members(ListKind, bool, Vec<ListMember>),
     /// SEQUENCE OF or SET OF, and the type of its elements.
     Elements(ElementsKind, usize),

@@ -68,8 +68,8 @@ fn note(types: &[Written], cores: &mut [usize], start: usize, core: usize)
     }
 }
 
-/// Finds the core of each type, or a type that comes back to itself. No type is passed more than three times, so the time
-/// grows with the table alone, however its references are chained.
+/// Finds the core of each type, or a type that comes back to itself. No type is passed more than three times, so the
+/// time grows with the table alone, however its references are chained.
 pub fn unfold_all(types: &[Written], cores: &mut [usize]) -> Result<(), usize>
     requires closed { IsClosed (types_of types.now) }
     requires long { length cores.old ≡ length types.now }

@@ -1,5 +1,5 @@
--- What is wrong with a notation that stands for no value of a type, and where: the first thing that is, as it is read from
--- its front (X.680, clauses 17 to 33 and 51; the limits are this project's).
+-- What is wrong with a notation that stands for no value of a type, and where: the first thing that is, as it is read
+-- from its front (X.680, clauses 17 to 33 and 51; the limits are this project's).
 use Rattle.std.specs.Prelude.{◌≡◌, ℕ, suc, ◌+◌, Bool, List, [], ◌∷◌, ◌++◌, Some, slice_get}
 use Rattle.asn_base.specs.Abstract.{Row}
 use Rattle.asn_base.specs.Typed.{row_nodes}
@@ -41,8 +41,8 @@ pub record HasKind (p : Program) (i : ℕ) (P : Kind → Type 0) : Type 0 where
   pub is : IsOfKind p.types i kind
   pub such : P kind
 
--- type i holds no other types, and P holds of it and of the notation behind the references of notation n, which is read in
--- module K
+-- type i holds no other types, and P holds of it and of the notation behind the references of notation n, which is read
+-- in module K
 pub record HasLeafIn (p : Program) (os : List ℕ) (M K : Name) (i : ℕ) (n : Tree) (P : Plain → Tree → Type 0) : Type 0 where
   pub plain : Plain
   pub is : IsOfKind p.types i (simple plain)
@@ -106,10 +106,10 @@ IsCause p levels left os M i n (cause.Behind a K l) =
     HasNames p os M K.now i n (tree_of l.now) (λ k cs fs. IsBehind k cs fs a)
 IsCause p levels left os M i n cause.Outside = IsOutside p (Allows p) (AllowsCode p) os M i n
 
--- A fault stands in notation n, which is read in module M under type i, where at most so many levels are left, and so many
--- nodes: something is wrong with the notation itself, or a fault stands in one that stands in it, and what stands before
--- that one stands for values, whose nodes count. A DEFAULT of an absent component has no more levels than one that is
--- written, and 2^24 nodes. `os` are the values whose notations are being read already.
+-- A fault stands in notation n, which is read in module M under type i, where at most so many levels are left, and so
+-- many nodes: something is wrong with the notation itself, or a fault stands in one that stands in it, and what stands
+-- before that one stands for values, whose nodes count. A DEFAULT of an absent component has no more levels than one
+-- that is written, and 2^24 nodes. `os` are the values whose notations are being read already.
 pub data Stands (p : Program) : (levels left : ℕ) (os : List ℕ) (M : Name) (i : ℕ) (n : Tree) → ValueFault → Type 0 where
   no_memory : {levels left : ℕ} {os : List ℕ} {M : Name} {i : ℕ} {n : Tree} {f : ValueFault} →
       f.cause ≡ cause.Memory →

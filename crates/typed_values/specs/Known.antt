@@ -22,8 +22,8 @@ pub record IsListed (p : Program) (N : Name) (c : Part) : Type 0 where
   pub listed : AreListed p N parts
   pub there : StandsIn parts c
 
--- Of each component the table has, by the number of its type, how many levels have to be left where it is absent: with so
--- many its DEFAULT stands for a value. 255 tells nothing.
+-- Of each component the table has, by the number of its type, how many levels have to be left where it is absent: with
+-- so many its DEFAULT stands for a value. 255 tells nothing.
 abbrev pub AreKnown : Program → List ℕ → Type 0
 AreKnown p table = (N : Name) (c : Part) (l : ℕ) →
     IsListed p N c →

@@ -39,8 +39,8 @@ pub enum Cause<'a> {
     Nodes,
     /// It is, or leads to, this name, which is read in this module and means neither something of the type nor a value.
     Lost(&'a str, &'a ValueSyntax),
-    /// It is, or leads to, this name, which is read in this module and means the value of this number, whose notation is
-    /// being read already.
+    /// It is, or leads to, this name, which is read in this module and means the value of this number, whose notation
+    /// is being read already.
     Circular(usize, &'a str, &'a ValueSyntax),
     /// It is of another form than the type's, or has a character that is none of the type's.
     NotOfType,

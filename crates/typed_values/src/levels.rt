@@ -14,9 +14,9 @@ use type_table::ListMember;
 /// The levels of a DEFAULT that was not read yet.
 const UNREAD: u8 = 255;
 
-/// How many levels the values of the DEFAULTs of some modules have, as far as DEFAULTs were read already. One table serves all
-/// notations of the modules: a DEFAULT that is left out is read once, however often it is left out, and a second time to
-/// see that its value has so many levels.
+/// How many levels the values of the DEFAULTs of some modules have, as far as DEFAULTs were read already. One table
+/// serves all notations of the modules: a DEFAULT that is left out is read once, however often it is left out, and a
+/// second time to see that its value has so many levels.
 #[derive(Drop)]
 pub struct Defaults {
     /// By the numbers of the components' types.
@@ -34,7 +34,8 @@ impl Model for Defaults {
 }
 
 impl Defaults {
-    /// The table of modules, of which no DEFAULT was read yet: an octet for each written type. An `Err` is want of memory.
+    /// The table of modules, of which no DEFAULT was read yet: an octet for each written type. An `Err` is want of
+    /// memory.
     pub fn of(alloc: Global, bounded: &Bounded<'_>) -> Result<Self, AllocError>
         ensures { IfOk result (AreKnown bounded.now) }
     {
@@ -45,8 +46,8 @@ impl Defaults {
         })
     }
 
-    /// Whether the table tells that a component may be absent where so many levels are left. What is left below its DEFAULT
-    /// is noted.
+    /// Whether the table tells that a component may be absent where so many levels are left. What is left below its
+    /// DEFAULT is noted.
     pub(crate) fn allows(
         &mut self,
         bounded: &Bounded<'_>,
@@ -56,7 +57,8 @@ impl Defaults {
     ) -> bool
         requires known { AreKnown bounded.now self.old }
         requires listed { IsListed bounded.now home.now (part_of component.now) }
-        ensures may { result ≡ true → MayBeAbsent bounded.now (Allows bounded.now) (AllowsCode bounded.now) levels home.now
+        ensures may { result ≡ true
+            → MayBeAbsent bounded.now (Allows bounded.now) (AllowsCode bounded.now) levels home.now
             (part_of component.now) }
         ensures same { self.new ≡ self.old }
     {

@@ -20,7 +20,6 @@ ghost use Rattle.typed_values.specs.Faults.{IsWritten, Stands};
 ghost use Rattle.typed_values.specs.Known.{AreKnown, AreListed, IsListed};
 ghost use Rattle.typed_values.specs.proving.Reading.{ArePlaced, IsField, IsWrongDefault, IsWrongField, MeanFields, MeanRow, StandsInField, StandsInOne, Tells, option_nodes};
 
-use limits::MAX_NODES;
 use crate::fault::{Cause, Place, ValueFault, unarranged, unfollowed};
 use crate::forms::{chosen_in, fields_in, values_in};
 use crate::levels::Defaults;
@@ -31,6 +30,7 @@ use asn_base::law::abstract_values;
 use asn_base::schema::TypeId;
 use asn_base::value::Value;
 use constraints::{Bounded, allows_size};
+use limits::MAX_NODES;
 use std::alloc::Global;
 use trees::{ListKind, Named, PresenceSyntax, Standing, ValueSyntax};
 use type_table::{ListMember, Shape};
@@ -593,8 +593,8 @@ fn read_default<'a>(
     }
 }
 
-/// The value that a notation stands for under a type (X.680, clause 17), as [`typed`] answers it, with a table that is lent:
-/// where many notations of the same modules are read, one table serves them all.
+/// The value that a notation stands for under a type (X.680, clause 17), as [`typed`] answers it, with a table that is
+/// lent: where many notations of the same modules are read, one table serves them all.
 pub fn typed_with<'a>(
     alloc: Global,
     bounded: &Bounded<'a>,
@@ -629,9 +629,9 @@ pub fn typed_with<'a>(
     )
 }
 
-/// The value that a notation stands for under a type (X.680, clause 17): `ty` is the type, `within` the name of the module in
-/// which the notation is read. A value has at most 64 levels and 2^24 nodes, an absent component counting with the levels of its
-/// DEFAULT.
+/// The value that a notation stands for under a type (X.680, clause 17): `ty` is the type, `within` the name of the
+/// module in which the notation is read. A value has at most 64 levels and 2^24 nodes, an absent component counting
+/// with the levels of its DEFAULT.
 ///
 /// An `Err` is the first thing that is wrong, as the notation is read from its front, and where: `Cause` says what.
 pub fn typed<'a>(

@@ -1,8 +1,9 @@
-//! Answers rows of data by the public calls of the crates that type values, and prints each answer below its row's words.
+//! Answers rows of data by the public calls of the crates that type values, and prints each answer below its row's
+//! words.
 //!
 //! The files that its words name are files of rows. A row's first word is a command and its second the row's own name:
-//! `bounds` or `typed`, described where it is answered and at the head of its file. The answers that the stored run compares are written
-//! by hand, not taken from this program.
+//! `bounds` or `typed`, described where it is answered and at the head of its file. The answers that the stored run
+//! compares are written by hand, not taken from this program.
 #![tactic(auto)]
 
 mod bounds;

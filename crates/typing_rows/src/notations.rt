@@ -50,8 +50,8 @@ fn detail(alloc: Global, linked: &Linked, cause: Cause<'_>) -> Result<String, Al
     }
 }
 
-/// A fault: what a user is told of it, with the place of the name that is wrong, or of the notation, and its class; and the
-/// notation with its type.
+/// A fault: what a user is told of it, with the place of the name that is wrong, or of the notation, and its class; and
+/// the notation with its type.
 fn refused<'a>(
     alloc: Global,
     row: &Row,

@@ -1,5 +1,5 @@
--- What the faults of one notation tell: of following its references, and of a value that holds no others. Each holds the
--- notation at which something is wrong, whose place in the text is its own.
+-- What the faults of one notation tell: of following its references, and of a value that holds no others. Each holds
+-- the notation at which something is wrong, whose place in the text is its own.
 use Rattle.std.specs.Prelude.{◌≡◌, ℕ, List, Option, None}
 use Rattle.asn_base.specs.Abstract.{AbstractValue}
 use Rattle.trees.specs.Values.{Name, Tree, tree_of, reference}

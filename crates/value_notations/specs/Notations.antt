@@ -75,8 +75,8 @@ pub data IsPartOf {A : Type 0} : List A → List A → Type 0 where
   left_out : {x : A} {xs ys : List A} → IsPartOf xs ys → IsPartOf xs (x ∷ ys)
   taken : {x : A} {xs ys : List A} → IsPartOf xs ys → IsPartOf (x ∷ xs) (x ∷ ys)
 
--- Names of components in braces: those of a SEQUENCE in the order of definition (narrower: X.680 asks the same), those of
--- a SET in any order, none twice.
+-- Names of components in braces: those of a SEQUENCE in the order of definition (narrower: X.680 asks the same), those
+-- of a SET in any order, none twice.
 abbrev pub AreArranged : ListKind → (parts fields : List Name) → Type 0
 AreArranged Sequence cs fs = AreDistinct fs × IsPartOf fs cs
 AreArranged Set cs fs = AreDistinct fs × ((x : Name) → StandsIn fs x → StandsIn cs x)

@@ -1,5 +1,5 @@
--- Why a notation that stands for a value of the type's form stands for no value of the type: what constraints and limits
--- leave out, and at which notation (X.680, clause 51; the limits are this project's).
+-- Why a notation that stands for a value of the type's form stands for no value of the type: what constraints and
+-- limits leave out, and at which notation (X.680, clause 51; the limits are this project's).
 use Rattle.std.specs.Prelude.{◌≡◌, ◌⊎◌, ℕ, suc, ◌<◌, ◌^◌, ℤ, pos, Bool, List, [], length, Some, chars}
 use Rattle.std.specs.List.{AllByRecursion}
 use Rattle.asn_base.specs.Abstract.{AbstractValue, integer, bits, octets, text, oid, relative_oid, list}

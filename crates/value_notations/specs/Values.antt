@@ -1,6 +1,6 @@
--- The values of types of a program: shape, constraints, items, components that have to be there, and the limits on values
--- (X.680, clauses 18 to 33, 41 and 51). What constraints allow is a parameter: `Allows i z` says that type i allows number
--- or size z, and `AllowsCode i c` that it allows the character of code c.
+-- The values of types of a program: shape, constraints, items, components that have to be there, and the limits on
+-- values (X.680, clauses 18 to 33, 41 and 51). What constraints allow is a parameter: `Allows i z` says that type i
+-- allows number or size z, and `AllowsCode i c` that it allows the character of code c.
 use Rattle.std.specs.Prelude.{◌≡◌, ℕ, suc, ◌≤◌, ℤ, pos, Bool, List, [], ◌∷◌, length, map, Option, Some, slice_get, IsUtf8, chars}
 use Rattle.std.specs.List.{AllByRecursion}
 use Rattle.std.specs.Int.Digits.{AllBelowBase}

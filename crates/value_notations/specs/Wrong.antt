@@ -1,5 +1,5 @@
--- Why a notation stands for no value under a type: what is wrong, and at which notation within it. Constraints and limits
--- are no part of it.
+-- Why a notation stands for no value under a type: what is wrong, and at which notation within it. Constraints and
+-- limits are no part of it.
 use Rattle.std.specs.Prelude.{◌≡◌, ℕ, ◌<◌, Bool, false, List, ◌∷◌, Option, Some, None, slice_get}
 use Rattle.asn_base.specs.Abstract.{AbstractValue}
 use Rattle.trees.specs.declared.types.ListKind.{ListKind}

@@ -11,7 +11,6 @@ ghost use Rattle.value_notations.specs.Leaves.{IsLeaf, IsRooted};
 ghost use Rattle.value_notations.specs.proving.Forms.{IsNone, Tells, ArePastLimit, StandsPastLimit, IsLimitFault};
 ghost use Rattle.value_notations.specs.declared.leaf.NumbersFault.TheVariants.{Memory as no_memory};
 
-use limits::MAX_ARCS;
 use crate::digits::{are_below, bit_octets, hex_octets};
 use crate::forms::{
     alone_in, binary_in, hex_in, is_null, items_in, name_in, number_in, numbers_in, text_in,
@@ -20,6 +19,7 @@ use crate::forms::{
 use asn_base::law::abstract_values;
 use asn_base::strings::StringKind;
 use asn_base::value::Value;
+use limits::MAX_ARCS;
 use ranges::Codes;
 use ranges::law::characters_below_128;
 use std::alloc::{AllocError, AllocFailed, Global};

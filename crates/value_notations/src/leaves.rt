@@ -249,11 +249,11 @@ fn bits_value<'a>(
     }
 }
 
-/// The value that a notation stands for under a type that holds no other types (X.680, clauses 18 to 24, 32, 33 and 41),
-/// which is one of the type but for its constraints. The notation is no reference to a value: `follow` answers such.
-/// Numbers of an enumeration are counted anew, so it takes time by their number. Err: the notation is of another form or
-/// has a character that the type has not, a name in braces is no bit, an object identifier passes the limit, or memory
-/// is wanting.
+/// The value that a notation stands for under a type that holds no other types (X.680, clauses 18 to 24, 32, 33 and
+/// 41), which is one of the type but for its constraints. The notation is no reference to a value: `follow` answers
+/// such. Numbers of an enumeration are counted anew, so it takes time by their number. Err: the notation is of another
+/// form or has a character that the type has not, a name in braces is no bit, an object identifier passes the limit, or
+/// memory is wanting.
 pub fn leaf<'a>(
     alloc: Global,
     simple: &Simple,

@@ -27,8 +27,8 @@ use type_table::Shape;
 pub enum FollowFault<'a> {
     /// There was not enough memory.
     Memory,
-    /// The notation is, or leads to, this name, which is read in this module and means neither something of the type nor a
-    /// value (X.680, clause 13).
+    /// The notation is, or leads to, this name, which is read in this module and means neither something of the type
+    /// nor a value (X.680, clause 13).
     Lost(&'a str, &'a ValueSyntax),
     /// The notation is, or leads to, this name, which is read in this module and means the value of this number, whose
     /// notation is being read already.
@@ -177,10 +177,11 @@ fn notation_at(linked: &Linked, number: usize) -> (&str, &ValueSyntax)
     (home.module, &value.syntax)
 }
 
-/// The notation that a notation is behind its references, and the module that it is read in (X.680, clauses 13.2, 17.11,
-/// 19.10 and 20.8): the first that is no name, or is the name of a number or an item of the type. The notation is read in
-/// `within` under a type of this shape, which is no reference and no tag. `opened` are the values that are being read; those
-/// whose notations are passed become the latest of them. Each step looks through them all.
+/// The notation that a notation is behind its references, and the module that it is read in (X.680, clauses 13.2,
+/// 17.11,
+/// 19.10 and 20.8): the first that is no name, or is the name of a number or an item of the type. The notation is read
+/// in `within` under a type of this shape, which is no reference and no tag. `opened` are the values that are being
+/// read; those whose notations are passed become the latest of them. Each step looks through them all.
 pub fn follow<'a>(
     linked: &'a Linked,
     opened: &mut Opened,

@@ -165,8 +165,8 @@ fn allows_text(bounded: &Bounded<'_>, ty: TypeId, value: &Value) -> bool
 }
 
 /// Whether the constraints of a type allow a value of it: its number, its size in bits, octets or characters, and its
-/// characters (X.680, clause 51). The type is of this kind behind its references and tags, and the value is one of the kind.
-/// It takes no memory, and time that is linear in the value.
+/// characters (X.680, clause 51). The type is of this kind behind its references and tags, and the value is one of the
+/// kind. It takes no memory, and time that is linear in the value.
 pub fn is_allowed(bounded: &Bounded<'_>, ty: TypeId, simple: &Simple, value: &Value) -> bool
     requires there { ty.index < length bounded.now.types }
     requires is { IsOfKind bounded.now.types ty.index (simple' (plain_of simple.now)) }

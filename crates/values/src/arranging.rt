@@ -29,8 +29,9 @@ pub enum NamesFault {
     Behind(usize),
 }
 
-/// For each component the place of its field, where the names of fields in braces are arranged as those of components: those
-/// of a SEQUENCE in the order of definition, those of a SET in any order, none twice, and none missing (X.680, clauses 25.18,
+/// For each component the place of its field, where the names of fields in braces are arranged as those of components:
+/// those of a SEQUENCE in the order of definition, those of a SET in any order, none twice, and none missing (X.680,
+/// clauses 25.18,
 /// 25.19 and 27.3). The cost is at most that of comparing each field's name with each component's and with each field's
 /// before it; a list with more fields than components has a fault among the first ones that are too many.
 pub fn arranged(

@@ -19,7 +19,8 @@ pub fn arranged_alone()
         → ⊥ }
 {}
 
-/// Where the names of fields are arranged, the groups of additions among the values of the fields are whole (X.680, clause
+/// Where the names of fields are arranged, the groups of additions among the values of the fields are whole (X.680,
+/// clause
 /// 25.18).
 pub fn groups_whole()
     ensures { (p : Program) (os : List ℕ) (M : Name) (k : ListKind) (cs : List Part) (fs : List (Name × Tree))

@@ -82,8 +82,8 @@ pub(crate) fn places(
     Ok(places)
 }
 
-/// The place of the alternative of a name, counted over root and additions (X.680, clause 29.11), if there is one. The cost
-/// is that of comparing the name with each alternative's.
+/// The place of the alternative of a name, counted over root and additions (X.680, clause 29.11), if there is one. The
+/// cost is that of comparing the name with each alternative's.
 pub fn alternative(alternatives: &[ListMember], name: &str) -> Option<usize>
     ensures { MatchOption result
         (StandsIn (part_names (map part_of alternatives.now)) name.now → ⊥)

@@ -1,8 +1,8 @@
 //! Answers rows about later versions of types, and prints each answer below its row's words.
 //!
 //! The files that its words name are files of rows. A row is `later NAME TYPE TYPE`: whether the second type is a later
-//! version of the first, and the first one of the second, both of the schema of all kinds of types. The answers that the
-//! stored run compares are written by hand from the rules, not taken from this program.
+//! version of the first, and the first one of the second, both of the schema of all kinds of types. The answers that
+//! the stored run compares are written by hand from the rules, not taken from this program.
 #![tactic(auto)]
 
 use asn_base::schema::{Schema, TypeId};

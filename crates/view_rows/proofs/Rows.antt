@@ -8,7 +8,8 @@ abbrev head_or_0 : List ℕ → ℕ
 head_or_0 [] = 0
 head_or_0 (x ∷ xs) = x
 
--- ---- 300C 0402 0102 2C06 0401C3 0401A9: SEQUENCE {a OCTET STRING, b UTF8String}; a stands in the message at 4, b was joined
+-- ---- 300C 0402 0102 2C06 0401C3 0401A9: SEQUENCE {a OCTET STRING, b UTF8String}; a stands in the message at 4, b was
+-- joined
 
 abbrev message : List ℕ
 message = 48 ∷ 12 ∷ 4 ∷ 2 ∷ 1 ∷ 2 ∷ 44 ∷ 6 ∷ 4 ∷ 1 ∷ 195 ∷ 4 ∷ 1 ∷ 169 ∷ []

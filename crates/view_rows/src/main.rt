@@ -9,8 +9,8 @@ use std::alloc::AllocError;
 use std::process::ExitCode;
 use std::{env, fs, io};
 
-/// `SEQUENCE {a OCTET STRING, b UTF8String}` from `300C 0402 0102 2C06 0401C3 0401A9`: `a` is a slice of the message, `b`
-/// was joined from segments.
+/// `SEQUENCE {a OCTET STRING, b UTF8String}` from `300C 0402 0102 2C06 0401C3 0401A9`: `a` is a slice of the message,
+/// `b` was joined from segments.
 const MESSAGE: [u8; 14] = [
     0x30, 0x0C, 0x04, 0x02, 0x01, 0x02, 0x2C, 0x06, 0x04, 0x01, 0xC3, 0x04, 0x01, 0xA9,
 ];

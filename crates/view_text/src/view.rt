@@ -13,9 +13,9 @@ use std::alloc::{AllocError, Global};
 use value_text::Fault;
 use views::View;
 
-/// The text of the value that a view shows, straight from its nodes; whether it is a value of the type is not asked: for
-/// a view that was read as one of the type. Where it is none, names that the type lacks are left out. It takes no memory
-/// but for the text, and is refused for memory alone.
+/// The text of the value that a view shows, straight from its nodes; whether it is a value of the type is not asked:
+/// for a view that was read as one of the type. Where it is none, names that the type lacks are left out. It takes no
+/// memory but for the text, and is refused for memory alone.
 pub fn print_shown(
     alloc: Global,
     schema: &Schema,

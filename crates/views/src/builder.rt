@@ -101,8 +101,8 @@ impl<'a> Builder<'a> {
         Ok(())
     }
 
-    /// A BIT STRING that is borrowed: how many bits of its last octet are unused, the octets behind the one that tells so,
-    /// and the place of the first of them in the message, from 0.
+    /// A BIT STRING that is borrowed: how many bits of its last octet are unused, the octets behind the one that tells
+    /// so, and the place of the first of them in the message, from 0.
     pub fn push_bits(
         &mut self,
         number: u32,
@@ -223,7 +223,8 @@ impl<'a> Builder<'a> {
 
     /// Opens a SEQUENCE or SET of so many components: those that are there follow, then `close`.
     pub fn open_fields(&mut self, number: u32, size: usize) -> Result<(), AllocError>
-        ensures { (b : Building) → Holds self.old b → OnOk result (Holds self.new (opened number (open_fields size) b)) }
+        ensures { (b : Building) → Holds self.old b
+            → OnOk result (Holds self.new (opened number (open_fields size) b)) }
     {
         self.open(number, Told::Fields { size, extent: 0 })?;
         Ok(())
@@ -247,8 +248,8 @@ impl<'a> Builder<'a> {
         Ok(())
     }
 
-    /// Closes the innermost node that is open, with the members that were added since: a CHOICE has just one. It takes no
-    /// memory. Where nothing is open, nothing is done.
+    /// Closes the innermost node that is open, with the members that were added since: a CHOICE has just one. It takes
+    /// no memory. Where nothing is open, nothing is done.
     pub fn close(&mut self)
         requires { (b : Building) × Holds self.old b }
         ensures { (b c : Building) (w : Waiting) (ws : List Waiting) (t : Tree)

@@ -99,8 +99,8 @@ impl<'v, 'a> Part<'v, 'a> {
         }
     }
 
-    /// The text of a character string, with the place in the message of its first octet, as `as_octets` answers it. None
-    /// of any other value.
+    /// The text of a character string, with the place in the message of its first octet, as `as_octets` answers it.
+    /// None of any other value.
     pub fn as_text(&self) -> Option<(&'v str, Option<usize>)>
         requires { (t : Tree) × IsPart self.now t }
         ensures { (t : Tree)
@@ -141,8 +141,8 @@ impl<'v, 'a> Part<'v, 'a> {
     }
 
     /// The member with this number, None where none has it. A component of a SEQUENCE or SET has its place in order of
-    /// definition as number; of the elements of a SEQUENCE OF or SET OF, all of which have 0, it is the first one. It takes
-    /// time with the number of members that are there, whatever stands below them.
+    /// definition as number; of the elements of a SEQUENCE OF or SET OF, all of which have 0, it is the first one. It
+    /// takes time with the number of members that are there, whatever stands below them.
     pub fn component(&self, number: u32) -> Option<Part<'v, 'a>>
         requires { (t : Tree) × IsPart self.now t }
         ensures { (t : Tree)

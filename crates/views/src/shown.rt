@@ -8,9 +8,9 @@ use crate::front::{below, first_of};
 use crate::node::Told;
 use crate::part::{Part, Parts};
 
-/// What a part of a view shows: a value that holds no others, without its place in the message, a BIT STRING by how many
-/// bits of its last octet are unused and its octets; the members of a SEQUENCE or SET, with the number of its components,
-/// or of a SEQUENCE OF or SET OF; or the number of an alternative, with its value.
+/// What a part of a view shows: a value that holds no others, without its place in the message, a BIT STRING by how
+/// many bits of its last octet are unused and its octets; the members of a SEQUENCE or SET, with the number of its
+/// components, or of a SEQUENCE OF or SET OF; or the number of an alternative, with its value.
 #[derive(Clone, Copy)]
 pub enum Shown<'v, 'a> {
     Bool(bool),

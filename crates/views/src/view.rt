@@ -32,8 +32,8 @@ impl<'a> View<'a> {
         }
     }
 
-    /// The value that it shows, in memory of its own, or `AllocError` for want of memory alone. It calls itself once for
-    /// each level of the value, as letting a value go does: a value of a schema has at most 64 levels.
+    /// The value that it shows, in memory of its own, or `AllocError` for want of memory alone. It calls itself once
+    /// for each level of the value, as letting a value go does: a value of a schema has at most 64 levels.
     pub fn to_value(&self, alloc: Global) -> Result<Value, AllocError>
         requires { (t : Tree) × IsView self.now t }
         ensures { (t : Tree) → IsView self.now t → IfOk result (λ v. abstract v ≡ value_of t) }

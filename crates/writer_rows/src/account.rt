@@ -75,8 +75,8 @@ fn push_row(text: &mut String, row: &Row) -> Result<(), AllocError> {
 }
 
 /// The rows of an account from the root down: `["leaf",1,1,1]` tells how many octets identifier, length and contents
-/// have; `seq` and `seqof` also how many members follow; `set` and `setof` besides that the place of each member that is
-/// written, and for each place the member that stands there.
+/// have; `seq` and `seqof` also how many members follow; `set` and `setof` besides that the place of each member that
+/// is written, and for each place the member that stands there.
 pub fn text_of(alloc: Global, account: &Account) -> Result<String, AllocError> {
     let rows = account.rows();
     let mut text = String::from_str(alloc, "[")?;

@@ -1,8 +1,8 @@
 //! Answers rows of data by the public calls of the DER writer, and prints each answer below its row's words.
 //!
 //! The files that its words name are files of rows. A row's first word is a command and its second the row's own name:
-//! `der` and `sink`, described where they are answered. The answers that the stored run compares are written by hand, not
-//! taken from this program.
+//! `der` and `sink`, described where they are answered. The answers that the stored run compares are written by hand,
+//! not taken from this program.
 #![tactic(auto)]
 
 mod account;

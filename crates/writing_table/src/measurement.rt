@@ -10,7 +10,6 @@ ghost use Rattle.std.specs.Prelude.{◌≡◌, ◌<◌, ◌≤◌, Err, IfErr, I
 ghost use Rattle.der_parts.specs.Parts.{Spell};
 ghost use Rattle.writing_table.specs.declared.fault.MeasureFault.TheVariants.{NotOfType, TooLong};
 
-use limits::MAX_MESSAGE;
 use crate::fault::MeasureFault;
 use crate::table::Table;
 use account_rows::law::told_rows;
@@ -21,6 +20,7 @@ use codec_code::law::routine_laws;
 use codec_machine::{RunFault, run};
 use der_parts::Part;
 use encodings::account_laws;
+use limits::MAX_MESSAGE;
 use octet_account::law::accounts_within_bounds;
 use octet_account::row::Row;
 use std::alloc::Global;

@@ -153,7 +153,8 @@ pub(crate) fn add_contents<'a>(
     }
 }
 
-/// A header, contents of a value that holds no others, and the end of the header. `NotOfType`: it has none of this kind.
+/// A header, contents of a value that holds no others, and the end of the header. `NotOfType`: it has none of this
+/// kind.
 pub(crate) fn add_whole<'a>(
     table: &mut Table<'a>,
     head: Head,

@@ -31,8 +31,8 @@ pub fn kit(alloc: Global) -> Result<Kit, Fail> {
     }
 }
 
-/// The encoding of A.v under B.T, worked out by hand: 300B 020107 3106 010100 0101FF. The members of the SET OF ascend, and the
-/// component that is its DEFAULT is absent.
+/// The encoding of A.v under B.T, worked out by hand: 300B 020107 3106 010100 0101FF. The members of the SET OF ascend,
+/// and the component that is its DEFAULT is absent.
 pub const OCTETS: [u8; 13] = [
     0x30, 0x0B, 0x02, 0x01, 0x07, 0x31, 0x06, 0x01, 0x01, 0x00, 0x01, 0x01, 0xFF,
 ];

@@ -47,8 +47,8 @@ IsFine s s' p = (q r : Resolved) → slice_get s p.0 ≡ Some q → slice_get s'
 abbrev pub IsReached : List Resolved → ℕ → List Resolved → ℕ → ℕ × ℕ → Type 0
 IsReached s t s' t' p = (places : List ℕ) × (leads s t places ≡ Some p.0) × (leads s' t' places ≡ Some p.1)
 
--- Of the pairs that were met, among which is the first one, each is reached, and those before a place are fine and their
--- members met.
+-- Of the pairs that were met, among which is the first one, each is reached, and those before a place are fine and
+-- their members met.
 pub record IsSoFar (s : List Resolved) (t : ℕ) (s' : List Resolved) (t' : ℕ) (ps : List (ℕ × ℕ)) (at : ℕ) : Type 0 where
   pub start : IsMember (t, t') ps
   pub reached : (p : ℕ × ℕ) → IsMember p ps → IsReached s t s' t' p

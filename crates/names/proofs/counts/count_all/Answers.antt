@@ -2,7 +2,7 @@ use Rattle.std.proofs.Common.{arith, ap, map}
 use Rattle.trees.specs.Modules.{assignment_of as given_of}
 use Rattle.names.specs.Modules.{type_count, value_count}
 use Rattle.names.proofs.Counting.{types_drop_module, values_drop_module, past_naming}
-use Rattle.names.proofs.limits.count_all.Goals as goal
+use Rattle.names.proofs.counts.count_all.Goals as goal
 
 pub loop-given-preserved : goal.loop-given-preserved
 loop-given-preserved c =

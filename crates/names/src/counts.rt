@@ -6,8 +6,8 @@ ghost use Rattle.names.specs.Modules.{AreFew, type_count, value_count, all_assig
 ghost use Rattle.names.specs.proving.Gathering.{IsNamingFault};
 ghost use Rattle.names.specs.proving.Limiting.{IsPastCount};
 
-use limits::{MAX_TYPES, MAX_VALUES};
 use crate::fault::{Limit, NameFault, spot};
+use limits::{MAX_TYPES, MAX_VALUES};
 use std::alloc::Global;
 use trees::{Assignment, Module};
 

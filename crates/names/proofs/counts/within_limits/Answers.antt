@@ -3,7 +3,7 @@ use Rattle.trees.specs.Values.{name_at}
 use Rattle.trees.specs.Modules.{module_tree_of}
 use Rattle.names.specs.Faults.{module_told, name_told}
 use Rattle.names.specs.proving.Distinct.{item_at}
-use Rattle.names.proofs.limits.within_limits.Goals as goal
+use Rattle.names.proofs.counts.within_limits.Goals as goal
 
 pub returns-then-modules-gt256-clause-fault : goal.returns-then-modules-gt256-clause-fault
 returns-then-modules-gt256-clause-fault c =

@@ -1,7 +1,7 @@
 use Rattle.std.proofs.Common.{◌≡◌, ◌+◌, ◌≤◌, drop, map}
 use Rattle.trees.specs.Modules.{assignment_of as given_of}
 use Rattle.names.specs.Modules.{type_count, value_count}
-use Rattle.names.proofs.limits.count.Given as goal
+use Rattle.names.proofs.counts.count.Given as goal
 
 abbrev pub invariant-loop-given : goal.invariant-loop-given
 invariant-loop-given l =

@@ -5,7 +5,7 @@ use Rattle.names.specs.Faults.{name_told}
 use Rattle.names.specs.Modules.{name_of, type_count, value_count}
 use Rattle.names.proofs.Behind.{types_count, values_count}
 use Rattle.names.proofs.Counting.{past_here}
-use Rattle.names.proofs.limits.count.Goals as goal
+use Rattle.names.proofs.counts.count.Goals as goal
 
 pub returns-then-counts-eq4096-clause-fault : goal.returns-then-counts-eq4096-clause-fault
 returns-then-counts-eq4096-clause-fault c =

@@ -1,7 +1,7 @@
 use Rattle.std.proofs.Common.{◌≡◌, ◌+◌, ◌≤◌, drop, map}
 use Rattle.trees.specs.Modules.{module_tree_of}
 use Rattle.names.specs.Modules.{type_count, value_count, all_assignments}
-use Rattle.names.proofs.limits.count_all.Given as goal
+use Rattle.names.proofs.counts.count_all.Given as goal
 
 abbrev pub invariant-loop-given : goal.invariant-loop-given
 invariant-loop-given l =
