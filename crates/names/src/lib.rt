@@ -10,8 +10,8 @@ pub mod scope;
 pub mod sources;
 pub mod standing;
 
+pub use counts::within_limits;
 pub use fault::{Limit, NameFault};
-pub use limits::within_limits;
 pub use scope::{Assigned, Names, Origin, Scope};
 pub use sources::{AssignedAt, Header, Place, Source, ValueAt};
 pub use standing::all_stand;
