@@ -16,7 +16,7 @@ use ber_source::{Cursor, Token};
 use codec_code::Code;
 use codec_source::{ReadFault, read};
 use encodings::schema_laws;
-use limits::MAX_MESSAGE;
+use limits::{MAX_MESSAGE, MAX_OPEN};
 use octets::law::one_front;
 use octets::{HeaderFault, read_header};
 use reading_law::law::{read_is_said, said_is_read};
@@ -71,7 +71,7 @@ pub fn read_message<'a>(
     if ends_early(octets) {
         return Err(ReadFault::Truncated);
     }
-    let mut cursor = match Cursor::new(alloc, code, octets, octets.len() * VALUES + VALUES) {
+    let mut cursor = match Cursor::new(alloc, code, octets, octets.len() * MAX_OPEN + MAX_OPEN) {
         Ok(cursor) => cursor,
         Err(fault) => return Err(fault),
     };
