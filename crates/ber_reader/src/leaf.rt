@@ -14,14 +14,12 @@ use crate::arcs::{object_arcs, relative_arcs};
 use codec_code::LeafKind;
 use leaf_readings::law::one_reading;
 use leaf_readings::{Leaf, read_leaf};
+use limits::MAX_HEADERS;
 use octets::Form;
 use segmented_strings::law::one_joining;
 use segmented_strings::{Joined, SegmentsFault, read_segments};
 use std::alloc::{AllocError, Global};
 use views::Builder;
-
-/// How many levels of headers may stand in contents.
-const LEVELS: usize = 400;
 
 /// Contents octets, and the place in the message of the first of them.
 #[derive(Clone, Copy)]
@@ -133,7 +131,7 @@ fn push_segments<'a>(
         × Holds builder.new (with_leaf number l b)) }
 {
     one_joining();
-    match read_segments(alloc, held.kind, held.octets, LEVELS) {
+    match read_segments(alloc, held.kind, held.octets, MAX_HEADERS) {
         Ok(joined) => push_joined(builder, number, joined),
         Err(SegmentsFault::Memory) => Err(AllocError),
         Err(SegmentsFault::At(_, _)) => Ok(()),

@@ -12,6 +12,7 @@ use ber_message::Part;
 use ber_source::Token;
 use codec_code::{Code, Coding, Field, Need, Step};
 use codec_source::ReadFault;
+use limits::MAX_OPEN;
 use std::alloc::{AllocError, Global};
 
 /// A value that is none of its type, and which part it is of the value round it.
@@ -122,14 +123,11 @@ pub(crate) fn wrong_member<'v>(code: &Code, id: TypeId, value: &'v Value) -> Opt
     }
 }
 
-/// How many values may stand one in another.
-const LEVELS: usize = 64;
-
 /// The innermost value that is none of its type, in one that is none of its.
 fn innermost<'v>(code: &Code, id: TypeId, value: &'v Value) -> (TypeId, &'v Value) {
     let mut ty = id;
     let mut inner = value;
-    for _ in 0..LEVELS {
+    for _ in 0..MAX_OPEN {
         match wrong_member(code, ty, inner) {
             Some(wrong) => {
                 ty = wrong.ty;
@@ -228,7 +226,7 @@ pub(crate) fn wrong_from(code: &Code, id: TypeId, value: &Value, tokens: &[Token
     let mut at = 0;
     let mut ty = id;
     let mut inner = value;
-    for _ in 0..LEVELS {
+    for _ in 0..MAX_OPEN {
         match wrong_member(code, ty, inner) {
             Some(wrong) => {
                 at = part_from(tokens, at, wrong.part);

@@ -20,17 +20,12 @@ use asn_base::schema::TypeId;
 use codec_code::{Head, LeafKind};
 use codec_source::ReadFault;
 use leaf_readings::{LeafFault, read_leaf};
+use limits::{MAX_HEADERS, MAX_OPEN};
 use next_tags::{Unit, next_unit, same_tag};
 use octet_answers::law::one_unit;
 use octets::{Form, HeaderFault};
 use segmented_strings::{SegmentsFault, Why, read_segments};
 use std::alloc::Global;
-
-/// How many levels of headers may be open.
-pub(crate) const LEVELS: usize = 400;
-
-/// How many values may be open.
-const VALUES: usize = 64;
 
 /// The fault of a header, as that of a reader.
 pub(crate) fn told_header(fault: HeaderFault) -> ReadFault
@@ -130,7 +125,7 @@ pub(crate) fn begin<'c, 'a>(place: &mut Place<'c, 'a>, id: TypeId) -> Result<(),
     if place.room == 0 {
         return Err(ReadFault::TooDeep);
     }
-    if place.values.len() >= VALUES {
+    if place.values.len() >= MAX_OPEN {
         return Err(ReadFault::TooDeep);
     }
     push_value(&mut place.values, id)?;
@@ -169,7 +164,7 @@ pub(crate) fn open<'c, 'a>(place: &mut Place<'c, 'a>, head: Head) -> Result<(), 
         Ok(unit) => unit,
         Err(fault) => return Err(told_header(fault)),
     };
-    if place.outer.len() >= LEVELS {
+    if place.outer.len() >= MAX_HEADERS {
         return Err(ReadFault::TooDeep);
     }
     if !same_tag(unit.tag, head.tag) {
@@ -240,10 +235,10 @@ pub(crate) fn hold<'c, 'a>(place: &mut Place<'c, 'a>, kind: LeafKind) -> Result<
     ensures err { IfRefused result ((b : State) → Holds (state_of place.old) kind b → ⊥) }
     ensures left { IfRefusedWith result (Leaves (state_of place.old) (state_of place.new)) }
 {
-    if place.outer.len() > LEVELS {
+    if place.outer.len() > MAX_HEADERS {
         return Err(ReadFault::TooDeep);
     }
-    let room = LEVELS - place.outer.len();
+    let room = MAX_HEADERS - place.outer.len();
     match judge(place.alloc, kind, place.here.form, place.here.octets, room) {
         Ok(()) => {}
         Err(bad) => {

@@ -12,12 +12,13 @@ ghost use Rattle.octet_answers.specs.Units.{UnitAt};
 ghost use Rattle.octets.specs.Forms.{is_constructed};
 ghost use Rattle.std.specs.Prelude.{◌≡◌, ◌<◌, [], Bool, IfErr, IfNone, IfOk, IfSome, OnOk, Option as Option', length};
 
-use crate::moves::{LEVELS, push_token, told_header};
+use crate::moves::{push_token, told_header};
 use crate::place::Place;
 use crate::token::Token;
 use crate::window::Window;
 use codec_code::{Field, Step};
 use codec_source::ReadFault;
+use limits::MAX_HEADERS;
 use next_tags::{Unit, find, next_unit};
 use octet_answers::law::one_unit;
 
@@ -97,7 +98,7 @@ fn pass_one<'c, 'a>(
         Some(field) => return Ok(Some(Some(field))),
         None => {}
     }
-    if place.outer.len() >= LEVELS {
+    if place.outer.len() >= MAX_HEADERS {
         return Err(ReadFault::TooDeep);
     }
     if !extensible {

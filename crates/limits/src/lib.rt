@@ -15,6 +15,8 @@ pub const MAX_NESTING: usize = 128;
 
 // ---- names and written types
 
+/// A set of modules has at most so many.
+pub const MAX_MODULES: usize = 256;
 /// All modules together assign at most so many types.
 pub const MAX_TYPES: usize = 4096;
 /// All modules together assign at most so many values.
@@ -54,3 +56,5 @@ pub const MAX_ARCS: usize = 64;
 pub const MAX_MESSAGE: usize = 16_777_216;
 /// Length octets tell at most so many octets, the same.
 pub const MAX_LENGTH: u64 = 16_777_216;
+/// At most so many headers stand one in another in a message.
+pub const MAX_HEADERS: usize = 400;

@@ -7,7 +7,7 @@ ghost use Rattle.names.specs.proving.Gathering.{IsNamingFault};
 ghost use Rattle.names.specs.proving.Limiting.{IsPastCount};
 
 use crate::fault::{Limit, NameFault, spot};
-use limits::{MAX_TYPES, MAX_VALUES};
+use limits::{MAX_MODULES, MAX_TYPES, MAX_VALUES};
 use std::alloc::Global;
 use trees::{Assignment, Module};
 
@@ -83,8 +83,8 @@ pub fn within_limits(alloc: Global, modules: &[Module]) -> Result<(), NameFault>
     ensures ok { OnOk result (AreFew (map module_tree_of modules.now)) }
     ensures fault { IfErr result (IsNamingFault (map module_tree_of modules.now)) }
 {
-    if modules.len() > 256 {
-        let name = &modules[256].name;
+    if modules.len() > MAX_MODULES {
+        let name = &modules[MAX_MODULES].name;
         return Err(NameFault::Limit(
             Limit::Modules,
             spot(alloc, name.it.as_str(), name.it.as_str(), name.at)?,

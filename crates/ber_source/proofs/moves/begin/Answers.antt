@@ -4,5 +4,5 @@ use Rattle.ber_source.proofs.moves.begin.Goals as goal
 pub returns-then-place-eq0-clause-left : goal.returns-then-place-eq0-clause-left
 returns-then-place-eq0-clause-left c = λ other. stays (λ e. absurd (cc))
 
-pub returns-then-len-ge-VALUES-clause-left : goal.returns-then-len-ge-VALUES-clause-left
-returns-then-len-ge-VALUES-clause-left c = λ other. stays (λ e. absurd (cc))
+pub returns-then-len-ge-MAX_OPEN-clause-left : goal.returns-then-len-ge-MAX_OPEN-clause-left
+returns-then-len-ge-MAX_OPEN-clause-left c = λ other. stays (λ e. absurd (cc))

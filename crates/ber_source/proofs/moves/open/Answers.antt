@@ -22,8 +22,8 @@ returns-then-eq-clause-err c other b d =
 pub returns-in-Err-clause-left : goal.returns-in-Err-clause-left
 returns-in-Err-clause-left c = λ other. stays (λ e. absurd (c.told_header.ensures.missing e))
 
-pub returns-then-len-ge-LEVELS-clause-left : goal.returns-then-len-ge-LEVELS-clause-left
-returns-then-len-ge-LEVELS-clause-left c = λ other. stays (λ e. absurd (cc))
+pub returns-then-len-ge-MAX_HEADERS-clause-left : goal.returns-then-len-ge-MAX_HEADERS-clause-left
+returns-then-len-ge-MAX_HEADERS-clause-left c = λ other. stays (λ e. absurd (cc))
 
 pub returns-then-not-same_tag-clause-left : goal.returns-then-not-same_tag-clause-left
 returns-then-not-same_tag-clause-left c = λ other. stays (λ e. absurd (cc))

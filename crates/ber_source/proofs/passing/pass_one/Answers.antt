@@ -24,12 +24,12 @@ pub returns-in-Some-clause-only : goal.returns-in-Some-clause-only
 returns-in-Some-clause-only c g b p =
     component_alone c.one_unit.ensures.some c.one_unit.ensures.once c.in-Ok.ensures.ok c.in-Some.ensures.some p
 
-pub returns-then-len-ge-LEVELS-clause-err : goal.returns-then-len-ge-LEVELS-clause-err
-returns-then-len-ge-LEVELS-clause-err c other f b p =
+pub returns-then-len-ge-MAX_HEADERS-clause-err : goal.returns-then-len-ge-MAX_HEADERS-clause-err
+returns-then-len-ge-MAX_HEADERS-clause-err c other f b p =
     let z = must_pass c.one_unit.ensures.some c.one_unit.ensures.once c.in-Ok.ensures.ok c.in-None.ensures.none p in
     let l = z.few_levels in
     let m = as_many c.args.place.now.outer.items in
-    omega (arith, l, m, c.len.ensures, c.args.place.now.outer.ok.0, c.if-len-ge-LEVELS.true)
+    omega (arith, l, m, c.len.ensures, c.args.place.now.outer.ok.0, c.if-len-ge-MAX_HEADERS.true)
 
 pub returns-then-not-extensible-clause-err : goal.returns-then-not-extensible-clause-err
 returns-then-not-extensible-clause-err c other f b p =
@@ -41,7 +41,7 @@ returns-clause-passed c f b p =
     let s = c.args.place.now.code.now in
     let m = as_many c.args.place.now.outer.items in
     passes c.if-not-extensible.false c.in-Ok.ensures.ok c.in-None.ensures.none
-    (omega (arith, m, c.len.ensures, c.args.place.now.outer.ok.0, c.if-len-ge-LEVELS.false))
+    (omega (arith, m, c.len.ensures, c.args.place.now.outer.ok.0, c.if-len-ge-MAX_HEADERS.false))
     (subst (λ q. Passes s c.args.steps.now c.args.extensible q f b) c.in_ok-step_over.ensures.ok p)
 
 pub returns-clause-back : goal.returns-clause-back
@@ -55,8 +55,8 @@ returns-then-is_empty-clause-at_end c = no_octets c.args.place.now.here.octets.n
 pub returns-in-Err-clause-left : goal.returns-in-Err-clause-left
 returns-in-Err-clause-left c = λ other. stays (λ e. absurd (c.told_header.ensures.missing e))
 
-pub returns-then-len-ge-LEVELS-clause-left : goal.returns-then-len-ge-LEVELS-clause-left
-returns-then-len-ge-LEVELS-clause-left c = λ other. stays (λ e. absurd (cc))
+pub returns-then-len-ge-MAX_HEADERS-clause-left : goal.returns-then-len-ge-MAX_HEADERS-clause-left
+returns-then-len-ge-MAX_HEADERS-clause-left c = λ other. stays (λ e. absurd (cc))
 
 pub returns-then-not-extensible-clause-left : goal.returns-then-not-extensible-clause-left
 returns-then-not-extensible-clause-left c = λ other. stays (λ e. absurd (cc))

@@ -7,8 +7,8 @@ use Rattle.names.proofs.Behind.{types_count, values_count}
 use Rattle.names.proofs.Counting.{past_here}
 use Rattle.names.proofs.counts.count.Goals as goal
 
-pub returns-then-counts-eq4096-clause-fault : goal.returns-then-counts-eq4096-clause-fault
-returns-then-counts-eq4096-clause-fault c =
+pub returns-then-counts-eq-MAX_TYPES-clause-fault : goal.returns-then-counts-eq-MAX_TYPES-clause-fault
+returns-then-counts-eq-MAX_TYPES-clause-fault c =
     let g = c.given-item.result in
     let told = c.in_ok-spot-in-Type.field-0 in
     let name : name_told told ≡ name_at c.in-Type.assigned.name = c.in_ok-spot-in-Type.ensures.name ∙ c.as_str.ensures.value in
@@ -18,11 +18,11 @@ returns-then-counts-eq4096-clause-fault c =
       past_here type_count types_count 4096 c.args.givens.now c.loop-given.given-index g c.args.counts.now.types c.loop-given.counts.types c.loop-given-test.true c.given-item.is (omega arith) c.loop-given.invariant.types one (name_told told) (named ∙ sym name),
     )
 
-pub returns-then-counts-eq65536-clause-fault : goal.returns-then-counts-eq65536-clause-fault
-returns-then-counts-eq65536-clause-fault c =
+pub returns-then-counts-eq-MAX_VALUES-clause-fault : goal.returns-then-counts-eq-MAX_VALUES-clause-fault
+returns-then-counts-eq-MAX_VALUES-clause-fault c =
     let g = c.given-item.result in
     let told = c.in_ok-spot-in-Value.field-0 in
-    let name : name_told told ≡ name_at c.in-Value.assigned.name = c.in_ok-spot-in-Value.ensures.name ∙ c.as_str-then-counts-eq65536.ensures.value in
+    let name : name_told told ≡ name_at c.in-Value.assigned.name = c.in_ok-spot-in-Value.ensures.name ∙ c.as_str-then-counts-eq-MAX_VALUES.ensures.value in
     let named : name_of (given_of g) ≡ name_at c.in-Value.assigned.name = ap (λ z. name_of (given_of z)) c.in-Value.is in
     let one : value_count (given_of g ∷ []) ≡ 1 = ap (λ z. value_count (given_of z ∷ [])) c.in-Value.is in (
       c.in_ok-spot-in-Value.ensures.within,

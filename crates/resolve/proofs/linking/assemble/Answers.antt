@@ -27,8 +27,8 @@ index-header-requires c =
     let placed = c.requires.ready.placed s.assignment a (slice_get_read g.tables.assignments.items (length g.tables.assignments.items) s.assignment a refl within c.index-assignment.ensures) in
     omega (arith, placed)
 
-pub returns-then-len-gt65536-clause-fault : goal.returns-then-len-gt65536-clause-fault
-returns-then-len-gt65536-clause-fault c =
+pub returns-then-len-gt-MAX_WRITTEN-clause-fault : goal.returns-then-len-gt-MAX_WRITTEN-clause-fault
+returns-then-len-gt-MAX_WRITTEN-clause-fault c =
     let g = c.args.gathered in
     let s = c.index-source.result.now in
     let a = c.index-assignment.result.now in

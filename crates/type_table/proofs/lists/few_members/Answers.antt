@@ -23,8 +23,8 @@ loop-component-preserved c =
       few_more = omega arith;
     }
 
-pub returns-then-counted-gt256-clause-fault : goal.returns-then-counted-gt256-clause-fault
-returns-then-counted-gt256-clause-fault c = λ k m.
+pub returns-then-counted-gt-MAX_MEMBERS-clause-fault : goal.returns-then-counted-gt-MAX_MEMBERS-clause-fault
+returns-then-counted-gt-MAX_MEMBERS-clause-fault c = λ k m.
     let gs = c.args.given.now in
     let i = c.loop-component.component-index in
     let l : i < length gs = omega arith in
@@ -33,15 +33,15 @@ returns-then-counted-gt256-clause-fault c = λ k m.
     let many : 256 < root_count (map part_of gs) = omega (arith, root, c.count_member.ensures.root, c.loop-component.invariant.root) in
     kind_limit c.args.within.now c.args.assigns.now (members k m (map part_of gs)) limits.Members c.passed.result (inl many) c.passed.ensures
 
-pub returns-then-counted-gt64-clause-fault : goal.returns-then-counted-gt64-clause-fault
-returns-then-counted-gt64-clause-fault c = λ k m.
+pub returns-then-counted-gt-MAX_ADDITIONS-clause-fault : goal.returns-then-counted-gt-MAX_ADDITIONS-clause-fault
+returns-then-counted-gt-MAX_ADDITIONS-clause-fault c = λ k m.
     let gs = c.args.given.now in
     let i = c.loop-component.component-index in
     let l : i < length gs = omega arith in
     let g = c.component-item.result in
     let more : addition_count (map part_of (drop i gs)) ≡ in_additions g.standing + addition_count (map part_of (drop (i + 1) gs)) = ap (λ r. addition_count (map part_of r)) (drop_at gs i g l c.component-item.is) in
     let many : 64 < addition_count (map part_of gs) = omega (arith, more, c.count_member.ensures.more, c.loop-component.invariant.more) in
-    kind_limit c.args.within.now c.args.assigns.now (members k m (map part_of gs)) limits.Members c.passed-then-counted-gt64.result (inr many) c.passed-then-counted-gt64.ensures
+    kind_limit c.args.within.now c.args.assigns.now (members k m (map part_of gs)) limits.Members c.passed-then-counted-gt-MAX_ADDITIONS.result (inr many) c.passed-then-counted-gt-MAX_ADDITIONS.ensures
 
 pub returns-clause-root : goal.returns-clause-root
 returns-clause-root c =
