@@ -3,7 +3,7 @@
 ghost use Rattle.std.specs.Prelude.{ℕ};
 ghost use Rattle.names.specs.Faults.{module_told, name_told};
 ghost use Rattle.resolve.specs.Program.{Program};
-ghost use Rattle.tagging.specs.Faults.{StandsIn};
+ghost use Rattle.tagging.specs.Faults.{IsWrittenIn};
 ghost use Rattle.additions.specs.Additions.{IsFirstBreak};
 ghost use Rattle.additions.specs.Faults.{Stands};
 
@@ -36,7 +36,7 @@ pub enum ExtFault {
 pub(crate) fn fault_of(rule: Rule, spot: Spot) -> ExtFault
     ensures { (p : Program) (i : ℕ) →
         IsFirstBreak p.types rule i →
-        StandsIn p i (module_told spot) (name_told spot) →
+        IsWrittenIn p i (module_told spot) (name_told spot) →
         Stands p result }
 {
     match rule {

@@ -2,7 +2,7 @@
 use Rattle.std.proofs.Common.{arith, ◌≡◌, ℕ, zero, suc, ◌+◌, ◌-◌, ◌<◌, ◌≤◌, Bool, true, false, not, List, [], ◌∷◌, ◌++◌, length, map, drop, get_or, inl, inr, refl, sym, subst, ap, ◌∙◌}
 use Rattle.std.specs.Prelude.{◌↔◌, ◌⊎◌, IsTrue, Option, Some, None, slice_get}
 use Rattle.asn_base.specs.Abstract.{AbstractValue, fields, list, alternative, Row, absent, present, row_of_options, row_of_list}
-use Rattle.asn_base.specs.Decided.{Holds, IsChosen, IsComponent, GroupsOfAreWhole, IsDue, StandsIn}
+use Rattle.asn_base.specs.Decided.{Holds, IsChosen, IsComponent, GroupsOfAreWhole, IsDue, IsPresentOf}
 use Rattle.asn_base.specs.Types.{Alternative, Kind, a_sequence, a_set, a_sequence_of, a_set_of, a_choice, Presence, mandatory, optional, default, addition, Component, Resolved, Is}
 use Rattle.asn_base.specs.Typed.{members, nodes, row_nodes, Fits, HasOfGroup, LacksOfGroup, GroupsAreWhole, ValueIn, value_in, ValueOf, of_leaf, of_sequence, of_set, of_sequence_of, of_set_of, of_choice, MayBeAbsent, where_optional, where_default, where_addition, AreComponents, no_component, component_absent, component_present, AreElements, no_element, one_element}
 use Rattle.asn_base.proofs.Leaves.{onward, without}
@@ -198,11 +198,11 @@ lacks_none g cs vs i e a x = subst (λ q. LacksOfGroup g q (row_of_options (drop
 abbrev pub GroupsFrom : List Component → List (Option AbstractValue) → ℕ → Type 0
 GroupsFrom cs vs i = GroupsAreWhole cs (row_of_options vs) ↔ GroupsOfAreWhole cs (row_of_options vs) (drop i cs) (row_of_options (drop i vs))
 
-has_first : (g : ℕ) (c : Component) (cs : List Component) (o : Option AbstractValue) (os : List (Option AbstractValue)) → HasOfGroup g (c ∷ cs) (row_of_options (o ∷ os)) ↔ (StandsIn g c o ⊎ HasOfGroup g cs (row_of_options os))
+has_first : (g : ℕ) (c : Component) (cs : List Component) (o : Option AbstractValue) (os : List (Option AbstractValue)) → HasOfGroup g (c ∷ cs) (row_of_options (o ∷ os)) ↔ (IsPresentOf g c o ⊎ HasOfGroup g cs (row_of_options os))
 has_first g c cs None os = (λ x. inr x, λ x. without (λ y. y) x)
 has_first g c cs (Some v) os = (λ x. x, λ x. x)
 
-pub groups_at : (cs : List Component) (vs : List (Option AbstractValue)) (i : ℕ) {c : Component} {o : Option AbstractValue} {cs' : List Component} {vs' : List (Option AbstractValue)} → drop i cs ≡ c ∷ cs' → drop i vs ≡ o ∷ vs' → GroupsFrom cs vs i → GroupsAreWhole cs (row_of_options vs) ↔ (((g : ℕ) → StandsIn g c o → LacksOfGroup g cs (row_of_options vs) → ⊥) × GroupsOfAreWhole cs (row_of_options vs) cs' (row_of_options vs'))
+pub groups_at : (cs : List Component) (vs : List (Option AbstractValue)) (i : ℕ) {c : Component} {o : Option AbstractValue} {cs' : List Component} {vs' : List (Option AbstractValue)} → drop i cs ≡ c ∷ cs' → drop i vs ≡ o ∷ vs' → GroupsFrom cs vs i → GroupsAreWhole cs (row_of_options vs) ↔ (((g : ℕ) → IsPresentOf g c o → LacksOfGroup g cs (row_of_options vs) → ⊥) × GroupsOfAreWhole cs (row_of_options vs) cs' (row_of_options vs'))
 groups_at cs vs i {c = c} {o = o} {cs' = cs'} {vs' = vs'} e f a =
     let b = subst (λ q. GroupsAreWhole cs (row_of_options vs) ↔ GroupsOfAreWhole cs (row_of_options vs) q (row_of_options (drop i vs))) e a in
     let d = subst (λ q. GroupsAreWhole cs (row_of_options vs) ↔ GroupsOfAreWhole cs (row_of_options vs) (c ∷ cs') (row_of_options q)) f b in

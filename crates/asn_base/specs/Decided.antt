@@ -36,9 +36,9 @@ IsDue g c None = c.presence ≡ addition false (Some g)
 IsDue g c (Some v) = ⊥
 
 -- the component is present, of group g
-abbrev pub StandsIn : ℕ → Component → Option AbstractValue → Type 0
-StandsIn g c None = ⊥
-StandsIn g c (Some v) = IsOfGroup g c
+abbrev pub IsPresentOf : ℕ → Component → Option AbstractValue → Type 0
+IsPresentOf g c None = ⊥
+IsPresentOf g c (Some v) = IsOfGroup g c
 
 -- two have the same bits but for zeros at the end
 abbrev pub AreAlikeBits : List Bool → List Bool → Type 0

@@ -1,7 +1,7 @@
 //! Whether groups of additions are whole (X.680, 25).
 
 ghost use Rattle.asn_base.specs.Abstract.{abstract, row_of_options};
-ghost use Rattle.asn_base.specs.Decided.{IsDue, StandsIn};
+ghost use Rattle.asn_base.specs.Decided.{IsDue, IsPresentOf};
 ghost use Rattle.asn_base.specs.Seen.{component_of, presence_of};
 ghost use Rattle.asn_base.specs.Typed.{GroupsAreWhole, LacksOfGroup, group_of};
 ghost use Rattle.asn_base.specs.Types.{addition};
@@ -59,7 +59,7 @@ fn lacks(group: usize, components: &[Component], values: &[Option<Value>]) -> bo
 
 /// The group of a component that is present.
 fn standing_group(component: &Component, value: &Option<Value>) -> Option<usize>
-    ensures { (g : ℕ) → (result ≡ Some g ↔ StandsIn g (component_of component.now) (option_map abstract value.now)) }
+    ensures { (g : ℕ) → (result ≡ Some g ↔ IsPresentOf g (component_of component.now) (option_map abstract value.now)) }
 {
     match value {
         Some(_) => group(&component.presence),
@@ -77,7 +77,7 @@ fn is_kept(
     requires { length components.now ≡ length values.now }
     ensures { IsTrue result
         ↔ ((g : ℕ)
-        → StandsIn g (component_of component.now) (option_map abstract value.now)
+        → IsPresentOf g (component_of component.now) (option_map abstract value.now)
         → LacksOfGroup g (map component_of components.now) (row_of_options (map (option_map abstract) values.now))
         → ⊥) }
 {

@@ -10,7 +10,7 @@ use Rattle.codec_source.specs.declared.fault.ReadFault.{ReadFault}
 use Rattle.octet_answers.specs.Answers.{Takes}
 use Rattle.octet_answers.specs.Left.{Leaves}
 use Rattle.octet_answers.specs.States.{State, front}
-use Rattle.reading_law.specs.Shows.{StandsIn}
+use Rattle.reading_law.specs.Shows.{IsSliceAt}
 use Rattle.ber_message.specs.Opened.{opens}
 use Rattle.ber_message.specs.declared.stop.Whereabouts.{Whereabouts}
 
@@ -18,7 +18,7 @@ use Rattle.ber_message.specs.declared.stop.Whereabouts.{Whereabouts}
 -- was read
 pub record IsAt (o : Octets) (w : Whereabouts) (z : State) : Type 0 where
   pub place : w.place ≡ z.here.at
-  pub unread : StandsIn o w.place z.here.octets
+  pub unread : IsSliceAt o w.place z.here.octets
   pub values : w.values.items ≡ opens z.told
 
 -- From the front of the octets, where so many values may begin, the type's routine comes to a question without an

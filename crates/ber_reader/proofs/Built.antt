@@ -9,7 +9,7 @@ use Rattle.asn_base.specs.Types.{TypeNumber, Kind, a_sequence, a_set, a_sequence
 use Rattle.asn_base.specs.Schemas.{IsSchema, IsSound, AreListed}
 use Rattle.codec_code.specs.Routines.{routine_at}
 use Rattle.octet_answers.specs.States.{Token, component, chosen, begun, ended, held, passed}
-use Rattle.reading_law.specs.Shows.{Shows, shows, ShowsOf, shows_leaf, shows_sequence, shows_set, shows_sequence_of, shows_set_of, shows_choice, ShowsFields, no_field, absent_field, present_field, ShowsMixed, nothing_mixed, passed_mixed, component_mixed, ShowsElements, no_element_shown, element_shown, StandsIn, StandIn}
+use Rattle.reading_law.specs.Shows.{Shows, shows, ShowsOf, shows_leaf, shows_sequence, shows_set, shows_sequence_of, shows_set_of, shows_choice, ShowsFields, no_field, absent_field, present_field, ShowsMixed, nothing_mixed, passed_mixed, component_mixed, ShowsElements, no_element_shown, element_shown, IsSliceAt, StandIn}
 use Rattle.views.specs.Building.{Building, opened, open_fields, open_list, open_alternative, Header, Closes, closes_fields, closes_list, closes_alternative, with_tree, begun as begun'}
 use Rattle.views.specs.Tree.{Leaf, boolean, integer, enumerated, bits, octets, text, null, oid, relative_oid, leaf_value, Tree, leaf, value_of, Members, no_member, member, joined, element_values, component_value, IsBorrowed, AreBorrowed, IsBorrowedLeaf, StandsAt}
 use Rattle.views.specs.Tree as tree
@@ -46,11 +46,11 @@ range_of : (a x b : List ℕ) → slice_range (a ++ (x ++ b)) (length a) (length
 range_of a x b =
     ap (λ q. take (length a + length x - length a) q) (drop_front a (x ++ b)) ∙ ap (λ q. take q (x ++ b)) (let e : length a + length x - length a ≡ length x = omega arith in e) ∙ take-append_seam x b
 
-stands_at : {m : List ℕ} {at : ℕ} {x : List ℕ} → StandsIn m at x → slice_range m at (at + length x) ≡ x
+stands_at : {m : List ℕ} {at : ℕ} {x : List ℕ} → IsSliceAt m at x → slice_range m at (at + length x) ≡ x
 stands_at {m} {at} {x} s = ap (λ q. slice_range q at (at + length x)) s.whole ∙ ap (λ q. slice_range (s.before ++ (x ++ s.behind)) q (q + length x)) (sym s.place) ∙ range_of s.before x s.behind
 
 -- behind the first one
-stands_later : {m : List ℕ} {at n : ℕ} {x o : List ℕ} → StandsIn m at x → x ≡ n ∷ o → StandsIn m (suc at) o
+stands_later : {m : List ℕ} {at n : ℕ} {x o : List ℕ} → IsSliceAt m at x → x ≡ n ∷ o → IsSliceAt m (suc at) o
 stands_later {n = n} {o = o} s e = record {
   before = s.before ++ n ∷ [];
   behind = s.behind;
@@ -58,13 +58,13 @@ stands_later {n = n} {o = o} s e = record {
   place = (let a = length-append s.before (n ∷ []) in let b = s.place in omega arith);
 }
 
-string_stands : {m : List ℕ} {at : ℕ} {x o : List ℕ} (p : Option ℕ) → StandsIn m at x → o ≡ x → p ≡ Some at → StandsAt m o p
+string_stands : {m : List ℕ} {at : ℕ} {x o : List ℕ} (p : Option ℕ) → IsSliceAt m at x → o ≡ x → p ≡ Some at → StandsAt m o p
 string_stands {m} {at} {x} {o} p s e f = subst (λ q. StandsAt m o q) (sym f) (subst (λ q. slice_range m at (at + length q) ≡ q) (sym e) (stands_at s))
 
 joined_stands : (m o : List ℕ) (p : Option ℕ) → p ≡ None → StandsAt m o p
 joined_stands m o p e = subst (λ q. StandsAt m o q) (sym e) tt
 
-leaf_stands : (m : List ℕ) (c : Bool) (x : List ℕ) (at : ℕ) (l : Leaf) → StandsIn m at x → IsShownAs c x at l → IsBorrowedLeaf m l
+leaf_stands : (m : List ℕ) (c : Bool) (x : List ℕ) (at : ℕ) (l : Leaf) → IsSliceAt m at x → IsShownAs c x at l → IsBorrowedLeaf m l
 leaf_stands m c x at (boolean b) s h = tt
 leaf_stands m c x at (integer z) s h = tt
 leaf_stands m c x at (enumerated z) s h = tt

@@ -7,7 +7,7 @@ use asn_base::schema::{Schema, TypeId};
 use asn_base::value::Value;
 use constraints::{Bounded, bound};
 use notation::value_at;
-use resolve::{Found, Linked, link};
+use resolve::{Linked, Referent, link};
 use sample_types::{schema, type_named};
 use std::alloc::{AllocError, Global};
 use std::io;
@@ -167,7 +167,7 @@ fn type_once(
     requires { AreSound bounded.now.types }
 {
     let (name, sample) = notation.types();
-    let Some(Found::TypeNamed(ty)) = bounded.linked().find("M", name) else {
+    let Some(Referent::TypeNamed(ty)) = bounded.linked().find("M", name) else {
         return Ok(());
     };
     if !bounded.has(ty) {

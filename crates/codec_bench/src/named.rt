@@ -8,7 +8,7 @@ use asn_base::schema::TypeId;
 use codec_code::{Code, compile};
 use front_end::law::accepted_keep;
 use front_end::{Modules, open};
-use resolve::Found;
+use resolve::Referent;
 use std::{env, fs, io};
 use trees::ValueSyntax;
 
@@ -46,7 +46,7 @@ fn type_at(modules: &Modules, word: &str) -> Option<TypeId>
 {
     let (within, name) = word.split_once('.')?;
     match modules.linked().find(within, name) {
-        Some(Found::TypeNamed(id)) if id.index < modules.linked().types().len() => Some(id),
+        Some(Referent::TypeNamed(id)) if id.index < modules.linked().types().len() => Some(id),
         _ => None,
     }
 }
@@ -55,7 +55,7 @@ fn type_at(modules: &Modules, word: &str) -> Option<TypeId>
 fn notation_at<'a>(modules: &'a Modules, word: &'a str) -> Option<(&'a str, &'a ValueSyntax)> {
     let (within, name) = word.split_once('.')?;
     match modules.linked().find(within, name) {
-        Some(Found::ValueNamed(syntax)) => Some((within, syntax)),
+        Some(Referent::ValueNamed(syntax)) => Some((within, syntax)),
         _ => None,
     }
 }

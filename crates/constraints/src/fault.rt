@@ -4,7 +4,7 @@ ghost use Rattle.std.specs.Prelude.{◌≡◌, ◌<◌, ℕ, length, Some, slice
 ghost use Rattle.names.specs.Faults.{module_told, name_told};
 ghost use Rattle.names.specs.Sources.{value_of};
 ghost use Rattle.resolve.specs.Program.{Program, IsAssignment};
-ghost use Rattle.tagging.specs.Faults.{StandsIn};
+ghost use Rattle.tagging.specs.Faults.{IsWrittenIn};
 ghost use Rattle.constraints.specs.Faults.{Stands};
 ghost use Rattle.constraints.specs.proving.Columns.{Breaks, IsFault, IsRoundAt};
 
@@ -52,7 +52,7 @@ pub enum BoundFault {
 fn fault_of(rule: Rule, spot: Spot) -> BoundFault
     ensures { (p : Program) (i : ℕ) →
         Breaks p rule i →
-        StandsIn p i (module_told spot) (name_told spot) →
+        IsWrittenIn p i (module_told spot) (name_told spot) →
         Stands p result }
 {
     match rule {

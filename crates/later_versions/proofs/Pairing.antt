@@ -13,7 +13,7 @@ use Rattle.asn_base.specs.Types.{Resolved}
 use Rattle.later_versions.specs.Kept.{members_of}
 use Rattle.later_versions.specs.Later.{IsLaterKind, IsLaterType, Later, leads}
 use Rattle.later_versions.proofs.Placing.{at_place}
-use Rattle.later_versions.specs.proving.Pairs.{AreKnown, AreNoted, IsFine, IsIn, IsMemberPair, IsSoFar, StandsIn, met, pair_cmp}
+use Rattle.later_versions.specs.proving.Pairs.{AreKnown, AreNoted, IsFine, IsIn, IsMemberPair, IsSoFar, HasMet, met, pair_cmp}
 use Rattle.later_versions.specs.declared.pairs.Pairs.{Pairs}
 
 -- ---- members of lists
@@ -225,7 +225,7 @@ put_pair old new k f x h = split_cond k x (list_any (λ y. is_eq (pair_cmp x y))
 
 pub record NotedTo (s s' : List Resolved) (p : ℕ × ℕ) (old new : Pairs) (n : ℕ) : Type 0 where
   pub known : AreKnown new
-  pub members : (q : ℕ × ℕ) → (m : IsMemberPair s s' p q) → m.0 < n → StandsIn new q
+  pub members : (q : ℕ × ℕ) → (m : IsMemberPair s s' p q) → m.0 < n → HasMet new q
   pub noted : AreNoted old new (IsMemberPair s s' p)
 
 pub noted_next : (s s' : List Resolved) (p q : ℕ × ℕ) (old mid new : Pairs) (n : ℕ)
@@ -233,7 +233,7 @@ pub noted_next : (s s' : List Resolved) (p q : ℕ × ℕ) (old mid new : Pairs)
     → slice_get (members_of s p.0) n ≡ Some q.0
     → slice_get (members_of s' p.1) n ≡ Some q.1
     → AreKnown new
-    → StandsIn new q
+    → HasMet new q
     → AreNoted mid new (λ r. r ≡ q)
     → NotedTo s s' p old mid n
     → NotedTo s s' p old new (n + 1)
@@ -259,7 +259,7 @@ pub noted_all : (s s' : List Resolved) (p : ℕ × ℕ) (old new : Pairs) (n : �
     → NotedTo s s' p old new n
     → (q : ℕ × ℕ)
     → IsMemberPair s s' p q
-    → StandsIn new q
+    → HasMet new q
 noted_all s s' p old new n e so q m = so.members q m (elim e [
   | inl a ↦ before_none (members_of s p.0) m.0 n q.0 m.1 a
   | inr a ↦ before_none (members_of s' p.1) m.0 n q.1 m.2 a

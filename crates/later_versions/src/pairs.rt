@@ -1,7 +1,7 @@
 //! Pairs of types, a type of an earlier schema and one of a later schema, of which each is to be compared once.
 
 ghost use Rattle.std.specs.Prelude.{◌≡◌, OnOk};
-ghost use Rattle.later_versions.specs.proving.Pairs.{AreKnown, AreNoted, StandsIn, pair_of};
+ghost use Rattle.later_versions.specs.proving.Pairs.{AreKnown, AreNoted, HasMet, pair_of};
 
 use asn_base::schema::TypeId;
 use std::alloc::{AllocError, Global};
@@ -25,7 +25,7 @@ pub(crate) struct Pairs {
 pub(crate) fn note(pairs: &mut Pairs, pair: Pair) -> Result<(), AllocError>
     requires { AreKnown pairs.old }
     ensures known { OnOk result (AreKnown pairs.new) }
-    ensures stands { OnOk result (StandsIn pairs.new (pair_of pair)) }
+    ensures stands { OnOk result (HasMet pairs.new (pair_of pair)) }
     ensures noted { OnOk result (AreNoted pairs.old pairs.new (λ p. p ≡ pair_of pair)) }
 {
     match pairs.known.insert((pair.first.index, pair.second.index)) {

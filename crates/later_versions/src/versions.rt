@@ -2,7 +2,7 @@
 
 ghost use Rattle.std.specs.Prelude.{◌≡◌, ◌↔◌, ℕ, IsTrue, IfOk, OnOk};
 ghost use Rattle.later_versions.specs.Later.{Later};
-ghost use Rattle.later_versions.specs.proving.Pairs.{AreKnown, AreNoted, IsFine, IsMemberPair, StandsIn, pair_of};
+ghost use Rattle.later_versions.specs.proving.Pairs.{AreKnown, AreNoted, IsFine, IsMemberPair, HasMet, pair_of};
 
 use crate::kinds::is_later_kind;
 use crate::members::member_at;
@@ -45,7 +45,7 @@ fn note_members(
     requires { AreKnown pairs.old }
     ensures known { OnOk result (AreKnown pairs.new) }
     ensures members { OnOk result ((p : ℕ × ℕ) →
-        IsMemberPair first.now second.now (pair_of pair) p → StandsIn pairs.new p) }
+        IsMemberPair first.now second.now (pair_of pair) p → HasMet pairs.new p) }
     ensures noted { OnOk result (AreNoted pairs.old pairs.new (IsMemberPair first.now second.now (pair_of pair))) }
 {
     first.accepted();

@@ -1,7 +1,7 @@
 //! Modules that are linked.
 
 use crate::printed::shape;
-use resolve::{Found, Linked};
+use resolve::{Linked, Referent};
 use row_files::Row;
 use row_texts::{Refusal, asked, linked};
 use std::alloc::{AllocError, Global};
@@ -12,11 +12,11 @@ fn meaning(alloc: Global, linked: &Linked, name: &str) -> Result<String, AllocEr
         return Ok(String::new(alloc));
     };
     match linked.find(within, local) {
-        Some(Found::TypeNamed(id)) => {
+        Some(Referent::TypeNamed(id)) => {
             let number = id.index;
             format!(in alloc; "\n{name} is type {number}")
         }
-        Some(Found::ValueNamed(_)) => format!(in alloc; "\n{name} is a value"),
+        Some(Referent::ValueNamed(_)) => format!(in alloc; "\n{name} is a value"),
         None => format!(in alloc; "\n{name} means nothing"),
     }
 }

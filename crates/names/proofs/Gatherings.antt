@@ -6,7 +6,7 @@ use Rattle.trees.specs.Values.{Name}
 use Rattle.trees.specs.Modules.{AssignmentTree, ModuleTree}
 use Rattle.names.specs.declared.fault.NameFault.{NameFault}
 use Rattle.names.specs.declared.fault.NameFault.TheVariants as faults
-use Rattle.names.specs.declared.gather.Gathered.{Gathered}
+use Rattle.names.specs.declared.gather.ModuleTables.{ModuleTables}
 use Rattle.names.specs.declared.gather.Tables.{Tables}
 use Rattle.names.specs.declared.scope.Assigned.{Assigned}
 use Rattle.names.specs.proving.Gathering.{TellsTwice, IsTwice, IsTaken, IsRepeated, Adds, HasGathered, IsNamingFault}
@@ -158,7 +158,7 @@ stands_last P xs x f p y s =
       | inr b ↦ subst P (stands_one x y b) p
     ]
 
-pub gathered_more : (ms : List ModuleTree) (t : ModuleTree) (g g' : Gathered) → HasGathered ms g →
+pub gathered_more : (ms : List ModuleTree) (t : ModuleTree) (g g' : ModuleTables) → HasGathered ms g →
     under t.name (scopes g.modules.entries) ≡ None →
     scopes g'.modules.entries ≡ scopes g.modules.entries ++ (t.name, scope_of (length g.tables.assignments.items) (length g.tables.values.items) t) ∷ [] →
     map header_of g'.headers.items ≡ map header_of g.headers.items ++ (t.name, t.tag_default) ∷ [] →
@@ -184,7 +184,7 @@ gathered_more ms t g g' h u s d a n =
     }
 
 -- the name of a module is that of one before it
-pub module_twice : (ms rest : List ModuleTree) (t : ModuleTree) (g : Gathered) (m : Module) → HasGathered ms g →
+pub module_twice : (ms rest : List ModuleTree) (t : ModuleTree) (g : ModuleTables) (m : Module) → HasGathered ms g →
     under t.name (scopes g.modules.entries) ≡ Some m → StandsTwice (map (λ m. m.name) (ms ++ t ∷ rest)) t.name
 module_twice ms rest t g m h u =
     let same : names_of (scopes g.modules.entries) ≡ map (λ m. m.name) ms = ap names_of h.scopes ∙ names_scopes 0 0 ms in
@@ -197,19 +197,19 @@ scope_fault ms rest t M e q r =
     tells (λ m y. (m ≡ M) × StandsTwice (names_in t) y) (IsNamingFault (ms ++ t ∷ rest)) tt (λ s u. inr (record { number = length ms + 0; tree = t; there = right ms (t ∷ rest) 0; named = sym q ∙ sym u.0; twice = u.1 })) e r
 
 -- modules that are gathered so far, and those that wait
-pub record ArePartly (all rest : List ModuleTree) (g : Gathered) : Type 0 where
+pub record ArePartly (all rest : List ModuleTree) (g : ModuleTables) : Type 0 where
   pub done : List ModuleTree
   pub splits : done ++ rest ≡ all
   pub gathered : HasGathered done g
 
-pub partly_step : (all rest : List ModuleTree) (t : ModuleTree) (g g' : Gathered) → ArePartly all (t ∷ rest) g →
+pub partly_step : (all rest : List ModuleTree) (t : ModuleTree) (g g' : ModuleTables) → ArePartly all (t ∷ rest) g →
     ((ms : List ModuleTree) → HasGathered ms g → HasGathered (ms ++ t ∷ []) g') → ArePartly all rest g'
 partly_step all rest t g g' p f = record { done = p.done ++ t ∷ []; splits = append_assoc p.done (t ∷ []) rest ∙ p.splits; gathered = f p.done p.gathered }
 
-pub partly_end : (all : List ModuleTree) (g : Gathered) → ArePartly all [] g → HasGathered all g
+pub partly_end : (all : List ModuleTree) (g : ModuleTables) → ArePartly all [] g → HasGathered all g
 partly_end all g p = subst (λ l. HasGathered l g) (sym (append-nil p.done) ∙ p.splits) p.gathered
 
-pub partly_fault : (all rest : List ModuleTree) (t : ModuleTree) (g : Gathered) (e : NameFault) →
+pub partly_fault : (all rest : List ModuleTree) (t : ModuleTree) (g : ModuleTables) (e : NameFault) →
     ArePartly all (t ∷ rest) g → ((ms rest : List ModuleTree) → HasGathered ms g → IsNamingFault (ms ++ t ∷ rest) e) →
     IsNamingFault all e
 partly_fault all rest t g e p f = subst (λ l. IsNamingFault l e) p.splits (f p.done rest p.gathered)

@@ -5,7 +5,7 @@ use Rattle.std.proofs.lemmas.List.{length-map}
 use Rattle.std.proofs.lemmas.Option.{same_Some}
 use Rattle.trees.specs.Values.{Name}
 use Rattle.trees.specs.Modules.{AssignmentTree, assigns_type, assigns_value, ModuleTree}
-use Rattle.names.specs.declared.gather.Gathered.{Gathered}
+use Rattle.names.specs.declared.gather.ModuleTables.{ModuleTables}
 use Rattle.names.specs.declared.scope.Assigned.{Assigned}
 use Rattle.names.specs.declared.scope.Assigned.TheVariants as assigned
 use Rattle.names.specs.proving.Gathering.{HasGathered}
@@ -92,7 +92,7 @@ meaning_there ms t w h j M x a (imported m n N e f g k) =
     let s = under_some N (scopes_from 0 0 ms) n g in
     scopes_there 0 0 t w ms (omega (arith, h)) (omega (arith, j)) s.0 N n s.1 x a (under_some x n.assigned a k)
 
-pub ready : (ms : List ModuleTree) (g : Gathered) → HasGathered ms g → IsReady g
+pub ready : (ms : List ModuleTree) (g : ModuleTables) → HasGathered ms g → IsReady g
 ready ms g h =
     let gs = all_assignments ms in
     let lh : length g.headers.items ≡ length ms = sym (length-map g.headers.items header_of) ∙ ap length h.headers ∙ length-map ms (λ m. (m.name, m.tag_default)) in

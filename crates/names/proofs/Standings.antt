@@ -7,7 +7,7 @@ use Rattle.trees.specs.Values.{Name}
 use Rattle.trees.specs.Modules.{ModuleTree}
 use Rattle.names.specs.declared.fault.NameFault.{NameFault}
 use Rattle.names.specs.declared.fault.NameFault.TheVariants as faults
-use Rattle.names.specs.declared.gather.Gathered.{Gathered}
+use Rattle.names.specs.declared.gather.ModuleTables.{ModuleTables}
 use Rattle.names.specs.declared.scope.Assigned.{Assigned}
 use Rattle.names.specs.Names.{names_of, Module, under, IsApart}
 use Rattle.names.specs.proving.Gathering.{HasGathered, IsNamingFault}
@@ -77,7 +77,7 @@ offers ms N x o =
     let t = tells 0 0 ms s.0 N o.other s.1 in
     record { tree = t.tree; there = t.there; named = sym t.named; assigns = subst (λ l. StandsIn l x) t.assigned (name_under x o.other.assigned o.assigned o.assigns); exported = subst (λ z. IsExported z x) t.exports o.exported }
 
-pub are_named : (ms : List ModuleTree) (g : Gathered) → HasGathered ms g → AreStanding (scopes g.modules.entries) →
+pub are_named : (ms : List ModuleTree) (g : ModuleTables) → HasGathered ms g → AreStanding (scopes g.modules.entries) →
     AreNamed ms
 are_named ms g h s =
     let a = subst AreStanding h.scopes s in
@@ -157,7 +157,7 @@ one_fault ms M m e t (inr f) = import_fault ms M m t f.0 f.1 f.2 e f.3
 scopes_fault : (ms : List ModuleTree) (e : NameFault) → IsStandingFault (scopes_from 0 0 ms) e → IsNamingFault ms e
 scopes_fault ms e f = one_fault ms f.0 f.1 e (tells 0 0 ms f.2.0 f.0 f.1 f.2.1) f.3
 
-pub standing_fault : (ms : List ModuleTree) (g : Gathered) (e : NameFault) → HasGathered ms g →
+pub standing_fault : (ms : List ModuleTree) (g : ModuleTables) (e : NameFault) → HasGathered ms g →
     IsStandingFault (scopes g.modules.entries) e → IsNamingFault ms e
 standing_fault ms g e h f = scopes_fault ms e (subst (λ z. IsStandingFault z e) h.scopes f)
 

@@ -31,7 +31,7 @@ pub struct Tables {
 
 /// What modules give.
 #[derive(Drop)]
-pub struct Gathered {
+pub struct ModuleTables {
     pub modules: IndexMap<String, Scope>,
     pub headers: Vec<Header>,
     pub tables: Tables,
@@ -378,7 +378,7 @@ fn scope_from(
 }
 
 /// Adds a module behind the others.
-fn add_module(alloc: Global, given: Module, gathered: &mut Gathered) -> Result<(), NameFault>
+fn add_module(alloc: Global, given: Module, gathered: &mut ModuleTables) -> Result<(), NameFault>
     ensures ok { OnOk result
         ((ms : List ModuleTree) →
         HasGathered ms gathered.old →
@@ -429,7 +429,7 @@ fn add_module(alloc: Global, given: Module, gathered: &mut Gathered) -> Result<(
 fn add_modules(
     alloc: Global,
     modules: Vec<Module>,
-    gathered: &mut Gathered,
+    gathered: &mut ModuleTables,
 ) -> Result<(), NameFault>
     requires { HasGathered [] gathered.old }
     ensures ok { OnOk result (HasGathered (map module_tree_of modules.items) gathered.new) }
@@ -445,11 +445,11 @@ fn add_modules(
 }
 
 /// What these modules give.
-pub fn gather(alloc: Global, modules: Vec<Module>) -> Result<Gathered, NameFault>
+pub fn gather(alloc: Global, modules: Vec<Module>) -> Result<ModuleTables, NameFault>
     ensures ok { IfOk result (HasGathered (map module_tree_of modules.items)) }
     ensures fault { IfErr result (IsNamingFault (map module_tree_of modules.items)) }
 {
-    let mut gathered = Gathered {
+    let mut gathered = ModuleTables {
         modules: IndexMap::new(alloc),
         headers: Vec::new(alloc),
         tables: Tables {

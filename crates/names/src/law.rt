@@ -3,7 +3,7 @@
 ghost use Rattle.std.specs.Prelude.{List};
 ghost use Rattle.trees.specs.Modules.{ModuleTree};
 ghost use Rattle.names.specs.declared.fault.NameFault.{NameFault};
-ghost use Rattle.names.specs.declared.gather.Gathered.{Gathered};
+ghost use Rattle.names.specs.declared.gather.ModuleTables.{ModuleTables};
 ghost use Rattle.names.specs.Faults.{IsNamesFault};
 ghost use Rattle.names.specs.ByNumber.{scopes_from};
 ghost use Rattle.names.specs.Modules.{AreDistinct, AreFew, AreNamed, StandsIn, names_in};
@@ -27,17 +27,17 @@ pub fn apart()
 
 /// What is gathered refers to what is there.
 pub fn ready()
-    ensures { (ms : List ModuleTree) (g : Gathered) → HasGathered ms g → IsReady g }
+    ensures { (ms : List ModuleTree) (g : ModuleTables) → HasGathered ms g → IsReady g }
 {}
 
 /// Modules are named as they have to be where what is exported and imported stands in what is gathered of them; and a
 /// fault that stands there stands in the modules.
 pub fn stood()
-    ensures named { (ms : List ModuleTree) (g : Gathered) →
+    ensures named { (ms : List ModuleTree) (g : ModuleTables) →
         HasGathered ms g →
         AreStanding (scopes g.modules.entries) →
         AreNamed ms }
-    ensures fault { (ms : List ModuleTree) (g : Gathered) (e : NameFault) →
+    ensures fault { (ms : List ModuleTree) (g : ModuleTables) (e : NameFault) →
         HasGathered ms g →
         IsStandingFault (scopes g.modules.entries) e →
         IsNamingFault ms e }

@@ -15,11 +15,11 @@ use Rattle.octet_answers.specs.Units.{UnitAt}
 use Rattle.octet_answers.specs.States.{State, Window, Token, component, chosen, begun, ended, held, passed, front}
 use Rattle.octet_answers.specs.Found.{Passes, at_end_of_contents, at_component, passes}
 use Rattle.octet_answers.specs.Answers.{Answers, Takes, StandsNext, MoreNext, AmongNext}
-use Rattle.reading_law.specs.Shows.{StandsIn, StandIn}
+use Rattle.reading_law.specs.Shows.{IsSliceAt, StandIn}
 
 -- octets that are left stand in the message
 abbrev pub Lies : List ℕ → Window → Type 0
-Lies m w = StandsIn m w.at w.octets
+Lies m w = IsSliceAt m w.at w.octets
 
 pub record Placed (m : List ℕ) (a : State) : Type 0 where
   pub here : Lies m a.here
@@ -48,7 +48,7 @@ all_back m [] ys a = a
 all_back m (x ∷ xs) ys a = all_back m xs ys a.1
 
 -- octets behind others that stand in the message
-pub further : {m : List ℕ} {at : ℕ} (h x : List ℕ) {o : List ℕ} → StandsIn m at o → o ≡ h ++ x → StandsIn m (at + length h) x
+pub further : {m : List ℕ} {at : ℕ} (h x : List ℕ) {o : List ℕ} → IsSliceAt m at o → o ≡ h ++ x → IsSliceAt m (at + length h) x
 further h x s e = record {
   before = s.before ++ h;
   behind = s.behind;
@@ -57,7 +57,7 @@ further h x s e = record {
 }
 
 -- the first of them
-nearer : {m : List ℕ} {at : ℕ} (x r : List ℕ) {o : List ℕ} → StandsIn m at o → o ≡ x ++ r → StandsIn m at x
+nearer : {m : List ℕ} {at : ℕ} (x r : List ℕ) {o : List ℕ} → IsSliceAt m at o → o ≡ x ++ r → IsSliceAt m at x
 nearer x r s e = record {
   before = s.before;
   behind = r ++ s.behind;
@@ -65,14 +65,14 @@ nearer x r s e = record {
   place = s.place;
 }
 
-pub at_place : {m : List ℕ} {i j : ℕ} {x : List ℕ} → StandsIn m i x → i ≡ j → StandsIn m j x
-at_place {m} {x = x} s e = subst (λ q. StandsIn m q x) e s
+pub at_place : {m : List ℕ} {i j : ℕ} {x : List ℕ} → IsSliceAt m i x → i ≡ j → IsSliceAt m j x
+at_place {m} {x = x} s e = subst (λ q. IsSliceAt m q x) e s
 
 -- the contents at the front, and what stands behind them
-inner_lies : {m : List ℕ} (w : Window) {g : Tag} {c : Bool} {k : ℕ} {x r : List ℕ} → Lies m w → UnitAt g c k x r w.octets → StandsIn m (w.at + k) x
+inner_lies : {m : List ℕ} (w : Window) {g : Tag} {c : Bool} {k : ℕ} {x r : List ℕ} → Lies m w → UnitAt g c k x r w.octets → IsSliceAt m (w.at + k) x
 inner_lies w {x = x} {r = r} l u = at_place (nearer x r (further u.header (x ++ r) l u.whole) refl) (let e = u.long in omega arith)
 
-pub behind_lies : {m : List ℕ} (w : Window) {g : Tag} {c : Bool} {k : ℕ} {x r : List ℕ} → Lies m w → UnitAt g c k x r w.octets → StandsIn m (w.at + (k + length x)) r
+pub behind_lies : {m : List ℕ} (w : Window) {g : Tag} {c : Bool} {k : ℕ} {x r : List ℕ} → Lies m w → UnitAt g c k x r w.octets → IsSliceAt m (w.at + (k + length x)) r
 behind_lies w {x = x} {r = r} l u = at_place (further x r (further u.header (x ++ r) l u.whole) refl) (let e = u.long in omega arith)
 
 pub told_more : {m : List ℕ} {a : State} (t : Token) → Placed m a → StandIn m (t ∷ []) → StandIn m (a.told ++ t ∷ [])

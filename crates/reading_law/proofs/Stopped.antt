@@ -12,10 +12,10 @@ use Rattle.codec_source.specs.Stopping.{Stops, unanswered, answered, StopsThen, 
 use Rattle.octet_answers.specs.States.{State, passed, front}
 use Rattle.octet_answers.specs.Answers.{Takes}
 use Rattle.octet_answers.specs.Left.{Leaves, stays, behind_addition, at_segment}
-use Rattle.reading_law.specs.Shows.{StandsIn, StandIn}
+use Rattle.reading_law.specs.Shows.{IsSliceAt, StandIn}
 use Rattle.reading_law.proofs.Places.{Placed, further, at_place, behind_lies, told_more, taken, asked, done}
 
-drop_stands : {m : List ℕ} {at : ℕ} {o : List ℕ} (n : ℕ) → n ≤ length o → StandsIn m at o → StandsIn m (at + n) (drop n o)
+drop_stands : {m : List ℕ} {at : ℕ} {o : List ℕ} (n : ℕ) → n ≤ length o → IsSliceAt m at o → IsSliceAt m (at + n) (drop n o)
 drop_stands {m} {at} {o} n l s = at_place (further (take n o) (drop n o) s (sym (take-append-drop n o))) (ap (λ q. at + q) (length-take-le n o l))
 
 left_placed : {m : List ℕ} {a b : State} {e : ReadFault} → Leaves a b e → Placed m a → Placed m b
@@ -36,7 +36,7 @@ module _ (m : List ℕ) (r : ℕ → List Step) (l : State → State → Type 0)
     then_stopped (not_ended g d n h) p = keeps _ _ h (done d (taken g p))
     then_stopped (stops_behind g d i s) p = stopped s (taken i (done d (taken g p)))
 
-pub stands_where_stopped : (s : List Resolved) (t : TypeId) (o : List ℕ) (room : ℕ) (z : State) (e : ReadFault) → StopsReading (λ u. routine_at s u) Takes (λ a b. Leaves a b e) t (front s o room) z → StandsIn o z.here.at z.here.octets × StandIn o z.told
+pub stands_where_stopped : (s : List Resolved) (t : TypeId) (o : List ℕ) (room : ℕ) (z : State) (e : ReadFault) → StopsReading (λ u. routine_at s u) Takes (λ a b. Leaves a b e) t (front s o room) z → IsSliceAt o z.here.at z.here.octets × StandIn o z.told
 stands_where_stopped s t o room z e h =
     let p : Placed o z = then_stopped o (λ u. routine_at s u) (λ a b. Leaves a b e) (λ a b. left_placed) h (record {
       here = record { before = []; behind = []; whole = sym (append-nil o); place = refl };
@@ -45,7 +45,7 @@ stands_where_stopped s t o room z e h =
     }) in
     (p.here, p.told)
 
-pub stands_where_read : (s : List Resolved) (t : TypeId) (o : List ℕ) (room : ℕ) (z : State) → Reads (λ u. routine_at s u) Takes t (front s o room) z → StandsIn o z.here.at z.here.octets
+pub stands_where_read : (s : List Resolved) (t : TypeId) (o : List ℕ) (room : ℕ) (z : State) → Reads (λ u. routine_at s u) Takes t (front s o room) z → IsSliceAt o z.here.at z.here.octets
 stands_where_read s t o room z r =
     (taken r.ended (done r.done (taken r.begun (record {
       here = record { before = []; behind = []; whole = sym (append-nil o); place = refl };

@@ -114,7 +114,7 @@ mutual
         → ShowsElements s u (present w ws) all
 
 -- octets that stand in a message, the first of them at a place
-pub record StandsIn (message : Octets) (at : ℕ) (x : Octets) : Type 0 where
+pub record IsSliceAt (message : Octets) (at : ℕ) (x : Octets) : Type 0 where
   pub before : Octets
   pub behind : Octets
   pub whole : message ≡ before ++ (x ++ behind)
@@ -123,7 +123,7 @@ pub record StandsIn (message : Octets) (at : ℕ) (x : Octets) : Type 0 where
 -- all contents octets stand at their places
 abbrev pub StandIn : Octets → List Token → Type 0
 StandIn message [] = Unit {0}
-StandIn message (held k c x at ∷ ts) = StandsIn message at x × StandIn message ts
+StandIn message (held k c x at ∷ ts) = IsSliceAt message at x × StandIn message ts
 StandIn message (component i ∷ ts) = StandIn message ts
 StandIn message (chosen i ∷ ts) = StandIn message ts
 StandIn message (begun t ∷ ts) = StandIn message ts

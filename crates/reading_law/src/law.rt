@@ -16,7 +16,7 @@ ghost use Rattle.octet_answers.specs.Answers.{Takes};
 ghost use Rattle.octet_answers.specs.Left.{Leaves};
 ghost use Rattle.octet_answers.specs.States.{State, front};
 ghost use Rattle.reading_law.specs.Saying.{AreUnit, IsReadTo, IsSaid};
-ghost use Rattle.reading_law.specs.Shows.{StandIn, StandsIn};
+ghost use Rattle.reading_law.specs.Shows.{StandIn, IsSliceAt};
 ghost use Rattle.std.specs.Int.Digits.{AllBelowBase};
 ghost use Rattle.std.specs.Prelude.{◌<◌, ◌≤◌, List, length, ℕ};
 
@@ -60,8 +60,8 @@ pub fn said_is_read()
 pub fn stops_in_place()
     ensures stopped { (s : List Resolved) (t : TypeId) (o : List ℕ) (room : ℕ) (z : State) (e : ReadFault)
         → StopsReading (λ u. routine_at s u) Takes (λ a b. Leaves a b e) t (front s o room) z
-        → StandsIn o z.here.at z.here.octets × StandIn o z.told }
+        → IsSliceAt o z.here.at z.here.octets × StandIn o z.told }
     ensures read { (s : List Resolved) (t : TypeId) (o : List ℕ) (room : ℕ) (z : State)
         → Reads (λ u. routine_at s u) Takes t (front s o room) z
-        → StandsIn o z.here.at z.here.octets }
+        → IsSliceAt o z.here.at z.here.octets }
 {}

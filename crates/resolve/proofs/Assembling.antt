@@ -6,7 +6,7 @@ use Rattle.trees.specs.Values.{Name}
 use Rattle.trees.specs.declared.module.TagDefault.{TagDefault}
 use Rattle.names.specs.declared.fault.NameFault.{NameFault}
 use Rattle.names.specs.declared.fault.NameFault.TheVariants as faults
-use Rattle.names.specs.declared.gather.Gathered.{Gathered}
+use Rattle.names.specs.declared.gather.ModuleTables.{ModuleTables}
 use Rattle.names.specs.declared.scope.Assigned.{Assigned}
 use Rattle.names.specs.declared.scope.Assigned.TheVariants as assigned
 use Rattle.names.specs.declared.sources.AssignedAt.{AssignedAt}
@@ -37,7 +37,7 @@ pub record Laws : Type 0 where
       ((M x : Name) (N : Option Name) (j : ℕ) → Refers ms M N x (assigned.Type j) → j < length ts) → HaveNoPlace roots → AllUnfold ts → IsLinked ts
 
 -- the table of the parts of what is gathered is its table
-pub table_of : (g : Gathered) (ns : List (Name × Module)) (hs : List Header) (as' : List AssignedAt)
+pub table_of : (g : ModuleTables) (ns : List (Name × Module)) (hs : List Header) (as' : List AssignedAt)
     (ts : List Type') → ns ≡ seen module_of g.modules.entries → hs ≡ g.headers.items →
     as' ≡ g.tables.assignments.items →
     AreNumbered ns (map header_of hs) (map assignment_of as') (sources_of g.tables.roots.items) ts → IsTableFrom g ts
@@ -47,7 +47,7 @@ table_of g ns hs as' ts en eh ea all =
     (subst (λ a. AreNumbered ns (map header_of hs) (map assignment_of a) (sources_of g.tables.roots.items) ts) ea all))
 
 -- a type of the table that comes back to itself, told with its module and its assignment
-pub circular_fault : (g : Gathered) (hs : List Header) (as' : List AssignedAt) (ts : List Type') (i : ℕ) (w : Type')
+pub circular_fault : (g : ModuleTables) (hs : List Header) (as' : List AssignedAt) (ts : List Type') (i : ℕ) (w : Type')
     (e : NameFault) → hs ≡ g.headers.items → as' ≡ g.tables.assignments.items → IsTableFrom g ts →
     slice_get ts i ≡ Some w → IsCircular ts i →
     TellsType (map header_of hs) (map assignment_of as') w e → IsTablesFault g e
@@ -70,7 +70,7 @@ circular_fault g hs as' ts i w (faults.UnknownName s) eh ea all there back f = a
 circular_fault g hs as' ts i w (faults.NotExported s) eh ea all there back f = absurd f
 circular_fault g hs as' ts i w (faults.UnknownModule s) eh ea all there back f = absurd f
 
-module _ (law : Laws) (g : Gathered) (r : IsReady g) (ts : List Type') (all : IsTableFrom g ts) where
+module _ (law : Laws) (g : ModuleTables) (r : IsReady g) (ts : List Type') (all : IsTableFrom g ts) where
   within : (j : ℕ) → j < length g.tables.roots.items → j < length ts
   within j h =
       let n = law.roots (seen module_of g.modules.entries) (map header_of g.headers.items) (map assignment_of g.tables.assignments.items) (sources_of g.tables.roots.items) ts all in

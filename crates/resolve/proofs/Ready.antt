@@ -5,7 +5,7 @@ use Rattle.trees.specs.Modules.{ModuleTree}
 use Rattle.names.specs.declared.fault.NameFault.{NameFault}
 use Rattle.names.specs.declared.fault.NameFault.TheVariants as faults
 use Rattle.names.specs.declared.fault.Limit.TheVariants as limits
-use Rattle.names.specs.declared.gather.Gathered.{Gathered}
+use Rattle.names.specs.declared.gather.ModuleTables.{ModuleTables}
 use Rattle.names.specs.ByNumber.{scopes_from, headers_of, owned_from, roots_of}
 use Rattle.names.specs.Modules.{AreNamed, AreFew}
 use Rattle.names.specs.Scopes.{seen, module_of}
@@ -24,7 +24,7 @@ use Rattle.resolve.specs.Sound.{IsSoundFault}
 use Rattle.resolve.specs.proving.Assembled.{IsOf, IsAssembled, IsAssemblyFault, IsTableFrom, IsTablesFault}
 
 -- the table of what is gathered is that of the modules
-same_table : (ms : List ModuleTree) (g : Gathered) (ts : List Type') → HasGathered ms g → IsTableFrom g ts →
+same_table : (ms : List ModuleTree) (g : ModuleTables) (ts : List Type') → HasGathered ms g → IsTableFrom g ts →
     AreNumbered (scopes_from 0 0 ms) (headers_of ms) (owned_from 0 ms) (roots_of ms) ts
 same_table ms g ts h a =
     subst (λ l. AreNumbered l (headers_of ms) (owned_from 0 ms) (roots_of ms) ts) h.scopes
@@ -32,7 +32,7 @@ same_table ms g ts h a =
     (subst (λ l. AreNumbered (seen module_of g.modules.entries) (map header_of g.headers.items) l (roots_of ms) ts) h.assignments
     (subst (λ l. AreNumbered (seen module_of g.modules.entries) (map header_of g.headers.items) (map assignment_of g.tables.assignments.items) l ts) h.roots a)))
 
-program_of : (ms : List ModuleTree) (g : Gathered) (p : Program) → HasGathered ms g → IsOf g p → IsProgramOf ms p
+program_of : (ms : List ModuleTree) (g : ModuleTables) (p : Program) → HasGathered ms g → IsOf g p → IsProgramOf ms p
 program_of ms g p h o =
     let modules = ap (λ z. z.modules) o.is ∙ h.scopes in
     let headers = ap (λ z. z.headers) o.is ∙ h.headers in
@@ -48,7 +48,7 @@ program_of ms g p h o =
           (subst (λ l. AreNumbered (scopes_from 0 0 ms) (headers_of ms) l (roots_of ms) p.types) (sym assignments) (same_table ms g p.types h o.types)));
     }
 
-pub are_linked : (ms : List ModuleTree) (g : Gathered) (p : Program) → AreFew ms → AreNamed ms → HasGathered ms g →
+pub are_linked : (ms : List ModuleTree) (g : ModuleTables) (p : Program) → AreFew ms → AreNamed ms → HasGathered ms g →
     IsAssembled g p → Links ms p
 are_linked ms g p f n h a = record { named = n; few = f; program = program_of ms g p h a.program; types = a.few; unfolds = a.unfolds; sound = a.sound }
 
@@ -73,7 +73,7 @@ behind_link ms (faults.NotExported s) f = inr f
 behind_link ms (faults.Circular s) f = inr f
 behind_link ms (faults.UnknownModule s) f = inr f
 
-pub assembly_link : (ms : List ModuleTree) (g : Gathered) (e : NameFault) → HasGathered ms g → IsAssemblyFault g e →
+pub assembly_link : (ms : List ModuleTree) (g : ModuleTables) (e : NameFault) → HasGathered ms g → IsAssemblyFault g e →
     IsLinkFault ms e
 assembly_link ms g e h (inl f) =
     behind_link ms e (inl (subst (λ l. IsTableFault l (headers_of ms) (owned_from 0 ms) (roots_of ms) e) h.scopes (subst (λ l. IsTableFault (seen module_of g.modules.entries) l (owned_from 0 ms) (roots_of ms) e) h.headers
@@ -81,7 +81,7 @@ assembly_link ms g e h (inl f) =
 assembly_link ms g e h (inr r) = behind_link ms e (inr (r.0, program_of ms g r.0 h r.1, r.2))
 
 -- more assignments than there may be types
-pub more_roots : (g : Gathered) (s : Source) (owner : ℕ) (M x : Name) (d : TagDefault) (e : NameFault) →
+pub more_roots : (g : ModuleTables) (s : Source) (owner : ℕ) (M x : Name) (d : TagDefault) (e : NameFault) →
     slice_get (sources_of g.tables.roots.items) 65536 ≡ Some s → slice_get (map assignment_of g.tables.assignments.items) s.assignment ≡ Some (owner, x) → slice_get (map header_of g.headers.items) owner ≡ Some (M, d) → IsTypesLimit M x e → IsTablesFault g e
 more_roots g s owner M x d faults.Memory r a h l = tt
 more_roots g s owner M x d (faults.Limit limits.Types z) r a h l = record {

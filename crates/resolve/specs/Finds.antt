@@ -6,8 +6,8 @@ use Rattle.names.specs.declared.scope.Assigned.{Assigned}
 use Rattle.names.specs.declared.scope.Assigned.TheVariants as assigned
 use Rattle.names.specs.Names.{Meaning, Refers}
 use Rattle.names.specs.Sources.{Value}
-use Rattle.resolve.specs.declared.linked.Found.{Found}
-use Rattle.resolve.specs.declared.linked.Found.TheVariants.{TypeNamed, ValueNamed}
+use Rattle.resolve.specs.declared.linked.Referent.{Referent}
+use Rattle.resolve.specs.declared.linked.Referent.TheVariants.{TypeNamed, ValueNamed}
 use Rattle.resolve.specs.Program.{Program}
 
 -- name x, behind a module's name if one is given, stands for a in module M
@@ -16,7 +16,7 @@ RefersTo p M o x a = Refers p.modules M (option_map string_bytes o) x a
 
 -- nothing where name x, read in module M, has no meaning; a type's number, or the value as it is written, where it has
 -- one
-abbrev pub Finds : Program → Name → Name → Option Found → Type 0
+abbrev pub Finds : Program → Name → Name → Option Referent → Type 0
 Finds p M x None = (a : Assigned) → Meaning p.modules M x a → ⊥
 Finds p M x (Some (TypeNamed t)) = Meaning p.modules M x (assigned.Type t.index)
 Finds p M x (Some (ValueNamed v)) =

@@ -8,6 +8,6 @@ pub mod linking;
 mod qualified;
 mod sound;
 
-pub use linked::{Found, Home, Linked};
+pub use linked::{Home, Linked, Referent};
 pub use linking::link;
 pub use sound::faults_exclude_sound;

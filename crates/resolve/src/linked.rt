@@ -13,7 +13,7 @@ ghost use Rattle.resolve.specs.proving.Assembled.{ArePlaced, IsOf, IsTablesFault
 
 use asn_base::schema::TypeId;
 use names::fault::spot;
-use names::gather::{Gathered, Tables};
+use names::gather::{ModuleTables, Tables};
 use names::{Assigned, AssignedAt, Header, NameFault, Names, ValueAt};
 use std::alloc::Global;
 use std::marker::Model;
@@ -25,7 +25,7 @@ use type_table::unfolding::unfold_all;
 
 /// What a name stands for.
 #[derive(Drop)]
-pub enum Found<'a> {
+pub enum Referent<'a> {
     /// A type, by its number in the table of written types.
     TypeNamed(TypeId),
     /// A value, as it is written.
@@ -96,13 +96,15 @@ fn circular_at(
 impl Linked {
     /// What a name stands for in a module (X.680, clause 13): what the module assigns it, or the module which it is
     /// imported from. Nothing where there is no such module, or where the name has no meaning in it.
-    pub fn find(&self, within: &str, name: &str) -> Option<Found<'_>>
+    pub fn find(&self, within: &str, name: &str) -> Option<Referent<'_>>
         ensures { Finds self.now within.now name.now result }
     {
         match self.names.find(within, name) {
             None => None,
-            Some(Assigned::Type(index)) => Some(Found::TypeNamed(TypeId { index })),
-            Some(Assigned::Value(number)) => Some(Found::ValueNamed(&self.values[number].syntax)),
+            Some(Assigned::Type(index)) => Some(Referent::TypeNamed(TypeId { index })),
+            Some(Assigned::Value(number)) => Some(Referent::ValueNamed(
+                &self.values[number].syntax,
+            )),
         }
     }
 
@@ -191,7 +193,7 @@ impl Linked {
     }
 
     /// The program of what is gathered. The type of assignment n is type n.
-    pub(crate) fn of(alloc: Global, gathered: Gathered) -> Result<Linked, NameFault>
+    pub(crate) fn of(alloc: Global, gathered: ModuleTables) -> Result<Linked, NameFault>
         requires ready { IsReady gathered }
         requires few { length gathered.tables.roots.items ≤ 65536 }
         ensures program { IfOk result (IsOf gathered) }
@@ -200,7 +202,7 @@ impl Linked {
     {
         numbered_there();
         numbered_linked();
-        let Gathered {
+        let ModuleTables {
             modules,
             headers,
             tables,

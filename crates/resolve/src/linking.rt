@@ -9,7 +9,7 @@ ghost use Rattle.resolve.specs.proving.Assembled.{IsAssembled, IsAssemblyFault};
 use crate::linked::Linked;
 use crate::sound::sound;
 use limits::MAX_WRITTEN;
-use names::gather::{Gathered, gather};
+use names::gather::{ModuleTables, gather};
 use names::law::{ready, stood};
 use names::{NameFault, all_stand, within_limits};
 use std::alloc::Global;
@@ -17,7 +17,7 @@ use trees::Module;
 use type_table::number::too_many;
 
 /// The program of what is gathered.
-fn assemble(alloc: Global, gathered: Gathered) -> Result<Linked, NameFault>
+fn assemble(alloc: Global, gathered: ModuleTables) -> Result<Linked, NameFault>
     requires ready { IsReady gathered }
     ensures assembled { IfOk result (IsAssembled gathered) }
     ensures fault { IfErr result (IsAssemblyFault gathered) }

@@ -6,7 +6,7 @@ ghost use Rattle.type_table.specs.Lists.{AreSound};
 use crate::refusal::{Refusal, told};
 use crate::requests::texts_of;
 use asn_base::schema::TypeId;
-use resolve::{Found, Linked, link};
+use resolve::{Linked, Referent, link};
 use row_files::Row;
 use std::alloc::Global;
 use trees::Module;
@@ -59,8 +59,8 @@ pub fn type_at(linked: &Linked, path: &str) -> Option<TypeId> {
         None => (rest, None),
     };
     match (linked.find(within, name), member) {
-        (Some(Found::TypeNamed(id)), None) => Some(id),
-        (Some(Found::TypeNamed(id)), Some(member)) => member_type(linked, id, member),
+        (Some(Referent::TypeNamed(id)), None) => Some(id),
+        (Some(Referent::TypeNamed(id)), Some(member)) => member_type(linked, id, member),
         _ => None,
     }
 }

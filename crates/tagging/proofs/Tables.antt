@@ -16,7 +16,7 @@ use Rattle.asn_base.specs.declared.tag.Tag.{Tag}
 use Rattle.trees.specs.declared.types.Keyword.{Keyword}
 use Rattle.type_table.specs.Table.{Type', Kind, Is}
 use Rattle.resolve.specs.Program.{Program, IsAssignment}
-use Rattle.tagging.specs.Faults.{StandsIn}
+use Rattle.tagging.specs.Faults.{IsWrittenIn}
 use Rattle.tagging.specs.Tags.{is_tagged}
 
 pub is_here : (ws : List Written) (i : ℕ) (w : Written) → i < length ws → w ≡ get_or ws i w →
@@ -74,5 +74,5 @@ no_tag (shapes.Elements k j) f = refl
 
 -- where a type stands that linked modules tell of
 pub stands_home : (p q : Program) (i : ℕ) (t : Type') (M x : List ℕ) → q ≡ p → slice_get p.types i ≡ Some t →
-    ((u : Type') → slice_get q.types i ≡ Some u → IsAssignment q u.assignment M x) → StandsIn p i M x
+    ((u : Type') → slice_get q.types i ≡ Some u → IsAssignment q u.assignment M x) → IsWrittenIn p i M x
 stands_home p q i t M x e f h = record { type = t; found = f; assigned = subst (λ z. IsAssignment z t.assignment M x) e (h t (ap (λ z. slice_get z.types i) e ∙ f)) }

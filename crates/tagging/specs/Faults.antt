@@ -10,7 +10,7 @@ use Rattle.tagging.specs.declared.fault.Limit.TheVariants.{Tags, TagNumber}
 use Rattle.tagging.specs.Tagged.{IsOverfull, IsTooGreat, HasClash, IsImplicit, IsUntagged, IsMixed}
 
 -- type i is written in the assignment of name x in module M
-pub record StandsIn (p : Program) (i : ℕ) (M x : List ℕ) : Type 0 where
+pub record IsWrittenIn (p : Program) (i : ℕ) (M x : List ℕ) : Type 0 where
   pub type : Type'
   pub found : slice_get p.types i ≡ Some type
   pub assigned : IsAssignment p type.assignment M x
@@ -19,7 +19,7 @@ pub record StandsIn (p : Program) (i : ℕ) (M x : List ℕ) : Type 0 where
 pub record Somewhere (p : Program) (P : ℕ → Type 0) (s : Spot) : Type 0 where
   pub ty : ℕ
   pub has : P ty
-  pub stands : StandsIn p ty (module_told s) (name_told s)
+  pub stands : IsWrittenIn p ty (module_told s) (name_told s)
 
 -- the fault is one of this program, and stands in the module and under the name that it names; Memory says nothing
 abbrev pub Stands : Program → TagFault → Type 0

@@ -7,7 +7,7 @@ ghost use Rattle.type_table.specs.Seen.{kind_of, type_of, types_of};
 ghost use Rattle.type_table.specs.Table.{IsCore, IsLinked, reference};
 ghost use Rattle.resolve.specs.Program.{IsWhole};
 ghost use Rattle.tagging.specs.Tags.{bears_tag, automatic_kind, is_automatic};
-ghost use Rattle.tagging.specs.Faults.{StandsIn};
+ghost use Rattle.tagging.specs.Faults.{IsWrittenIn};
 ghost use Rattle.tagging.specs.proving.Columns.{is_reference, Front, AreKnown, AreFronts, all_automatic};
 
 use asn_base::schema::TypeId;
@@ -255,7 +255,7 @@ impl<'a> Columns<'a> {
     /// Where a type is written.
     pub(crate) fn home(&self, ty: usize) -> Home<'_>
         requires { ty < length self.now.types }
-        ensures { StandsIn self.now ty result.module.now result.name.now }
+        ensures { IsWrittenIn self.now ty result.module.now result.name.now }
     {
         self.linked.home(TypeId { index: ty })
     }

@@ -4,7 +4,7 @@ ghost use Rattle.std.specs.Prelude.{ℕ};
 ghost use Rattle.names.specs.Faults.{module_told, name_told};
 ghost use Rattle.resolve.specs.Program.{Program};
 ghost use Rattle.tagging.specs.Tagged.{Breaks};
-ghost use Rattle.tagging.specs.Faults.{Stands, StandsIn};
+ghost use Rattle.tagging.specs.Faults.{Stands, IsWrittenIn};
 
 use crate::check::Rule;
 use names::fault::spot;
@@ -51,7 +51,7 @@ pub enum TagFault {
 pub(crate) fn fault_at(alloc: Global, rule: Rule, owner: &str, name: &str, at: usize) -> TagFault
     ensures { (p : Program) (i : ℕ) →
         Breaks p.types rule i →
-        StandsIn p i owner.now name.now →
+        IsWrittenIn p i owner.now name.now →
         Stands p result }
 {
     match spot(alloc, owner, name, at) {
@@ -63,7 +63,7 @@ pub(crate) fn fault_at(alloc: Global, rule: Rule, owner: &str, name: &str, at: u
 fn fault_of(rule: Rule, spot: Spot) -> TagFault
     ensures { (p : Program) (i : ℕ) →
         Breaks p.types rule i →
-        StandsIn p i (module_told spot) (name_told spot) →
+        IsWrittenIn p i (module_told spot) (name_told spot) →
         Stands p result }
 {
     match rule {

@@ -24,12 +24,12 @@ pair_cmp p q = ordering_then (nat_cmp p.0 q.0) (nat_cmp p.1 q.1)
 abbrev pub IsIn : List (ℕ × ℕ) → ℕ × ℕ → Type 0
 IsIn keys p = list_any (λ q. is_eq (pair_cmp p q)) keys ≡ true
 
-abbrev pub StandsIn : Pairs → ℕ × ℕ → Type 0
-StandsIn ps p = IsMember p (met ps)
+abbrev pub HasMet : Pairs → ℕ × ℕ → Type 0
+HasMet ps p = IsMember p (met ps)
 
 -- each pair of the set was met
 abbrev pub AreKnown : Pairs → Type 0
-AreKnown ps = (p : ℕ × ℕ) → IsIn ps.known.keys p → StandsIn ps p
+AreKnown ps = (p : ℕ × ℕ) → IsIn ps.known.keys p → HasMet ps p
 
 -- the later pairs are the earlier ones, and behind them some of which P holds
 abbrev pub AreNoted : Pairs → Pairs → (ℕ × ℕ → Type 0) → Type 0

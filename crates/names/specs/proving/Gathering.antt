@@ -8,7 +8,7 @@ use Rattle.trees.specs.Modules.{AssignmentTree, ModuleTree}
 use Rattle.names.specs.declared.fault.NameFault.{NameFault}
 use Rattle.names.specs.declared.fault.NameFault.TheVariants as faults
 use Rattle.names.specs.declared.gather.Tables.{Tables}
-use Rattle.names.specs.declared.gather.Gathered.{Gathered}
+use Rattle.names.specs.declared.gather.ModuleTables.{ModuleTables}
 use Rattle.names.specs.declared.scope.Assigned.{Assigned}
 use Rattle.names.specs.ByNumber.{named_from, roots_from, values_from, owned_by, scopes_from, headers_of, owned_from, roots_of, values_of}
 use Rattle.names.specs.Faults.{IsNamesFault, module_told, name_told}
@@ -48,7 +48,7 @@ pub record AreGathered
   pub distinct : AreDistinct (map (λ m. m.name) ms)
   pub apart : (m : ModuleTree) → StandsIn ms m → AreDistinct (names_in m)
 
-abbrev pub HasGathered : List ModuleTree → Gathered → Type 0
+abbrev pub HasGathered : List ModuleTree → ModuleTables → Type 0
 HasGathered ms g =
     AreGathered ms
     (scopes g.modules.entries)

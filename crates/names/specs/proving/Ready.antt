@@ -1,7 +1,7 @@
 -- What is gathered refers to what is there.
 use Rattle.std.specs.Prelude.{◌≡◌, ◌<◌, slice_get, ℕ, Some, length}
 use Rattle.trees.specs.Values.{Name}
-use Rattle.names.specs.declared.gather.Gathered.{Gathered}
+use Rattle.names.specs.declared.gather.ModuleTables.{ModuleTables}
 use Rattle.names.specs.declared.scope.Assigned.{Assigned}
 use Rattle.names.specs.declared.scope.Assigned.TheVariants as assigned
 use Rattle.names.specs.declared.sources.AssignedAt.{AssignedAt}
@@ -16,7 +16,7 @@ IsGiven n m (assigned.Type i) = i < n
 IsGiven n m (assigned.Value i) = i < m
 
 -- what is gathered refers to what is there
-pub record IsReady (g : Gathered) : Type 0 where
+pub record IsReady (g : ModuleTables) : Type 0 where
   pub apart : IsApart (scopes g.modules.entries)
   pub pairs : length g.tables.roots.items ≡ length g.tables.assignments.items
   pub assigned : AllAssigned (length g.tables.assignments.items) (sources_of g.tables.roots.items)

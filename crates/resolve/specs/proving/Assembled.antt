@@ -5,7 +5,7 @@ use Rattle.trees.specs.Values.{Name}
 use Rattle.trees.specs.declared.module.TagDefault.{TagDefault}
 use Rattle.names.specs.declared.fault.NameFault.{NameFault}
 use Rattle.names.specs.declared.fault.NameFault.TheVariants as faults
-use Rattle.names.specs.declared.gather.Gathered.{Gathered}
+use Rattle.names.specs.declared.gather.ModuleTables.{ModuleTables}
 use Rattle.names.specs.declared.sources.AssignedAt.{AssignedAt}
 use Rattle.names.specs.declared.sources.Header.{Header}
 use Rattle.names.specs.declared.sources.ValueAt.{ValueAt}
@@ -23,13 +23,13 @@ use Rattle.resolve.specs.Program.{Program, IsWhole, program_seen}
 use Rattle.resolve.specs.Sound.{IsSound, IsSoundFault}
 
 -- these types are those of what is gathered, by number
-abbrev pub IsTableFrom : Gathered → List Type' → Type 0
+abbrev pub IsTableFrom : ModuleTables → List Type' → Type 0
 IsTableFrom g ts =
     AreNumbered (seen module_of g.modules.entries) (map header_of g.headers.items)
     (map assignment_of g.tables.assignments.items) (sources_of g.tables.roots.items) ts
 
 -- what is gathered, with these types
-abbrev pub program_from : Gathered → List Type' → Program
+abbrev pub program_from : ModuleTables → List Type' → Program
 program_from g ts = record {
   modules = seen module_of g.modules.entries;
   headers = map header_of g.headers.items;
@@ -39,18 +39,18 @@ program_from g ts = record {
 }
 
 -- a program of what is gathered
-pub record IsOf (g : Gathered) (p : Program) : Type 0 where
+pub record IsOf (g : ModuleTables) (p : Program) : Type 0 where
   pub is : p ≡ program_from g p.types
   pub types : IsTableFrom g p.types
 
-pub record IsAssembled (g : Gathered) (p : Program) : Type 0 where
+pub record IsAssembled (g : ModuleTables) (p : Program) : Type 0 where
   pub program : IsOf g p
   pub few : length p.types ≤ 65536
   pub unfolds : AllUnfold p.types
   pub sound : IsSound p
 
 -- the types of what is gathered can't be linked
-abbrev pub IsTablesFault : Gathered → NameFault → Type 0
+abbrev pub IsTablesFault : ModuleTables → NameFault → Type 0
 IsTablesFault g e =
     IsTableFault (seen module_of g.modules.entries) (map header_of g.headers.items)
     (map assignment_of g.tables.assignments.items) (sources_of g.tables.roots.items) e
@@ -75,5 +75,5 @@ abbrev pub IsKept :
 IsKept ms hs gs ts vs cores = IsWhole (program_seen ms hs gs ts vs) × AreCores (types_of ts) cores.items
 
 -- why it can't be put together
-abbrev pub IsAssemblyFault : Gathered → NameFault → Type 0
+abbrev pub IsAssemblyFault : ModuleTables → NameFault → Type 0
 IsAssemblyFault g e = IsTablesFault g e ⊎ ((p : Program) × IsOf g p × IsSoundFault p e)
