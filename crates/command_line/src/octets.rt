@@ -1,0 +1,38 @@
+//! The octets that a command line gives.
+
+ghost use Rattle.std.specs.Prelude.{◌≡◌, IfOk, IfErr, Err, Ok};
+ghost use Rattle.hex.specs.Hex.{decode_of};
+ghost use Rattle.hex.specs.declared.error.FromHexError.TheVariants.{OutOfMemory};
+ghost use Rattle.command_line.specs.CommandLine.{IsGiven, IsNotGiven};
+
+use crate::request::Given;
+use hex::FromHexError;
+use messages::Fault;
+use shown_texts::shown;
+use std::alloc::{AllocError, Global};
+
+/// What is wrong with a text that tells no octets.
+fn complaint(alloc: Global, text: &str) -> Result<String, AllocError> {
+    let told = shown(alloc, text)?;
+    format!(in alloc;
+        "--hex wants two hexadecimal digits an octet, or @ and the name of a file, and not {told} (asnc --help shows the words)"
+    )
+}
+
+/// The octets that a text tells: those of the file whose name stands behind an `@`, or else those of its digits, two an
+/// octet.
+///
+/// `BadWords` where it tells none.
+pub(crate) fn given_in(alloc: Global, text: &str) -> Result<Given, Fault>
+    ensures given { IfOk result (IsGiven text.now) }
+    ensures none { IfErr result (IsNotGiven text.now) }
+{
+    if let Some(name) = text.strip_prefix('@') {
+        return Ok(Given::Path(String::from_str(alloc, name)?));
+    }
+    match hex::decode(alloc, text) {
+        Ok(octets) => Ok(Given::Octets(octets)),
+        Err(FromHexError::OutOfMemory) => Err(Fault::Memory),
+        Err(_) => Err(Fault::BadWords(complaint(alloc, text)?)),
+    }
+}
