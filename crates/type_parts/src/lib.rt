@@ -6,6 +6,6 @@ pub mod law;
 pub mod named;
 pub mod numbers;
 pub mod presences;
-pub mod reference_table;
+pub mod references;
 pub mod simple_types;
 pub mod tags;

@@ -42,7 +42,7 @@ use Rattle.value_notations.specs.Outside.{IsOutside, IsLeftOut}
 use Rattle.values.specs.Allowing.{Allows, AllowsCode}
 use Rattle.typed_values.specs.declared.fault.ValueFault.{ValueFault}
 use Rattle.typed_values.specs.declared.fault.Cause.{Cause}
-use Rattle.value_notations.specs.declared.reference_table.FollowFault.{FollowFault}
+use Rattle.value_notations.specs.declared.references.FollowFault.{FollowFault}
 use Rattle.value_notations.specs.Faults.{IsFollowFault}
 use Rattle.typed_values.specs.Faults.{IsWritten, Stands, IsCause, HasNoAlternative}
 use Rattle.typed_values.specs.Faults as faults

@@ -6,8 +6,8 @@ use Rattle.trees.specs.Values.{Name, Tree, tree_of, reference}
 use Rattle.trees.specs.Types.{Plain}
 use Rattle.type_table.specs.Table.{Kind, simple}
 use Rattle.resolve.specs.Program.{Program}
-use Rattle.value_notations.specs.declared.reference_table.FollowFault.{FollowFault}
-use Rattle.value_notations.specs.declared.reference_table.FollowFault.TheVariants as follow
+use Rattle.value_notations.specs.declared.references.FollowFault.{FollowFault}
+use Rattle.value_notations.specs.declared.references.FollowFault.TheVariants as follow
 use Rattle.value_notations.specs.declared.leaves.LeafFault.{LeafFault}
 use Rattle.value_notations.specs.declared.leaves.LeafFault.TheVariants as leaf
 use Rattle.value_notations.specs.Leaves.{IsLeaf}

@@ -18,7 +18,7 @@ use crate::leaf::{
     NumbersFault, identifier, integer, nothing, octet_string, relative_identifier, restricted_text,
     truth, utf8_text,
 };
-use crate::reference_table::item_place;
+use crate::references::item_place;
 use asn_base::law::{abstract_values, integer_within_limit};
 use asn_base::strings::StringKind;
 use asn_base::value::Value;

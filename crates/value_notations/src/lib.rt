@@ -8,4 +8,4 @@ pub mod law;
 mod leaf;
 pub mod leaves;
 pub mod opened;
-pub mod reference_table;
+pub mod references;

@@ -7,8 +7,8 @@ use Rattle.names.specs.Names.{Refers}
 use Rattle.type_table.specs.Table.{Kind}
 use Rattle.resolve.specs.Program.{Program}
 use Rattle.value_notations.specs.References.{IsNamed, IsOwn}
-use Rattle.value_notations.specs.declared.reference_table.Next.{Next}
-use Rattle.value_notations.specs.declared.reference_table.Next.TheVariants as next
+use Rattle.value_notations.specs.declared.references.Next.{Next}
+use Rattle.value_notations.specs.declared.references.Next.TheVariants as next
 
 -- the notation, read in module M, is a name of nothing in the type, which means value i
 pub record IsNameOf (p : Program) (k : Kind) (M : Name) (n : Tree) (i : ℕ) : Type 0 where

@@ -8,7 +8,7 @@ use Rattle.value_notations.specs.Wrong as wrong
 use Rattle.value_notations.specs.proving.Opened.{IsGrown}
 use Rattle.value_notations.proofs.Leading.{leads_more, leads_own, leads_lost, leads_round}
 use Rattle.value_notations.proofs.Opening.{none_more, one_more, few_more}
-use Rattle.value_notations.proofs.reference_table.follow.Goals as goal
+use Rattle.value_notations.proofs.references.follow.Goals as goal
 
 pub loop-step-init : goal.loop-step-init
 loop-step-init c = record {

@@ -4,7 +4,7 @@ use Rattle.trees.specs.Values.{tree_of}
 use Rattle.type_table.specs.Seen.{kind_of}
 use Rattle.value_notations.specs.Wrong.{LeadsTo}
 use Rattle.value_notations.specs.proving.Opened.{IsGrown}
-use Rattle.value_notations.proofs.reference_table.follow.Given as goal
+use Rattle.value_notations.proofs.references.follow.Given as goal
 
 abbrev pub invariant-loop-step : goal.invariant-loop-step
 invariant-loop-step l = record {

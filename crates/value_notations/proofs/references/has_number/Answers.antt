@@ -1,7 +1,7 @@
 use Rattle.std.proofs.Common.{sym, ◌∙◌, map}
 use Rattle.trees.specs.Types.{number_of}
 use Rattle.value_notations.proofs.Leading.{under_stands, under_none}
-use Rattle.value_notations.proofs.reference_table.has_number.Goals as goal
+use Rattle.value_notations.proofs.references.has_number.Goals as goal
 
 pub returns-in-Some-clause-yes : goal.returns-in-Some-clause-yes
 returns-in-Some-clause-yes c e =

@@ -7,7 +7,7 @@ use Rattle.names.specs.Names.{names_of}
 use Rattle.type_table.specs.Items.{additions_of}
 use Rattle.type_table.specs.Seen.{root_of}
 use Rattle.value_notations.proofs.Leading.{name_front, name_behind, name_neither}
-use Rattle.value_notations.proofs.reference_table.item_place.Goals as goal
+use Rattle.value_notations.proofs.references.item_place.Goals as goal
 
 pub returns-in-Some : goal.returns-in-Some
 returns-in-Some c =

@@ -1,7 +1,7 @@
 use Rattle.std.proofs.Common.{Some, ap, ◌∙◌, option_map, string_bytes}
 use Rattle.names.specs.declared.scope.Assigned.TheVariants as assigned
 use Rattle.value_notations.proofs.Leading.{value_there}
-use Rattle.value_notations.proofs.reference_table.named_value.Goals as goal
+use Rattle.value_notations.proofs.references.named_value.Goals as goal
 
 pub returns-in-Some-Value-clause-inside : goal.returns-in-Some-Value-clause-inside
 returns-in-Some-Value-clause-inside c =

@@ -4,7 +4,7 @@ use Rattle.trees.specs.Values.{name_at}
 use Rattle.trees.specs.Types.{item_of}
 use Rattle.names.specs.Names.{names_of}
 use Rattle.value_notations.proofs.Leading.{item_here, item_not_here, one_more_place, none_of_items}
-use Rattle.value_notations.proofs.reference_table.place_in.Goals as goal
+use Rattle.value_notations.proofs.references.place_in.Goals as goal
 
 pub returns-then-eq : goal.returns-then-eq
 returns-then-eq c =
