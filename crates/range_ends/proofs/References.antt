@@ -3,8 +3,8 @@ use Rattle.std.proofs.Common.{◌≡◌, ◌⊎◌, ◌↔◌, inl, inr, ℕ, ze
 use Rattle.std.specs.Prelude.{slice_get}
 use Rattle.std.proofs.lemmas.Option.{slice_get_within}
 use Rattle.trees.specs.Values.{Name, Tree, reference}
-use Rattle.names.specs.declared.references.Assigned.{Assigned}
-use Rattle.names.specs.declared.references.Assigned.TheVariants as assigned
+use Rattle.names.specs.declared.scope.Assigned.{Assigned}
+use Rattle.names.specs.declared.scope.Assigned.TheVariants as assigned
 use Rattle.names.specs.Names.{Module, Meaning, Refers, bare, within, across}
 use Rattle.resolve.specs.Program.{Program, IsThere, IsWhole}
 use Rattle.type_table.specs.Walks.{IsWithin}

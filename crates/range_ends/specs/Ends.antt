@@ -3,7 +3,7 @@ use Rattle.std.specs.Prelude.{◌≡◌, ℕ, ℤ, List, Option, Some, None, sli
 use Rattle.trees.specs.Values.{Name, Tree, number, reference}
 use Rattle.trees.specs.Constraints.{EndTree, number_end, name_end}
 use Rattle.trees.specs.Types.{an_integer}
-use Rattle.names.specs.declared.references.Assigned.TheVariants as assigned
+use Rattle.names.specs.declared.scope.Assigned.TheVariants as assigned
 use Rattle.names.specs.Names.{Refers, under}
 use Rattle.names.specs.Sources.{Value}
 use Rattle.type_table.specs.Table.{Type', Kind, simple, IsCore}

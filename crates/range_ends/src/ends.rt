@@ -13,7 +13,7 @@ ghost use Rattle.range_ends.specs.proving.Ways.{Ends, IsWayFault};
 ghost use Rattle.range_ends.specs.proving.Far.{AreFar, IsNameless};
 
 use crate::program::{named_value, notation_at};
-use crate::references::ReferenceTable;
+use crate::reference_table::ReferenceTable;
 use resolve::Linked;
 use trees::{EndSyntax, NamedNumber, Reference, Simple, ValueForm, ValueSyntax};
 use type_table::Shape;

@@ -5,8 +5,8 @@ mod ends;
 mod far;
 mod program;
 mod ranges;
-mod references;
+mod reference_table;
 
 pub use ends::EndFault;
 pub use ranges::{Counted, RangeFault, RangesFault, Site, ranges_at};
-pub use references::ReferenceTable;
+pub use reference_table::ReferenceTable;

@@ -8,7 +8,7 @@ ghost use Rattle.range_ends.specs.Answers.{IsOf, IsRangeOf, AreRangesOf, IsRange
 ghost use Rattle.range_ends.specs.proving.Bounds.{IsBoundOf, IsBoundFault, floor_of as floor'};
 
 use crate::ends::{EndFault, end_at};
-use crate::references::ReferenceTable;
+use crate::reference_table::ReferenceTable;
 use asn_base::constraint::Range;
 use std::alloc::Global;
 use trees::{EndSyntax, RangeSyntax};

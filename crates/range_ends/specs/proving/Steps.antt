@@ -1,7 +1,7 @@
 -- From value to value.
 use Rattle.std.specs.Prelude.{◌≡◌, ◌↔◌, ℕ, zero, suc, ℤ, List, [], ◌∷◌, Option, Some, None, length, slice_get}
 use Rattle.trees.specs.Values.{Name, Tree, reference}
-use Rattle.names.specs.declared.references.Assigned.TheVariants as assigned
+use Rattle.names.specs.declared.scope.Assigned.TheVariants as assigned
 use Rattle.names.specs.Names.{Refers}
 use Rattle.names.specs.Sources.{Value}
 use Rattle.type_table.specs.Table.{Kind}

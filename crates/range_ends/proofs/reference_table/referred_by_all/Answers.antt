@@ -2,7 +2,7 @@ use Rattle.std.proofs.Common.{length, ap, arith}
 use Rattle.std.proofs.lemmas.List.{length-map}
 use Rattle.names.specs.Sources.{value_of}
 use Rattle.range_ends.proofs.References.{first_more, first_all}
-use Rattle.range_ends.proofs.references.referred_by_all.Goals as goal
+use Rattle.range_ends.proofs.reference_table.referred_by_all.Goals as goal
 
 pub loop-number-preserved : goal.loop-number-preserved
 loop-number-preserved c = first_more c.args.linked.now c.loop-number.behind.items c.push.new.self.items c.referred.result c.loop-number.number c.loop-number.invariant c.in_ok-push.ensures.items c.referred.ensures.refers

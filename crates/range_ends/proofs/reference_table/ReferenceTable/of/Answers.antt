@@ -2,7 +2,7 @@ use Rattle.std.proofs.Common.{length, sym, subst}
 use Rattle.type_table.specs.Walks.{IsWithin}
 use Rattle.range_ends.specs.proving.Steps.{listed}
 use Rattle.range_ends.proofs.References.{refers_within}
-use Rattle.range_ends.proofs.references.ReferenceTable.of.Goals as goal
+use Rattle.range_ends.proofs.reference_table.ReferenceTable.of.Goals as goal
 
 pub farthest-requires : goal.farthest-requires
 farthest-requires c = record {
