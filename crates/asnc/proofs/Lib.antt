@@ -2,3 +2,4 @@ mod Dots
 mod Opening
 mod Weaker
 mod Messages
+mod Paths

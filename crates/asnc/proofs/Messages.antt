@@ -153,7 +153,7 @@ pub never_refused : (p : Program) (s : List Resolved) (l : Rules) (name o : List
     → e ≡ faults.Memory
 never_refused p s l name o v faults.Memory m y r = refl
 never_refused p s l name o v (faults.NoType x) m y r = absurd (r.1 m.type m.named)
-never_refused p s l name o v (faults.Unread e) m y r = absurd (none_of r.type m (r.named.only m.type m.named) y r.unread)
+never_refused p s l name o v (faults.Unread u) m y r = absurd (none_of r.type m (r.named.only m.type m.named) y r.unread.unread)
 never_refused p s l name o v (faults.NoValue x) m y r = absurd r
 never_refused p s l name o v (faults.BadWords x) m y r = absurd r
 never_refused p s l name o v (faults.Help x) m y r = absurd r

@@ -16,7 +16,9 @@ use Rattle.ber_message.specs.Messages.{IsEncoding, BeginsEncoding, HasEncodingFi
 use Rattle.resolve.specs.Program.{Program}
 use Rattle.messages.specs.declared.fault.Fault.{Fault}
 use Rattle.messages.specs.declared.fault.Fault.TheVariants as faults
+use Rattle.messages.specs.declared.fault.Unread.{Unread}
 use Rattle.asnc.specs.Named.{TypeNamed}
+use Rattle.asnc.specs.Places.{IsStopped}
 use Rattle.asnc.specs.declared.reading.Rules.{Rules as Rules'}
 use Rattle.asnc.specs.declared.reading.Rules.TheVariants as asked
 
@@ -75,22 +77,27 @@ pub record IsUnread (s : List Resolved) (r : Rules) (t : ℕ) (o : List ℕ) (e 
   -- and 80 where they are a proper front of one
   pub less : BeginsEncoding s t o → e ≡ reading.Truncated
 
+-- and it tells where reading them stops
+pub record IsUnreadAt (s : List Resolved) (r : Rules) (t : ℕ) (o : List ℕ) (u : Unread) : Type 0 where
+  pub unread : IsUnread s r t o u.fault
+  pub stopped : IsStopped s t o u.octet (string_bytes u.path)
+
 -- the same as a fault; memory speaks of no octets
 abbrev pub IsNotRead : List Resolved → Rules → ℕ → List ℕ → Fault → Type 0
 IsNotRead s r t o faults.Memory = Unit {0}
-IsNotRead s r t o (faults.Unread e) = IsUnread s r t o e
+IsNotRead s r t o (faults.Unread u) = IsUnreadAt s r t o u
 IsNotRead s r t o fault = ⊥
 
 -- the text names a type, and the octets are refused as a value of it
-pub record IsUnreadAs (p : Program) (s : List Resolved) (r : Rules) (name o : List ℕ) (e : ReadFault) : Type 0 where
+pub record IsUnreadAs (p : Program) (s : List Resolved) (r : Rules) (name o : List ℕ) (u : Unread) : Type 0 where
   pub type : ℕ
   pub named : Names p name type
-  pub unread : IsUnread s r type o e
+  pub unread : IsUnreadAt s r type o u
 
 -- Nothing is read, as the refusal tells: the text names no type, and is told; it does, and the octets are refused.
 -- Memory speaks of neither.
 abbrev pub IsNotReadAs : Program → List Resolved → Rules → List ℕ → List ℕ → Fault → Type 0
 IsNotReadAs p s r name o faults.Memory = Unit {0}
 IsNotReadAs p s r name o (faults.NoType x) = (string_bytes x ≡ name) × ((t : ℕ) → TypeNamed p name t → ⊥)
-IsNotReadAs p s r name o (faults.Unread e) = IsUnreadAs p s r name o e
+IsNotReadAs p s r name o (faults.Unread u) = IsUnreadAs p s r name o u
 IsNotReadAs p s r name o fault = ⊥

@@ -6,10 +6,11 @@ mod kit;
 pub mod law;
 mod meaning;
 mod naming;
+mod places;
 mod reading;
 
 pub use kit::Kit;
-pub use messages::{Fault, number, status};
+pub use messages::{Fault, Unread, number, status};
 pub use octet_account::account::Account;
 pub use reading::Rules;
 pub use sinks::{Counted, InMemory, Sink, Stops, send_all};

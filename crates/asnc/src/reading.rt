@@ -1,8 +1,6 @@
 //! The value that octets encode, printed.
 
 ghost use Rattle.std.specs.Prelude.{◌≡◌, ◌×◌, ◌⊎◌, ℕ, List, IfOk, IfErr, string_bytes};
-ghost use Rattle.asn_base.specs.Abstract.{AbstractValue};
-ghost use Rattle.asn_base.specs.Types.{Resolved};
 ghost use Rattle.ber_reader.specs.Readings.{IsReading};
 ghost use Rattle.codec_source.specs.declared.fault.ReadFault.TheVariants.{Memory as no_memory, NotDer, UnexpectedTag};
 ghost use Rattle.encodings.specs.Encoding.{Says};
@@ -13,12 +11,13 @@ ghost use Rattle.views.specs.Tree.{Tree, value_of};
 ghost use Rattle.asnc.specs.Reading.{IsNotRead, IsNotReadAs, IsRead, IsReadAs, IsReadBy, IsUnread, rules_of};
 
 use crate::naming::type_number;
+use crate::places::stopped;
 use asn_base::schema::{Schema, TypeId};
 use ber_reader::{Read, read_ber, read_der};
 use codec_code::Code;
 use codec_source::ReadFault;
 use front_end::Modules;
-use messages::Fault;
+use messages::{Fault, Unread};
 use std::alloc::Global;
 use view_text::print_shown;
 
@@ -31,15 +30,26 @@ pub enum Rules {
     Der,
 }
 
-/// What a fault of octets is to a user.
-fn refusal(fault: ReadFault) -> Fault
-    ensures stands { (s : List Resolved) (r : Rules') (t : ℕ) (o : List ℕ)
-        → ((fault ≡ no_memory → ⊥) → IsUnread s r t o fault)
-        → IsNotRead s r t o result }
+/// What a fault of octets is to a user, and where it stands.
+fn refusal(
+    alloc: Global,
+    schema: &Schema,
+    code: &Code,
+    id: TypeId,
+    octets: &[u8],
+    fault: ReadFault,
+) -> Fault
+    requires same { schema.now ≡ code.now }
+    ensures stands { (r : Rules')
+        → ((fault ≡ no_memory → ⊥) → IsUnread code.now r id.index octets.now fault)
+        → IsNotRead code.now r id.index octets.now result }
 {
-    match fault {
-        ReadFault::Memory => Fault::Memory,
-        fault => Fault::Unread(fault),
+    if fault == ReadFault::Memory {
+        return Fault::Memory;
+    }
+    match stopped(alloc, schema, code, id, octets) {
+        Ok((octet, path)) => Fault::Unread(Unread { fault, octet, path }),
+        Err(_) => Fault::Memory,
     }
 }
 
@@ -103,7 +113,7 @@ fn read_by<'a>(
 }
 
 /// The value of a type that octets encode by the rules, printed, and how many additions were skipped. `Unread` where
-/// they encode none; `Memory`.
+/// they encode none, with the place; `Memory`.
 fn read_text(
     alloc: Global,
     schema: &Schema,
@@ -118,7 +128,7 @@ fn read_text(
 {
     let read = match read_by(alloc, code, id, octets, rules) {
         Ok(read) => read,
-        Err(fault) => return Err(refusal(fault)),
+        Err(fault) => return Err(refusal(alloc, schema, code, id, octets, fault)),
     };
     let text = print_shown(alloc, schema, id, &read.view)?;
     Ok((text, read.skipped))

@@ -150,7 +150,7 @@ class_of (faults.NoValue name) = (31, codes "UnknownName")
 class_of (faults.Value t) = reason_class_of t.reason
 class_of faults.TooLong = (71, codes "TooLong")
 class_of (faults.Device n) = (72, codes "Device")
-class_of (faults.Unread f) = read_class_of f
+class_of (faults.Unread u) = read_class_of u.fault
 
 abbrev pub number_of : Fault → ℕ
 number_of f = (class_of f).0

@@ -41,7 +41,7 @@ pub(crate) fn told_class(fault: &Fault) -> Class
         Fault::Value(told) => of_reason(told.reason),
         Fault::TooLong => is(71, "TooLong"),
         Fault::Device(_) => is(72, "Device"),
-        Fault::Unread(fault) => of_reading(*fault),
+        Fault::Unread(unread) => of_reading(unread.fault),
     }
 }
 

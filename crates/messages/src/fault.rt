@@ -12,6 +12,16 @@ use std::alloc::{AllocError, AllocFailed};
 use thiserror::Error;
 use told_values::ValueTold;
 
+/// Why octets are not read as a value, and where: the place of the octet, from 0, and the part of the value that was
+/// being read there, from the outermost in, as `a.b[2].c`; empty where it was the whole value.
+#[derive(Debug, Drop, Error)]
+#[error("{fault} at octet {octet}")]
+pub struct Unread {
+    pub fault: ReadFault,
+    pub octet: usize,
+    pub path: String,
+}
+
 /// A refusal: its number and name come first in its text, but for a help that was asked for.
 #[derive(Debug, Drop, Error)]
 pub enum Fault {
@@ -53,7 +63,7 @@ pub enum Fault {
     Device(u64),
     /// The octets are not read as a value of the type.
     #[error("error {0}")]
-    Unread(ReadFault),
+    Unread(Unread),
 }
 
 impl<T: Drop> From<AllocFailed<T>> for Fault {

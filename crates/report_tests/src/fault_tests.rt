@@ -1,10 +1,11 @@
 //! Faults apart from any text that has them.
 
 use additions::ExtFault;
+use codec_source::ReadFault;
 use command_line::{Given, Job, Verb};
 use constraints::BoundFault;
 use front_end::FrontFault;
-use messages::{Fault, number, status};
+use messages::{Fault, Unread, number, status};
 use names::fault::spot;
 use names::{Limit, NameFault};
 use notation::SyntaxFault;
@@ -98,6 +99,24 @@ x
 61 1 error 61 OutsideConstraint: m.asn:1:39: found 'w', expected components in braces, of a, b, under the type that was asked for | error 61 OutsideConstraint: M.w, expected components in braces, of a, b
 60 1 error 60 NotOfType: m.asn:1:39: found 'w', expected components in braces, of a, b | error 60 NotOfType: M.w, expected components in braces, of a, b
 60 1 error 60 NotOfType: m.asn:1:39: found 'w', expected components in braces, of a, b | error 60 NotOfType: M.w, expected components in braces, of a, b
+1 3 error 1 Memory: at octet 17, in a.b[2].c: out of memory | error 1 Memory at octet 17
+2 1 error 2 Limit(Message): at octet 17, in a.b[2].c: a message has at most 16777216 octets | error 2 Limit(Message) at octet 17
+2 1 error 2 Limit(Integer): at octet 17, in a.b[2].c: numbers are from -2^127 to 2^127 - 1 | error 2 Limit(Integer) at octet 17
+2 1 error 2 Limit(Oid): at octet 17, in a.b[2].c: an object identifier has at most 64 numbers, each below 2^64 | error 2 Limit(Oid) at octet 17
+80 1 error 80 Truncated: at octet 17, in a.b[2].c: the octets end within a header, or before the contents that one tells | error 80 Truncated at octet 17
+81 1 error 81 Indefinite: at octet 17, in a.b[2].c: a length is in the indefinite form, which is not read | error 81 Indefinite at octet 17
+82 1 error 82 BadLength: at octet 17, in a.b[2].c: a length begins with FF, or is more than 16777216 | error 82 BadLength at octet 17
+83 1 error 83 BadTag: at octet 17, in a.b[2].c: the octets of a tag are those of none | error 83 BadTag at octet 17
+84 1 error 84 UnexpectedTag: at octet 17, in a.b[2].c: found a tag, or a form of one, that can not stand there | error 84 UnexpectedTag at octet 17
+85 1 error 85 Missing: at octet 17, in a.b[2].c: contents end before a component that has to stand in them | error 85 Missing at octet 17
+86 1 error 86 BadContents: at octet 17, in a.b[2].c: contents are those of no value of their type | error 86 BadContents at octet 17
+87 1 error 87 EmptySegments: at octet 17, in a.b[2].c: a BIT STRING in segments has none | error 87 EmptySegments at octet 17
+88 1 error 88 OutsideConstraint: at octet 17, in a.b[2].c: the octets say a value that constraints leave out | error 88 OutsideConstraint at octet 17
+89 1 error 89 Trailing: at octet 17, in a.b[2].c: octets stand behind the whole value | error 89 Trailing at octet 17
+95 1 error 95 TooDeep: at octet 17, in a.b[2].c: more than 400 headers, or 64 values, stand one in another | error 95 TooDeep at octet 17
+96 1 error 96 NotDer: the octets encode a value, but not by the distinguished rules | error 96 NotDer at octet 17
+80 1 error 80 Truncated: at octet 17: the octets end within a header, or before the contents that one tells | error 80 Truncated at octet 17
+80 1 error 80 Truncated: at octet 17, in abcdefghijabcdefghijabcdefghijabcdefghijabcdefghijabcdefghij..: the octets end within a header, or before the contents that one tells | error 80 Truncated at octet 17
 ";
 
 /// The module in the file m.asn.
@@ -233,6 +252,38 @@ fn reason(number: usize) -> Option<Reason> {
     }
 }
 
+/// The faults of octets, by number.
+fn read_fault(number: usize) -> Option<ReadFault> {
+    match number {
+        73 => Some(ReadFault::Memory),
+        74 => Some(ReadFault::MessageLimit),
+        75 => Some(ReadFault::IntegerLimit),
+        76 => Some(ReadFault::OidLimit),
+        77 | 89 | 90 => Some(ReadFault::Truncated),
+        78 => Some(ReadFault::Indefinite),
+        79 => Some(ReadFault::BadLength),
+        80 => Some(ReadFault::BadTag),
+        81 => Some(ReadFault::UnexpectedTag),
+        82 => Some(ReadFault::Missing),
+        83 => Some(ReadFault::BadContents),
+        84 => Some(ReadFault::EmptySegments),
+        85 => Some(ReadFault::OutsideConstraint),
+        86 => Some(ReadFault::Trailing),
+        87 => Some(ReadFault::TooDeep),
+        88 => Some(ReadFault::NotDer),
+        _ => None,
+    }
+}
+
+/// The part of a value that is told with a fault of octets: none with one of them, and a long one with another.
+fn path_told(number: usize) -> &'static str {
+    match number {
+        89 => "",
+        90 => "abcdefghijabcdefghijabcdefghijabcdefghijabcdefghijabcdefghijk.l",
+        _ => "a.b[2].c",
+    }
+}
+
 /// A spot of the module.
 fn here(alloc: Global) -> Result<Spot, AllocError> {
     spot(alloc, "M", "w", PLACE)
@@ -261,8 +312,13 @@ fn front_fault(alloc: Global, number: usize) -> Result<Option<FrontFault>, Fail>
     }
 }
 
-/// The fault with a number below 73.
+/// The fault with a number below 91.
 fn fault_of(alloc: Global, number: usize) -> Result<Fault, Fail> {
+    if let Some(fault) = read_fault(number) {
+        let path = String::from_str(alloc, path_told(number))?;
+        let octet = 17;
+        return Ok(Fault::Unread(Unread { fault, octet, path }));
+    }
     if let Some(fault) = call_fault(number, String::from_str(alloc, "w\nx")?) {
         return Ok(fault);
     }
@@ -302,7 +358,7 @@ fn told_of_faults(rt: HostRuntime) -> Result<(), Fail> {
     let job = job(alloc)?;
     let texts = vec![in alloc; Vec::from_slice(alloc, TEXT.as_bytes())?]?;
     let mut told = String::new(alloc);
-    for index in 0..73 {
+    for index in 0..91 {
         let fault = fault_of(alloc, index)?;
         let line = report(alloc, &job, texts.as_slice(), &fault)?;
         let (number, status) = (number(&fault), status(&fault));

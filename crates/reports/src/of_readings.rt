@@ -1,9 +1,27 @@
 //! Octets that are not read, in words.
 
 use codec_source::ReadFault;
+use messages::Unread;
+use shown_texts::shown;
+use std::alloc::{AllocError, Global};
+
+/// Where octets are not read, the place of the octet from 0, in which part of the value, and why. Where they are no
+/// encoding by the distinguished rules alone, no octet is told.
+pub(crate) fn of_unread(alloc: Global, unread: &Unread) -> Result<String, AllocError> {
+    let words = of_reading(unread.fault);
+    if unread.fault == ReadFault::NotDer {
+        return String::from_str(alloc, words);
+    }
+    let octet = unread.octet;
+    if unread.path.is_empty() {
+        return format!(in alloc; "at octet {octet}: {words}");
+    }
+    let path = shown(alloc, unread.path.as_str())?;
+    format!(in alloc; "at octet {octet}, in {path}: {words}")
+}
 
 /// Why octets are not read as a value of the type.
-pub(crate) fn of_reading(fault: ReadFault) -> &'static str {
+fn of_reading(fault: ReadFault) -> &'static str {
     match fault {
         ReadFault::Memory => "out of memory",
         ReadFault::MessageLimit => "a message has at most 16777216 octets",

@@ -7,7 +7,7 @@ use crate::asked::{of_file, of_no_name};
 use crate::finding::{octet_in, text_number};
 use crate::heading::heading;
 use crate::of_names::of_names;
-use crate::of_readings::of_reading;
+use crate::of_readings::of_unread;
 use crate::of_texts::{left_out, of_octets, of_tokens};
 use crate::of_types::{of_additions, of_bounds, of_tags};
 use crate::of_values::of_value;
@@ -65,7 +65,7 @@ fn sentence(
         Fault::NoType(name) => of_no_name(alloc, texts, name.as_str(), false),
         Fault::NoValue(name) => of_no_name(alloc, texts, name.as_str(), true),
         Fault::TooLong => String::from_str(alloc, "the encoding has more than 16777216 octets"),
-        Fault::Unread(inner) => String::from_str(alloc, of_reading(*inner)),
+        Fault::Unread(unread) => of_unread(alloc, unread),
         Fault::Memory => String::from_str(alloc, "out of memory"),
         Fault::Device(sent) => format!(in alloc; "the output took {sent} octets and then no more"),
         Fault::File(name) => of_file(alloc, name.as_str(), "could not be read"),
@@ -118,7 +118,8 @@ fn told_behind(
 /// One line that tells a user of a fault that a job met in the texts of its files, as
 /// `error 20 Unexpected: m.asn:3:14: found '}', expected a type`: the number and the name of the fault, the file, the
 /// line and the column of the place, both counted from 1, the column in characters, and what was found and expected
-/// there. Where the job asks for the context and the fault stands at an octet of a text, its line and a line with a
+/// there. Of octets that are not read, the place of the octet, from 0, and the part of the value that was being read, as
+/// `error 80 Truncated: at octet 17, in a.b[2].c: the octets end ..`. Where the job asks for the context and the fault stands at an octet of a text, its line and a line with a
 /// caret follow. Of the texts and of names at most 60 characters are shown at once.
 pub fn report(
     alloc: Global,

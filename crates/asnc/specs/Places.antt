@@ -1,0 +1,70 @@
+-- Where octets are refused, in the names of a schema.
+use Rattle.std.specs.Prelude.{◌≡◌, ℕ, ◌≤◌, List, [], ◌∷◌, ◌++◌, length, Option, Some, None, codes, decimal, slice_get}
+use Rattle.asn_base.specs.declared.schema.TypeId.{TypeId}
+use Rattle.asn_base.specs.Schemas.{components}
+use Rattle.asn_base.specs.Types.{Resolved}
+use Rattle.value_text.specs.Print.{alternatives_in, kind_at}
+use Rattle.octet_answers.specs.States.{Token}
+use Rattle.ber_message.specs.declared.open.Open.{Open}
+use Rattle.ber_message.specs.declared.open.Part.{Part}
+use Rattle.ber_message.specs.declared.open.Part.TheVariants.{Component, Alternative, Element}
+use Rattle.ber_message.specs.declared.stop.Whereabouts.{Whereabouts}
+use Rattle.ber_message.specs.Messages.{IsMessage, room_of}
+use Rattle.ber_message.specs.Stops.{IsStop}
+
+-- the identifier of component i of type t
+abbrev pub component_name : List Resolved → ℕ → ℕ → List ℕ
+component_name s t i = elim (slice_get (components (kind_at s t)) i) [
+  | None ↦ []
+  | Some c ↦ c.name
+]
+
+-- that of alternative i
+abbrev pub alternative_name : List Resolved → ℕ → ℕ → List ℕ
+alternative_name s t i = elim (slice_get (alternatives_in (kind_at s t)) i) [
+  | None ↦ []
+  | Some a ↦ a.name
+]
+
+-- a name behind a path: behind a dot, but where it is the first
+abbrev pub with_name : List ℕ → List ℕ → List ℕ
+with_name [] x = x
+with_name (c ∷ p) x = (c ∷ p) ++ (codes "." ++ x)
+
+-- the number of an element behind a path
+abbrev pub with_number : List ℕ → ℕ → List ℕ
+with_number p i = p ++ (codes "[" ++ (decimal i ++ codes "]"))
+
+-- a part of a value of type t behind a path
+abbrev pub with_part : List Resolved → ℕ → List ℕ → Part → List ℕ
+with_part s t p (Component i) = with_name p (component_name s t i)
+with_part s t p (Alternative i) = with_name p (alternative_name s t i)
+with_part s t p (Element i) = with_number p i
+
+-- the part that was being read of an open value, if any
+abbrev pub with_open : List Resolved → List ℕ → Open → List ℕ
+with_open s p o = elim o.part [
+  | None ↦ p
+  | Some part ↦ with_part s o.ty.index p part
+]
+
+abbrev pub path_behind : List Resolved → List ℕ → List Open → List ℕ
+path_behind s p [] = p
+path_behind s p (o ∷ os) = path_behind s (with_open s p o) os
+
+-- the parts that were being read, from the outermost in
+abbrev pub path_of : List Resolved → List Open → List ℕ
+path_of s os = path_behind s [] os
+
+-- Reading the octets as a value of type t comes to a question without an answer at this octet, or reads one as far as
+-- it; of octets that say nothing of the type it is where reading stops by any number of values. These parts were being
+-- read there.
+pub record IsStopped (s : List Resolved) (t : ℕ) (o : List ℕ) (octet : ℕ) (path : List ℕ) : Type 0 where
+  pub id : TypeId
+  pub numbered : id.index ≡ t
+  pub found : Whereabouts
+  pub most : ℕ
+  pub stop : IsStop s id o most found
+  pub first : ((ts : List Token) → IsMessage s t o ts → ⊥) → length o ≤ 16777216 → IsStop s id o (room_of (length o)) found
+  pub at : octet ≡ found.place
+  pub parts : path ≡ path_of s found.values.items

@@ -1,0 +1,117 @@
+//! Where octets are refused, in the names of a schema.
+
+ghost use Rattle.std.specs.Prelude.{◌≡◌, IfOk, OnOk, decimal, string_bytes};
+ghost use Rattle.asnc.specs.Places.{alternative_name, component_name, path_of, with_name, with_number, with_open, with_part, IsStopped};
+
+use asn_base::schema::{Schema, TypeId};
+use ber_reader::{Open, Part, whereabouts};
+use codec_code::Code;
+use std::alloc::{AllocError, Global};
+use value_text::names::{alternative_at, components};
+
+/// The identifier of a component of a type by its place.
+fn component_at(schema: &Schema, id: TypeId, place: usize) -> &str
+    ensures { result.now ≡ component_name schema.now id.index place }
+{
+    if !schema.has(id) {
+        return "";
+    }
+    match components(&schema.get(id).core).get(place) {
+        Some(component) => component.name.as_str(),
+        None => "",
+    }
+}
+
+/// That of an alternative by its number.
+fn alternative(schema: &Schema, id: TypeId, number: usize) -> &str
+    ensures { result.now ≡ alternative_name schema.now id.index number }
+{
+    if !schema.has(id) {
+        return "";
+    }
+    match alternative_at(&schema.get(id).core, number) {
+        Some(alternative) => alternative.name.as_str(),
+        None => "",
+    }
+}
+
+/// A name behind a path.
+fn push_name(path: &mut String, name: &str) -> Result<(), AllocError>
+    ensures { OnOk result (string_bytes path.new ≡ with_name (string_bytes path.old) name.now) }
+{
+    if !path.is_empty() {
+        path.push('.')?;
+    }
+    path.push_str(name)?;
+    Ok(())
+}
+
+/// The number of an element behind a path.
+fn push_number(alloc: Global, path: &mut String, number: usize) -> Result<(), AllocError>
+    ensures { OnOk result (string_bytes path.new ≡ with_number (string_bytes path.old) number) }
+{
+    let digits = number.to_string(alloc)?;
+    path.push_str("[")?;
+    path.push_str(digits.as_str())?;
+    path.push_str("]")?;
+    Ok(())
+}
+
+/// A part of a value of a type behind a path.
+fn push_part(
+    alloc: Global,
+    schema: &Schema,
+    id: TypeId,
+    path: &mut String,
+    part: Part,
+) -> Result<(), AllocError>
+    ensures { OnOk result (string_bytes path.new ≡ with_part schema.now id.index (string_bytes path.old) part) }
+{
+    match part {
+        Part::Component(place) => push_name(path, component_at(schema, id, place)),
+        Part::Alternative(number) => push_name(path, alternative(schema, id, number)),
+        Part::Element(number) => push_number(alloc, path, number),
+    }
+}
+
+/// The part of an open value that was being read, if any, behind a path.
+fn push_open(
+    alloc: Global,
+    schema: &Schema,
+    path: &mut String,
+    open: Open,
+) -> Result<(), AllocError>
+    ensures { OnOk result (string_bytes path.new ≡ with_open schema.now (string_bytes path.old) open) }
+{
+    match open.part {
+        Some(part) => push_part(alloc, schema, open.ty, path, part),
+        None => Ok(()),
+    }
+}
+
+/// The parts of open values that were being read, from the outermost in.
+fn path_to(alloc: Global, schema: &Schema, values: &[Open]) -> Result<String, AllocError>
+    ensures { IfOk result (λ path. string_bytes path ≡ path_of schema.now values.now) }
+{
+    let mut path = String::new(alloc);
+    for i in 0..values.len() {
+        push_open(alloc, schema, &mut path, values[i])?;
+    }
+    Ok(path)
+}
+
+/// Where reading the octets as a value of the type stops: the place of the octet, and the parts that were being read.
+pub(crate) fn stopped(
+    alloc: Global,
+    schema: &Schema,
+    code: &Code,
+    id: TypeId,
+    octets: &[u8],
+) -> Result<(usize, String), AllocError>
+    requires same { schema.now ≡ code.now }
+    ensures { IfOk result (λ r. IsStopped code.now id.index octets.now r.0 (string_bytes r.1)) }
+{
+    let found = whereabouts(alloc, code, id, octets)?;
+    let path = path_to(alloc, schema, found.values.as_slice())?;
+    Ok((found.place, path))
+}
