@@ -79,12 +79,12 @@ fn push_open(
     alloc: Global,
     schema: &Schema,
     path: &mut String,
-    open: Open,
+    value: Open,
 ) -> Result<(), AllocError>
-    ensures { OnOk result (string_bytes path.new ≡ with_open schema.now (string_bytes path.old) open) }
+    ensures { OnOk result (string_bytes path.new ≡ with_open schema.now (string_bytes path.old) value) }
 {
-    match open.part {
-        Some(part) => push_part(alloc, schema, open.ty, path, part),
+    match value.part {
+        Some(part) => push_part(alloc, schema, value.ty, path, part),
         None => Ok(()),
     }
 }

@@ -220,7 +220,12 @@ fn read_with_ever_more_memory(
 fn ber_with_ever_more_memory(rt: HostRuntime) -> Result<(), Fail> {
     read_with_ever_more_memory(&rt, Rules::Ber, true, "Kit::ber by the basic rules")?;
     read_with_ever_more_memory(&rt, Rules::Der, true, "Kit::ber by the distinguished rules")?;
-    read_with_ever_more_memory(&rt, Rules::Ber, false, "Kit::ber of octets that are refused")
+    read_with_ever_more_memory(
+        &rt,
+        Rules::Ber,
+        false,
+        "Kit::ber of octets that are refused",
+    )
 }
 
 #[test]
