@@ -1,0 +1,4 @@
+//! The laws of reading between versions of a type (X.680, 7, 25, 27 and 29; X.690, 8.9 and 8.11).
+#![tactic(auto)]
+
+pub mod law;
