@@ -10,7 +10,7 @@ use Rattle.asn_base.specs.Types.{any_number, any_size, Kind, a_null, an_integer,
 use Rattle.asn_base.specs.Tags.{First, first_tag, first_of_choice, AreApart, IsChoice, IsTellable}
 use Rattle.asn_base.specs.Typed.{fits_integer, IsOfGroup, HasOfGroup, LacksOfGroup, ValueIn, value_in, of_leaf, of_sequence, of_set_of, where_addition, no_component, component_absent, component_present, no_element, one_element, IsValue}
 use Rattle.asn_base.specs.Schemas.{HasTag, HasValue, AreListed, AreAlternatives, IsSound, components, types_in, LeadsTo, leads_itself, leads_onward, IsSchema}
-use Rattle.sample_types.specs.Kinds.{Told, AreTold, all_told, told, grouped, inner, mixed, nested, newer, newer_or_truth, not_in_order, numbers_of, one_group, one_null, one_truth, optional_first, optional_null, outer, outer_more, three, turned, two_additions, two_numbers, two_strings, with_a_set, with_newer}
+use Rattle.sample_types.specs.Kinds.{Told, AreTold, all_told, told, grouped, inner, mixed, nested, newer, newer_or_truth, not_in_order, numbers_of, one_group, one_null, one_truth, optional_first, optional_null, optional_number, outer, outer_more, three, turned, two_additions, two_numbers, two_strings, with_a_set, with_newer}
 use Rattle.sample_types.proofs.Bounds.{all_numbers, all_sizes, more_sizes, names_ab, names_abc, names_abcd, names_an, names_bd, names_s, numeric, one_bit, one_name, ranged_bounds, short_sizes, small_numbers, sound_items, sound_numbers, three_digits, three_only}
 use Rattle.sample_types.proofs.Told.{IsTold, there, told_there, as_many}
 
@@ -116,8 +116,8 @@ module _ (s : List Resolved) (are : AreTold all_told s) where
   count : length all_told ≡ length s
   count = as_many all_told s are
 
-  below : (t : ℕ) → t < 60 → t < length s
-  below t l = let c : 60 ≡ length s = count in omega (arith, c, l)
+  below : (t : ℕ) → t < 61 → t < length s
+  below t l = let c : 61 ≡ length s = count in omega (arith, c, l)
 
   -- ---- first tags
 
@@ -393,6 +393,22 @@ module _ (s : List Resolved) (are : AreTold all_told s) where
     few_more = omega arith;
     names = one_name;
     types = (below 50 (omega arith), tt);
+    defaults = ((λ d e. absurd (cc)), tt);
+  }
+
+  optional_number_listed : AreListed s true optional_number
+  optional_number_listed = record {
+    root = optional_number;
+    more = [];
+    parts = refl;
+    in_root = (refl, tt);
+    behind = tt;
+    groups = tt;
+    marked = λ e. refl;
+    few_root = omega arith;
+    few_more = omega arith;
+    names = one_name;
+    types = (below 37 (omega arith), tt);
     defaults = ((λ d e. absurd (cc)), tt);
   }
 
@@ -674,7 +690,10 @@ module _ (s : List Resolved) (are : AreTold all_told s) where
                   plain 16 _ ((λ e. absurd (cc)), tt) nested_listed ((λ d e. absurd (cc)), tt),
                   (
                     record { tagged = λ e. tt; few = omega arith; tellable = ((apart_42_28, tt), (tt, tt)); sound = newer_or_truth_is; defaults = tt },
-                    (plain 16 _ tt (record { bounds = all_sizes; type = below 58 (omega arith) }) tt, tt),
+                    (
+                      plain 16 _ tt (record { bounds = all_sizes; type = below 58 (omega arith) }) tt,
+                      (plain 16 _ ((λ e. tt), tt) optional_number_listed ((λ d e. absurd (cc)), tt), tt),
+                    ),
                   ),
                 ),
               ),

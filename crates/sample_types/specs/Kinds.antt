@@ -173,6 +173,10 @@ one_null = record { name = 97 ∷ []; type = 50; presence = mandatory } ∷ []
 abbrev pub optional_null : List Component
 optional_null = record { name = 97 ∷ []; type = 50; presence = optional } ∷ []
 
+-- {a [0] INTEGER OPTIONAL}
+abbrev pub optional_number : List Component
+optional_number = record { name = 97 ∷ []; type = 37; presence = optional } ∷ []
+
 -- {a INTEGER, b INTEGER}
 abbrev pub two_numbers : List Component
 two_numbers =
@@ -262,6 +266,7 @@ all_told =
     ∷ told 16 (a_sequence true nested)  -- 57
     ∷ record { numbers = []; kind = a_choice newer_or_truth true [] }  -- 58
     ∷ told 16 (a_sequence_of any_size 58)  -- 59
+    ∷ told 16 (a_sequence true optional_number)  -- 60
     ∷ []
 
 abbrev pub numbers_of : List Tag → List ℕ

@@ -6,8 +6,9 @@ ghost use Rattle.asn_base.specs.Types.{any_size, a_utf8_string};
 ghost use Rattle.sample_types.specs.Kinds.{AreTold, all_told, grouped, inner, just_three, mixed, nested, newer};
 ghost use Rattle.sample_types.specs.Kinds.{newer_or_truth, not_in_order, numbered_items, numbers_of, numeric_codes};
 ghost use Rattle.sample_types.specs.Kinds.{one_group, one_null, one_or_more, one_or_two, one_to_three_or_eight, one_truth};
-ghost use Rattle.sample_types.specs.Kinds.{optional_first, optional_null, outer, outer_more, the_items, three, turned};
-ghost use Rattle.sample_types.specs.Kinds.{two_additions, two_numbers, two_strings, with_a_set, with_newer, zero_to_seven};
+ghost use Rattle.sample_types.specs.Kinds.{optional_first, optional_null, optional_number, outer, outer_more, the_items};
+ghost use Rattle.sample_types.specs.Kinds.{three, turned, two_additions, two_numbers, two_strings, with_a_set, with_newer};
+ghost use Rattle.sample_types.specs.Kinds.{zero_to_seven};
 ghost use Rattle.std.specs.Prelude.{◌≡◌, ◌∷◌, ◌+◌, ◌<◌, [], IfOk, None, OnOk, Some, false, map, slice_get, take};
 ghost use Rattle.asn_base.specs.declared.strings.StringKind.TheVariants.{Numeric};
 
@@ -379,6 +380,14 @@ fn optional_null_member(alloc: Global) -> Result<Vec<Component>, AllocError>
     Ok(vec![in alloc; a]?)
 }
 
+/// a [0] INTEGER OPTIONAL.
+fn optional_number_member(alloc: Global) -> Result<Vec<Component>, AllocError>
+    ensures { IfOk result (λ cs. map component_of cs.items ≡ optional_number) }
+{
+    let a = member(alloc, "a", 37, Presence::Optional)?;
+    Ok(vec![in alloc; a]?)
+}
+
 /// a INTEGER, b INTEGER.
 fn number_members(alloc: Global) -> Result<Vec<Component>, AllocError>
     ensures { IfOk result (λ cs. map component_of cs.items ≡ two_numbers) }
@@ -637,7 +646,7 @@ fn short_lists(alloc: Global, types: &mut Vec<Resolved>) -> Result<(), AllocErro
     add(types, 54, universal(alloc, 16)?, strings)
 }
 
-/// Types 55 to 59.
+/// Types 55 to 60.
 fn earlier_types(alloc: Global, types: &mut Vec<Resolved>) -> Result<(), AllocError>
     requires { AreTold (take 55 all_told) (types_of types.old.items) }
     ensures { OnOk result (AreTold all_told (types_of types.new.items)) }
@@ -655,7 +664,9 @@ fn earlier_types(alloc: Global, types: &mut Vec<Resolved>) -> Result<(), AllocEr
     });
     add(types, 58, Vec::new(alloc), choice)?;
     let choices = Core::SequenceOf(Constraint::any_size(), TypeId { index: 58 });
-    add(types, 59, universal(alloc, 16)?, choices)
+    add(types, 59, universal(alloc, 16)?, choices)?;
+    let optional = Core::Sequence(true, optional_number_member(alloc)?);
+    add(types, 60, universal(alloc, 16)?, optional)
 }
 
 /// The schema of all these types, or `AllocError` for want of memory alone.
@@ -741,7 +752,8 @@ pub fn type_named(name: &str) -> Option<TypeId> {
         "nested" => 57,
         "newer-or-truth" => 58,
         "newer-elements" => 59,
-        "none-such" => 60,
+        "optional-number" => 60,
+        "none-such" => 61,
         _ => return None,
     };
     Some(TypeId { index })
