@@ -141,6 +141,7 @@ message_is_read m = record {
 
 none_of : {p : Program} {s : List Resolved} {l : Rules} {name o : List ℕ} {v : AbstractValue} {e : ReadFault} (u : ℕ)
     (m : IsMessageOf p s name o v) → m.type ≡ u → Says s l m.type m.ber.0 0 o → IsUnread s l u o e → ⊥
+unfolding message_is_read
 none_of {s = s} {l = l} {o = o} {e = e} u m q y r =
     let n = subst (λ t. IsUnread s l t o e) (sym q) r in
     n.none (message_is_read m) y

@@ -208,7 +208,15 @@ impl Kit {
         ensures refused { IfErr result
             (IsNotReadAs self.now.program self.now.types (rules_of rules) ty.now octets.now) }
     {
-        read_as(alloc, &self.modules, &self.schema, &self.code, ty, octets, rules)
+        read_as(
+            alloc,
+            &self.modules,
+            &self.schema,
+            &self.code,
+            ty,
+            octets,
+            rules,
+        )
     }
 
     /// All types in the order of their numbers, to be read by people: of each its number, where it is written, its

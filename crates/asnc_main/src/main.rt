@@ -1,8 +1,8 @@
 //! The program `asnc`: reads its words and files, and writes what they ask for.
 #![tactic(auto)]
 
-use asnc::{Counted, Fault, Kit, Rules, send_all, status};
-use command_line::{Given, Job, Verb, job};
+use asnc::{Counted, Fault, Kit, send_all, status};
+use command_line::{Job, Verb, job};
 use reports::report;
 use std::io::Read;
 use std::process::ExitCode;
@@ -74,22 +74,12 @@ fn write_hex(rt: &HostRuntime, job: &Job, kit: &Kit) -> Result<(), Fault> {
     write(rt, line.as_str())
 }
 
-/// Writes the value that octets encode, and how many additions were skipped, a line each.
-fn write_value(rt: &HostRuntime, job: &Job, kit: &Kit, octets: &[u8]) -> Result<(), Fault> {
-    let rules = if job.strict { Rules::Der } else { Rules::Ber };
-    let (mut text, skipped) = kit.ber(rt.alloc(), job.ty.as_str(), octets, rules)?;
-    let line = format!(in rt.alloc(); "\nskipped {skipped}\n")?;
-    text.push_str(line.as_str())?;
-    write(rt, text.as_str())
-}
-
-/// Does a job on the texts of its files, and on the octets that it gives.
-fn work(rt: &HostRuntime, job: &Job, texts: &[Vec<u8>], octets: &[u8]) -> Result<(), Fault> {
+/// Does a job on the texts of its files.
+fn work(rt: &HostRuntime, job: &Job, texts: &[Vec<u8>]) -> Result<(), Fault> {
     let kit = Kit::open(rt.alloc(), texts)?;
     match job.verb {
         Verb::Der if job.raw => write_raw(rt, job, &kit),
         Verb::Der => write_hex(rt, job, &kit),
-        Verb::Ber => write_value(rt, job, &kit, octets),
         Verb::List => write(rt, kit.list(rt.alloc())?.as_str()),
     }
 }
@@ -143,29 +133,13 @@ fn texts_of(rt: &HostRuntime, files: &[String]) -> Result<Vec<Vec<u8>>, Fault> {
     Ok(texts)
 }
 
-/// The octets that a job gives.
-fn octets_of(rt: &HostRuntime, given: &Given) -> Result<Vec<u8>, Fault> {
-    match given {
-        Given::Nothing => Ok(Vec::new(rt.alloc())),
-        Given::Octets(octets) => Ok(octets.clone()?),
-        Given::Path(name) => match fs::read(rt, name.as_str()) {
-            Ok(octets) => Ok(octets),
-            Err(error) => Err(file_fault(name.clone()?, error)),
-        },
-    }
-}
-
 /// Reads the files of a job and does it.
 fn run(rt: &HostRuntime, job: &Job) -> ExitCode {
-    let octets = match octets_of(rt, &job.octets) {
-        Ok(octets) => octets,
-        Err(fault) => return end_in(rt, job, &[], &fault),
-    };
     let texts = match texts_of(rt, job.files.as_slice()) {
         Ok(texts) => texts,
         Err(fault) => return end_in(rt, job, &[], &fault),
     };
-    match work(rt, job, texts.as_slice(), octets.as_slice()) {
+    match work(rt, job, texts.as_slice()) {
         Ok(()) => ExitCode::SUCCESS,
         Err(fault) => end_in(rt, job, texts.as_slice(), &fault),
     }

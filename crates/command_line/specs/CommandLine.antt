@@ -1,15 +1,13 @@
 -- The command lines that the program takes, and what a job holds of one.
-use Rattle.std.specs.Prelude.{◌≡◌, ◌⊎◌, ⊤, ℕ, List, [], ◌∷◌, true, false, Some, Ok, codes, map, option_map, string_bytes, unwrap_or}
+use Rattle.std.specs.Prelude.{◌≡◌, ◌⊎◌, ⊤, List, [], true, false, Some, codes, map, option_map, string_bytes, unwrap_or}
 use Rattle.clap.specs.Words.{App, Rule, Row, Text, IsAmong, all_of, fault_of, first_of, one_of, new_app, new_rule, subcommand_of, with_rule, with_subcommand}
 use Rattle.clap.specs.declared.builder.ArgAction.TheVariants.{Append, Set, SetTrue}
 use Rattle.clap.specs.declared.error.kind.ErrorKind.{ErrorKind}
 use Rattle.clap.specs.declared.error.kind.ErrorKind.TheVariants as kinds
-use Rattle.hex.specs.Hex.{decode_of}
 use Rattle.messages.specs.declared.fault.Fault.{Fault}
 use Rattle.messages.specs.declared.fault.Fault.TheVariants as faults
 use Rattle.command_line.specs.declared.request.Job.{Job}
 use Rattle.command_line.specs.declared.request.Verb.TheVariants as verbs
-use Rattle.command_line.specs.declared.request.Given.{Given}
 use Rattle.command_line.specs.declared.request.Given.TheVariants as given
 
 -- `--ID TEXT`, which has to be there
@@ -41,18 +39,6 @@ der_flags_app = with_rule (with_rule der_names_app (flag_rule (codes "raw"))) (f
 abbrev pub der_app : App
 der_app = with_rule der_flags_app files_rule
 
--- `ber --type TEXT --hex TEXT`
-abbrev pub ber_names_app : App
-ber_names_app = with_rule (with_rule (new_app (codes "ber")) (text_rule (codes "type"))) (text_rule (codes "hex"))
-
--- `ber --type TEXT --hex TEXT [--strict] [--context]`
-abbrev pub ber_flags_app : App
-ber_flags_app = with_rule (with_rule ber_names_app (flag_rule (codes "strict"))) (flag_rule (codes "context"))
-
--- `ber --type TEXT --hex TEXT [--strict] [--context] FILE..`
-abbrev pub ber_app : App
-ber_app = with_rule ber_flags_app files_rule
-
 -- `list [--context] FILE..`
 abbrev pub list_app : App
 list_app = with_rule (with_rule (new_app (codes "list")) (flag_rule (codes "context"))) files_rule
@@ -67,9 +53,9 @@ bare_app = record (new_app (codes "asnc")) {
   };
 }
 
--- the commands `der`, `ber` and `list`
+-- the commands `der` and `list`
 abbrev pub asnc_app : App
-asnc_app = with_subcommand (with_subcommand (with_subcommand bare_app der_app.top) ber_app.top) list_app.top
+asnc_app = with_subcommand (with_subcommand bare_app der_app.top) list_app.top
 
 -- the text that was given for an argument, empty where there is none
 abbrev pub text_in : List Row → Text → Text
@@ -93,33 +79,6 @@ pub record IsDerOf (rows : List Row) (job : Job) : Type 0 where
   pub no_octets : job.octets ≡ given.Nothing
   pub not_strict : job.strict ≡ false
 
--- The octets that a text tells: those of the file whose name stands behind an @, or else those of its digits, two an
--- octet.
-abbrev pub IsGiven : Text → Given → Type 0
-IsGiven text (given.Path name) = text ≡ 64 ∷ string_bytes name
-IsGiven text (given.Octets o) = decode_of text ≡ Ok o.items
-IsGiven text given.Nothing = ⊥
-
--- it tells none
-pub record TellsNone (text : Text) : Type 0 where
-  pub no_file : (name : List ℕ) → text ≡ 64 ∷ name → ⊥
-  pub no_digits : (o : List ℕ) → decode_of text ≡ Ok o → ⊥
-
--- The job holds what was found for the arguments of `ber`, and the octets that the text of `--hex` tells; what it
--- doesn't take is empty.
-pub record IsBerOf (rows : List Row) (job : Job) : Type 0 where
-  pub verb : job.verb ≡ verbs.Ber
-  pub type : string_bytes job.ty ≡ text_in rows (codes "type")
-  pub octets : IsGiven (text_in rows (codes "hex")) job.octets
-  pub strict : (one_of (codes "strict") rows ≡ Some (codes "true")) → job.strict ≡ true
-  pub not_strict : (one_of (codes "strict") rows ≡ Some (codes "false")) → job.strict ≡ false
-  pub context : (one_of (codes "context") rows ≡ Some (codes "true")) → job.context ≡ true
-  pub no_context : (one_of (codes "context") rows ≡ Some (codes "false")) → job.context ≡ false
-  pub files : map string_bytes job.files.items ≡ texts_in rows (codes "FILE")
-  pub no_value : string_bytes job.value ≡ []
-  pub no_account : string_bytes job.account ≡ []
-  pub not_raw : job.raw ≡ false
-
 -- The job holds what was found for the arguments of `list`; what it doesn't take is empty.
 pub record IsListOf (rows : List Row) (job : Job) : Type 0 where
   pub verb : job.verb ≡ verbs.List
@@ -133,23 +92,10 @@ pub record IsListOf (rows : List Row) (job : Job) : Type 0 where
   pub no_octets : job.octets ≡ given.Nothing
   pub not_strict : job.strict ≡ false
 
--- the job is that of the command of this name, `list`, `ber` or else `der`
+-- the job is that of the command of this name, `list` or else `der`
 pub record IsJobOf (command : Text) (rows : List Row) (job : Job) : Type 0 where
   pub list : command ≡ codes "list" → IsListOf rows job
-  pub ber : command ≡ codes "ber" → IsBerOf rows job
-  pub der : (command ≡ codes "list" → ⊥) → (command ≡ codes "ber" → ⊥) → IsDerOf rows job
-
--- a text that tells no octets; memory speaks of none
-abbrev pub IsNotGiven : Text → Fault → Type 0
-IsNotGiven text faults.Memory = ⊤
-IsNotGiven text (faults.BadWords t) = TellsNone text
-IsNotGiven text fault = ⊥
-
--- there is no job of the command: it is `ber`, and the text of `--hex` tells no octets
-abbrev pub IsNoJobOf : Text → List Row → Fault → Type 0
-IsNoJobOf command rows faults.Memory = ⊤
-IsNoJobOf command rows (faults.BadWords t) = (command ≡ codes "ber") × TellsNone (text_in rows (codes "hex"))
-IsNoJobOf command rows fault = ⊥
+  pub der : (command ≡ codes "list" → ⊥) → IsDerOf rows job
 
 -- nothing is wrong with the words, and the job holds what they name for their command
 pub record IsAsked (words : List Text) (job : Job) : Type 0 where
@@ -168,26 +114,15 @@ IsFaultOf k (faults.BadWords t) =
     (k ≡ kinds.OutOfMemory → ⊥) × (k ≡ kinds.DisplayHelp → ⊥) × (k ≡ kinds.DisplayVersion → ⊥)
 IsFaultOf k fault = ⊥
 
--- nothing is wrong with the words but that their command is `ber` and the text of `--hex` tells no octets
-pub record HasNoOctets (words : List Text) : Type 0 where
-  pub taken : fault_of asnc_app words ≡ []
-  pub called : option_map (λ p. p.0) (subcommand_of asnc_app words) ≡ Some (codes "ber")
-  pub rows : List Row
-  pub found : option_map (λ p. p.1) (subcommand_of asnc_app words) ≡ Some rows
-  pub none : TellsNone (text_in rows (codes "hex"))
-
--- something other is wrong with the words than that they ask for help or for the version
-pub record AreWrong (words : List Text) : Type 0 where
-  pub kind : ErrorKind
-  pub among : IsAmong kind (fault_of asnc_app words)
-  pub no_help : kind ≡ kinds.DisplayHelp → ⊥
-  pub no_version : kind ≡ kinds.DisplayVersion → ⊥
-
--- The words are refused: they ask for help or for the version, or something else is wrong with them, or they give no
--- octets where they have to. Memory speaks of no words.
+-- The words are refused: they ask for help or for the version, or something else is wrong with them. Memory speaks of
+-- no words.
 abbrev pub IsRefused : List Text → Fault → Type 0
 IsRefused words faults.Memory = ⊤
 IsRefused words (faults.Help t) =
     IsAmong kinds.DisplayHelp (fault_of asnc_app words) ⊎ IsAmong kinds.DisplayVersion (fault_of asnc_app words)
-IsRefused words (faults.BadWords t) = AreWrong words ⊎ HasNoOctets words
+IsRefused words (faults.BadWords t) =
+    (k : ErrorKind)
+    × IsAmong k (fault_of asnc_app words)
+    × (k ≡ kinds.DisplayHelp → ⊥)
+    × (k ≡ kinds.DisplayVersion → ⊥)
 IsRefused words fault = ⊥

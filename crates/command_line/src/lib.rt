@@ -1,7 +1,6 @@
 //! The words of a command line: what they ask for, or what is wrong with them.
 #![tactic(auto)]
 
-mod octets;
 mod request;
 mod words;
 

@@ -16,8 +16,6 @@ pub enum Given {
 pub enum Verb {
     /// To write a value by the distinguished encoding rules.
     Der,
-    /// To read octets as a value, by the basic encoding rules or by the distinguished ones.
-    Ber,
     /// To list the types, with what is written of each.
     List,
 }

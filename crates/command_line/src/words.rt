@@ -3,9 +3,8 @@
 ghost use Rattle.std.specs.Prelude.{◌≡◌, IfOk, IfErr, Some, codes, false, true, map, string_bytes, unwrap_or, if◌then◌else◌};
 ghost use Rattle.clap.specs.Words.{app_of, first_of, kind_of, found_of, one_of, rows_of, rule_of};
 ghost use Rattle.clap.specs.declared.builder.command.Command.TheViews.{out-Command};
-ghost use Rattle.command_line.specs.CommandLine.{asnc_app, ber_app, ber_flags_app, ber_names_app, der_app, der_flags_app, der_names_app, files_rule, flag_rule, list_app, text_in, text_rule, texts_in, IsAsked, IsBerOf, IsFaultOf, IsNoJobOf, IsNotGiven, IsRefused, IsDerOf, IsJobOf, IsListOf};
+ghost use Rattle.command_line.specs.CommandLine.{asnc_app, der_app, der_flags_app, der_names_app, files_rule, flag_rule, list_app, text_in, text_rule, texts_in, IsAsked, IsFaultOf, IsRefused, IsDerOf, IsJobOf, IsListOf};
 
-use crate::octets::given_in;
 use crate::request::{Given, Job, Verb};
 use clap::error::ErrorKind;
 use clap::{Arg, ArgAction, ArgMatches, Command};
@@ -17,10 +16,9 @@ use std::alloc::{AllocError, Global};
 const AFTER_HELP: &str = "\
 Examples:
   asnc der --type M.T --value M.v m.asn
-  asnc ber --type M.T --hex 020105 m.asn
   asnc list m.asn
 
-Exit status: 0 done, 1 the texts, names, values or octets are refused, 2 a bad command line,
+Exit status: 0 done, 1 the texts, names or values are refused, 2 a bad command line,
 3 memory, a file or a device was wanting. A refusal is one line, with its number and
 its name; man asnc lists them.";
 
@@ -30,12 +28,6 @@ Examples:
   asnc der --type M.T --value M.v m.asn
   asnc der --raw --type M.T --value M.v m.asn > v.der
   cat m.asn | asnc der --context --type M.T --value M.v -";
-
-/// What the help of `ber` shows at its end.
-const BER_EXAMPLES: &str = "\
-Examples:
-  asnc ber --type M.T --hex 020105 m.asn
-  asnc ber --strict --type M.T --hex @v.der m.asn";
 
 /// What the help of `list` shows at its end.
 const LIST_EXAMPLES: &str = "\
@@ -118,40 +110,6 @@ fn der_command<'a>(alloc: Global) -> Result<Command<'a>, AllocError>
     der_flags(alloc)?.arg(files_arg(alloc))
 }
 
-/// `ber` with the name of a type, and octets.
-fn ber_names<'a>(alloc: Global) -> Result<Command<'a>, AllocError>
-    ensures shape { IfOk result (λ c. app_of c ≡ ber_names_app) }
-    ensures local { IfOk result (λ c. (out-Command c).has_globals ≡ false) }
-{
-    let hex = text_arg(
-        alloc,
-        "hex",
-        "HEX",
-        "The octets in hexadecimal, or @ and the name of a file that holds them",
-    );
-    Command::new(alloc, "ber")
-        .about("Read octets by BER, or by DER, as a value, and print it")
-        .after_help(BER_EXAMPLES)
-        .arg(text_arg(alloc, "type", "MODULE.TYPE", "The type"))?
-        .arg(hex)
-}
-
-/// The same with its flags.
-fn ber_flags<'a>(alloc: Global) -> Result<Command<'a>, AllocError>
-    ensures shape { IfOk result (λ c. app_of c ≡ ber_flags_app) }
-    ensures local { IfOk result (λ c. (out-Command c).has_globals ≡ false) }
-{
-    let strict = flag_arg(alloc, "strict", "Read DER alone");
-    ber_names(alloc)?.arg(strict)?.arg(context_arg(alloc))
-}
-
-fn ber_command<'a>(alloc: Global) -> Result<Command<'a>, AllocError>
-    ensures shape { IfOk result (λ c. app_of c ≡ ber_app) }
-    ensures local { IfOk result (λ c. (out-Command c).has_globals ≡ false) }
-{
-    ber_flags(alloc)?.arg(files_arg(alloc))
-}
-
 fn list_command<'a>(alloc: Global) -> Result<Command<'a>, AllocError>
     ensures shape { IfOk result (λ c. app_of c ≡ list_app) }
     ensures local { IfOk result (λ c. (out-Command c).has_globals ≡ false) }
@@ -169,13 +127,12 @@ fn asnc_command<'a>(alloc: Global) -> Result<Command<'a>, AllocError>
     ensures wants { IfOk result (λ c. (out-Command c).subcommand_required ≡ true) }
 {
     Command::new(alloc, "asnc")
-        .about("An ASN.1 compiler: from modules' texts to octets, and back")
+        .about("An ASN.1 compiler: from modules' texts to octets")
         .version("0.1.0")
         .after_help(AFTER_HELP)
         .subcommand_required(true)
         .disable_help_subcommand(true)
         .subcommand(der_command(alloc)?)?
-        .subcommand(ber_command(alloc)?)?
         .subcommand(list_command(alloc)?)
 }
 
@@ -259,31 +216,6 @@ fn der_job(alloc: Global, found: &ArgMatches<'_>) -> Result<Job, AllocError>
     })
 }
 
-/// `BadWords` where the text of `--hex` tells no octets.
-fn ber_job(alloc: Global, found: &ArgMatches<'_>) -> Result<Job, Fault>
-    ensures job { IfOk result (IsBerOf (rows_of (found_of found.now))) }
-    ensures none { IfErr result (IsNotGiven (text_in (rows_of (found_of found.now)) (codes "hex"))) }
-{
-    let strict = found.get_flag("strict");
-    let context = found.get_flag("context");
-    let hex = text_of(alloc, found, "hex")?;
-    let octets = match given_in(alloc, hex.as_str()) {
-        Ok(octets) => octets,
-        Err(fault) => return Err(fault),
-    };
-    Ok(Job {
-        verb: Verb::Ber,
-        ty: text_of(alloc, found, "type")?,
-        value: String::new(alloc),
-        account: String::new(alloc),
-        octets,
-        raw: false,
-        strict,
-        context,
-        files: files_of(alloc, found)?,
-    })
-}
-
 fn list_job(alloc: Global, found: &ArgMatches<'_>) -> Result<Job, AllocError>
     ensures { IfOk result (IsListOf (rows_of (found_of found.now))) }
 {
@@ -302,23 +234,20 @@ fn list_job(alloc: Global, found: &ArgMatches<'_>) -> Result<Job, AllocError>
 }
 
 /// The job of a command, of which this was found.
-fn job_of(alloc: Global, command: &str, found: &ArgMatches<'_>) -> Result<Job, Fault>
-    ensures job { IfOk result (IsJobOf command.now (rows_of (found_of found.now))) }
-    ensures none { IfErr result (IsNoJobOf command.now (rows_of (found_of found.now))) }
+fn job_of(alloc: Global, command: &str, found: &ArgMatches<'_>) -> Result<Job, AllocError>
+    ensures { IfOk result (IsJobOf command.now (rows_of (found_of found.now))) }
 {
     if command == "list" {
-        Ok(list_job(alloc, found)?)
-    } else if command == "ber" {
-        ber_job(alloc, found)
+        list_job(alloc, found)
     } else {
-        Ok(der_job(alloc, found)?)
+        der_job(alloc, found)
     }
 }
 
 /// The job that the words ask for. The first word is the program's name.
 ///
-/// `BadWords` where the words ask for nothing that the program does, or give octets that can't be read, and `Help` where
-/// they ask for help or for the version.
+/// `BadWords` where the words ask for nothing that the program does, and `Help` where they ask for help or for the
+/// version.
 pub fn job(alloc: Global, words: &[String]) -> Result<Job, Fault>
     ensures asked { IfOk result (IsAsked (map string_bytes words.now)) }
     ensures refused { IfErr result (IsRefused (map string_bytes words.now)) }
@@ -326,7 +255,7 @@ pub fn job(alloc: Global, words: &[String]) -> Result<Job, Fault>
     let program = asnc_command(alloc)?;
     match program.try_get_matches_from(words) {
         Ok(matches) => match matches.subcommand() {
-            Some((command, found)) => job_of(alloc, command, found),
+            Some((command, found)) => Ok(job_of(alloc, command, found)?),
             None => unreachable!(),
         },
         Err(error) => Err(fault_of_clap(alloc, &error)?),

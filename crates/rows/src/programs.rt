@@ -3,7 +3,7 @@
 use crate::refusal::Refusal;
 use crate::requests::{asked, texts_of, word};
 use crate::wanted::is_wanted;
-use asnc::{Fault, Kit, Rules, status};
+use asnc::{Fault, Kit, status};
 use command_line::{Given, Job, Verb, job};
 use reports::report;
 use row_files::{Row, RowText};
@@ -22,49 +22,22 @@ fn octets_in(alloc: Global, row: &Row, files: &[String]) -> Result<Vec<Vec<u8>>,
     Ok(all)
 }
 
-/// The octets that a job gives, those of a file from a row's texts.
-fn given_in(alloc: Global, row: &Row, given: &Given) -> Result<Vec<u8>, Fault> {
-    match given {
-        Given::Nothing => Ok(Vec::new(alloc)),
-        Given::Octets(octets) => Ok(octets.clone()?),
-        Given::Path(file) => match row.texts.iter().find(|t| t.name.as_str() == file.as_str()) {
-            Some(text) => Ok(text.octets.clone()?),
-            None => Err(Fault::File(file.clone()?)),
-        },
-    }
-}
-
-/// The value that octets encode, and how many additions were skipped, a line each.
-fn value_of(alloc: Global, job: &Job, kit: &Kit, octets: &[u8]) -> Result<String, Fault> {
-    let rules = if job.strict { Rules::Der } else { Rules::Ber };
-    let (mut text, skipped) = kit.ber(alloc, job.ty.as_str(), octets, rules)?;
-    let line = format!(in alloc; "\nskipped {skipped}")?;
-    text.push_str(line.as_str())?;
-    Ok(text)
-}
-
-/// What a job asks for: octets, in hexadecimal, a value, or the listing.
-fn work(alloc: Global, job: &Job, texts: &[Vec<u8>], octets: &[u8]) -> Result<String, Fault> {
+/// What a job asks for: octets, in hexadecimal, or the listing.
+fn work(alloc: Global, job: &Job, texts: &[Vec<u8>]) -> Result<String, Fault> {
     let kit = Kit::open(alloc, texts)?;
     match job.verb {
         Verb::Der => {
             let (octets, _account) = kit.der(alloc, job.ty.as_str(), job.value.as_str())?;
             Ok(hex::encode_upper(alloc, octets.as_slice())?)
         }
-        Verb::Ber => value_of(alloc, job, &kit, octets),
         Verb::List => kit.list(alloc),
     }
 }
 
-/// What is told of a job: what it asks for, or the line of its fault.
-fn outcome(
-    alloc: Global,
-    job: &Job,
-    texts: &[Vec<u8>],
-    octets: &[u8],
-) -> Result<String, AllocError> {
-    match work(alloc, job, texts, octets) {
-        Ok(told) => Ok(told),
+/// What is told of a job: its octets, or the line of its fault.
+fn outcome(alloc: Global, job: &Job, texts: &[Vec<u8>]) -> Result<String, AllocError> {
+    match work(alloc, job, texts) {
+        Ok(hex) => Ok(hex),
         Err(fault) => {
             let line = report(alloc, job, texts, &fault)?;
             let status = status(&fault);
@@ -117,7 +90,7 @@ pub fn line(alloc: Global, row: &Row) -> Result<String, Refusal> {
         files: names_of(alloc, row.texts.as_slice())?,
     };
     let texts = texts_of(alloc, row)?;
-    Ok(outcome(alloc, &job, texts.as_slice(), &[])?)
+    Ok(outcome(alloc, &job, texts.as_slice())?)
 }
 
 /// The words of a command line: those behind the row's name. `\n` stands for a line end.
@@ -142,15 +115,11 @@ fn job_in(alloc: Global, row: &Row) -> Result<Job, Refusal> {
 /// `asnc NAME WORD..`: what the program prints for these words, with the row's texts as its files.
 pub fn asnc(alloc: Global, row: &Row) -> Result<String, Refusal> {
     let job = job_in(alloc, row)?;
-    let octets = match given_in(alloc, row, &job.octets) {
-        Ok(octets) => octets,
-        Err(fault) => return Err(refused(alloc, &fault)),
-    };
     let texts = match octets_in(alloc, row, job.files.as_slice()) {
         Ok(texts) => texts,
         Err(fault) => return Err(refused(alloc, &fault)),
     };
-    Ok(outcome(alloc, &job, texts.as_slice(), octets.as_slice())?)
+    Ok(outcome(alloc, &job, texts.as_slice())?)
 }
 
 /// `job NAME WORD..`: what these words ask for, a line each.
@@ -158,7 +127,6 @@ pub fn job_of(alloc: Global, row: &Row) -> Result<String, Refusal> {
     let job = job_in(alloc, row)?;
     let verb = match job.verb {
         Verb::Der => "der",
-        Verb::Ber => "ber",
         Verb::List => "list",
     };
     let octets = match job.octets {
