@@ -1,3 +1,4 @@
 mod Dots
 mod Opening
+mod Weaker
 mod Messages

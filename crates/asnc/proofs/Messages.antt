@@ -1,13 +1,15 @@
 -- What is read of octets, why nothing is, and what follows for the encodings of values.
-use Rattle.std.proofs.Common.{◌≡◌, ◌⊎◌, inl, inr, ◌↔◌, refl, sym, ◌∙◌, subst, ap, ℕ, ◌<◌, List, length, Option, Some, Result, Err}
+use Rattle.std.proofs.Common.{◌≡◌, ◌⊎◌, inl, inr, ◌↔◌, refl, sym, ◌∙◌, subst, ap, ℕ, ◌<◌, ◌≤◌, List, length, Option, Some, Result, Err}
 use Rattle.std.specs.Prelude.{IfErr, slice_get}
 use Rattle.std.proofs.lemmas.Option.{slice_get_within}
 use Rattle.asn_base.specs.Abstract.{AbstractValue}
 use Rattle.asn_base.specs.Same.{Same}
 use Rattle.asn_base.specs.Typed.{ValueIn, value_in}
 use Rattle.asn_base.specs.Types.{Resolved}
+use Rattle.encodings.specs.Account.{Account}
 use Rattle.encodings.specs.Encoding.{Says}
-use Rattle.encodings.specs.Rules.{Basic}
+use Rattle.encodings.specs.Levels.{levels}
+use Rattle.encodings.specs.Rules.{Rules, Basic, Distinguished}
 use Rattle.codec_source.specs.declared.fault.ReadFault.{ReadFault}
 use Rattle.codec_source.specs.declared.fault.ReadFault.TheVariants as reading
 use Rattle.ber_message.specs.Messages.{IsEncoding, BeginsEncoding, HasEncodingFirst, HasMessageFirst}
@@ -18,7 +20,11 @@ use Rattle.messages.specs.declared.fault.Fault.{Fault}
 use Rattle.messages.specs.declared.fault.Fault.TheVariants as faults
 use Rattle.asnc.specs.Headline.{IsAnswer, IsMessageOf}
 use Rattle.asnc.specs.Named.{IsNamed, TypeNamed}
-use Rattle.asnc.specs.Reading.{IsNotReadAs, IsRead, IsUnread, Names}
+use Rattle.asnc.specs.Reading.{IsNotDer, IsNotReadAs, IsRead, IsUnread, Names, rules_of}
+use Rattle.asnc.specs.Writing.{IsEncoded}
+use Rattle.asnc.specs.declared.reading.Rules.{Rules as Rules'}
+use Rattle.asnc.specs.declared.reading.Rules.TheVariants as asked
+use Rattle.asnc.proofs.Weaker.{basic_of}
 
 -- a type that has a value is there
 pub type_there : {s : List Resolved} {n t : ℕ} {v : AbstractValue} → ValueIn s n t v → t < length s
@@ -40,19 +46,28 @@ only_trailing : {Z : Type 0} (r : Result Z ReadFault) (e : ReadFault) → r ≡ 
 only_trailing r e q n (inl f) = let g = sym q ∙ f in cc
 only_trailing r e q n (inr f) = absurd (n (let g = sym q ∙ f in cc))
 
+only_not_der : {Z : Type 0} (r : Result Z ReadFault) (e : ReadFault) → r ≡ Err e → (e ≡ reading.Memory → ⊥)
+    → (r ≡ Err reading.NotDer) ⊎ (r ≡ Err reading.Memory) → e ≡ reading.NotDer
+only_not_der r e q n (inl f) = let g = sym q ∙ f in cc
+only_not_der r e q n (inr f) = absurd (n (let g = sym q ∙ f in cc))
+
 -- a refusal, but for want of memory, stands
-pub unread_by : {Z : Type 0} (s : List Resolved) (t : ℕ) (o : List ℕ) (r : Result Z ReadFault) (e : ReadFault)
+pub unread_by : {Z : Type 0} (s : List Resolved) (l : Rules) (t : ℕ) (o : List ℕ) (r : Result Z ReadFault) (e : ReadFault)
     → r ≡ Err e
     → (e ≡ reading.Memory → ⊥)
-    → (IsEncoding s t o → IfErr r (λ f. f ≡ reading.Memory))
+    → ((i : IsEncoding s t o) → Says s l t i.value i.count o → IfErr r (λ f. f ≡ reading.Memory))
+    → ((i : IsEncoding s t o) → (Says s l t i.value i.count o → ⊥) → (r ≡ Err reading.NotDer) ⊎ (r ≡ Err reading.Memory))
+    → (r ≡ Err reading.NotDer → (l ≡ Distinguished) × IsNotDer s t o)
     → (16777216 < length o → r ≡ Err reading.MessageLimit)
     → (r ≡ Err reading.MessageLimit → 16777216 < length o)
     → (HasEncodingFirst s t o → (r ≡ Err reading.Trailing) ⊎ (r ≡ Err reading.Memory))
     → (r ≡ Err reading.Trailing → HasMessageFirst s t o)
     → (BeginsEncoding s t o → r ≡ Err reading.Truncated)
-    → IsUnread s t o e
-unread_by s t o r e q n read limit long more trailing less = record {
-  none = λ i. n (subst (λ x. IfErr x (λ f. f ≡ reading.Memory)) q (read i));
+    → IsUnread s l t o e
+unread_by s l t o r e q n read basic not_der limit long more trailing less = record {
+  none = λ i a. n (subst (λ x. IfErr x (λ f. f ≡ reading.Memory)) q (read i a));
+  basic = λ i a. only_not_der r e q n (basic i a);
+  not_der = λ m. not_der (q ∙ ap Err m);
   limit = λ l. (let g = sym q ∙ limit l in cc);
   long = λ m. long (q ∙ ap Err m);
   more = λ h. only_trailing r e q n (more h);
@@ -60,14 +75,48 @@ unread_by s t o r e q n read limit long more trailing less = record {
   less = λ b. (let g = sym q ∙ less b in cc);
 }
 
+only_of : {Z : Type 0} (r : Result Z ReadFault) (e : ReadFault) → r ≡ Err e → (r ≡ Err reading.Trailing) ⊎ (r ≡ Err reading.Memory)
+    → (e ≡ reading.NotDer) → ⊥
+only_of r e q (inl f) m = let g = sym q ∙ f in cc
+only_of r e q (inr f) m = let g = sym q ∙ f in cc
+
+-- By the basic rules a refusal is another one than that of the distinguished rules.
+pub unread_basic : {Z : Type 0} (s : List Resolved) (t : ℕ) (o : List ℕ) (r : Result Z ReadFault) (e f : ReadFault)
+    → r ≡ Err e
+    → ((e ≡ reading.NotDer → ⊥) × (f ≡ e)) ⊎ ((e ≡ reading.NotDer) × (f ≡ reading.UnexpectedTag))
+    → (f ≡ reading.Memory → ⊥)
+    → (IsEncoding s t o → IfErr r (λ f. f ≡ reading.Memory))
+    → (16777216 < length o → r ≡ Err reading.MessageLimit)
+    → (r ≡ Err reading.MessageLimit → 16777216 < length o)
+    → (HasEncodingFirst s t o → (r ≡ Err reading.Trailing) ⊎ (r ≡ Err reading.Memory))
+    → (r ≡ Err reading.Trailing → HasMessageFirst s t o)
+    → (BeginsEncoding s t o → r ≡ Err reading.Truncated)
+    → IsUnread s Basic t o f
+unread_basic s t o r e f q (inl (never, same)) n read limit long more trailing less =
+    subst (IsUnread s Basic t o) (sym same)
+    (unread_by s Basic t o r e q (λ m. n (same ∙ m)) (λ i a. read i) (λ i a. absurd (a i.is_said)) (λ d. absurd (never (let g = sym q ∙ d in cc)))
+    limit long more trailing less)
+unread_basic s t o r e f q (inr (is, other)) n read limit long more trailing less =
+    subst (IsUnread s Basic t o) (sym other) (record {
+      none = λ i a. (let g : reading.NotDer ≡ reading.Memory = subst (λ x. IfErr x (λ z. z ≡ reading.Memory)) (q ∙ ap Err is) (read i) in cc);
+      basic = λ i a. absurd (a i.is_said);
+      not_der = λ m. cc;
+      limit = λ l. (let g = sym q ∙ limit l in cc);
+      long = λ m. cc;
+      more = λ h. absurd (only_of r e q (more h) is);
+      trailing = λ m. cc;
+      less = λ b. (let g = sym q ∙ less b in cc);
+    })
+
 -- what was read of an encoding of a value is that value
-pub answer_of : {p : Program} {s : List Resolved} {name o printed : List ℕ} {k t : ℕ} {v : AbstractValue} (w : AbstractValue)
+pub answer_of : {p : Program} {s : List Resolved} {l : Rules} {name o printed : List ℕ} {k t : ℕ} {v : AbstractValue}
+    (w : AbstractValue)
     → TypeNamed p name t
-    → IsRead s t o printed k
+    → IsRead s l t o printed k
     → Same s t v w
     → Says s Basic t w 0 o
     → IsAnswer p s name printed k v
-answer_of {p} {s} {name} {o} {printed} {k} {t} {v} w n r sm sy =
+answer_of {p} {s} {l} {name} {o} {printed} {k} {t} {v} w n r sm sy =
     let q = r.only w 0 (record { value = sm.second; says_it = sy }) in
     record {
       type = t;
@@ -90,20 +139,61 @@ message_is_read m = record {
   short = m.short;
 }
 
--- an encoding of a value is refused for want of memory alone
-pub never_refused : (p : Program) (s : List Resolved) (name o : List ℕ) (v : AbstractValue) (e : Fault) → IsMessageOf p s name o v
-    → IsNotReadAs p s name o e → e ≡ faults.Memory
-never_refused p s name o v faults.Memory m r = refl
-never_refused p s name o v (faults.NoType x) m r = absurd (r.1 m.type m.named)
-never_refused p s name o v (faults.Unread e) m r =
-    absurd (r.unread.none (subst (λ t. IsEncoding s t o) (r.named.only m.type m.named) (message_is_read m)))
-never_refused p s name o v (faults.NoValue x) m r = absurd r
-never_refused p s name o v (faults.BadWords x) m r = absurd r
-never_refused p s name o v (faults.Help x) m r = absurd r
-never_refused p s name o v (faults.File x) m r = absurd r
-never_refused p s name o v (faults.NoFile x) m r = absurd r
-never_refused p s name o v (faults.Folder x) m r = absurd r
-never_refused p s name o v (faults.Front x) m r = absurd r
-never_refused p s name o v (faults.Value x) m r = absurd r
-never_refused p s name o v faults.TooLong m r = absurd r
-never_refused p s name o v (faults.Device n) m r = absurd r
+none_of : {p : Program} {s : List Resolved} {l : Rules} {name o : List ℕ} {v : AbstractValue} {e : ReadFault} (u : ℕ)
+    (m : IsMessageOf p s name o v) → m.type ≡ u → Says s l m.type m.ber.0 0 o → IsUnread s l u o e → ⊥
+unfolding message_is_read
+none_of {s = s} {l = l} {o = o} {e = e} u m q y r =
+    let n = subst (λ t. IsUnread s l t o e) (sym q) r in
+    n.none (message_is_read m) y
+
+-- an encoding of a value, by the rules that are asked for, is refused for want of memory alone
+pub never_refused : (p : Program) (s : List Resolved) (l : Rules) (name o : List ℕ) (v : AbstractValue) (e : Fault)
+    (m : IsMessageOf p s name o v)
+    → Says s l m.type m.ber.0 0 o
+    → IsNotReadAs p s l name o e
+    → e ≡ faults.Memory
+never_refused p s l name o v faults.Memory m y r = refl
+never_refused p s l name o v (faults.NoType x) m y r = absurd (r.1 m.type m.named)
+never_refused p s l name o v (faults.Unread e) m y r = absurd (none_of r.type m (r.named.only m.type m.named) y r.unread)
+never_refused p s l name o v (faults.NoValue x) m y r = absurd r
+never_refused p s l name o v (faults.BadWords x) m y r = absurd r
+never_refused p s l name o v (faults.Help x) m y r = absurd r
+never_refused p s l name o v (faults.File x) m y r = absurd r
+never_refused p s l name o v (faults.NoFile x) m y r = absurd r
+never_refused p s l name o v (faults.Folder x) m y r = absurd r
+never_refused p s l name o v (faults.Front x) m y r = absurd r
+never_refused p s l name o v (faults.Value x) m y r = absurd r
+never_refused p s l name o v faults.TooLong m y r = absurd r
+never_refused p s l name o v (faults.Device n) m y r = absurd r
+
+-- what is written of a value says it by either rules
+says_by : (l : Rules') {s : List Resolved} {t : ℕ} {w : AbstractValue} {o : List ℕ} → Says s Distinguished t w 0 o
+    → Says s (rules_of l) t w 0 o
+says_by asked.Ber d = basic_of d
+says_by asked.Der d = d
+
+-- it is a message of the value
+pub written_message : {p : Program} {s : List Resolved} {first second o : List ℕ} {a : Account}
+    → ((t : ℕ) (w : AbstractValue) (d : Says s Distinguished t w 0 o) (b : Says s Basic t w 0 o) → levels b ≡ levels d)
+    → (m : IsEncoded p s first second o a)
+    → IsMessageOf p s first o m.value
+written_message {p} {s} {first} {second} {o} {a} one m =
+    let d = m.encoding.der in
+    record {
+      type = m.type;
+      named = m.meant.named.typed;
+      is = m.encoding.value;
+      ber = (d.0, d.1, basic_of d.2);
+      few = subst (λ q. q ≤ 400) (sym (one m.type d.0 d.2 (basic_of d.2))) (m.encoding.few_levels d.0 d.2 d.1.second);
+      short = m.encoding.not_too_long;
+    }
+
+-- and is read back, by either rules
+pub written_is_read : {p : Program} {s : List Resolved} {first second o : List ℕ} {a : Account} (l : Rules') (e : Fault)
+    → ((t : ℕ) (w : AbstractValue) (d : Says s Distinguished t w 0 o) (b : Says s Basic t w 0 o) → levels b ≡ levels d)
+    → IsEncoded p s first second o a
+    → IsNotReadAs p s (rules_of l) first o e
+    → e ≡ faults.Memory
+unfolding written_message
+written_is_read {p} {s} {first} {second} {o} {a} l e one m r =
+    never_refused p s (rules_of l) first o m.value e (written_message one m) (says_by l m.encoding.der.2) r

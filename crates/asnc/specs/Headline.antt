@@ -7,8 +7,9 @@ use Rattle.asn_base.specs.Typed.{IsValue}
 use Rattle.asn_base.specs.Types.{Resolved}
 use Rattle.encodings.specs.Account.{Account, Tells}
 use Rattle.value_text.specs.Print.{print}
-use Rattle.encodings.specs.Encoding.{Ber, Der, Shortest}
+use Rattle.encodings.specs.Encoding.{Ber, Der, EncodesBy, Shortest}
 use Rattle.encodings.specs.Levels.{levels}
+use Rattle.encodings.specs.Rules.{Rules}
 use Rattle.trees.specs.Values.{Name, Tree}
 use Rattle.resolve.specs.Program.{Program}
 use Rattle.front_end.specs.Accepted.{Accepted}
@@ -39,8 +40,9 @@ pub record IsRight (texts : List (List ℕ)) (first second o : List ℕ) (a : Ac
   -- the account tells how the octets are made up
   pub account : Tells types type value o a
 
--- For these texts of modules, the name of a type and octets, the printed text and the number are as they have to be.
-pub record IsRightlyRead (texts : List (List ℕ)) (name o printed : List ℕ) (k : ℕ) : Type 0 where
+-- For these texts of modules, the name of a type and octets, which are read by these rules, the printed text and the
+-- number are as they have to be.
+pub record IsRightlyRead (texts : List (List ℕ)) (r : Rules) (name o printed : List ℕ) (k : ℕ) : Type 0 where
   -- the texts are accepted, as this program with these types
   pub program : Program
   pub types : List Resolved
@@ -53,6 +55,8 @@ pub record IsRightlyRead (texts : List (List ℕ)) (name o printed : List ℕ) (
   pub text : printed ≡ print types type value
   -- the octets are an encoding of it by the basic rules, with k additions that the type lacks
   pub ber : Ber types type value k o
+  -- and by the rules that they are read by
+  pub by_rules : EncodesBy r types type value k o
   -- and whichever value they are an encoding of, it is the same, with as many additions
   pub same : (v : AbstractValue) (j : ℕ) → Ber types type v j o → Same types type v value × (j ≡ k)
 

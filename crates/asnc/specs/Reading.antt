@@ -1,18 +1,29 @@
--- The value of a named type that octets encode, and why none is read (X.690, 8.1 to 8.14).
+-- The value of a named type that octets encode, and why none is read (X.690, 8.1 to 8.14, 10 and 11).
 use Rattle.std.specs.Prelude.{◌≡◌, ℕ, ◌<◌, ◌≤◌, List, length, string_bytes}
 use Rattle.asn_base.specs.Abstract.{AbstractValue}
 use Rattle.asn_base.specs.Types.{Resolved}
 use Rattle.value_text.specs.Print.{print}
 use Rattle.encodings.specs.Levels.{levels}
 use Rattle.encodings.specs.Reading.{Encodes}
-use Rattle.encodings.specs.Rules.{Basic}
+use Rattle.encodings.specs.Encoding.{Says}
+use Rattle.encodings.specs.Rules.{Rules, Basic, Distinguished}
 use Rattle.codec_source.specs.declared.fault.ReadFault.{ReadFault}
 use Rattle.codec_source.specs.declared.fault.ReadFault.TheVariants as reading
+use Rattle.ber_reader.specs.Readings.{IsReading}
+use Rattle.ber_reader.specs.declared.read.Read.{Read}
+use Rattle.views.specs.Tree.{value_of}
 use Rattle.ber_message.specs.Messages.{IsEncoding, BeginsEncoding, HasEncodingFirst, HasMessageFirst}
 use Rattle.resolve.specs.Program.{Program}
 use Rattle.messages.specs.declared.fault.Fault.{Fault}
 use Rattle.messages.specs.declared.fault.Fault.TheVariants as faults
 use Rattle.asnc.specs.Named.{TypeNamed}
+use Rattle.asnc.specs.declared.reading.Rules.{Rules as Rules'}
+use Rattle.asnc.specs.declared.reading.Rules.TheVariants as asked
+
+-- the rules that are asked for
+abbrev pub rules_of : Rules' → Rules
+rules_of asked.Ber = Basic
+rules_of asked.Der = Distinguished
 
 -- a text names type t, and no other one
 pub record Names (p : Program) (name : List ℕ) (t : ℕ) : Type 0 where
@@ -20,26 +31,41 @@ pub record Names (p : Program) (name : List ℕ) (t : ℕ) : Type 0 where
   pub only : (u : ℕ) → TypeNamed p name u → u ≡ t
 
 -- The octets, at most as many as a message has and with at most 400 levels of headers, encode a value of type t as it
--- stands there, with k additions that the type lacks, and neither another value nor another number of them. The value
--- is printed so.
-pub record IsRead (s : List Resolved) (t : ℕ) (o printed : List ℕ) (k : ℕ) : Type 0 where
+-- stands there, with k additions that the type lacks, and neither another value nor another number of them; and they
+-- do by the rules that are asked for. The value is printed so.
+pub record IsRead (s : List Resolved) (r : Rules) (t : ℕ) (o printed : List ℕ) (k : ℕ) : Type 0 where
   pub value : AbstractValue
   pub encodes : Encodes s Basic t value k o
   pub few : levels encodes.says_it ≤ 400
   pub short : length o ≤ 16777216
   pub only : (w : AbstractValue) (j : ℕ) → Encodes s Basic t w j o → (w ≡ value) × (j ≡ k)
+  pub by_rules : Says s r t value k o
   pub text : printed ≡ print s t value
 
+-- the same of a view of the value, and the number that was skipped
+pub record IsReadBy (s : List Resolved) (r : Rules) (t : ℕ) (o : List ℕ) (x : Read) : Type 0 where
+  pub reading : IsReading s t o x
+  pub only : (w : AbstractValue) (j : ℕ) → Encodes s Basic t w j o → (w ≡ value_of reading.tree) × (j ≡ x.skipped)
+  pub by_rules : Says s r t (value_of reading.tree) x.skipped o
+
 -- the text names a type, and such a value of it is read
-pub record IsReadAs (p : Program) (s : List Resolved) (name o printed : List ℕ) (k : ℕ) : Type 0 where
+pub record IsReadAs (p : Program) (s : List Resolved) (r : Rules) (name o printed : List ℕ) (k : ℕ) : Type 0 where
   pub type : ℕ
   pub named : Names p name type
-  pub read : IsRead s type o printed k
+  pub read : IsRead s r type o printed k
 
--- The refusal to read octets as a value of type t stands.
-pub record IsUnread (s : List Resolved) (t : ℕ) (o : List ℕ) (e : ReadFault) : Type 0 where
-  -- they encode none within the limits
-  pub none : IsEncoding s t o → ⊥
+-- They encode a value of it by the basic rules, and not by the distinguished ones.
+pub record IsNotDer (s : List Resolved) (t : ℕ) (o : List ℕ) : Type 0 where
+  pub is : IsEncoding s t o
+  pub not_strict : Says s Distinguished t is.value is.count o → ⊥
+
+-- The refusal to read octets by these rules as a value of type t stands.
+pub record IsUnread (s : List Resolved) (r : Rules) (t : ℕ) (o : List ℕ) (e : ReadFault) : Type 0 where
+  -- they encode none within the limits by the rules
+  pub none : (i : IsEncoding s t o) → Says s r t i.value i.count o → ⊥
+  -- 96 is told just where they do by the basic rules alone
+  pub basic : (i : IsEncoding s t o) → (Says s r t i.value i.count o → ⊥) → e ≡ reading.NotDer
+  pub not_der : e ≡ reading.NotDer → (r ≡ Distinguished) × IsNotDer s t o
   -- 2 Limit(Message) is told just where they are more than a message has
   pub limit : 16777216 < length o → e ≡ reading.MessageLimit
   pub long : e ≡ reading.MessageLimit → 16777216 < length o
@@ -50,21 +76,21 @@ pub record IsUnread (s : List Resolved) (t : ℕ) (o : List ℕ) (e : ReadFault)
   pub less : BeginsEncoding s t o → e ≡ reading.Truncated
 
 -- the same as a fault; memory speaks of no octets
-abbrev pub IsNotRead : List Resolved → ℕ → List ℕ → Fault → Type 0
-IsNotRead s t o faults.Memory = Unit {0}
-IsNotRead s t o (faults.Unread e) = IsUnread s t o e
-IsNotRead s t o fault = ⊥
+abbrev pub IsNotRead : List Resolved → Rules → ℕ → List ℕ → Fault → Type 0
+IsNotRead s r t o faults.Memory = Unit {0}
+IsNotRead s r t o (faults.Unread e) = IsUnread s r t o e
+IsNotRead s r t o fault = ⊥
 
 -- the text names a type, and the octets are refused as a value of it
-pub record IsUnreadAs (p : Program) (s : List Resolved) (name o : List ℕ) (e : ReadFault) : Type 0 where
+pub record IsUnreadAs (p : Program) (s : List Resolved) (r : Rules) (name o : List ℕ) (e : ReadFault) : Type 0 where
   pub type : ℕ
   pub named : Names p name type
-  pub unread : IsUnread s type o e
+  pub unread : IsUnread s r type o e
 
 -- Nothing is read, as the refusal tells: the text names no type, and is told; it does, and the octets are refused.
 -- Memory speaks of neither.
-abbrev pub IsNotReadAs : Program → List Resolved → List ℕ → List ℕ → Fault → Type 0
-IsNotReadAs p s name o faults.Memory = Unit {0}
-IsNotReadAs p s name o (faults.NoType x) = (string_bytes x ≡ name) × ((t : ℕ) → TypeNamed p name t → ⊥)
-IsNotReadAs p s name o (faults.Unread e) = IsUnreadAs p s name o e
-IsNotReadAs p s name o fault = ⊥
+abbrev pub IsNotReadAs : Program → List Resolved → Rules → List ℕ → List ℕ → Fault → Type 0
+IsNotReadAs p s r name o faults.Memory = Unit {0}
+IsNotReadAs p s r name o (faults.NoType x) = (string_bytes x ≡ name) × ((t : ℕ) → TypeNamed p name t → ⊥)
+IsNotReadAs p s r name o (faults.Unread e) = IsUnreadAs p s r name o e
+IsNotReadAs p s r name o fault = ⊥

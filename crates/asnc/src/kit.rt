@@ -10,11 +10,11 @@ ghost use Rattle.front_end.specs.declared.fault.FrontFault.TheVariants.{Memory a
 ghost use Rattle.sinks.specs.Sent.{state};
 ghost use Rattle.messages.specs.declared.fault.Fault.TheVariants.{Device, Memory};
 ghost use Rattle.asnc.specs.Kits.{IsNotOpened};
-ghost use Rattle.asnc.specs.Reading.{IsNotReadAs, IsReadAs};
+ghost use Rattle.asnc.specs.Reading.{IsNotReadAs, IsReadAs, rules_of};
 ghost use Rattle.asnc.specs.Writing.{IsEncoded, IsMeant, IsNotEncoded, IsNotMeant, IsSent, IsSentInPart};
 
 use crate::meaning::meant;
-use crate::reading::read_as;
+use crate::reading::{Rules, read_as};
 use asn_base::schema::{Schema, TypeId};
 use asn_base::value::Value;
 use codec_code::{Code, compile};
@@ -187,19 +187,36 @@ impl Kit {
         }
     }
 
-    /// The value of a type that octets encode by the basic rules, printed, and how many additions that the type lacks
-    /// were skipped. The type is named as `Module.Name`, where it is assigned or where it is imported.
+    /// The value of a type that octets encode by the basic rules, or by the distinguished ones, printed, and how many
+    /// additions that the type lacks were skipped. The type is named as `Module.Name`, where it is assigned or where it
+    /// is imported.
     ///
-    /// `NoType` where the name is no type's; `Unread` where the octets encode no value of it, in 400 levels of headers,
-    /// or are more than 16,777,216; `Memory`.
-    pub fn ber(&self, alloc: Global, ty: &str, octets: &[u8]) -> Result<(String, u64), Fault>
-        // The octets encode one value of the type with one number of additions; it is printed, and they are told.
+    /// `NoType` where the name is no type's; `Unread` where the octets encode no value of it by the rules, in 400 levels
+    /// of headers, or are more than 16,777,216; `Memory`.
+    pub fn ber(
+        &self,
+        alloc: Global,
+        ty: &str,
+        octets: &[u8],
+        rules: Rules,
+    ) -> Result<(String, u64), Fault>
+        // The octets encode one value of the type by the rules, with one number of additions; it is printed, and they
+        // are told.
         ensures read { IfOk result (λ r.
-            IsReadAs self.now.program self.now.types ty.now octets.now (string_bytes r.0) r.1) }
+            IsReadAs self.now.program self.now.types (rules_of rules) ty.now octets.now (string_bytes r.0) r.1) }
         // A refusal stands.
-        ensures refused { IfErr result (IsNotReadAs self.now.program self.now.types ty.now octets.now) }
+        ensures refused { IfErr result
+            (IsNotReadAs self.now.program self.now.types (rules_of rules) ty.now octets.now) }
     {
-        read_as(alloc, &self.modules, &self.schema, &self.code, ty, octets)
+        read_as(
+            alloc,
+            &self.modules,
+            &self.schema,
+            &self.code,
+            ty,
+            octets,
+            rules,
+        )
     }
 
     /// All types in the order of their numbers, to be read by people: of each its number, where it is written, its

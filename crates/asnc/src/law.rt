@@ -3,16 +3,19 @@
 ghost use Rattle.std.specs.Prelude.{◌≡◌, ℕ, List};
 ghost use Rattle.asn_base.specs.Types.{Resolved};
 ghost use Rattle.encodings.specs.Account.{Account};
+ghost use Rattle.encodings.specs.Rules.{Rules, Basic};
 ghost use Rattle.resolve.specs.Program.{Program};
 ghost use Rattle.front_end.specs.Accepted.{Accepted};
 ghost use Rattle.messages.specs.declared.fault.Fault.{Fault};
 ghost use Rattle.messages.specs.declared.fault.Fault.TheVariants.{Memory};
 ghost use Rattle.asn_base.specs.Abstract.{AbstractValue};
 ghost use Rattle.asnc.specs.Headline.{IsAnswer, IsMessageOf, IsRight, IsRightlyRead};
-ghost use Rattle.asnc.specs.Reading.{IsNotReadAs, IsReadAs};
+ghost use Rattle.asnc.specs.Reading.{IsNotReadAs, IsReadAs, rules_of};
 ghost use Rattle.asnc.specs.Writing.{IsEncoded};
+ghost use Rattle.asnc.specs.declared.reading.Rules.{Rules as Rules'};
 
-use encodings::{der_laws, message_laws};
+use asn_base::law::sameness;
+use encodings::{der_laws, level_laws, message_laws};
 
 /// What [`crate::Kit::der`] answers of texts that [`crate::Kit::open`] took is right, from the texts to the octets.
 pub fn headline()
@@ -22,25 +25,40 @@ pub fn headline()
         IsRight xs first second o a }
 {}
 
-/// What [`crate::Kit::ber`] answers of texts that [`crate::Kit::open`] took is right, and each encoding of a value by
-/// the basic rules is answered with that value, memory aside.
+/// What [`crate::Kit::ber`] answers of texts that [`crate::Kit::open`] took is right; each encoding of a value by the
+/// basic rules is answered with that value where these are asked for, memory aside, and what [`crate::Kit::der`] answers
+/// by either rules.
 pub fn reading()
-    // What is printed is a value of the type that the octets encode, and the only one.
-    ensures right { (xs : List (List ℕ)) (p : Program) (s : List Resolved) (name o printed : List ℕ) (k : ℕ) →
+    // What is printed is a value of the type that the octets encode by the rules, and the only one.
+    ensures right { (xs : List (List ℕ)) (p : Program) (s : List Resolved) (r : Rules) (name o printed : List ℕ) (k : ℕ) →
         Accepted xs p s →
-        IsReadAs p s name o printed k →
-        IsRightlyRead xs name o printed k }
+        IsReadAs p s r name o printed k →
+        IsRightlyRead xs r name o printed k }
     // Of an encoding of a value it is that value, with no additions skipped.
-    ensures answered { (p : Program) (s : List Resolved) (name o printed : List ℕ) (k : ℕ) (v : AbstractValue) →
+    ensures answered { (p : Program) (s : List Resolved) (r : Rules) (name o printed : List ℕ) (k : ℕ)
+        (v : AbstractValue) →
         IsMessageOf p s name o v →
-        IsReadAs p s name o printed k →
+        IsReadAs p s r name o printed k →
         IsAnswer p s name printed k v }
-    // None is refused, want of memory aside.
+    // None is refused by the basic rules, want of memory aside.
     ensures not_refused { (p : Program) (s : List Resolved) (name o : List ℕ) (v : AbstractValue) (e : Fault) →
         IsMessageOf p s name o v →
-        IsNotReadAs p s name o e →
+        IsNotReadAs p s Basic name o e →
+        e ≡ Memory }
+    // What is written of a value is such an encoding of it, and refused by neither rules.
+    ensures written { (xs : List (List ℕ)) (p : Program) (s : List Resolved) (first second o : List ℕ) (a : Account) →
+        Accepted xs p s →
+        (w : IsEncoded p s first second o a) →
+        IsMessageOf p s first o w.value }
+    ensures read_back { (xs : List (List ℕ)) (p : Program) (s : List Resolved) (first second o : List ℕ) (a : Account)
+        (r : Rules') (e : Fault) →
+        Accepted xs p s →
+        IsEncoded p s first second o a →
+        IsNotReadAs p s (rules_of r) first o e →
         e ≡ Memory }
 {
     der_laws();
+    level_laws();
     message_laws();
+    sameness();
 }

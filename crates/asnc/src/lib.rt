@@ -11,4 +11,5 @@ mod reading;
 pub use kit::Kit;
 pub use messages::{Fault, number, status};
 pub use octet_account::account::Account;
+pub use reading::Rules;
 pub use sinks::{Counted, InMemory, Sink, Stops, send_all};

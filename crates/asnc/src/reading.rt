@@ -1,13 +1,20 @@
 //! The value that octets encode, printed.
 
-ghost use Rattle.std.specs.Prelude.{◌≡◌, ℕ, List, IfOk, IfErr, string_bytes};
+ghost use Rattle.std.specs.Prelude.{◌≡◌, ◌⊎◌, ℕ, List, IfOk, IfErr, string_bytes};
+ghost use Rattle.asn_base.specs.Abstract.{AbstractValue};
 ghost use Rattle.asn_base.specs.Types.{Resolved};
-ghost use Rattle.codec_source.specs.declared.fault.ReadFault.TheVariants.{Memory as no_memory};
-ghost use Rattle.asnc.specs.Reading.{IsNotRead, IsNotReadAs, IsRead, IsReadAs, IsUnread};
+ghost use Rattle.ber_reader.specs.Readings.{IsReading};
+ghost use Rattle.codec_source.specs.declared.fault.ReadFault.TheVariants.{Memory as no_memory, NotDer, UnexpectedTag};
+ghost use Rattle.encodings.specs.Encoding.{Says};
+ghost use Rattle.encodings.specs.Reading.{Encodes};
+ghost use Rattle.encodings.specs.Rules.{Rules as Rules', Basic, Distinguished};
+ghost use Rattle.views.specs.Seen.{IsView};
+ghost use Rattle.views.specs.Tree.{Tree, value_of};
+ghost use Rattle.asnc.specs.Reading.{IsNotRead, IsNotReadAs, IsRead, IsReadAs, IsReadBy, IsUnread, rules_of};
 
 use crate::naming::type_number;
 use asn_base::schema::{Schema, TypeId};
-use ber_reader::read_ber;
+use ber_reader::{Read, read_ber, read_der};
 use codec_code::Code;
 use codec_source::ReadFault;
 use front_end::Modules;
@@ -15,11 +22,20 @@ use messages::Fault;
 use std::alloc::Global;
 use view_text::print_shown;
 
+/// By which rules octets are read.
+#[derive(Clone, Copy, Debug, PartialEq, Eq)]
+pub enum Rules {
+    /// By the basic ones.
+    Ber,
+    /// By the distinguished ones.
+    Der,
+}
+
 /// What a fault of octets is to a user.
 fn refusal(fault: ReadFault) -> Fault
-    ensures stands { (s : List Resolved) (t : ℕ) (o : List ℕ)
-        → ((fault ≡ no_memory → ⊥) → IsUnread s t o fault)
-        → IsNotRead s t o result }
+    ensures stands { (s : List Resolved) (r : Rules') (t : ℕ) (o : List ℕ)
+        → ((fault ≡ no_memory → ⊥) → IsUnread s r t o fault)
+        → IsNotRead s r t o result }
 {
     match fault {
         ReadFault::Memory => Fault::Memory,
@@ -27,20 +43,80 @@ fn refusal(fault: ReadFault) -> Fault
     }
 }
 
-/// The value of a type that octets encode by the basic rules, printed, and how many additions were skipped. `Unread`
-/// where they encode none; `Memory`.
+/// A fault by the basic rules, none of which is that of the distinguished ones.
+fn of_basic(fault: ReadFault) -> ReadFault
+    ensures { ((fault ≡ NotDer → ⊥) × (result ≡ fault)) ⊎ ((fault ≡ NotDer) × (result ≡ UnexpectedTag)) }
+{
+    match fault {
+        ReadFault::NotDer => ReadFault::UnexpectedTag,
+        fault => fault,
+    }
+}
+
+/// The value of a type that octets encode by the basic rules.
+fn read_basic<'a>(
+    alloc: Global,
+    code: &Code,
+    id: TypeId,
+    octets: &'a [u8],
+) -> Result<Read<'a>, ReadFault>
+    ensures read { IfOk result (IsReadBy code.now Basic id.index octets.now) }
+    ensures refused { IfErr result (λ e. (e ≡ no_memory → ⊥) → IsUnread code.now Basic id.index octets.now e) }
+{
+    match read_ber(alloc, code, id, octets) {
+        Ok(read) => Ok(read),
+        Err(fault) => Err(of_basic(fault)),
+    }
+}
+
+/// The value of a type that octets encode by the distinguished rules.
+fn read_strict<'a>(
+    alloc: Global,
+    code: &Code,
+    id: TypeId,
+    octets: &'a [u8],
+) -> Result<Read<'a>, ReadFault>
+    ensures read { IfOk result (IsReadBy code.now Distinguished id.index octets.now) }
+    ensures refused { IfErr result (λ e. (e ≡ no_memory → ⊥) → IsUnread code.now Distinguished id.index octets.now e) }
+{
+    match read_der(alloc, code, id, octets) {
+        Ok(read) => Ok(read),
+        Err(fault) => Err(fault),
+    }
+}
+
+/// The value of a type that octets encode by the rules.
+fn read_by<'a>(
+    alloc: Global,
+    code: &Code,
+    id: TypeId,
+    octets: &'a [u8],
+    rules: Rules,
+) -> Result<Read<'a>, ReadFault>
+    ensures read { IfOk result (IsReadBy code.now (rules_of rules) id.index octets.now) }
+    ensures refused { IfErr result (λ e. (e ≡ no_memory → ⊥) → IsUnread code.now (rules_of rules) id.index octets.now e) }
+{
+    match rules {
+        Rules::Ber => read_basic(alloc, code, id, octets),
+        Rules::Der => read_strict(alloc, code, id, octets),
+    }
+}
+
+/// The value of a type that octets encode by the rules, printed, and how many additions were skipped. `Unread` where
+/// they encode none; `Memory`.
 fn read_text(
     alloc: Global,
     schema: &Schema,
     code: &Code,
     id: TypeId,
     octets: &[u8],
+    rules: Rules,
 ) -> Result<(String, u64), Fault>
     requires same { schema.now ≡ code.now }
-    ensures read { IfOk result (λ r. IsRead code.now id.index octets.now (string_bytes r.0) r.1) }
-    ensures refused { IfErr result (IsNotRead code.now id.index octets.now) }
+    ensures read { IfOk result (λ r. IsRead code.now (rules_of rules) id.index octets.now (string_bytes r.0) r.1) }
+    ensures refused { IfErr result (IsNotRead code.now (rules_of rules) id.index octets.now) }
 {
-    let read = match read_ber(alloc, code, id, octets) {
+    let read = match read_by(alloc, code, id, octets, rules) {
         Ok(read) => read,
         Err(fault) => return Err(refusal(fault)),
     };
@@ -49,7 +125,7 @@ fn read_text(
 }
 
 /// The value of the type that a text names, printed. `NoType` where it names none; `Unread` where the octets encode no
-/// value of the type; `Memory`.
+/// value of the type by the rules; `Memory`.
 pub(crate) fn read_as(
     alloc: Global,
     modules: &Modules,
@@ -57,13 +133,15 @@ pub(crate) fn read_as(
     code: &Code,
     ty: &str,
     octets: &[u8],
+    rules: Rules,
 ) -> Result<(String, u64), Fault>
     requires same { schema.now ≡ code.now }
-    ensures read { IfOk result (λ r. IsReadAs modules.now code.now ty.now octets.now (string_bytes r.0) r.1) }
-    ensures refused { IfErr result (IsNotReadAs modules.now code.now ty.now octets.now) }
+    ensures read { IfOk result (λ r.
+        IsReadAs modules.now code.now (rules_of rules) ty.now octets.now (string_bytes r.0) r.1) }
+    ensures refused { IfErr result (IsNotReadAs modules.now code.now (rules_of rules) ty.now octets.now) }
 {
     let Some(id) = type_number(modules, ty) else {
         return Err(Fault::NoType(String::from_str(alloc, ty)?));
     };
-    read_text(alloc, schema, code, id, octets)
+    read_text(alloc, schema, code, id, octets, rules)
 }

@@ -1,12 +1,12 @@
 use Rattle.std.proofs.Common.{sym, subst}
 use Rattle.asn_base.specs.Same.{Same}
-use Rattle.encodings.specs.Rules.{Basic}
+use Rattle.encodings.specs.Rules.{Basic, Distinguished}
 use Rattle.asnc.specs.Reading.{IsRead}
-use Rattle.asnc.proofs.Messages.{answer_of, never_refused}
+use Rattle.asnc.proofs.Messages.{answer_of, never_refused, written_message, written_is_read}
 use Rattle.asnc.proofs.law.reading.Goals as goal
 
 pub returns-clause-right : goal.returns-clause-right
-returns-clause-right c = λ xs p s name o printed k a r. record {
+returns-clause-right c = λ xs p s l name o printed k a r. record {
   program = p;
   types = s;
   accepted = a;
@@ -16,12 +16,21 @@ returns-clause-right c = λ xs p s name o printed k a r. record {
   is = c.message_laws.ensures.value s Basic r.type k r.read.value o a.types.accepted r.read.encodes.value r.read.encodes.says_it r.read.short;
   text = r.read.text;
   ber = c.der_laws.ensures.as_it_stands s r.type k r.read.value o r.read.encodes;
+  by_rules = (r.read.value, c.sameness.ensures.itself s r.type r.read.value r.read.encodes.value, r.read.by_rules);
   same = λ v j b. (let q = r.read.only b.0 j (record { value = b.1.second; says_it = b.2 }) in (subst (Same s r.type v) q.0 b.1, q.1));
 }
 
 pub returns-clause-answered : goal.returns-clause-answered
-returns-clause-answered c = λ p s name o printed k v m r.
-    answer_of m.ber.0 m.named (subst (λ t. IsRead s t o printed k) (sym (r.named.only m.type m.named)) r.read) m.ber.1 m.ber.2
+returns-clause-answered c = λ p s l name o printed k v m r.
+    answer_of m.ber.0 m.named (subst (λ t. IsRead s l t o printed k) (sym (r.named.only m.type m.named)) r.read) m.ber.1 m.ber.2
 
 pub returns-clause-not_refused : goal.returns-clause-not_refused
-returns-clause-not_refused c = never_refused
+returns-clause-not_refused c = λ p s name o v e m. never_refused p s Basic name o v e m m.ber.2
+
+pub returns-clause-written : goal.returns-clause-written
+returns-clause-written c = λ xs p s first second o a ok w.
+    written_message (λ t v d b. c.level_laws.ensures.one s Basic Distinguished t 0 0 v v o b d ok.types.accepted.tagged ok.types.accepted.tellable) w
+
+pub returns-clause-read_back : goal.returns-clause-read_back
+returns-clause-read_back c = λ xs p s first second o a l e ok w.
+    written_is_read l e (λ t v d b. c.level_laws.ensures.one s Basic Distinguished t 0 0 v v o b d ok.types.accepted.tagged ok.types.accepted.tellable) w
