@@ -1,6 +1,8 @@
 //! The value that octets encode, printed.
 
 ghost use Rattle.std.specs.Prelude.{◌≡◌, ◌⊎◌, ℕ, List, IfOk, IfErr, string_bytes};
+ghost use Rattle.asn_base.specs.Abstract.{AbstractValue};
+ghost use Rattle.asn_base.specs.Types.{Resolved};
 ghost use Rattle.ber_reader.specs.Readings.{IsReading};
 ghost use Rattle.codec_source.specs.declared.fault.ReadFault.TheVariants.{Memory as no_memory, NotDer, UnexpectedTag};
 ghost use Rattle.encodings.specs.Encoding.{Says};

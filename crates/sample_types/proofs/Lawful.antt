@@ -10,7 +10,7 @@ use Rattle.asn_base.specs.Types.{any_number, any_size, Kind, a_null, an_integer,
 use Rattle.asn_base.specs.Tags.{First, first_tag, first_of_choice, AreApart, IsChoice, IsTellable}
 use Rattle.asn_base.specs.Typed.{fits_integer, IsOfGroup, HasOfGroup, LacksOfGroup, ValueIn, value_in, of_leaf, of_sequence, of_set_of, where_addition, no_component, component_absent, component_present, no_element, one_element, IsValue}
 use Rattle.asn_base.specs.Schemas.{HasTag, HasValue, AreListed, AreAlternatives, IsSound, components, types_in, LeadsTo, leads_itself, leads_onward, IsSchema}
-use Rattle.sample_types.specs.Kinds.{Told, AreTold, all_told, told, grouped, inner, mixed, newer, not_in_order, numbers_of, one_group, optional_first, outer, outer_more, three, turned, two_additions, with_a_set, with_newer}
+use Rattle.sample_types.specs.Kinds.{Told, AreTold, all_told, told, grouped, inner, mixed, nested, newer, newer_or_truth, not_in_order, numbers_of, one_group, one_null, one_truth, optional_first, optional_null, optional_number, outer, outer_more, three, turned, two_additions, two_numbers, two_strings, with_a_set, with_newer}
 use Rattle.sample_types.proofs.Bounds.{all_numbers, all_sizes, more_sizes, names_ab, names_abc, names_abcd, names_an, names_bd, names_s, numeric, one_bit, one_name, ranged_bounds, short_sizes, small_numbers, sound_items, sound_numbers, three_digits, three_only}
 use Rattle.sample_types.proofs.Told.{IsTold, there, told_there, as_many}
 
@@ -116,8 +116,8 @@ module _ (s : List Resolved) (are : AreTold all_told s) where
   count : length all_told ≡ length s
   count = as_many all_told s are
 
-  below : (t : ℕ) → t < 50 → t < length s
-  below t l = let c : 50 ≡ length s = count in omega (arith, c, l)
+  below : (t : ℕ) → t < 61 → t < length s
+  below t l = let c : 61 ≡ length s = count in omega (arith, c, l)
 
   -- ---- first tags
 
@@ -364,6 +364,129 @@ module _ (s : List Resolved) (are : AreTold all_told s) where
     );
   }
 
+  one_null_listed : AreListed s true one_null
+  one_null_listed = record {
+    root = one_null;
+    more = [];
+    parts = refl;
+    in_root = (refl, tt);
+    behind = tt;
+    groups = tt;
+    marked = λ e. refl;
+    few_root = omega arith;
+    few_more = omega arith;
+    names = one_name;
+    types = (below 50 (omega arith), tt);
+    defaults = ((λ d e. absurd (cc)), tt);
+  }
+
+  optional_null_listed : AreListed s false optional_null
+  optional_null_listed = record {
+    root = optional_null;
+    more = [];
+    parts = refl;
+    in_root = (refl, tt);
+    behind = tt;
+    groups = tt;
+    marked = λ e. refl;
+    few_root = omega arith;
+    few_more = omega arith;
+    names = one_name;
+    types = (below 50 (omega arith), tt);
+    defaults = ((λ d e. absurd (cc)), tt);
+  }
+
+  optional_number_listed : AreListed s true optional_number
+  optional_number_listed = record {
+    root = optional_number;
+    more = [];
+    parts = refl;
+    in_root = (refl, tt);
+    behind = tt;
+    groups = tt;
+    marked = λ e. refl;
+    few_root = omega arith;
+    few_more = omega arith;
+    names = one_name;
+    types = (below 37 (omega arith), tt);
+    defaults = ((λ d e. absurd (cc)), tt);
+  }
+
+  two_numbers_listed : AreListed s true two_numbers
+  two_numbers_listed = record {
+    root = two_numbers;
+    more = [];
+    parts = refl;
+    in_root = (refl, (refl, tt));
+    behind = tt;
+    groups = tt;
+    marked = λ e. refl;
+    few_root = omega arith;
+    few_more = omega arith;
+    names = names_ab;
+    types = (below 1 (omega arith), (below 1 (omega arith), tt));
+    defaults = ((λ d e. absurd (cc)), ((λ d e. absurd (cc)), tt));
+  }
+
+  two_strings_listed : AreListed s false two_strings
+  two_strings_listed = record {
+    root = two_strings;
+    more = [];
+    parts = refl;
+    in_root = (refl, (refl, tt));
+    behind = tt;
+    groups = tt;
+    marked = λ e. refl;
+    few_root = omega arith;
+    few_more = omega arith;
+    names = names_ab;
+    types = (below 6 (omega arith), (below 10 (omega arith), tt));
+    defaults = ((λ d e. absurd (cc)), ((λ d e. absurd (cc)), tt));
+  }
+
+  one_truth_listed : AreListed s true one_truth
+  one_truth_listed = record {
+    root = one_truth;
+    more = [];
+    parts = refl;
+    in_root = (refl, tt);
+    behind = tt;
+    groups = tt;
+    marked = λ e. refl;
+    few_root = omega arith;
+    few_more = omega arith;
+    names = one_name;
+    types = (below 27 (omega arith), tt);
+    defaults = ((λ d e. absurd (cc)), tt);
+  }
+
+  nested_listed : AreListed s true nested
+  nested_listed = record {
+    root = nested;
+    more = [];
+    parts = refl;
+    in_root = (refl, tt);
+    behind = tt;
+    groups = tt;
+    marked = λ e. refl;
+    few_root = omega arith;
+    few_more = omega arith;
+    names = one_name;
+    types = (below 42 (omega arith), tt);
+    defaults = ((λ d e. absurd (cc)), tt);
+  }
+
+  newer_or_truth_is : AreAlternatives s true newer_or_truth []
+  newer_or_truth_is = record {
+    some = omega arith;
+    names = names_ab;
+    types = (has_tag 42 0 [] _ refl refl, (has_tag 28 1 [] _ refl refl, tt));
+    more_ascend = tt;
+    marked = λ e. refl;
+    few_root = omega arith;
+    few_more = omega arith;
+  }
+
   unordered_is : AreAlternatives s true not_in_order []
   unordered_is = record {
     some = omega arith;
@@ -445,6 +568,9 @@ module _ (s : List Resolved) (are : AreTold all_told s) where
 
   apart_37_28 : AreApart s 37 28
   apart_37_28 = by_number 37 28 0 1 _ _ refl refl refl refl (λ e. let h : 0 ≡ 1 = e in omega (arith, h))
+
+  apart_42_28 : AreApart s 42 28
+  apart_42_28 = by_number 42 28 0 1 _ _ refl refl refl refl (λ e. let h : 0 ≡ 1 = e in omega (arith, h))
 
   first_fine : AllByRecursion (Fine s) (take 13 all_told)
   first_fine = (
@@ -545,7 +671,40 @@ module _ (s : List Resolved) (are : AreTold all_told s) where
     ),
   )
 
-  mixed_fine : AllByRecursion (Fine s) (drop 44 all_told)
+  open_fine : AllByRecursion (Fine s) (drop 50 all_told)
+  open_fine = (
+    plain 0 _ tt tt tt,
+    (
+      plain 17 _ (tt, tt) (one_null_listed, (has_tag 50 0 [] _ refl refl, tt)) ((λ d e. absurd (cc)), tt),
+      (
+        plain 17 _ (tt, tt) (optional_null_listed, (has_tag 50 0 [] _ refl refl, tt)) ((λ d e. absurd (cc)), tt),
+        (
+          plain 16 _ ((λ e. absurd (cc)), ((λ e. absurd (cc)), tt)) two_numbers_listed ((λ d e. absurd (cc)), ((λ d e. absurd (cc)), tt)),
+          (
+            plain 16 _ ((λ e. absurd (cc)), ((λ e. absurd (cc)), tt)) two_strings_listed ((λ d e. absurd (cc)), ((λ d e. absurd (cc)), tt)),
+            (
+              plain 16 _ ((λ e. absurd (cc)), tt) one_truth_listed ((λ d e. absurd (cc)), tt),
+              (
+                plain 17 _ (tt, tt) (one_truth_listed, (has_tag 27 0 [] _ refl refl, tt)) ((λ d e. absurd (cc)), tt),
+                (
+                  plain 16 _ ((λ e. absurd (cc)), tt) nested_listed ((λ d e. absurd (cc)), tt),
+                  (
+                    record { tagged = λ e. tt; few = omega arith; tellable = ((apart_42_28, tt), (tt, tt)); sound = newer_or_truth_is; defaults = tt },
+                    (
+                      plain 16 _ tt (record { bounds = all_sizes; type = below 58 (omega arith) }) tt,
+                      (plain 16 _ ((λ e. tt), tt) optional_number_listed ((λ d e. absurd (cc)), tt), tt),
+                    ),
+                  ),
+                ),
+              ),
+            ),
+          ),
+        ),
+      ),
+    ),
+  )
+
+  mixed_fine : AllByRecursion (Fine s) (take 6 (drop 44 all_told))
   mixed_fine = (
     record { tagged = λ e. absurd (let m = ap length e in omega (arith, m)); few = omega arith; tellable = tt; sound = tt; defaults = tt },
     (
@@ -608,7 +767,8 @@ module _ (s : List Resolved) (are : AreTold all_told s) where
       (joined (Fine s) (take 11 (drop 13 all_told)) (drop 24 all_told) list_fine
       (joined (Fine s) (take 7 (drop 24 all_told)) (drop 31 all_told) tagged_fine
       (joined (Fine s) (take 6 (drop 31 all_told)) (drop 37 all_told) added_fine
-      (joined (Fine s) (take 7 (drop 37 all_told)) (drop 44 all_told) newer_fine mixed_fine))))
+      (joined (Fine s) (take 7 (drop 37 all_told)) (drop 44 all_told) newer_fine
+      (joined (Fine s) (take 6 (drop 44 all_told)) (drop 50 all_told) mixed_fine open_fine)))))
 
   fine_at : (t : ℕ) (r : Resolved) → slice_get s t ≡ Some r → (p : Told) × IsTold r p × Fine s p
   fine_at t r e = let p = told_there all_told s t r are e in (p.0, p.2, at_place (Fine s) all_told t p.0 p.1 all_fine)

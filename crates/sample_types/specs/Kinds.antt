@@ -166,6 +166,43 @@ mixed =
     ∷ record { name = 100 ∷ []; type = 28; presence = addition false None }
     ∷ []
 
+-- {a [0] NULL}, and with OPTIONAL
+abbrev pub one_null : List Component
+one_null = record { name = 97 ∷ []; type = 50; presence = mandatory } ∷ []
+
+abbrev pub optional_null : List Component
+optional_null = record { name = 97 ∷ []; type = 50; presence = optional } ∷ []
+
+-- {a [0] INTEGER OPTIONAL}
+abbrev pub optional_number : List Component
+optional_number = record { name = 97 ∷ []; type = 37; presence = optional } ∷ []
+
+-- {a INTEGER, b INTEGER}
+abbrev pub two_numbers : List Component
+two_numbers =
+    record { name = 97 ∷ []; type = 1; presence = mandatory }
+    ∷ record { name = 98 ∷ []; type = 1; presence = mandatory }
+    ∷ []
+
+-- {a OCTET STRING, b UTF8String}
+abbrev pub two_strings : List Component
+two_strings =
+    record { name = 97 ∷ []; type = 6; presence = mandatory }
+    ∷ record { name = 98 ∷ []; type = 10; presence = mandatory }
+    ∷ []
+
+-- {a [0] BOOLEAN}
+abbrev pub one_truth : List Component
+one_truth = record { name = 97 ∷ []; type = 27; presence = mandatory } ∷ []
+
+-- {a [0] SEQUENCE {a [0] INTEGER, ..., b [1] BOOLEAN}}
+abbrev pub nested : List Component
+nested = record { name = 97 ∷ []; type = 42; presence = mandatory } ∷ []
+
+-- {a [0] SEQUENCE {a [0] INTEGER, ..., b [1] BOOLEAN}, b [1] BOOLEAN}
+abbrev pub newer_or_truth : List Alternative
+newer_or_truth = record { name = 97 ∷ []; type = 42 } ∷ record { name = 98 ∷ []; type = 28 } ∷ []
+
 -- all of them by their number
 abbrev pub all_told : List Told
 all_told =
@@ -219,6 +256,17 @@ all_told =
     ∷ told 16 (a_sequence_of any_size 14)  -- 47
     ∷ told 17 (a_set_of any_size 16)  -- 48
     ∷ told 17 (a_set true mixed)  -- 49
+    ∷ told 0 a_null  -- 50
+    ∷ told 17 (a_set true one_null)  -- 51
+    ∷ told 17 (a_set false optional_null)  -- 52
+    ∷ told 16 (a_sequence true two_numbers)  -- 53
+    ∷ told 16 (a_sequence false two_strings)  -- 54
+    ∷ told 16 (a_sequence true one_truth)  -- 55
+    ∷ told 17 (a_set true one_truth)  -- 56
+    ∷ told 16 (a_sequence true nested)  -- 57
+    ∷ record { numbers = []; kind = a_choice newer_or_truth true [] }  -- 58
+    ∷ told 16 (a_sequence_of any_size 58)  -- 59
+    ∷ told 16 (a_sequence true optional_number)  -- 60
     ∷ []
 
 abbrev pub numbers_of : List Tag → List ℕ

@@ -3,10 +3,12 @@
 ghost use Rattle.asn_base.specs.Seen.{alternative_of, component_of, item_of, kind_of, presence_of, types_of};
 ghost use Rattle.asn_base.specs.Types.{a_named_bit_string, a_restricted_string, an_integer, an_octet_string};
 ghost use Rattle.asn_base.specs.Types.{any_size, a_utf8_string};
-ghost use Rattle.sample_types.specs.Kinds.{AreTold, all_told, grouped, inner, just_three, mixed, newer, not_in_order};
-ghost use Rattle.sample_types.specs.Kinds.{numbered_items, numbers_of, numeric_codes, one_group, one_or_more, one_or_two};
-ghost use Rattle.sample_types.specs.Kinds.{one_to_three_or_eight, optional_first, outer, outer_more, the_items, three};
-ghost use Rattle.sample_types.specs.Kinds.{turned, two_additions, with_a_set, with_newer, zero_to_seven};
+ghost use Rattle.sample_types.specs.Kinds.{AreTold, all_told, grouped, inner, just_three, mixed, nested, newer};
+ghost use Rattle.sample_types.specs.Kinds.{newer_or_truth, not_in_order, numbered_items, numbers_of, numeric_codes};
+ghost use Rattle.sample_types.specs.Kinds.{one_group, one_null, one_or_more, one_or_two, one_to_three_or_eight, one_truth};
+ghost use Rattle.sample_types.specs.Kinds.{optional_first, optional_null, optional_number, outer, outer_more, the_items};
+ghost use Rattle.sample_types.specs.Kinds.{three, turned, two_additions, two_numbers, two_strings, with_a_set, with_newer};
+ghost use Rattle.sample_types.specs.Kinds.{zero_to_seven};
 ghost use Rattle.std.specs.Prelude.{◌≡◌, ◌∷◌, ◌+◌, ◌<◌, [], IfOk, None, OnOk, Some, false, map, slice_get, take};
 ghost use Rattle.asn_base.specs.declared.strings.StringKind.TheVariants.{Numeric};
 
@@ -362,6 +364,64 @@ fn mixed_members(alloc: Global) -> Result<Vec<Component>, AllocError>
     Ok(vec![in alloc; a, b, c, d]?)
 }
 
+/// a [0] NULL.
+fn null_member(alloc: Global) -> Result<Vec<Component>, AllocError>
+    ensures { IfOk result (λ cs. map component_of cs.items ≡ one_null) }
+{
+    let a = member(alloc, "a", 50, Presence::Mandatory)?;
+    Ok(vec![in alloc; a]?)
+}
+
+/// a [0] NULL OPTIONAL.
+fn optional_null_member(alloc: Global) -> Result<Vec<Component>, AllocError>
+    ensures { IfOk result (λ cs. map component_of cs.items ≡ optional_null) }
+{
+    let a = member(alloc, "a", 50, Presence::Optional)?;
+    Ok(vec![in alloc; a]?)
+}
+
+/// a [0] INTEGER OPTIONAL.
+fn optional_number_member(alloc: Global) -> Result<Vec<Component>, AllocError>
+    ensures { IfOk result (λ cs. map component_of cs.items ≡ optional_number) }
+{
+    let a = member(alloc, "a", 37, Presence::Optional)?;
+    Ok(vec![in alloc; a]?)
+}
+
+/// a INTEGER, b INTEGER.
+fn number_members(alloc: Global) -> Result<Vec<Component>, AllocError>
+    ensures { IfOk result (λ cs. map component_of cs.items ≡ two_numbers) }
+{
+    let a = member(alloc, "a", 1, Presence::Mandatory)?;
+    let b = member(alloc, "b", 1, Presence::Mandatory)?;
+    Ok(vec![in alloc; a, b]?)
+}
+
+/// a OCTET STRING, b UTF8String.
+fn string_members(alloc: Global) -> Result<Vec<Component>, AllocError>
+    ensures { IfOk result (λ cs. map component_of cs.items ≡ two_strings) }
+{
+    let a = member(alloc, "a", 6, Presence::Mandatory)?;
+    let b = member(alloc, "b", 10, Presence::Mandatory)?;
+    Ok(vec![in alloc; a, b]?)
+}
+
+/// a [0] BOOLEAN.
+fn truth_member(alloc: Global) -> Result<Vec<Component>, AllocError>
+    ensures { IfOk result (λ cs. map component_of cs.items ≡ one_truth) }
+{
+    let a = member(alloc, "a", 27, Presence::Mandatory)?;
+    Ok(vec![in alloc; a]?)
+}
+
+/// a of the members of a newer version.
+fn nested_member(alloc: Global) -> Result<Vec<Component>, AllocError>
+    ensures { IfOk result (λ cs. map component_of cs.items ≡ nested) }
+{
+    let a = member(alloc, "a", 42, Presence::Mandatory)?;
+    Ok(vec![in alloc; a]?)
+}
+
 fn alternative(alloc: Global, name: &str, index: usize) -> Result<Alternative, AllocError>
     ensures { IfOk result (λ a. alternative_of a ≡ record { name = name.now; type = index }) }
 {
@@ -402,6 +462,15 @@ fn unordered_alternatives(alloc: Global) -> Result<Vec<Alternative>, AllocError>
 {
     let a = alternative(alloc, "a", 39)?;
     let b = alternative(alloc, "b", 27)?;
+    Ok(vec![in alloc; a, b]?)
+}
+
+/// a of the members of a newer version, b [1] BOOLEAN.
+fn newer_alternatives(alloc: Global) -> Result<Vec<Alternative>, AllocError>
+    ensures { IfOk result (λ v. map alternative_of v.items ≡ newer_or_truth) }
+{
+    let a = alternative(alloc, "a", 42)?;
+    let b = alternative(alloc, "b", 28)?;
     Ok(vec![in alloc; a, b]?)
 }
 
@@ -545,9 +614,9 @@ fn newer_types(alloc: Global, types: &mut Vec<Resolved>) -> Result<(), AllocErro
 }
 
 /// Types 44 to 49.
-fn last_types(alloc: Global, types: &mut Vec<Resolved>) -> Result<(), AllocError>
+fn mixed_types(alloc: Global, types: &mut Vec<Resolved>) -> Result<(), AllocError>
     requires { AreTold (take 44 all_told) (types_of types.old.items) }
-    ensures { OnOk result (AreTold all_told (types_of types.new.items)) }
+    ensures { OnOk result (AreTold (take 50 all_told) (types_of types.new.items)) }
 {
     let tags = vec![in alloc; Tag::of(Class::Context, 1), Tag::of(Class::Context, 2)]?;
     add(types, 44, tags, Core::Boolean)?;
@@ -559,6 +628,45 @@ fn last_types(alloc: Global, types: &mut Vec<Resolved>) -> Result<(), AllocError
     add(types, 48, universal(alloc, 17)?, sets)?;
     let mixed = Core::Set(true, mixed_members(alloc)?);
     add(types, 49, universal(alloc, 17)?, mixed)
+}
+
+/// Types 50 to 54.
+fn short_lists(alloc: Global, types: &mut Vec<Resolved>) -> Result<(), AllocError>
+    requires { AreTold (take 50 all_told) (types_of types.old.items) }
+    ensures { OnOk result (AreTold (take 55 all_told) (types_of types.new.items)) }
+{
+    add(types, 50, context(alloc, 0)?, Core::Null)?;
+    let open = Core::Set(true, null_member(alloc)?);
+    add(types, 51, universal(alloc, 17)?, open)?;
+    let closed = Core::Set(false, optional_null_member(alloc)?);
+    add(types, 52, universal(alloc, 17)?, closed)?;
+    let numbers = Core::Sequence(true, number_members(alloc)?);
+    add(types, 53, universal(alloc, 16)?, numbers)?;
+    let strings = Core::Sequence(false, string_members(alloc)?);
+    add(types, 54, universal(alloc, 16)?, strings)
+}
+
+/// Types 55 to 60.
+fn earlier_types(alloc: Global, types: &mut Vec<Resolved>) -> Result<(), AllocError>
+    requires { AreTold (take 55 all_told) (types_of types.old.items) }
+    ensures { OnOk result (AreTold all_told (types_of types.new.items)) }
+{
+    let sequence = Core::Sequence(true, truth_member(alloc)?);
+    add(types, 55, universal(alloc, 16)?, sequence)?;
+    let set = Core::Set(true, truth_member(alloc)?);
+    add(types, 56, universal(alloc, 17)?, set)?;
+    let nested = Core::Sequence(true, nested_member(alloc)?);
+    add(types, 57, universal(alloc, 16)?, nested)?;
+    let choice = Core::Choice(Alternatives {
+        root: newer_alternatives(alloc)?,
+        extensible: true,
+        additions: Vec::new(alloc),
+    });
+    add(types, 58, Vec::new(alloc), choice)?;
+    let choices = Core::SequenceOf(Constraint::any_size(), TypeId { index: 58 });
+    add(types, 59, universal(alloc, 16)?, choices)?;
+    let optional = Core::Sequence(true, optional_number_member(alloc)?);
+    add(types, 60, universal(alloc, 16)?, optional)
 }
 
 /// The schema of all these types, or `AllocError` for want of memory alone.
@@ -575,7 +683,9 @@ pub fn schema(alloc: Global) -> Result<Schema, AllocError>
     tagged_types(alloc, &mut types)?;
     added_types(alloc, &mut types)?;
     newer_types(alloc, &mut types)?;
-    last_types(alloc, &mut types)?;
+    mixed_types(alloc, &mut types)?;
+    short_lists(alloc, &mut types)?;
+    earlier_types(alloc, &mut types)?;
     Ok(Schema::of(types))
 }
 
@@ -632,7 +742,18 @@ pub fn type_named(name: &str) -> Option<TypeId> {
         "rows" => 47,
         "set-of-sets" => 48,
         "mixed" => 49,
-        "none-such" => 50,
+        "context-0-null" => 50,
+        "open-set" => 51,
+        "optional-null" => 52,
+        "two-numbers" => 53,
+        "two-strings" => 54,
+        "one-truth" => 55,
+        "set-of-one-truth" => 56,
+        "nested" => 57,
+        "newer-or-truth" => 58,
+        "newer-elements" => 59,
+        "optional-number" => 60,
+        "none-such" => 61,
         _ => return None,
     };
     Some(TypeId { index })

@@ -45,7 +45,7 @@ fn stands_at(octets: &[u8], at: usize, part: &[u8]) -> bool {
     at <= octets.len() && octets[at..].starts_with(part)
 }
 
-/// `compile`: the code has a routine of the last type.
+/// `compile`: the code has a routine of the type `mixed`.
 #[derive(Drop)]
 struct Compiling {
     schema: Schema,

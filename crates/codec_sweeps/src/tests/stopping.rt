@@ -1,12 +1,16 @@
-//! A sink that fails at each octet in turn, by an error or by taking none, with calls that take many octets or one.
+//! A sink that fails at each octet in turn, by an error or by taking none, with calls that take many octets or one; and a
+//! writer whose calls fail in turn, each once, which none of them is tried again to see.
 
+use super::memory::sample_code;
 use super::values::{mixed_octets, mixed_value};
 use asn_base::schema::TypeId;
 use asn_base::value::Value;
 use codec_code::{Code, compile};
-use der_writer::{Sink, Stops, WriteFault, write_der_to};
+use der_writer::{Counted, Sink, Stops, WriteFault, write_der_to};
 use sample_types::{schema, type_named};
 use std::alloc::Global;
+use std::io;
+use std::io::{ErrorKind, Write};
 use std::test::Fail;
 
 /// Whether a sink that takes so many octets, at most so many a call, is told the value as it should be.
@@ -64,4 +68,98 @@ fn each_put_fails_in_turn(rt: HostRuntime) -> Result<(), Fail> {
         }
     }
     Ok(())
+}
+
+/// A writer that takes at most two octets a call. One of its calls fails, by an error or by taking none; those behind it
+/// would take octets again.
+#[derive(Drop)]
+struct FailsOnce {
+    octets: Vec<u8>,
+    calls: usize,
+    fails: usize,
+    silent: bool,
+}
+
+impl Write for FailsOnce {
+    fn write(&mut self, buf: &[u8]) -> io::Result<usize> {
+        let call = self.calls;
+        self.calls = call.wrapping_add(1);
+        if call == self.fails {
+            return if self.silent {
+                Ok(0)
+            } else {
+                Err(io::Error::from(ErrorKind::Other))
+            };
+        }
+        let count = buf.len().min(2);
+        match self.octets.extend_from_slice(&buf[..count]) {
+            Ok(()) => Ok(count),
+            Err(_) => Err(io::Error::from(ErrorKind::OutOfMemory)),
+        }
+    }
+
+    fn flush(&mut self) -> io::Result<()> {
+        Ok(())
+    }
+}
+
+/// Whether a writer of which this call fails gets the value as it should: no call behind the one that failed, and just
+/// the octets told. None where the value went out before that call.
+fn fails_once(
+    alloc: Global,
+    code: &Code,
+    id: TypeId,
+    value: &Value,
+    octets: &[u8],
+    fails: usize,
+    silent: bool,
+) -> Option<bool> {
+    let mut sink = Counted::of(FailsOnce {
+        octets: Vec::new(alloc),
+        calls: 0,
+        fails,
+        silent,
+    });
+    let answer = write_der_to(alloc, code, id, value, &mut sink);
+    let failures = sink.failures();
+    let writer = sink.into_writer();
+    let held = writer.octets.as_slice();
+    match answer {
+        Ok(_) if held == octets && failures == 0 && writer.calls <= fails => None,
+        Err(WriteFault::Device(count)) => {
+            let told = count == held.len() as u64 && octets.starts_with(held);
+            Some(told && failures == 1 && writer.calls == fails.wrapping_add(1))
+        }
+        _ => Some(false),
+    }
+}
+
+#[test]
+fn each_write_fails_in_turn(rt: HostRuntime) -> Result<(), Fail> {
+    let alloc = rt.alloc();
+    let code = sample_code(alloc)?;
+    let Some(id) = type_named("mixed") else {
+        return Err("no type".into());
+    };
+    let value = mixed_value(alloc)?;
+    let octets = mixed_octets(alloc)?;
+    let mut failed = 0;
+    for fails in 0..40 {
+        for silent in [false, true] {
+            match fails_once(alloc, &code, id, &value, octets.as_slice(), fails, silent) {
+                Some(true) => failed = failed.max(fails),
+                Some(false) => {
+                    eprintln!(rt; "call {fails}, silent {silent}")?;
+                    return Err("a writer that fails once was told otherwise".into());
+                }
+                None => {}
+            }
+        }
+    }
+    // 25 octets, at most two a call: thirteen calls at least, each of which failed.
+    if failed >= 12 && failed < 39 {
+        Ok(())
+    } else {
+        Err("another number of calls".into())
+    }
 }

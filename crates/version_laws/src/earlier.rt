@@ -1,0 +1,60 @@
+//! Messages of a later version, read as the earlier one.
+
+ghost use Rattle.asn_base.specs.Abstract.{AbstractValue};
+ghost use Rattle.asn_base.specs.Same.{Same};
+ghost use Rattle.asn_base.specs.Schemas.{IsSchema};
+ghost use Rattle.asn_base.specs.Types.{Resolved};
+ghost use Rattle.codec_source.specs.declared.fault.ReadFault.TheVariants.{Memory};
+ghost use Rattle.encodings.specs.Encoding.{Der};
+ghost use Rattle.later_versions.specs.Kept.{kept, left_out};
+ghost use Rattle.later_versions.specs.Later.{Later};
+ghost use Rattle.std.specs.Int.Digits.{AllBelowBase};
+ghost use Rattle.std.specs.Prelude.{◌≡◌, ◌≤◌, IfErr, IfOk, List, length, ℕ};
+ghost use Rattle.version_laws.specs.Versions.{IsKnown};
+ghost use Rattle.views.specs.Seen.{IsView};
+ghost use Rattle.views.specs.Tree.{Tree, value_of};
+
+use crate::law::earlier_reads;
+use asn_base::schema::TypeId;
+use ber_reader::{Read, read_ber};
+use codec_code::Code;
+use codec_source::ReadFault;
+use std::alloc::Global;
+
+/// They are octets.
+fn are_octets(octets: &[u8])
+    ensures { AllBelowBase 256 octets.now }
+{}
+
+/// What `read_ber` answers, as the type of the earlier version, of the encoding by the distinguished rules of a value
+/// of a later one, of at most 16,777,216 octets: a value that is the same as what the earlier type keeps of it, and as
+/// many skipped additions as it leaves out. It is refused for want of memory alone.
+pub fn read_of_later<'a>(
+    alloc: Global,
+    code: &Code,
+    id: TypeId,
+    octets: &'a [u8],
+) -> Result<Read<'a>, ReadFault>
+    ensures read { (s' : List Resolved) (t' : ℕ) (v : AbstractValue)
+        → IsSchema s'
+        → Later code.now id.index s' t'
+        → IsKnown code.now id.index v
+        → Der s' t' v 0 octets.now
+        → length octets.now ≤ 16777216
+        → IfErr result (λ e. e ≡ Memory) }
+    ensures same { IfOk result (λ r. (s' : List Resolved) (t' : ℕ) (v : AbstractValue) (t : Tree)
+        → IsSchema s'
+        → Later code.now id.index s' t'
+        → IsKnown code.now id.index v
+        → Der s' t' v 0 octets.now
+        → IsView r.view t
+        → Same code.now id.index (kept code.now id.index v) (value_of t)
+        × (r.skipped ≡ left_out code.now id.index v)) }
+{
+    earlier_reads();
+    are_octets(octets);
+    match read_ber(alloc, code, id, octets) {
+        Ok(read) => Ok(read),
+        Err(fault) => Err(fault),
+    }
+}

@@ -1,0 +1,7 @@
+//! The laws of reading between versions of a type (X.680, 7, 25, 27 and 29; X.690, 8.9 and 8.11).
+#![tactic(auto)]
+
+mod earlier;
+pub mod law;
+
+pub use earlier::read_of_later;
