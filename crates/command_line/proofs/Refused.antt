@@ -32,7 +32,7 @@ pub refused_as : (a : App) (words : List Text) (k : ErrorKind) (fault : Fault) �
 refused_as a words k fault e h f = refused_by words k fault (subst (λ x. (k ≡ kinds.OutOfMemory) ⊎ IsAmong k (fault_of x words)) e h) f
 
 -- where a command has no job, the words are refused
-pub refused_without : (words : List Text) (command : Text) (rows : List Row) (fault : Fault)
+refused_without : (words : List Text) (command : Text) (rows : List Row) (fault : Fault)
     → fault_of asnc_app words ≡ []
     → option_map (λ p. p.0) (subcommand_of asnc_app words) ≡ Some command
     → option_map (λ p. p.1) (subcommand_of asnc_app words) ≡ Some rows
@@ -52,3 +52,11 @@ refused_without words command rows (faults.NoValue b) t c r n = absurd n
 refused_without words command rows faults.TooLong t c r n = absurd n
 refused_without words command rows (faults.Device b) t c r n = absurd n
 refused_without words command rows (faults.Unread b) t c r n = absurd n
+
+pub refused_where : (words : List Text) (command : Text) (rows : List Row) (fault : Fault)
+    → IsNoJobOf command rows fault
+    → fault_of asnc_app words ≡ []
+    → option_map (λ p. p.0) (subcommand_of asnc_app words) ≡ Some command
+    → option_map (λ p. p.1) (subcommand_of asnc_app words) ≡ Some rows
+    → IsRefused words fault
+refused_where words command rows fault n t c r = refused_without words command rows fault t c r n

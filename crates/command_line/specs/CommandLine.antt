@@ -67,9 +67,13 @@ bare_app = record (new_app (codes "asnc")) {
   };
 }
 
+-- the commands `der` and `ber`
+abbrev pub octets_app : App
+octets_app = with_subcommand (with_subcommand bare_app der_app.top) ber_app.top
+
 -- the commands `der`, `ber` and `list`
 abbrev pub asnc_app : App
-asnc_app = with_subcommand (with_subcommand (with_subcommand bare_app der_app.top) ber_app.top) list_app.top
+asnc_app = with_subcommand octets_app list_app.top
 
 -- the text that was given for an argument, empty where there is none
 abbrev pub text_in : List Row → Text → Text

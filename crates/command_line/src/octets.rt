@@ -1,6 +1,6 @@
 //! The octets that a command line gives.
 
-ghost use Rattle.std.specs.Prelude.{◌≡◌, IfOk, IfErr, Err, Ok};
+ghost use Rattle.std.specs.Prelude.{◌≡◌, ◌≢◌, ◌∷◌, IfOk, IfErr, List, MatchOption, ℕ};
 ghost use Rattle.hex.specs.Hex.{decode_of};
 ghost use Rattle.hex.specs.declared.error.FromHexError.TheVariants.{OutOfMemory};
 ghost use Rattle.command_line.specs.CommandLine.{IsGiven, IsNotGiven};
@@ -19,6 +19,13 @@ fn complaint(alloc: Global, text: &str) -> Result<String, AllocError> {
     )
 }
 
+/// What stands behind an `@`, with which a text begins.
+fn file_name(text: &str) -> Option<&str>
+    ensures { MatchOption result ((name : List ℕ) → text.now ≢ 64 ∷ name) (λ name. text.now ≡ 64 ∷ name.now) }
+{
+    text.strip_prefix('@')
+}
+
 /// The octets that a text tells: those of the file whose name stands behind an `@`, or else those of its digits, two an
 /// octet.
 ///
@@ -27,12 +34,16 @@ pub(crate) fn given_in(alloc: Global, text: &str) -> Result<Given, Fault>
     ensures given { IfOk result (IsGiven text.now) }
     ensures none { IfErr result (IsNotGiven text.now) }
 {
-    if let Some(name) = text.strip_prefix('@') {
+    if let Some(name) = file_name(text) {
         return Ok(Given::Path(String::from_str(alloc, name)?));
     }
     match hex::decode(alloc, text) {
         Ok(octets) => Ok(Given::Octets(octets)),
-        Err(FromHexError::OutOfMemory) => Err(Fault::Memory),
-        Err(_) => Err(Fault::BadWords(complaint(alloc, text)?)),
+        Err(fault) => {
+            if fault == FromHexError::OutOfMemory {
+                return Err(Fault::Memory);
+            }
+            Err(Fault::BadWords(complaint(alloc, text)?))
+        }
     }
 }

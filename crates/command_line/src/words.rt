@@ -3,7 +3,7 @@
 ghost use Rattle.std.specs.Prelude.{◌≡◌, IfOk, IfErr, Some, codes, false, true, map, string_bytes, unwrap_or, if◌then◌else◌};
 ghost use Rattle.clap.specs.Words.{app_of, first_of, kind_of, found_of, one_of, rows_of, rule_of};
 ghost use Rattle.clap.specs.declared.builder.command.Command.TheViews.{out-Command};
-ghost use Rattle.command_line.specs.CommandLine.{asnc_app, ber_app, ber_flags_app, ber_names_app, der_app, der_flags_app, der_names_app, files_rule, flag_rule, list_app, text_in, text_rule, texts_in, IsAsked, IsBerOf, IsFaultOf, IsNoJobOf, IsNotGiven, IsRefused, IsDerOf, IsJobOf, IsListOf};
+ghost use Rattle.command_line.specs.CommandLine.{asnc_app, octets_app, ber_app, ber_flags_app, ber_names_app, der_app, der_flags_app, der_names_app, files_rule, flag_rule, list_app, text_in, text_rule, texts_in, IsAsked, IsBerOf, IsFaultOf, IsNoJobOf, IsNotGiven, IsRefused, IsDerOf, IsJobOf, IsListOf};
 
 use crate::octets::given_in;
 use crate::request::{Given, Job, Verb};
@@ -163,8 +163,9 @@ fn list_command<'a>(alloc: Global) -> Result<Command<'a>, AllocError>
         .arg(files_arg(alloc))
 }
 
-fn asnc_command<'a>(alloc: Global) -> Result<Command<'a>, AllocError>
-    ensures shape { IfOk result (λ c. app_of c ≡ asnc_app) }
+/// The commands that write or read octets.
+fn octets_command<'a>(alloc: Global) -> Result<Command<'a>, AllocError>
+    ensures shape { IfOk result (λ c. app_of c ≡ octets_app) }
     ensures local { IfOk result (λ c. (out-Command c).has_globals ≡ false) }
     ensures wants { IfOk result (λ c. (out-Command c).subcommand_required ≡ true) }
 {
@@ -175,8 +176,15 @@ fn asnc_command<'a>(alloc: Global) -> Result<Command<'a>, AllocError>
         .subcommand_required(true)
         .disable_help_subcommand(true)
         .subcommand(der_command(alloc)?)?
-        .subcommand(ber_command(alloc)?)?
-        .subcommand(list_command(alloc)?)
+        .subcommand(ber_command(alloc)?)
+}
+
+fn asnc_command<'a>(alloc: Global) -> Result<Command<'a>, AllocError>
+    ensures shape { IfOk result (λ c. app_of c ≡ asnc_app) }
+    ensures local { IfOk result (λ c. (out-Command c).has_globals ≡ false) }
+    ensures wants { IfOk result (λ c. (out-Command c).subcommand_required ≡ true) }
+{
+    octets_command(alloc)?.subcommand(list_command(alloc)?)
 }
 
 /// The lines of a message up to an empty one, joined by spaces.
@@ -267,10 +275,7 @@ fn ber_job(alloc: Global, found: &ArgMatches<'_>) -> Result<Job, Fault>
     let strict = found.get_flag("strict");
     let context = found.get_flag("context");
     let hex = text_of(alloc, found, "hex")?;
-    let octets = match given_in(alloc, hex.as_str()) {
-        Ok(octets) => octets,
-        Err(fault) => return Err(fault),
-    };
+    let octets = given_in(alloc, hex.as_str())?;
     Ok(Job {
         verb: Verb::Ber,
         ty: text_of(alloc, found, "type")?,
@@ -326,7 +331,7 @@ pub fn job(alloc: Global, words: &[String]) -> Result<Job, Fault>
     let program = asnc_command(alloc)?;
     match program.try_get_matches_from(words) {
         Ok(matches) => match matches.subcommand() {
-            Some((command, found)) => job_of(alloc, command, found),
+            Some((command, found)) => Ok(job_of(alloc, command, found)?),
             None => unreachable!(),
         },
         Err(error) => Err(fault_of_clap(alloc, &error)?),

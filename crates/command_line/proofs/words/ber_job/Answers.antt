@@ -1,13 +1,13 @@
-use Rattle.std.proofs.Common.{rules, arith, refl, subst}
+use Rattle.std.proofs.Common.{rules, arith, refl, subst, ◌∙◌}
 use Rattle.clap.proofs.WalkLemmas.{one_text-rows}
 use Rattle.command_line.specs.CommandLine.{IsGiven}
 use Rattle.command_line.proofs.words.ber_job.Goals as goal
 
-pub returns-in-Ok-clause-job : goal.returns-in-Ok-clause-job
-returns-in-Ok-clause-job c = record {
+pub returns-clause-job : goal.returns-clause-job
+returns-clause-job c = record {
   verb = refl;
   type = search rules;
-  octets = subst (λ t. IsGiven t c.in-Ok.octets) c.text_of-hex.ensures c.in-Ok.ensures.given;
+  octets = subst (λ t. IsGiven t c.in_ok-octets.octets) (c.as_str.ensures.value ∙ c.in_ok-hex.ensures) c.in_ok-octets.ensures.given;
   strict = grind (arith, c.get_flag-strict.ensures.value, one_text-rows);
   not_strict = grind (arith, c.get_flag-strict.ensures.other, one_text-rows);
   context = grind (arith, c.get_flag-context.ensures.value, one_text-rows);

@@ -1,0 +1,18 @@
+use Rattle.std.proofs.Common.{refl, ap, ◌∙◌}
+use Rattle.asnc.specs.Places.{path_of}
+use Rattle.asnc.proofs.places.stopped.Goals as goal
+
+pub returns : goal.returns
+returns c =
+    let found = c.in_ok-found.ensures in
+    record {
+      id = c.args.id;
+      numbered = refl;
+      found = c.in_ok-found.found;
+      most = found.is.0;
+      stop = found.is.1;
+      first = found.first;
+      at = refl;
+      parts = c.in_ok-path.ensures ∙ ap (path_of c.args.schema.now) c.as_slice.ensures.value
+          ∙ ap (λ s. path_of s c.in_ok-found.found.values.items) c.requires.same;
+    }
