@@ -1,4 +1,4 @@
-//! `Kit::open`, `der`, `der_to`, `ber` and `list` of two small modules.
+//! `Kit::open`, `der`, `der_to` and `list` of two small modules.
 
 mod growths;
 mod modules;

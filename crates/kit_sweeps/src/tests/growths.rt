@@ -1,7 +1,7 @@
 //! Each growth refused in turn: `Memory` and nothing out, or the answer.
 
-use super::modules::{OCTETS, REFUSED, VALUE, kit, texts};
-use asnc::{Fault, Kit, Rules, Sink, Unread};
+use super::modules::{OCTETS, kit, texts};
+use asnc::{Fault, Kit, Sink};
 use starving::{Starved, Swept, Turn, sweep};
 use std::alloc::Global;
 use std::io;
@@ -103,34 +103,6 @@ impl Starved for Sending {
     }
 }
 
-/// `Kit::ber`, of an encoding, or of octets that are refused.
-#[derive(Drop)]
-struct Reading {
-    kit: Kit,
-    rules: Rules,
-    whole: bool,
-}
-
-impl Starved for Reading {
-    fn call(&mut self, alloc: Global) -> Turn {
-        let octets = if self.whole {
-            OCTETS.as_slice()
-        } else {
-            REFUSED.as_slice()
-        };
-        match self.kit.ber(alloc, "B.T", octets, self.rules) {
-            Ok((text, skipped)) => answer(self.whole && skipped == 0 && text.as_str() == VALUE),
-            Err(Fault::Unread(unread)) => answer(!self.whole && is_told(&unread)),
-            Err(fault) => refusal(&fault),
-        }
-    }
-}
-
-/// Whether the place of what is refused is told.
-fn is_told(unread: &Unread) -> bool {
-    unread.octet == 9 && unread.path.as_str() == "s[0]"
-}
-
 /// `Kit::list`.
 #[derive(Drop)]
 struct Listing {
@@ -197,35 +169,6 @@ fn der_to_with_ever_more_memory(rt: HostRuntime) -> Result<(), Fail> {
     };
     let swept = sweep(alloc, &mut sending)?;
     told(&rt, "Kit::der_to", swept)
-}
-
-/// A sweep of `Kit::ber`.
-fn read_with_ever_more_memory(
-    rt: &HostRuntime,
-    rules: Rules,
-    whole: bool,
-    name: &str,
-) -> Result<(), Fail> {
-    let alloc = rt.alloc();
-    let mut reading = Reading {
-        kit: kit(alloc)?,
-        rules,
-        whole,
-    };
-    let swept = sweep(alloc, &mut reading)?;
-    told(rt, name, swept)
-}
-
-#[test]
-fn ber_with_ever_more_memory(rt: HostRuntime) -> Result<(), Fail> {
-    read_with_ever_more_memory(&rt, Rules::Ber, true, "Kit::ber by the basic rules")?;
-    read_with_ever_more_memory(&rt, Rules::Der, true, "Kit::ber by the distinguished rules")?;
-    read_with_ever_more_memory(
-        &rt,
-        Rules::Ber,
-        false,
-        "Kit::ber of octets that are refused",
-    )
 }
 
 #[test]

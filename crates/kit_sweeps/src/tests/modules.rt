@@ -36,9 +36,3 @@ pub fn kit(alloc: Global) -> Result<Kit, Fail> {
 pub const OCTETS: [u8; 13] = [
     0x30, 0x0B, 0x02, 0x01, 0x07, 0x31, 0x06, 0x01, 0x01, 0x00, 0x01, 0x01, 0xFF,
 ];
-
-/// The value that these octets encode.
-pub const VALUE: &str = "{n 7, s {FALSE, TRUE}}";
-
-/// No encoding under B.T: the first element has no contents, which had to stand at octet 9. 3007 020107 3102 0100.
-pub const REFUSED: [u8; 9] = [0x30, 0x07, 0x02, 0x01, 0x07, 0x31, 0x02, 0x01, 0x00];
