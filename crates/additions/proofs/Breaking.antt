@@ -127,8 +127,9 @@ no_break ts MarkerPlace i n (in_list k m cs d p h (behind_addition q c x e l f a
 no_break ts MarkerPlace i n (in_list k m cs d p h (out_of_brackets s)) g =
     s.left ((g.member k m cs d p s.member h s.there).placed.together s.one s.other s.group s.within s.outside s.in_turn s.before s.at_one s.at_other s.within_group s.of_group)
 no_break ts DefaultAddition i n (in_list k m cs d p h s) g =
-    let x = (g.member k m cs d p s.member h s.there).no_default s.added in
-    let y = s.has_value in
+    let a = s.0 in
+    let x = (g.member k m cs d p a.member h a.there).no_default a.added in
+    let y = a.has_value in
     absurd cc
 no_break ts AdditionOrder i n (in_list k m cs d p h s) g =
     let o = s.1 in

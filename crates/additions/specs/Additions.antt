@@ -148,11 +148,20 @@ pub record IsOutOfOrder (ts : List Type') (cs : List Part) (n : ℕ) : Type 0 wh
   pub of_member : First ts member.ty second
   pub not_before : LabelBefore first second → ⊥
 
--- member n of a list breaks the rule
+-- member n stands where it may
+abbrev pub IsPlacedAt : Bool → List Part → ℕ → Type 0
+IsPlacedAt marker cs n = (c : Part) → slice_get cs n ≡ Some c → IsPlaced marker cs n c
+
+-- it is no addition with a DEFAULT
+abbrev pub HasNoDefaultAt : List Part → ℕ → Type 0
+HasNoDefaultAt cs n = (c : Part) → slice_get cs n ≡ Some c → IsAdded c → has_default c.presence ≡ false
+
+-- member n of a list breaks the rule, and none that is asked before it: its place, then its DEFAULT, then its order
 abbrev pub BreaksIn : List Type' → Rule → ListKind → Bool → List Part → ℕ → Type 0
 BreaksIn ts MarkerPlace k marker cs n = IsMisplaced marker cs n
-BreaksIn ts DefaultAddition k marker cs n = IsDefaultAddition cs n
-BreaksIn ts AdditionOrder k marker cs n = (k ≡ Choice) × IsOutOfOrder ts cs n
+BreaksIn ts DefaultAddition k marker cs n = IsDefaultAddition cs n × IsPlacedAt marker cs n
+BreaksIn ts AdditionOrder k marker cs n =
+    (k ≡ Choice) × IsOutOfOrder ts cs n × IsPlacedAt marker cs n × HasNoDefaultAt cs n
 
 -- the number at place n is not above an earlier one
 pub record IsNotAbove (zs : List ℤ) (n : ℕ) : Type 0 where

@@ -9,7 +9,7 @@ use Rattle.names.specs.Modules.{StandsIn}
 use Rattle.type_table.specs.Table.{Is, IsLinked, Kind, Part, Type', elements, members}
 use Rattle.resolve.specs.Program.{Program}
 use Rattle.range_ends.specs.Ends.{IsOfKind}
-use Rattle.typed_values.specs.Faults.{IsWritten, Stands}
+use Rattle.typed_values.specs.Faults.{AreReadTo, IsWritten, Stands}
 use Rattle.typed_values.specs.Faults as stands
 use Rattle.typed_values.specs.declared.fault.Cause.TheVariants as cause
 use Rattle.typed_values.specs.declared.fault.ValueFault.{ValueFault}
@@ -40,12 +40,17 @@ middle : (cs : List Part) (c : Part) (ds : List Part) → StandsIn (cs ++ c ∷ 
 middle [] c ds = (zero, refl)
 middle (b ∷ cs) c ds = let m = middle cs c ds in (suc m.0, m.1)
 
+part_there : {p : Program} {levels left rest : ℕ} {os ps : List ℕ} {M K N : Name} {i : ℕ} {n : Tree}
+    {fs : List (Name × Tree)} (c : Part) → IsLinked p.types → AreReadTo p levels left rest os M i n ps K N fs c →
+    c.ty < length p.types
+part_there c l a =
+    member_there c l (of_written a.written) (subst (λ (cs : List Part). StandsIn cs c) (sym a.split) (middle a.before c a.after))
+
 pub there : (p : Program) → IsLinked p.types → {levels left : ℕ} {os : List ℕ} {M : Name} {i : ℕ} {n : Tree} {f : ValueFault} →
     i < length p.types → Stands p levels left os M i n f → (f.cause ≡ cause.Memory → ⊥) → f.at.ty.index < length p.types
 there p l b (stands.no_memory e) m = absurd (m e)
-there p l b (stands.itself w t n h) m = subst (λ j. j < length p.types) (sym t) b
-there p l b (stands.in_element after k e v r q s) m = there p l (element_there l k) s m
+there p l b (stands.itself w t n r h) m = subst (λ j. j < length p.types) (sym t) b
+there p l b (stands.in_element after k e v r a q s) m = there p l (element_there l k) s m
 there p l b (stands.in_alternative c k e a x s) m = there p l (member_there c l k a) s m
-there p l b (stands.in_field {before = cs} c after k o e v r a q s) m =
-    there p l (member_there c l k (middle cs c after)) s m
-there p l b (stands.in_default c w o e v a x r q s) m = there p l (member_there c l (of_written w) a) s m
+there p l b (stands.in_field c a q s) m = there p l (part_there c l a) s m
+there p l b (stands.in_default c a o r q s) m = there p l (part_there c l a) s m

@@ -1,6 +1,7 @@
 //! A fault of a value, with names and places of its own.
 
-ghost use Rattle.std.specs.Prelude.{◌≡◌, ◌<◌, [], length, IfOk, IfSome};
+ghost use Rattle.std.specs.Prelude.{◌≡◌, ◌<◌, [], length, IfOk, MatchOption};
+ghost use Rattle.typed_values.specs.declared.fault.Cause.TheVariants.{Memory as Memory'};
 ghost use Rattle.told_values.specs.Told.{IsOf, IsTold, begins, field_name, field_place, form_of, has_prefix, lost_as, name_of, number_of};
 ghost use Rattle.told_values.specs.proving.Pointed.{Points};
 
@@ -153,10 +154,10 @@ fn of_field<'a>(
     }
 }
 
-/// What a fault of these names points at.
+/// What a fault points at: nothing where there was not enough memory, and only there.
 fn points_at<'a>(linked: &'a Linked, at: Place<'a>, cause: Cause<'a>) -> Option<Pointed<'a>>
     requires { at.ty.index < length linked.now.types }
-    ensures { IfSome result (λ q. IsOf (Points q) linked.now at.entry cause.entry) }
+    ensures { MatchOption result (cause.entry ≡ Memory') (λ q. IsOf (Points q) linked.now at.entry cause.entry) }
 {
     match cause {
         Cause::Memory => None,

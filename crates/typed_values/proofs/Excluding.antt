@@ -34,7 +34,7 @@ use Rattle.typed_values.specs.declared.fault.ValueFault.{ValueFault}
 use Rattle.typed_values.specs.Faults.{IsWritten, Stands, IsCause, HasKind, HasLeaf, HasNames, HasNoAlternative}
 use Rattle.typed_values.specs.Faults as faults
 use Rattle.typed_values.specs.Laws.{HaveFewNodes}
-use Rattle.typed_values.proofs.Places.{one_some, some_none, one_place, mapped_at, stands_mapped}
+use Rattle.typed_values.proofs.Places.{middle, one_some, some_none, one_place, mapped_at, stands_mapped}
 use Rattle.typed_values.proofs.Following.{one_kind, sound_kind, one_last, walks_to_one, one_header}
 use Rattle.typed_values.proofs.Readings.{of_kind}
 
@@ -421,9 +421,10 @@ module _ (p : Program) (s : IsKept p) (one : OneValue) (none_wrong : NoneWrong) 
   cause_none (cause.Behind j K l) m w h a b =
       names_none w (wrong.out_of_order w.such.name w.such.other) w.such.wrong h
   cause_none {i = i} {v = v} cause.Outside m w h a b =
-      let e = same_value w.stands h in
-      let o = of_value w.is a in
-      outside h (subst (λ (z : AbstractValue). IsLeftOut (Allows p) (AllowsCode p) i w.kind z) e w.left_out) o w.is
+      let u = w.outside in
+      let e = same_value u.stands h in
+      let o = of_value u.is a in
+      outside h (subst (λ (z : AbstractValue). IsLeftOut (Allows p) (AllowsCode p) i u.kind z) e u.left_out) o u.is
     where
       outside : {n i : ℕ} {os : List ℕ} {M : Name} {t : Tree} {v : AbstractValue} {k : Kind} →
           Notation p os M i t v → IsLeftOut (Allows p) (AllowsCode p) i k v → HasValueOf n i k v → IsOfKind p.types i k → ⊥
@@ -446,8 +447,8 @@ module _ (p : Program) (s : IsKept p) (one : OneValue) (none_wrong : NoneWrong) 
       ValueIn p (Allows p) (AllowsCode p) n i v →
       nodes v ≤ left → ⊥
   stands_none (faults.no_memory e) m h a b = m e
-  stands_none {f = f} (faults.itself x y z w) m h a b = cause_none f.cause m w h a b
-  stands_none (faults.in_element after k l e d c w) m h a b =
+  stands_none {f = f} (faults.itself x y z r w) m h a b = cause_none f.cause m w h a b
+  stands_none (faults.in_element after k l e d u c w) m h a b =
       let o = of_value k a in
       let q = element_in after (at_last k l h) (level_of o) e d c b in
       stands_none w m q.stands q.value q.few
@@ -456,13 +457,18 @@ module _ (p : Program) (s : IsKept p) (one : OneValue) (none_wrong : NoneWrong) 
       let far = (sound_kind p.types i (table.members Choice e cs) s.sound k).names in
       let q = chosen_in far (at_last k l h) (level_of o) t x b in
       stands_none w m q.stands q.value q.few
-  stands_none (faults.in_field y after k none l e d t c w) m h a b =
-      let o = of_value k a in
-      let q = field_in y after none (at_last k l h) (level_of o) e d t c b in
+  stands_none {i = i} {v = v} (faults.in_field {levels = n} {ps = ps} {K = K} c r t w) m h a b =
+      let o = of_value (of_kind r.written) a in
+      let says = subst (λ (z : List Part). NotationOf p ps K (table.members r.kind r.marked z) r.notation v) r.split
+      (at_last (of_kind r.written) r.last h) in
+      let is = subst (λ (z : List Part). ValueOf p (Allows p) (AllowsCode p) n i o.within (table.members r.kind r.marked z) v) r.split
+      (level_of o) in
+      let q = field_in c r.after r.no_choice says is r.in_braces r.stand t r.counted b in
       stands_none w m q.stands q.value q.few
-  stands_none {i = i} (faults.in_default {levels = n} {N = N} {d = d} {k = k} {e = g} {cs = cs} c u none l e t out x y w) m h a b =
-      let o = of_value (of_kind u) a in
-      let q = absent_in none (at_last (of_kind u) l h) (level_of o) e t out in
-      let homes = one_home o.written u in
+  stands_none {i = i} (faults.in_default {levels = n} {N = N} {d = d} c r out x y w) m h a b =
+      let o = of_value (of_kind r.written) a in
+      let t = subst (λ (cs : List Part). StandsIn cs c) (sym r.split) (middle r.before c r.after) in
+      let q = absent_in r.no_choice (at_last (of_kind r.written) r.last h) (level_of o) r.in_braces t out in
+      let homes = one_home o.written r.written in
       let z = default_of (subst (λ (M : Name). MayBeAbsent p (Allows p) (AllowsCode p) n M c) homes q) x y in
-      stands_none w m z.1 z.2 (s.defaults i k g cs N c d z.0 u t y z.1)
+      stands_none w m z.1 z.2 (s.defaults i r.kind r.marked r.parts N c d z.0 r.written t y z.1)

@@ -1,6 +1,6 @@
 -- Members of lists and their places.
-use Rattle.std.proofs.Common.{inl, inr, ◌≡◌, ℕ, ◌<◌, arith, sym, ap, ◌∙◌, Some, None}
-use Rattle.std.specs.Prelude.{◌⊎◌, List, map, Option, slice_get, option_map}
+use Rattle.std.proofs.Common.{inl, inr, ◌≡◌, ℕ, zero, suc, ◌<◌, arith, refl, sym, ap, ◌∙◌, Some, None}
+use Rattle.std.specs.Prelude.{◌⊎◌, List, [], ◌∷◌, ◌++◌, map, Option, slice_get, option_map}
 use Rattle.std.proofs.lemmas.Option.{same_Some, none-some, slice_get-map}
 use Rattle.names.specs.Modules.{StandsIn, AreDistinct}
 
@@ -27,6 +27,11 @@ one_place xs x i j d e f =
         | inr l ↦ absurd (d x (record { first = j; second = i; apart = l; here = f; there = e }))
       ]
     ]
+
+-- what stands between two lists stands in the whole
+pub middle : {A : Type 0} (xs : List A) (x : A) (ys : List A) → StandsIn (xs ++ x ∷ ys) x
+middle [] x ys = (zero, refl)
+middle (z ∷ xs) x ys = let m = middle xs x ys in (suc m.0, m.1)
 
 pub mapped_at : {A B : Type 0} (f : A → B) (xs : List A) (i : ℕ) (x : A)
     → slice_get xs i ≡ Some x

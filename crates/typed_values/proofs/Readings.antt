@@ -42,9 +42,10 @@ use Rattle.value_notations.specs.Outside.{IsOutside, IsLeftOut}
 use Rattle.values.specs.Allowing.{Allows, AllowsCode}
 use Rattle.typed_values.specs.declared.fault.ValueFault.{ValueFault}
 use Rattle.typed_values.specs.declared.fault.Cause.{Cause}
+use Rattle.typed_values.specs.declared.fault.Cause.TheVariants as cause
 use Rattle.value_notations.specs.declared.references.FollowFault.{FollowFault}
 use Rattle.value_notations.specs.Faults.{IsFollowFault}
-use Rattle.typed_values.specs.Faults.{IsWritten, Stands, IsCause, HasNoAlternative}
+use Rattle.typed_values.specs.Faults.{IsWritten, Stands, IsCause, HasNoAlternative, HasRoom, IsOutsideAlone, AreReadTo}
 use Rattle.typed_values.specs.Faults as faults
 use Rattle.typed_values.specs.proving.Reading.{Means, MeanRow, MeanFields, StandsInOne, StandsInField, IsWrongField, IsWrongDefault, ArePlaced, IsField, option_nodes}
 use Rattle.typed_values.specs.proving.Reading as reading
@@ -97,15 +98,20 @@ leaf_means w e h a =
       counted = omega (arith, c);
     }
 
-pub leaf_outside : {p : Program} {i : ℕ} {k : Plain} {N : Name} {os ps : List ℕ} {M K : Name} {t l : Tree}
+pub leaf_outside : {p : Program} {n left i : ℕ} {k : Plain} {N : Name} {os ps : List ℕ} {M K : Name} {t l : Tree}
     {v : AbstractValue} →
     IsWritten p i (simple k) N →
     IsLast p (simple k) os M t ps K l →
     IsLeaf k l v →
     IsLeftOut (Allows p) (AllowsCode p) i (simple k) v →
-    IsOutside p (Allows p) (AllowsCode p) os M i t
+    IsOutsideAlone p (suc n) (suc left) os M i t
 leaf_outside {k = k} {v = v} w e h o =
-    record { kind = simple k; is = of_kind w; value = v; stands = notation (of_kind w) e (family.of_leaf h); left_out = o }
+    let c = leaf_nodes h in
+    record {
+      outside = record { kind = simple k; is = of_kind w; value = v; stands = notation (of_kind w) e (family.of_leaf h); left_out = o };
+      within = tt;
+      few = omega (arith, c);
+    }
 
 -- ---- lists
 
@@ -132,14 +138,19 @@ pub list_outside : {p : Program} {n before after i a : ℕ} {k : ElementsKind} {
     values_in l ≡ Some ts →
     MeanRow p n before after ps K a ts r →
     (Allows p i (pos (members r)) → ⊥) →
-    IsOutside p (Allows p) (AllowsCode p) os M i t
+    IsOutsideAlone p (suc n) (suc before) os M i t
 list_outside {a = a} {k = k} {r = r} w e f m o =
+    let c = m.counted in
     record {
-      kind = elements k a;
-      is = of_kind w;
-      value = list r;
-      stands = notation (of_kind w) e (of_list f m.stand);
-      left_out = o;
+      outside = record {
+        kind = elements k a;
+        is = of_kind w;
+        value = list r;
+        stands = notation (of_kind w) e (of_list f m.stand);
+        left_out = o;
+      };
+      within = m.values;
+      few = omega (arith, c);
     }
 
 pub list_fault : {p : Program} {n left i a : ℕ} {k : ElementsKind} {N : Name} {os ps : List ℕ} {M K : Name} {t l : Tree}
@@ -151,7 +162,7 @@ pub list_fault : {p : Program} {n left i a : ℕ} {k : ElementsKind} {N : Name} 
     Stands p (suc n) (suc left) os M i t f
 list_fault w e g s =
     let c = s.counted in
-    faults.in_element s.after (of_kind w) e (g ∙ ap Some s.split) s.stand (omega (arith, c)) s.fault
+    faults.in_element s.after (of_kind w) e (g ∙ ap Some s.split) s.stand s.values (omega (arith, c)) s.fault
 
 pub list_misfit : {p : Program} {i a : ℕ} {k : ElementsKind} {N : Name} {os ps : List ℕ} {M K : Name} {t l : Tree} →
     IsWritten p i (elements k a) N →
@@ -195,32 +206,43 @@ choice_fault {p} {e = e} {cs = cs} {os = os} {ps = ps} {M = M} {K = K} {t = t} c
 -- ---- components
 
 pub fields_fault : {p : Program} {n left i : ℕ} {k : ListKind} {e : Bool} {cs : List Part} {N : Name} {os ps : List ℕ}
-    {M K : Name} {t l : Tree} {fs : List (Name × Tree)} {f : ValueFault} →
+    {M K : Name} {t l : Tree} {fs : List (Name × Tree)} {qs : List (Option ℕ)} {f : ValueFault} →
     IsWritten p i (table.members k e cs) N →
     (k ≡ Choice → ⊥) →
     IsLast p (table.members k e cs) os M t ps K l →
     fields_in l ≡ Some fs →
+    IsArranged k cs (field_names fs) qs →
     StandsInField p n left ps K N fs cs f →
     Stands p (suc n) (suc left) os M i t f
-fields_fault {p} {n} {left} {i} {k} {e} {cs} {N} {os} {ps} {M} {K} {t} {l} {fs} {f} w none d g s = by s.fault
+fields_fault {p} {n} {left} {i} {k} {e} {cs} {N} {os} {ps} {M} {K} {t} {l} {fs} {qs} {f} w none d g a s = by s.fault
   where
-    x : List Part
-    x = s.before ++ s.one ∷ s.after
+    to : AreReadTo p n (suc left) s.rest os M i t ps K N fs s.one
+    to =
+        let c = s.counted in
+        record {
+          kind = k;
+          marked = e;
+          parts = cs;
+          written = w;
+          no_choice = none;
+          notation = l;
+          last = d;
+          in_braces = g;
+          places = qs;
+          arranged = a;
+          before = s.before;
+          after = s.after;
+          split = s.split;
+          row = s.row;
+          stand = s.stand;
+          values = s.values;
+          counted = omega (arith, c);
+        }
 
     by : IsWrongField p n s.rest ps K N fs s.one f → Stands p (suc n) (suc left) os M i t f
     by (reading.no_memory m) = faults.no_memory m
-    by (reading.in_field h o) =
-        let c = s.counted in
-        faults.in_field s.one s.after
-        (subst (λ (z : List Part). IsOfKind p.types i (table.members k e z)) s.split (of_kind w)) none
-        (subst (λ (z : List Part). IsLast p (table.members k e z) os M t ps K l) s.split d) g s.stand h (omega (arith, c)) o
-    by (reading.in_default h o) =
-        faults.in_default s.one w none d g (there cs s.before s.split) h o.standing o.presence o.fault
-      where
-        there : (ys xs : List Part) → ys ≡ xs ++ s.one ∷ s.after → StandsIn ys s.one
-        there ys [] q = (0, ap (λ zs. slice_get zs 0) q)
-        there [] (y ∷ xs) q = absurd cc
-        there (z ∷ ys) (y ∷ xs) q = let r : ys ≡ xs ++ s.one ∷ s.after = cc in let h = there ys xs r in (suc h.0, h.1)
+    by (reading.in_field h o) = faults.in_field s.one to h o
+    by (reading.in_default h o) = faults.in_default s.one to h o.standing o.presence o.fault
 
 pub fields_mean : {p : Program} {n before after i : ℕ} {k : ListKind} {e : Bool} {cs : List Part} {N : Name}
     {os ps : List ℕ} {M K : Name} {t l : Tree} {fs : List (Name × Tree)} {r : Row} →
@@ -382,11 +404,38 @@ as_many cs fs ps a =
     let r = length-map cs (λ (c : Part). c.name) in
     ap length a.placed ∙ q ∙ r
 
--- a fault that is the notation's own
+has_room : (levels left : ℕ) → (levels ≡ 0 → ⊥) → (left ≡ 0 → ⊥) → (c : Cause) → HasRoom levels left c
+has_room levels left a b cause.Memory = tt
+has_room levels left a b cause.Depth = tt
+has_room levels left a b cause.Nodes = a
+has_room levels left a b (cause.Lost K l) = (a, b)
+has_room levels left a b (cause.Circular j K l) = (a, b)
+has_room levels left a b cause.NotOfType = (a, b)
+has_room levels left a b (cause.UnknownBit K l) = (a, b)
+has_room levels left a b cause.Oid = (a, b)
+has_room levels left a b cause.UnknownAlternative = (a, b)
+has_room levels left a b (cause.UnknownField j K l) = (a, b)
+has_room levels left a b (cause.Repeated j K l) = (a, b)
+has_room levels left a b (cause.Missing j K l) = (a, b)
+has_room levels left a b (cause.Behind j K l) = (a, b)
+has_room levels left a b cause.Outside = (a, b)
+
+more_than_none : (n : ℕ) → suc n ≡ 0 → ⊥
+more_than_none n e = omega (arith, e)
+
+-- a fault that is the notation's own, where a level and a node are left
+pub room_fault : {p : Program} {levels left : ℕ} {os : List ℕ} {M : Name} {i : ℕ} {n : Tree} (f : ValueFault) →
+    f.at.within.now ≡ M → f.at.ty.index ≡ i → tree_of f.at.notation.now ≡ n →
+    (levels ≡ 0 → ⊥) → (left ≡ 0 → ⊥) →
+    IsCause p levels left os M i n f.cause → Stands p levels left os M i n f
+room_fault {levels = levels} {left = left} f a b c g h d = faults.itself a b c (has_room levels left g h f.cause) d
+
+-- the same
 pub own_fault : {p : Program} {levels left : ℕ} {os : List ℕ} {M : Name} {i : ℕ} {n : Tree} (f : ValueFault) →
     f.at.within.now ≡ M → f.at.ty.index ≡ i → tree_of f.at.notation.now ≡ n →
-    IsCause p levels left os M i n f.cause → Stands p levels left os M i n f
-own_fault f a b c d = faults.itself a b c d
+    IsCause p (suc levels) (suc left) os M i n f.cause → Stands p (suc levels) (suc left) os M i n f
+own_fault {levels = levels} {left = left} f a b c d =
+    room_fault f a b c (more_than_none levels) (more_than_none left) d
 
 pub opened_as : {p : Program} {levels left : ℕ} {os ps : List ℕ} {M : Name} {i : ℕ} {n : Tree} {f : ValueFault} → ps ≡ os →
     Stands p levels left ps M i n f → Stands p levels left os M i n f
@@ -419,6 +468,7 @@ row_wrong {between = between} vs xs i x l e r q h =
       split = split tree_of xs i x l e;
       row = row_of_list (map abstract vs);
       stand = r.stand;
+      values = r.values;
       rest = between;
       counted = omega (arith, c);
       fault = opened_as q h;
@@ -468,6 +518,7 @@ fields_wrong {between = between} vs xs i x l e r q h =
       split = split part_of xs i x l e;
       row = row_of_options (map (option_map abstract) vs);
       stand = r.stand;
+      values = r.values;
       rest = between;
       counted = omega (arith, c);
       fault = wrong_as q h;

@@ -1,8 +1,8 @@
 -- What is wrong with a notation that stands for no value of a type, and where: the first thing that is, as it is read
 -- from its front (X.680, clauses 17 to 33 and 51; the limits are this project's).
-use Rattle.std.specs.Prelude.{◌≡◌, ℕ, suc, ◌+◌, Bool, List, [], ◌∷◌, ◌++◌, Some, slice_get}
-use Rattle.asn_base.specs.Abstract.{Row}
-use Rattle.asn_base.specs.Typed.{row_nodes}
+use Rattle.std.specs.Prelude.{◌≡◌, ℕ, suc, ◌+◌, ◌≤◌, Bool, List, [], ◌∷◌, ◌++◌, Option, Some, slice_get}
+use Rattle.asn_base.specs.Abstract.{AbstractValue, Row, list}
+use Rattle.asn_base.specs.Typed.{nodes, row_nodes}
 use Rattle.trees.specs.declared.types.ListKind.{ListKind}
 use Rattle.trees.specs.declared.types.ListKind.TheVariants.{Choice}
 use Rattle.trees.specs.declared.types.ElementsKind.{ElementsKind}
@@ -16,11 +16,12 @@ use Rattle.resolve.specs.Program.{Program, IsAssignment}
 use Rattle.range_ends.specs.Ends.{IsOfKind}
 use Rattle.value_notations.specs.References.{IsLast}
 use Rattle.value_notations.specs.Notations.{Fields, Elements, fields_in, values_in, field_names, part_names}
+use Rattle.value_notations.specs.Values.{AreComponents, AreElements}
 use Rattle.value_notations.specs.Wrong.{IsWrongHere, not_of_type}
 use Rattle.value_notations.specs.Outside.{IsOutside}
 use Rattle.value_notations.specs.Faults.{IsLostAt, ComesRoundAt, IsUnknownBitAt, StandsForPast}
 use Rattle.values.specs.Allowing.{Allows, AllowsCode}
-use Rattle.values.specs.Arranged.{IsWrongField, IsRepeatedField, IsMissingPart, IsBehind}
+use Rattle.values.specs.Arranged.{IsArranged, IsWrongField, IsRepeatedField, IsMissingPart, IsBehind}
 use Rattle.typed_values.specs.declared.fault.Cause.{Cause}
 use Rattle.typed_values.specs.declared.fault.Cause.TheVariants as cause
 use Rattle.typed_values.specs.declared.fault.ValueFault.{ValueFault}
@@ -83,6 +84,24 @@ pub record HasNoAlternative (p : Program) (os : List ℕ) (M : Name) (i : ℕ) (
   pub last : IsLast p (table.members Choice marked parts) os M n opened within (chosen name inner)
   pub none : StandsIn (part_names parts) name → ⊥
 
+-- the elements of a list are values of their type, with fewer levels than these
+abbrev pub AreWithin : Program → (levels : ℕ) → Kind → AbstractValue → Type 0
+AreWithin p (suc levels) (elements k j) (list r) = AreElements p (Allows p) (AllowsCode p) levels j r
+AreWithin p levels k v = Unit {0}
+
+-- notation n stands for a value that the constraints of type i leave out; what is wrong within it would be told first
+pub record IsOutsideAlone (p : Program) (levels left : ℕ) (os : List ℕ) (M : Name) (i : ℕ) (n : Tree) : Type 0 where
+  pub outside : IsOutside p (Allows p) (AllowsCode p) os M i n
+  pub within : AreWithin p levels outside.kind outside.value
+  pub few : nodes outside.value ≤ left
+
+-- A level is asked for first, then a node: else nothing else is wrong with a notation.
+abbrev pub HasRoom : (levels left : ℕ) → Cause → Type 0
+HasRoom levels left cause.Memory = Unit {0}
+HasRoom levels left cause.Depth = Unit {0}
+HasRoom levels left cause.Nodes = levels ≡ 0 → ⊥
+HasRoom levels left c = (levels ≡ 0 → ⊥) × (left ≡ 0 → ⊥)
+
 -- what is wrong with notation n itself, read in module M under type i, where so many levels and nodes are left
 abbrev pub IsCause : Program → (levels left : ℕ) → List ℕ → Name → ℕ → Tree → Cause → Type 0
 IsCause p levels left os M i n cause.Memory = Unit {0}
@@ -104,12 +123,35 @@ IsCause p levels left os M i n (cause.Missing a K l) =
     HasNames p os M K.now i n (tree_of l.now) (λ k cs fs. IsMissingPart k cs fs a)
 IsCause p levels left os M i n (cause.Behind a K l) =
     HasNames p os M K.now i n (tree_of l.now) (λ k cs fs. IsBehind k cs fs a)
-IsCause p levels left os M i n cause.Outside = IsOutside p (Allows p) (AllowsCode p) os M i n
+IsCause p levels left os M i n cause.Outside = IsOutsideAlone p levels left os M i n
+
+-- Notation n, read in module M under type i, has the fields fs, read in module K, of a SEQUENCE or SET that is written in
+-- module N. Their names are arranged as those of the components, and the components before component c are read, each
+-- one a value of its type with at most so many levels: of the nodes that were left with n, `rest` are left.
+pub record AreReadTo (p : Program) (levels left rest : ℕ) (os : List ℕ) (M : Name) (i : ℕ) (n : Tree)
+    (ps : List ℕ) (K N : Name) (fs : List (Name × Tree)) (c : Part) : Type 0 where
+  pub kind : ListKind
+  pub marked : Bool
+  pub parts : List Part
+  pub written : IsWritten p i (table.members kind marked parts) N
+  pub no_choice : kind ≡ Choice → ⊥
+  pub notation : Tree
+  pub last : IsLast p (table.members kind marked parts) os M n ps K notation
+  pub in_braces : fields_in notation ≡ Some fs
+  pub places : List (Option ℕ)
+  pub arranged : IsArranged kind parts (field_names fs) places
+  pub before : List Part
+  pub after : List Part
+  pub split : parts ≡ before ++ c ∷ after
+  pub row : Row
+  pub stand : Fields p ps K fs before row
+  pub values : AreComponents p (Allows p) (AllowsCode p) levels N before row
+  pub counted : left ≡ suc (row_nodes row + rest)
 
 -- A fault stands in notation n, which is read in module M under type i, where at most so many levels are left, and so
 -- many nodes: something is wrong with the notation itself, or a fault stands in one that stands in it, and what stands
--- before that one stands for values, whose nodes count. A DEFAULT of an absent component has no more levels than one
--- that is written, and 2^24 nodes. `os` are the values whose notations are being read already.
+-- before that one stands for values that are allowed, whose nodes count. A DEFAULT of an absent component has no more
+-- levels than one that is written, and 2^24 nodes. `os` are the values whose notations are being read already.
 pub data Stands (p : Program) : (levels left : ℕ) (os : List ℕ) (M : Name) (i : ℕ) (n : Tree) → ValueFault → Type 0 where
   no_memory : {levels left : ℕ} {os : List ℕ} {M : Name} {i : ℕ} {n : Tree} {f : ValueFault} →
       f.cause ≡ cause.Memory →
@@ -118,6 +160,7 @@ pub data Stands (p : Program) : (levels left : ℕ) (os : List ℕ) (M : Name) (
       f.at.within.now ≡ M →
       f.at.ty.index ≡ i →
       tree_of f.at.notation.now ≡ n →
+      HasRoom levels left f.cause →
       IsCause p levels left os M i n f.cause →
       Stands p levels left os M i n f
   in_element : {levels left rest : ℕ} {os ps : List ℕ} {M K : Name} {i a : ℕ} {n l m : Tree} {k : ElementsKind}
@@ -126,6 +169,7 @@ pub data Stands (p : Program) : (levels left : ℕ) (os : List ℕ) (M : Name) (
       IsLast p (elements k a) os M n ps K l →
       values_in l ≡ Some (before ++ m ∷ after) →
       Elements p ps K a before r →
+      AreElements p (Allows p) (AllowsCode p) levels a r →
       left ≡ suc (row_nodes r + rest) →
       Stands p levels rest ps K a m f →
       Stands p (suc levels) left os M i n f
@@ -137,24 +181,15 @@ pub data Stands (p : Program) : (levels left : ℕ) (os : List ℕ) (M : Name) (
       c.name ≡ x →
       Stands p levels left ps K c.ty m f →
       Stands p (suc levels) (suc left) os M i n f
-  in_field : {levels left rest : ℕ} {os ps : List ℕ} {M K : Name} {i : ℕ} {n l m : Tree} {k : ListKind} {e : Bool}
-      {before : List Part} {fs : List (Name × Tree)} {r : Row} {f : ValueFault} (c : Part) (after : List Part) →
-      IsOfKind p.types i (table.members k e (before ++ c ∷ after)) →
-      (k ≡ Choice → ⊥) →
-      IsLast p (table.members k e (before ++ c ∷ after)) os M n ps K l →
-      fields_in l ≡ Some fs →
-      Fields p ps K fs before r →
+  in_field : {levels left rest : ℕ} {os ps : List ℕ} {M K N : Name} {i : ℕ} {n m : Tree} {fs : List (Name × Tree)}
+      {f : ValueFault} (c : Part) →
+      AreReadTo p levels left rest os M i n ps K N fs c →
       StandsIn fs (c.name, m) →
-      left ≡ suc (row_nodes r + rest) →
       Stands p levels rest ps K c.ty m f →
       Stands p (suc levels) left os M i n f
-  in_default : {levels left : ℕ} {os ps : List ℕ} {M K N : Name} {i : ℕ} {n l d : Tree} {k : ListKind} {e : Bool}
-      {cs : List Part} {fs : List (Name × Tree)} {f : ValueFault} (c : Part) →
-      IsWritten p i (table.members k e cs) N →
-      (k ≡ Choice → ⊥) →
-      IsLast p (table.members k e cs) os M n ps K l →
-      fields_in l ≡ Some fs →
-      StandsIn cs c →
+  in_default : {levels left rest : ℕ} {os ps : List ℕ} {M K N : Name} {i : ℕ} {n d : Tree} {fs : List (Name × Tree)}
+      {f : ValueFault} (c : Part) →
+      AreReadTo p levels left rest os M i n ps K N fs c →
       (StandsIn (field_names fs) c.name → ⊥) →
       c.standing ≡ Root →
       c.presence ≡ default d →

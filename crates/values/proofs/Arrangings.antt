@@ -1,16 +1,17 @@
 -- Names of fields that are arranged, and those that are not, as the checks find them one behind the other.
-use Rattle.std.proofs.Common.{◌≡◌, ℕ, List, Some, Option, refl, sym, subst, true, false, arith}
+use Rattle.std.proofs.Common.{◌≡◌, ℕ, List, Some, Option, refl, sym, subst, true, false, arith, take}
 use Rattle.std.specs.Prelude.{slice_get}
 use Rattle.trees.specs.declared.types.ListKind.{ListKind}
 use Rattle.trees.specs.declared.types.ListKind.TheVariants.{Sequence, Set, Choice}
 use Rattle.trees.specs.Values.{Name}
-use Rattle.names.specs.Modules.{StandsIn, StandsTwice, AreDistinct}
+use Rattle.names.specs.Modules.{StandsIn, AreDistinct}
 use Rattle.type_table.specs.Table.{Part}
 use Rattle.value_notations.specs.Notations.{part_names, IsPartOf, may_be_absent}
 use Rattle.value_notations.specs.Wrong.{AreIn, IsMissing, IsMissingInGroup, strange, twice, lacking, lacking_in_group, jumbled}
-use Rattle.values.specs.Arranged.{IsArranged, IsWrongField, IsRepeatedField, IsMissingPart, IsBehind}
-use Rattle.values.specs.proving.Arranging.{IsAbsent, IsDue, IsJumbled}
-use Rattle.values.proofs.Missings.{places_of, none_missing, one_missing, none_lacking, one_lacking}
+use Rattle.values.specs.Arranged.{IsArranged, IsWrongField, IsRepeatedField, IsMissingPart, IsBehind, of_root, of_group}
+use Rattle.values.specs.proving.Arranging.{IsAbsent, IsDue, IsJumbled, NoneDue, NoneMissing}
+use Rattle.values.proofs.Lookups.{twice_of}
+use Rattle.values.proofs.Missings.{places_of, none_missing, none_missing_before, one_missing, none_lacking, none_lacking_before, one_lacking}
 use Rattle.values.proofs.Orders.{turned_none}
 
 -- what has no field may be absent
@@ -22,30 +23,45 @@ abbrev pub AllWhole : List Part → List (Option ℕ) → Type 0
 AllWhole cs ps = (i : ℕ) (c : Part) → IsAbsent cs ps i c → IsDue c cs ps → ⊥
 
 module _ (k : ListKind) (cs : List Part) (fs : List Name) where
-  pub strange_at : (i : ℕ) → (x : Name) × (slice_get fs i ≡ Some x) × (StandsIn (part_names cs) x → ⊥) → IsWrongField k cs fs i
-  strange_at i h = record { name = h.0; there = h.1; wrong = strange (i, h.1) h.2 }
+  pub strange_at : (i : ℕ) →
+      (x : Name) × (slice_get fs i ≡ Some x) × (StandsIn (part_names cs) x → ⊥) × AreIn (take i fs) (part_names cs) →
+      IsWrongField k cs fs i
+  strange_at i h = record { name = h.0; there = h.1; wrong = strange (i, h.1) h.2; known_before = h.3 }
 
-  pub twice_at : (i : ℕ) → AreIn fs (part_names cs) → (x : Name) × (slice_get fs i ≡ Some x) × StandsTwice fs x →
-      IsRepeatedField k cs fs i
-  twice_at i a h = record { name = h.0; there = h.1; wrong = twice a h.2 }
-
-  pub lacking_at : (ps : List (Option ℕ)) (i : ℕ) → ps ≡ places_of cs fs → AreIn fs (part_names cs) → AreDistinct fs →
-      (c : Part) × IsAbsent cs ps i c × (may_be_absent c ≡ false) → IsMissingPart k cs fs i
-  lacking_at ps i e a d h =
+  pub twice_at : (i : ℕ) → AreIn fs (part_names cs) →
+      (x : Name) × (slice_get fs i ≡ Some x) × StandsIn (take i fs) x × AreDistinct (take i fs) → IsRepeatedField k cs fs i
+  twice_at i a h =
       record {
-        part = h.0;
-        there = h.1.there;
-        wrong = lacking a d (one_missing cs fs i h.0 (subst (λ qs. IsAbsent cs qs i h.0) e h.1) h.2);
+        name = h.0;
+        there = h.1;
+        wrong = twice a (twice_of fs i h.0 h.1 h.2);
+        again = h.2;
+        distinct_before = h.3;
       }
 
-  pub due_at : (ps : List (Option ℕ)) (i : ℕ) → ps ≡ places_of cs fs → AreIn fs (part_names cs) → AreDistinct fs →
-      (c : Part) × IsAbsent cs ps i c × IsDue c cs ps → IsMissingPart k cs fs i
-  due_at ps i e a d h =
+  pub lacking_at : (ps : List (Option ℕ)) (i : ℕ) → ps ≡ places_of cs fs → AreDistinct (part_names cs) →
+      AreIn fs (part_names cs) → AreDistinct fs →
+      (c : Part) × IsAbsent cs ps i c × (may_be_absent c ≡ false) × NoneMissing cs ps i → IsMissingPart k cs fs i
+  lacking_at ps i e s a d h =
+      let m = one_missing cs fs i h.0 (subst (λ qs. IsAbsent cs qs i h.0) e h.1) h.2 in
       record {
         part = h.0;
         there = h.1.there;
-        wrong = lacking_in_group a d
-            (one_lacking cs fs i h.0 (subst (λ qs. IsAbsent cs qs i h.0) e h.1) (subst (λ qs. IsDue h.0 cs qs) e h.2));
+        wrong = lacking a d m;
+        first = of_root m (none_missing_before cs fs i s (subst (λ qs. NoneMissing cs qs i) e h.3));
+      }
+
+  pub due_at : (ps : List (Option ℕ)) (i : ℕ) → ps ≡ places_of cs fs → AllThere cs ps → AreDistinct (part_names cs) →
+      AreIn fs (part_names cs) → AreDistinct fs →
+      (c : Part) × IsAbsent cs ps i c × IsDue c cs ps × NoneDue cs ps i → IsMissingPart k cs fs i
+  due_at ps i e t s a d h =
+      let m = one_lacking cs fs i h.0 (subst (λ qs. IsAbsent cs qs i h.0) e h.1) (subst (λ qs. IsDue h.0 cs qs) e h.2) in
+      record {
+        part = h.0;
+        there = h.1.there;
+        wrong = lacking_in_group a d m;
+        first = of_group (none_missing cs fs (subst (AllThere cs) e t)) m
+            (none_lacking_before cs fs i s (subst (λ qs. NoneDue cs qs i) e h.3));
       }
 
   module _ (ps : List (Option ℕ)) (e : ps ≡ places_of cs fs)
@@ -73,8 +89,9 @@ module _ (k : ListKind) (cs : List Part) (fs : List Name) where
             (record { arranged = (d, a); complete = complete; whole = whole; placed = e })
 
     pub behind_at : (i : ℕ) → k ≡ Sequence → AreDistinct (part_names cs) → AreDistinct fs → AreIn fs (part_names cs) →
-        IsJumbled (part_names cs) fs i → IsBehind k cs fs i
-    behind_at i q s d a j =
+        IsJumbled (part_names cs) fs i × IsPartOf (take i fs) (part_names cs) → IsBehind k cs fs i
+    behind_at i q s d a h =
+        let j = h.0 in
         let n = j.next in
         subst (λ (l : ListKind). IsBehind l cs fs i) (sym q)
         (record {
@@ -86,4 +103,5 @@ module _ (k : ListKind) (cs : List Part) (fs : List Name) where
           other_there = j.other_there;
           wrong = jumbled a d complete whole (turned_none s j) j.turned
               (record { first = j.before; second = i; apart = omega (arith, n); here = j.other_there; there = j.there });
+          ordered_before = h.1;
         })

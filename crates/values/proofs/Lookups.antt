@@ -2,7 +2,7 @@
 use Rattle.std.proofs.Common.{◌≡◌, ℕ, zero, suc, ◌+◌, ◌<◌, ◌≤◌, Bool, true, false, List, [], ◌∷◌, ◌++◌, Option, Some, None, refl, sym, subst, ap, ◌∙◌, take, length, map, arith, cond, option_map, get_or, below_more}
 use Rattle.std.specs.Prelude.{bytes_eq, slice_get, MatchOption}
 use Rattle.std.proofs.lemmas.List.{length-map}
-use Rattle.std.proofs.lemmas.Option.{same_Some, slice_get_within, slice_get_read}
+use Rattle.std.proofs.lemmas.Option.{same_Some, none-some, slice_get_within, slice_get_read}
 use Rattle.trees.specs.declared.value.Named.{Named}
 use Rattle.trees.specs.declared.value.ValueSyntax.{ValueSyntax}
 use Rattle.trees.specs.Values.{Name, name_at, member_of}
@@ -12,7 +12,31 @@ use Rattle.type_table.specs.declared.table.ListMember.{ListMember}
 use Rattle.type_table.specs.Seen.{part_of}
 use Rattle.type_table.specs.Table.{Part}
 use Rattle.value_notations.specs.Notations.{field_names, part_names}
+use Rattle.value_notations.specs.Wrong.{AreIn}
 use Rattle.values.specs.Arranged.{place_of}
+
+-- ---- fronts
+
+-- what stands in a front stands there in the whole
+pub in_front : {A : Type 0} (xs : List A) (i k : ℕ) (x : A) → slice_get (take i xs) k ≡ Some x → (k < i) × (slice_get xs k ≡ Some x)
+in_front [] zero k x e = absurd (none-some x e)
+in_front [] (suc i) k x e = absurd (none-some x e)
+in_front (y ∷ xs) zero k x e = absurd (none-some x e)
+in_front (y ∷ xs) (suc i) zero x e = (omega arith, e)
+in_front (y ∷ xs) (suc i) (suc k) x e = let h = in_front xs i k x e in let l = h.0 in (omega (arith, l), h.1)
+
+-- what stands before the end of a front stands in it
+pub to_front : {A : Type 0} (xs : List A) (i k : ℕ) (x : A) → k < i → slice_get xs k ≡ Some x → slice_get (take i xs) k ≡ Some x
+to_front [] i k x l e = absurd (none-some x e)
+to_front (y ∷ xs) zero k x l e = absurd (omega (arith, l))
+to_front (y ∷ xs) (suc i) zero x l e = e
+to_front (y ∷ xs) (suc i) (suc k) x l e = to_front xs i k x (omega (arith, l)) e
+
+-- a name that stands in a front and behind it stands twice
+pub twice_of : (xs : List Name) (i : ℕ) (x : Name) → slice_get xs i ≡ Some x → StandsIn (take i xs) x → StandsTwice xs x
+twice_of xs i x e s =
+    let h = in_front xs i s.0 x s.1 in
+    record { first = s.0; second = i; apart = h.0; here = h.1; there = e }
 
 -- ---- searching
 
@@ -131,10 +155,9 @@ distinct_firsts xs f x t =
     let same : t.first ≡ t.second = same_Some t.first t.second (sym a ∙ b) in
     absurd (omega (arith, same, l))
 
--- a name that stands first before its place stands twice
-pub twice_first : (xs : List Name) (i j : ℕ) (x : Name) → slice_get xs i ≡ Some x → place_of x xs ≡ Some j → j < i →
-    StandsTwice xs x
-twice_first xs i j x e f l = record { first = j; second = i; apart = l; here = place_there x xs j f; there = e }
+-- a name that stands first before a place stands in the front up to there
+pub before_place : (xs : List Name) (i j : ℕ) (x : Name) → place_of x xs ≡ Some j → j < i → StandsIn (take i xs) x
+before_place xs i j x f l = (j, to_front xs i j x l (place_there x xs j f))
 
 -- a name that doesn't stand first before its place stands first there
 pub first_itself : (xs : List Name) (i j : ℕ) (x : Name) → slice_get xs i ≡ Some x → place_of x xs ≡ Some j → i ≤ j →
@@ -180,6 +203,9 @@ known_next cs fs i x n e q s a =
 pub known_all : (cs fs : List Name) (i : ℕ) → length fs ≤ i → AreKnown cs fs i → (x : Name) → StandsIn fs x → StandsIn cs x
 known_all cs fs i l a x s = let w = slice_get_within fs s.0 x s.1 in a s.0 (omega (arith, w, l)) x s.1
 
+pub known_before : (cs fs : List Name) (i : ℕ) → AreKnown cs fs i → AreIn (take i fs) cs
+known_before cs fs i a x s = let h = in_front fs i s.0 x s.1 in a s.0 h.0 x h.1
+
 -- the first i fields stand first at their places
 abbrev pub AreFirst : List Name → ℕ → Type 0
 AreFirst fs i = (k : ℕ) → k < i → (x : Name) → slice_get fs k ≡ Some x → place_of x fs ≡ Some k
@@ -192,6 +218,16 @@ first_next fs i x n {j} e q f l a =
 
 pub first_all : (fs : List Name) (i : ℕ) → length fs ≤ i → AreFirst fs i → AreDistinct fs
 first_all fs i l a = distinct_firsts fs (λ k x e. let w = slice_get_within fs k x e in a k (omega (arith, w, l)) x e)
+
+pub first_before : (fs : List Name) (i : ℕ) → AreFirst fs i → AreDistinct (take i fs)
+first_before fs i a x t =
+    let h = in_front fs i t.first x t.here in
+    let g = in_front fs i t.second x t.there in
+    let b = a t.first h.0 x h.1 in
+    let c = a t.second g.0 x g.1 in
+    let l = t.apart in
+    let same : t.first ≡ t.second = same_Some t.first t.second (sym b ∙ c) in
+    absurd (omega (arith, same, l))
 
 -- the places of fields, in one pass
 abbrev pub place_in : List Name → ListMember → Option ℕ

@@ -6,14 +6,15 @@ use Rattle.trees.specs.declared.types.Standing.{Standing}
 use Rattle.trees.specs.declared.types.Standing.TheVariants.{Root, Addition}
 use Rattle.trees.specs.Types.{PresenceTree, mandatory, optional, default}
 use Rattle.trees.specs.Values.{Name}
-use Rattle.names.specs.Modules.{StandsIn}
+use Rattle.names.specs.Modules.{StandsIn, AreDistinct}
 use Rattle.names.specs.proving.Distinct.{stands_map}
 use Rattle.type_table.specs.Table.{Part}
 use Rattle.value_notations.specs.Notations.{part_names, may_be_absent}
 use Rattle.value_notations.specs.Wrong.{IsMissing, IsMissingInGroup}
-use Rattle.values.specs.Arranged.{place_of}
-use Rattle.values.specs.proving.Arranging.{IsAbsent, HasOther, IsDue, group_in, needed_in}
+use Rattle.values.specs.Arranged.{NoneBefore, place_of}
+use Rattle.values.specs.proving.Arranging.{IsAbsent, HasOther, IsDue, NoneDue, NoneMissing, group_in, needed_in}
 use Rattle.values.proofs.Lookups.{place_none, place_there, no_place, first_of}
+use Rattle.values.proofs.Orders.{one_place}
 
 abbrev pub places_of : List Part → List Name → List (Option ℕ)
 places_of cs fs = map (λ x. place_of x fs) (part_names cs)
@@ -61,14 +62,10 @@ needed_is mandatory s g e = (refl, group_is s g e)
 needed_is optional s g e = absurd cc
 needed_is (default d) s g e = absurd cc
 
-pub none_lacking : (cs : List Part) (fs : List Name) →
-    ((i : ℕ) (c : Part) → IsAbsent cs (places_of cs fs) i c → IsDue c cs (places_of cs fs) → ⊥) → (x : Name) →
-    IsMissingInGroup cs fs x → ⊥
-none_lacking cs fs f x m =
-    let a = absent_of cs fs m.there.0 m.part m.there.1 (λ s. m.none (subst (StandsIn fs) m.named s)) in
+due_of : (cs : List Part) (fs : List Name) (x : Name) (m : IsMissingInGroup cs fs x) → IsDue m.part cs (places_of cs fs)
+due_of cs fs x m =
     let o = first_of m.other.name fs m.other_present.0 m.other_present.1 in
-    f m.there.0 m.part a
-    (record {
+    record {
       group = m.group;
       needed = needed_of m.part.presence m.part.standing m.group m.needed m.standing;
       other = record {
@@ -79,7 +76,37 @@ none_lacking cs fs f x m =
         present = placed cs fs m.other_there.0 m.other m.other_there.1 ∙ ap Some o.is;
         grouped = grouped m.other.standing m.group m.other_standing;
       };
-    })
+    }
+
+pub none_lacking : (cs : List Part) (fs : List Name) →
+    ((i : ℕ) (c : Part) → IsAbsent cs (places_of cs fs) i c → IsDue c cs (places_of cs fs) → ⊥) → (x : Name) →
+    IsMissingInGroup cs fs x → ⊥
+none_lacking cs fs f x m =
+    let a = absent_of cs fs m.there.0 m.part m.there.1 (λ s. m.none (subst (StandsIn fs) m.named s)) in
+    f m.there.0 m.part a (due_of cs fs x m)
+
+-- a name is that of one component
+one_part : (cs : List Part) → AreDistinct (part_names cs) → (i j : ℕ) (c d : Part) → slice_get cs i ≡ Some c →
+    slice_get cs j ≡ Some d → c.name ≡ d.name → i ≡ j
+one_part cs s i j c d e f q =
+    one_place (part_names cs) d.name i j s (stands_map (λ (p : Part). p.name) cs i c e ∙ ap Some q)
+    (stands_map (λ (p : Part). p.name) cs j d f)
+
+pub none_missing_before : (cs : List Part) (fs : List Name) (i : ℕ) → AreDistinct (part_names cs) →
+    NoneMissing cs (places_of cs fs) i → NoneBefore (IsMissing cs fs) cs i
+none_missing_before cs fs i s f j d l e m =
+    let same = one_part cs s m.there.0 j m.part d m.there.1 e m.named in
+    let a = absent_of cs fs m.there.0 m.part m.there.1 (λ t. m.none (subst (StandsIn fs) m.named t)) in
+    let t = f m.there.0 (subst (λ k. k < i) (sym same) l) m.part a in
+    let n = m.needed in
+    absurd cc
+
+pub none_lacking_before : (cs : List Part) (fs : List Name) (i : ℕ) → AreDistinct (part_names cs) →
+    NoneDue cs (places_of cs fs) i → NoneBefore (IsMissingInGroup cs fs) cs i
+none_lacking_before cs fs i s f j d l e m =
+    let same = one_part cs s m.there.0 j m.part d m.there.1 e m.named in
+    let a = absent_of cs fs m.there.0 m.part m.there.1 (λ t. m.none (subst (StandsIn fs) m.named t)) in
+    f m.there.0 (subst (λ k. k < i) (sym same) l) m.part a (due_of cs fs d.name m)
 
 pub one_lacking : (cs : List Part) (fs : List Name) (i : ℕ) (c : Part) → IsAbsent cs (places_of cs fs) i c →
     IsDue c cs (places_of cs fs) → IsMissingInGroup cs fs c.name
@@ -104,10 +131,6 @@ one_lacking cs fs i c a d =
 
 -- ---- walks over components
 
--- of the first i components none is missing
-abbrev pub NoneMissing : List Part → List (Option ℕ) → ℕ → Type 0
-NoneMissing cs ps i = (k : ℕ) → k < i → (c : Part) → IsAbsent cs ps k c → may_be_absent c ≡ true
-
 pub missing_next : (cs : List Part) (ps : List (Option ℕ)) (i : ℕ) (c : Part) (o : Option ℕ) → slice_get cs i ≡ Some c →
     slice_get ps i ≡ Some o → ((o ≡ None) × (may_be_absent c ≡ false) → ⊥) → NoneMissing cs ps i → NoneMissing cs ps (i + 1)
 missing_next cs ps i c o e f n a =
@@ -122,10 +145,6 @@ missing_next cs ps i c o e f n a =
 pub missing_all : (cs : List Part) (ps : List (Option ℕ)) (i : ℕ) → length cs ≤ i → NoneMissing cs ps i → (k : ℕ) (c : Part) →
     IsAbsent cs ps k c → may_be_absent c ≡ true
 missing_all cs ps i l a k c b = let w = slice_get_within cs k c b.there in a k (omega (arith, w, l)) c b
-
--- of the first i components none is due
-abbrev pub NoneDue : List Part → List (Option ℕ) → ℕ → Type 0
-NoneDue cs ps i = (k : ℕ) → k < i → (c : Part) → IsAbsent cs ps k c → IsDue c cs ps → ⊥
 
 pub due_next : (cs : List Part) (ps : List (Option ℕ)) (i : ℕ) (c : Part) (o : Option ℕ) → slice_get cs i ≡ Some c →
     slice_get ps i ≡ Some o → ((o ≡ None) × IsDue c cs ps → ⊥) → NoneDue cs ps i → NoneDue cs ps (i + 1)

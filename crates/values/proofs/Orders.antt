@@ -42,7 +42,7 @@ later c b =
     record { first = suc b.first; second = suc b.second; apart = omega (arith, a); here = b.here; there = b.there }
 
 -- members keep their order
-part_before : {us cs : List Name} (i j : ℕ) (y x : Name) → IsPartOf us cs → i < j → slice_get us i ≡ Some y →
+pub part_before : {us cs : List Name} (i j : ℕ) (y x : Name) → IsPartOf us cs → i < j → slice_get us i ≡ Some y →
     slice_get us j ≡ Some x → IsBefore cs y x
 part_before i j y x none_left l e f = absurd (none-some y e)
 part_before i j y x (left_out {x = c} h) l e f = later c (part_before i j y x h l e f)
@@ -52,7 +52,7 @@ part_before zero (suc j) y x (taken h) l e f =
     record { first = 0; second = suc s.0; apart = omega arith; here = e; there = s.1 }
 part_before (suc i) (suc j) y x (taken {x = c} h) l e f = later c (part_before i j y x h (omega (arith, l)) e f)
 
-less_or_more : (i j : ℕ) → (i ≡ j) ⊎ ((i < j) ⊎ (j < i))
+pub less_or_more : (i j : ℕ) → (i ≡ j) ⊎ ((i < j) ⊎ (j < i))
 less_or_more i j = grind arith
 
 -- what stands at two places of distinct members stands at one
@@ -67,17 +67,21 @@ one_place xs x i j d e f =
       ]
     ]
 
+-- of two distinct names one stands before the other
+pub not_both : {cs : List Name} (x y : Name) → AreDistinct cs → IsBefore cs x y → IsBefore cs y x → ⊥
+not_both {cs} x y d t b =
+    let p = one_place cs y b.first t.second d b.here t.there in
+    let q = one_place cs x b.second t.first d b.there t.here in
+    let l = b.apart in
+    let m = t.apart in
+    omega (arith, p, q, l, m)
+
 -- the order is kept where one name doesn't stand directly behind another that goes behind it
 pub turned_none : {cs fs : List Name} {i : ℕ} → AreDistinct cs → IsJumbled cs fs i → IsPartOf fs cs → ⊥
 turned_none {cs} {fs} {i} d u h =
     let n = u.next in
-    let b = part_before u.before i u.other u.name h (omega (arith, n)) u.other_there u.there in
-    let t = u.turned in
-    let p = one_place cs u.other b.first t.second d b.here t.there in
-    let q = one_place cs u.name b.second t.first d b.there t.here in
-    let l = b.apart in
-    let m = t.apart in
-    omega (arith, p, q, l, m)
+    not_both u.name u.other d u.turned
+    (part_before u.before i u.other u.name h (omega (arith, n)) u.other_there u.there)
 
 -- ---- the walk over fields
 
@@ -135,6 +139,11 @@ module _ (cs fs : List Name) (i last p : ℕ) (x : Name) (e : slice_get fs i ≡
         other_there = r.there;
         turned = record { first = p; second = last; apart = l; here = g; there = r.place };
       }
+
+-- before a place that was reached they are in order
+pub walked_before : (cs fs : List Name) (i last : ℕ) → IsWalked cs fs i last → 0 < i → IsPartOf (take i fs) cs
+walked_before cs fs i last (inl z) l = absurd (omega (arith, z, l))
+walked_before cs fs i last (inr r) l = part_extend cs (suc last) r.part
 
 all_taken : {A : Type 0} (xs : List A) (i : ℕ) → length xs ≤ i → take i xs ≡ xs
 all_taken [] zero l = refl

@@ -1,11 +1,12 @@
 -- When the names of fields in braces are arranged as those of components (X.680, clauses 25.18, 25.19 and 27.3), which
 -- field each component has, and what faults say.
-use Rattle.std.specs.Prelude.{◌≡◌, ℕ, suc, List, [], ◌∷◌, Option, Some, None, cond, map, option_map, bytes_eq, slice_get}
+use Rattle.std.specs.Prelude.{◌≡◌, ◌<◌, ℕ, suc, List, [], ◌∷◌, Option, Some, None, cond, map, option_map, bytes_eq, slice_get, take}
 use Rattle.trees.specs.declared.types.ListKind.{ListKind}
 use Rattle.trees.specs.Values.{Name}
+use Rattle.names.specs.Modules.{StandsIn, AreDistinct}
 use Rattle.type_table.specs.Table.{Part}
-use Rattle.value_notations.specs.Notations.{AreArranged, part_names}
-use Rattle.value_notations.specs.Wrong.{IsDisarranged, IsMissing, IsMissingInGroup, unknown_item, repeated, missing, out_of_order}
+use Rattle.value_notations.specs.Notations.{AreArranged, IsPartOf, part_names}
+use Rattle.value_notations.specs.Wrong.{AreIn, IsDisarranged, IsMissing, IsMissingInGroup, unknown_item, repeated, missing, out_of_order}
 use Rattle.values.specs.declared.arranging.NamesFault.{NamesFault}
 use Rattle.values.specs.declared.arranging.NamesFault.TheVariants.{Memory, Unknown, Repeated, Missing, Behind}
 
@@ -22,25 +23,50 @@ pub record IsArranged (k : ListKind) (cs : List Part) (fs : List Name) (ps : Lis
   pub whole : (x : Name) → IsMissingInGroup cs fs x → ⊥
   pub placed : ps ≡ map (λ x. place_of x fs) (part_names cs)
 
--- a name that stands at this place is wrong
+-- the name at this place is the first one that no component has
 pub record IsWrongField (k : ListKind) (cs : List Part) (fs : List Name) (i : ℕ) : Type 0 where
   pub name : Name
   pub there : slice_get fs i ≡ Some name
   pub wrong : IsDisarranged k cs fs (unknown_item name)
+  pub known_before : AreIn (take i fs) (part_names cs)
 
--- the name at this place stands twice
+-- the name at this place is the first one that an earlier field has
 pub record IsRepeatedField (k : ListKind) (cs : List Part) (fs : List Name) (i : ℕ) : Type 0 where
   pub name : Name
   pub there : slice_get fs i ≡ Some name
   pub wrong : IsDisarranged k cs fs (repeated name)
+  pub again : StandsIn (take i fs) name
+  pub distinct_before : AreDistinct (take i fs)
 
--- the component at this place is missing
+-- P holds of the name of none of the first i components
+abbrev pub NoneBefore : (Name → Type 0) → List Part → ℕ → Type 0
+NoneBefore P cs i = (j : ℕ) (c : Part) →
+    j < i →
+    slice_get cs j ≡ Some c →
+    P c.name →
+    ⊥
+
+-- The component of this name, which is number i, is the first one that is missing: of those of the root, and where none
+-- of these is, of the additions of groups.
+pub data IsFirstMissing (cs : List Part) (fs : List Name) (i : ℕ) (x : Name) : Type 0 where
+  of_root :
+      IsMissing cs fs x →
+      NoneBefore (IsMissing cs fs) cs i →
+      IsFirstMissing cs fs i x
+  of_group :
+      ((y : Name) → IsMissing cs fs y → ⊥) →
+      IsMissingInGroup cs fs x →
+      NoneBefore (IsMissingInGroup cs fs) cs i →
+      IsFirstMissing cs fs i x
+
+-- the component at this place is the first one that is missing
 pub record IsMissingPart (k : ListKind) (cs : List Part) (fs : List Name) (i : ℕ) : Type 0 where
   pub part : Part
   pub there : slice_get cs i ≡ Some part
   pub wrong : IsDisarranged k cs fs (missing part.name)
+  pub first : IsFirstMissing cs fs i part.name
 
--- the name at this place goes before the one that stands directly before it
+-- the name at this place is the first one that goes before the one that stands directly before it
 pub record IsBehind (k : ListKind) (cs : List Part) (fs : List Name) (i : ℕ) : Type 0 where
   pub before : ℕ
   pub next : i ≡ suc before
@@ -49,6 +75,7 @@ pub record IsBehind (k : ListKind) (cs : List Part) (fs : List Name) (i : ℕ) :
   pub there : slice_get fs i ≡ Some name
   pub other_there : slice_get fs before ≡ Some other
   pub wrong : IsDisarranged k cs fs (out_of_order name other)
+  pub ordered_before : IsPartOf (take i fs) (part_names cs)
 
 abbrev pub IsNamesFault : ListKind → List Part → List Name → NamesFault → Type 0
 IsNamesFault k cs fs Memory = Unit {0}

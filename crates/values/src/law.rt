@@ -5,11 +5,14 @@ ghost use Rattle.asn_base.specs.Abstract.{Row, fields};
 ghost use Rattle.asn_base.specs.Typed.{GroupsAreWhole};
 ghost use Rattle.trees.specs.declared.types.ListKind.{ListKind};
 ghost use Rattle.trees.specs.Values.{Name, Tree};
+ghost use Rattle.names.specs.Modules.{AreDistinct};
 ghost use Rattle.type_table.specs.Table.{Part, members};
 ghost use Rattle.resolve.specs.Program.{Program};
-ghost use Rattle.value_notations.specs.Notations.{Fields, NotationOf, component_of, field_names, fields_in};
+ghost use Rattle.value_notations.specs.Notations.{Fields, NotationOf, component_of, field_names, fields_in, part_names};
 ghost use Rattle.value_notations.specs.Wrong.{IsDisarranged, Trouble};
-ghost use Rattle.values.specs.Arranged.{IsArranged};
+ghost use Rattle.values.specs.Arranged.{IsArranged, IsNamesFault};
+ghost use Rattle.values.specs.declared.arranging.NamesFault.{NamesFault};
+ghost use Rattle.values.specs.declared.arranging.NamesFault.TheVariants.{Memory};
 
 /// Names of fields are not both arranged and disarranged.
 pub fn arranged_alone()
@@ -17,6 +20,18 @@ pub fn arranged_alone()
         → IsArranged k cs fs ps
         → IsDisarranged k cs fs t
         → ⊥ }
+{}
+
+/// At most one fault of names stands, want of memory apart: which one is told, and at which field or component, is not
+/// left open.
+pub fn one_names_fault()
+    ensures { (k : ListKind) (cs : List Part) (fs : List Name) (f g : NamesFault)
+        → AreDistinct (part_names cs)
+        → (f ≡ Memory → ⊥)
+        → (g ≡ Memory → ⊥)
+        → IsNamesFault k cs fs f
+        → IsNamesFault k cs fs g
+        → f ≡ g }
 {}
 
 /// Where the names of fields are arranged, the groups of additions among the values of the fields are whole (X.680,

@@ -39,7 +39,7 @@ pub record MeanRow (p : Program) (levels before after : ℕ) (os : List ℕ) (M 
   pub values : AreElements p (Allows p) (AllowsCode p) levels i r
   pub counted : before ≡ after + row_nodes r
 
--- a fault stands in one of the notations, and those before it stand for values
+-- a fault stands in one of the notations, and those before it stand for values of the type
 pub record StandsInOne (p : Program) (levels left : ℕ) (os : List ℕ) (M : Name) (i : ℕ) (ts : List Tree) (f : ValueFault)
     : Type 0 where
   pub before : List Tree
@@ -48,6 +48,7 @@ pub record StandsInOne (p : Program) (levels left : ℕ) (os : List ℕ) (M : Na
   pub split : ts ≡ before ++ one ∷ after
   pub row : Row
   pub stand : Elements p os M i before row
+  pub values : AreElements p (Allows p) (AllowsCode p) levels i row
   pub rest : ℕ
   pub counted : left ≡ row_nodes row + rest
   pub fault : Stands p levels rest os M i one f
@@ -102,7 +103,7 @@ pub record MeanFields (p : Program) (levels before after : ℕ) (ps : List ℕ) 
   pub values : AreComponents p (Allows p) (AllowsCode p) levels N cs r
   pub counted : before ≡ after + row_nodes r
 
--- a fault stands in a component, and the fields of those before it stand for values
+-- a fault stands in a component, and the fields of those before it stand for values of their types
 pub record StandsInField (p : Program) (levels left : ℕ) (ps : List ℕ) (K N : Name) (fs : List (Name × Tree))
     (cs : List Part) (f : ValueFault) : Type 0 where
   pub before : List Part
@@ -111,6 +112,7 @@ pub record StandsInField (p : Program) (levels left : ℕ) (ps : List ℕ) (K N 
   pub split : cs ≡ before ++ one ∷ after
   pub row : Row
   pub stand : Fields p ps K fs before row
+  pub values : AreComponents p (Allows p) (AllowsCode p) levels N before row
   pub rest : ℕ
   pub counted : left ≡ row_nodes row + rest
   pub fault : IsWrongField p levels rest ps K N fs one f

@@ -1,32 +1,40 @@
 -- What the single checks of names answer.
-use Rattle.std.specs.Prelude.{◌≡◌, ℕ, suc, true, false, List, Option, Some, None, MatchOption, slice_get}
+use Rattle.std.specs.Prelude.{◌≡◌, ◌<◌, ℕ, suc, true, false, List, Option, Some, None, MatchOption, slice_get, take}
 use Rattle.trees.specs.declared.types.Standing.{Standing}
 use Rattle.trees.specs.declared.types.Standing.TheVariants.{Root, Addition}
 use Rattle.trees.specs.Types.{PresenceTree, mandatory, optional, default}
 use Rattle.trees.specs.Values.{Name}
-use Rattle.names.specs.Modules.{StandsIn, StandsTwice, AreDistinct}
+use Rattle.names.specs.Modules.{StandsIn, AreDistinct}
 use Rattle.type_table.specs.Table.{Part}
 use Rattle.value_notations.specs.Notations.{IsPartOf, may_be_absent}
 use Rattle.value_notations.specs.Wrong.{AreIn, IsBefore}
 
 abbrev pub IsUnknownAt : (parts fields : List Name) → Option ℕ → Type 0
 IsUnknownAt cs fs o =
-    MatchOption o (AreIn fs cs) (λ i. (x : Name) × (slice_get fs i ≡ Some x) × (StandsIn cs x → ⊥))
+    MatchOption o
+    (AreIn fs cs)
+    (λ i. (x : Name) × (slice_get fs i ≡ Some x) × (StandsIn cs x → ⊥) × AreIn (take i fs) cs)
 
 abbrev pub IsRepeatedAt : List Name → Option ℕ → Type 0
 IsRepeatedAt fs o =
-    MatchOption o (AreDistinct fs) (λ i. (x : Name) × (slice_get fs i ≡ Some x) × StandsTwice fs x)
+    MatchOption o
+    (AreDistinct fs)
+    (λ i. (x : Name) × (slice_get fs i ≡ Some x) × StandsIn (take i fs) x × AreDistinct (take i fs))
 
 -- component i is c, and has no field
 pub record IsAbsent (cs : List Part) (places : List (Option ℕ)) (i : ℕ) (c : Part) : Type 0 where
   pub there : slice_get cs i ≡ Some c
   pub none : slice_get places i ≡ Some None
 
+-- of the first i components none is missing
+abbrev pub NoneMissing : List Part → List (Option ℕ) → ℕ → Type 0
+NoneMissing cs ps i = (k : ℕ) → k < i → (c : Part) → IsAbsent cs ps k c → may_be_absent c ≡ true
+
 abbrev pub IsMissingAt : List Part → List (Option ℕ) → Option ℕ → Type 0
 IsMissingAt cs ps o =
     MatchOption o
     ((i : ℕ) (c : Part) → IsAbsent cs ps i c → may_be_absent c ≡ true)
-    (λ i. (c : Part) × IsAbsent cs ps i c × (may_be_absent c ≡ false))
+    (λ i. (c : Part) × IsAbsent cs ps i c × (may_be_absent c ≡ false) × NoneMissing cs ps i)
 
 abbrev pub group_in : Standing → Option ℕ
 group_in Root = None
@@ -53,11 +61,15 @@ pub record IsDue (c : Part) (cs : List Part) (places : List (Option ℕ)) : Type
   pub needed : needed_in c.presence c.standing ≡ Some group
   pub other : HasOther group cs places
 
+-- of the first i components none is due
+abbrev pub NoneDue : List Part → List (Option ℕ) → ℕ → Type 0
+NoneDue cs ps i = (k : ℕ) → k < i → (c : Part) → IsAbsent cs ps k c → IsDue c cs ps → ⊥
+
 abbrev pub IsMissingInGroupAt : List Part → List (Option ℕ) → Option ℕ → Type 0
 IsMissingInGroupAt cs ps o =
     MatchOption o
     ((i : ℕ) (c : Part) → IsAbsent cs ps i c → IsDue c cs ps → ⊥)
-    (λ i. (c : Part) × IsAbsent cs ps i c × IsDue c cs ps)
+    (λ i. (c : Part) × IsAbsent cs ps i c × IsDue c cs ps × NoneDue cs ps i)
 
 -- the name at place i goes before the one that stands directly before it
 pub record IsJumbled (cs fs : List Name) (i : ℕ) : Type 0 where
@@ -70,4 +82,4 @@ pub record IsJumbled (cs fs : List Name) (i : ℕ) : Type 0 where
   pub turned : IsBefore cs name other
 
 abbrev pub IsJumbledAt : (parts fields : List Name) → Option ℕ → Type 0
-IsJumbledAt cs fs o = MatchOption o (IsPartOf fs cs) (IsJumbled cs fs)
+IsJumbledAt cs fs o = MatchOption o (IsPartOf fs cs) (λ i. IsJumbled cs fs i × IsPartOf (take i fs) cs)

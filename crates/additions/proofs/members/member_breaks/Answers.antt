@@ -15,3 +15,18 @@ returns c = λ x q. record {
   no_default = c.is_default_addition.ensures.plain c.if-is_default_addition.false x q;
   ordered = c.in_ok-falls.ensures.ordered c.if-falls.false x q;
 }
+
+pub returns-then-is_default_addition : goal.returns-then-is_default_addition
+returns-then-is_default_addition c = (
+  c.is_default_addition.ensures.default c.if-is_default_addition.true,
+  c.is_misplaced.ensures.placed c.if-is_misplaced.false,
+)
+
+pub returns-then-falls : goal.returns-then-falls
+returns-then-falls c =
+    let o = c.in_ok-falls.ensures.disordered c.if-falls.true in (
+      o.0,
+      o.1,
+      c.is_misplaced.ensures.placed c.if-is_misplaced.false,
+      c.is_default_addition.ensures.plain c.if-is_default_addition.false,
+    )

@@ -15,7 +15,7 @@ use Rattle.typed_values.specs.Faults as faults
 use Rattle.typed_values.specs.proving.Reading as reading
 use Rattle.typed_values.proofs.Following.{sound_kind}
 use Rattle.typed_values.proofs.Rows.{got}
-use Rattle.typed_values.proofs.Readings.{of_kind, own_fault, row_none, row_wrong, row_more, fields_none, fields_wrong, fields_more, place_at, as_many, placed, field_there, field_stands, place_none, list_means, list_outside, list_fault, choice_means, choice_fault, fields_fault, fields_mean, value_as, means_as, alternative_below, alternative_at, alternative_name, no_alternative, names_misfit, row_count, unfollowed_at, written_of, last_of, member_there, element_there, no_reference, no_tagged, absent_addition, absent_optional, absent_mandatory, read_means, read_stands, last_at, stands_as}
+use Rattle.typed_values.proofs.Readings.{of_kind, own_fault, room_fault, row_none, row_wrong, row_more, fields_none, fields_wrong, fields_more, place_at, as_many, placed, field_there, field_stands, place_none, list_means, list_outside, list_fault, choice_means, choice_fault, fields_fault, fields_mean, value_as, means_as, alternative_below, alternative_at, alternative_name, no_alternative, names_misfit, row_count, unfollowed_at, written_of, last_of, member_there, element_there, no_reference, no_tagged, absent_addition, absent_optional, absent_mandatory, read_means, read_stands, last_at, stands_as}
 use Rattle.typed_values.proofs.Braces.{values_found, values_none_found, fields_found, fields_none_found}
 use Rattle.typed_values.proofs.reading.+reading.Goals as goal
 
@@ -218,7 +218,7 @@ fields-returns-in-Ok-all_fields-clause-tells t c = λ os e w h.
 
 pub fields-returns-clause-tells : goal.fields-returns-clause-tells
 fields-returns-clause-tells t c = λ os e w h.
-    fields_fault w c.requires.1.1.0 h (fields_found _ _ c.in-Some.ensures) c.in-Err-all_fields.ensures.fault
+    fields_fault w c.requires.1.1.0 h (fields_found _ _ c.in-Some.ensures) c.in-Ok.ensures c.in-Err-all_fields.ensures.fault
 
 -- ---- a SEQUENCE OF or SET OF
 
@@ -250,14 +250,14 @@ list-returns-clause-tells t c = λ os k N w h.
 -- ---- a notation
 
 pub read-returns-then-levels-eq0-clause-tells : goal.read-returns-then-levels-eq0-clause-tells
-read-returns-then-levels-eq0-clause-tells t c = own_fault _ refl refl refl c.if-levels-eq0.true
+read-returns-then-levels-eq0-clause-tells t c = faults.itself refl refl refl tt c.if-levels-eq0.true
 
 pub read-returns-then-left-eq0-clause-tells : goal.read-returns-then-left-eq0-clause-tells
-read-returns-then-left-eq0-clause-tells t c = own_fault _ refl refl refl c.if-left-eq0.true
+read-returns-then-left-eq0-clause-tells t c = faults.itself refl refl refl c.if-levels-eq0.false c.if-left-eq0.true
 
 pub read-returns-in-Err-clause-tells : goal.read-returns-in-Err-clause-tells
 read-returns-in-Err-clause-tells t c =
-    own_fault _ refl refl refl
+    room_fault _ refl refl refl c.if-levels-eq0.false c.if-left-eq0.false
     (unfollowed_at _ _ _ _ _ _ _ c.linked-linked.ensures c.written.ensures c.in-Err.ensures.fault c.unfollowed-cause.ensures)
 
 pub value_of-list-requires : goal.value_of-list-requires

@@ -1,4 +1,4 @@
-use Rattle.std.proofs.Common.{map, subst, ◌∙◌}
+use Rattle.std.proofs.Common.{map, subst, sym, ◌∙◌}
 use Rattle.trees.specs.Values.{member_of}
 use Rattle.type_table.specs.Seen.{part_of}
 use Rattle.value_notations.specs.Notations.{field_names}
@@ -17,12 +17,16 @@ returns-in-Some-repeated c =
 pub returns-in-Some-missing : goal.returns-in-Some-missing
 returns-in-Some-missing c =
     lacking_at c.args.kind (map part_of c.args.components.now) (field_names (map member_of c.args.fields.now)) _ c.in-Some-missing.i
-    (c.deref.ensures.value ∙ c.in-Ok.ensures) c.in_default.ensures c.in_default-repeated.ensures c.in-Some-missing.ensures
+    (c.deref.ensures.value ∙ c.in-Ok.ensures) c.requires.distinct c.in_default.ensures c.in_default-repeated.ensures
+    c.in-Some-missing.ensures
 
 pub returns-in-Some-missing_in_group : goal.returns-in-Some-missing_in_group
 returns-in-Some-missing_in_group c =
-    due_at c.args.kind (map part_of c.args.components.now) (field_names (map member_of c.args.fields.now)) _ c.in-Some-missing_in_group.i
-    (c.deref-2.ensures.value ∙ c.in-Ok.ensures) c.in_default.ensures c.in_default-repeated.ensures c.in-Some-missing_in_group.ensures
+    let cs = map part_of c.args.components.now in
+    let missing = subst (AllThere cs) (c.deref.ensures.value ∙ sym c.deref-2.ensures.value) c.in_default-missing.ensures in
+    due_at c.args.kind cs (field_names (map member_of c.args.fields.now)) _ c.in-Some-missing_in_group.i
+    (c.deref-2.ensures.value ∙ c.in-Ok.ensures) missing c.requires.distinct c.in_default.ensures c.in_default-repeated.ensures
+    c.in-Some-missing_in_group.ensures
 
 pub returns-in-Some-jumbled : goal.returns-in-Some-jumbled
 returns-in-Some-jumbled c =

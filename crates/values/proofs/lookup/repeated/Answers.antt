@@ -4,7 +4,7 @@ use Rattle.trees.specs.declared.value.ValueSyntax.{ValueSyntax}
 use Rattle.trees.specs.Values.{name_at, member_of}
 use Rattle.value_notations.specs.Notations.{field_names}
 use Rattle.values.specs.Arranged.{place_of}
-use Rattle.values.proofs.Lookups.{field_at, fields_long, place_none, twice_first, first_next, first_all}
+use Rattle.values.proofs.Lookups.{field_at, fields_long, place_none, before_place, first_before, first_next, first_all}
 use Rattle.values.proofs.lookup.repeated.Goals as goal
 
 pub returns-in-None : goal.returns-in-None
@@ -24,8 +24,9 @@ returns-then-first-i c =
     let here = field_at c.args.fields.now c.loop-i.i f c.loop-i-test.true c.index-fields-i.is in (
       name_at f.name,
       here,
-      twice_first fs c.loop-i.i c.in-Some.first (name_at f.name) here
+      before_place fs c.loop-i.i c.in-Some.first (name_at f.name)
           (subst (λ n. place_of n fs ≡ Some c.in-Some.first) named (sym c.in-Some.ensures)) c.if-first-i.true,
+      first_before fs c.loop-i.i c.loop-i.invariant,
     )
 
 pub loop-i-preserved : goal.loop-i-preserved

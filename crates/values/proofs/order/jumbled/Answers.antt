@@ -6,7 +6,7 @@ use Rattle.type_table.specs.Seen.{part_of}
 use Rattle.value_notations.specs.Notations.{field_names, part_names}
 use Rattle.values.specs.Arranged.{place_of}
 use Rattle.values.proofs.Lookups.{field_at, fields_long, place_none, place_there}
-use Rattle.values.proofs.Orders.{walks, jumbles, walked}
+use Rattle.values.proofs.Orders.{walks, walked_before, jumbles, walked}
 use Rattle.values.proofs.order.jumbled.Goals.{else-i-gt0-via-then-i-gt0+else-place-last, else-i-gt0-via-else-i-gt0}
 use Rattle.values.proofs.order.jumbled.Goals as goal
 
@@ -27,9 +27,11 @@ returns-then-place-last c =
     let named = c.as_str.ensures.value ∙ ap (λ (z : Named ValueSyntax). name_at z.name) (sym c.index-fields-i.is) in
     let here = field_at c.args.fields.now c.loop-i.i f c.loop-i-test.true c.index-fields-i.is in
     let at = place_there (name_at f.name) cs c.in-Some.place
-    (subst (λ n. place_of n cs ≡ Some c.in-Some.place) named (sym c.in-Some.ensures)) in
-    jumbles cs fs c.loop-i.i c.loop-i.last c.in-Some.place (name_at f.name) here at c.loop-i.invariant c.if-i-gt0.true
-    c.if-place-last.true
+    (subst (λ n. place_of n cs ≡ Some c.in-Some.place) named (sym c.in-Some.ensures)) in (
+      jumbles cs fs c.loop-i.i c.loop-i.last c.in-Some.place (name_at f.name) here at c.loop-i.invariant c.if-i-gt0.true
+          c.if-place-last.true,
+      walked_before cs fs c.loop-i.i c.loop-i.last c.loop-i.invariant c.if-i-gt0.true,
+    )
 
 pub loop-i-preserved : goal.loop-i-preserved
 loop-i-preserved c =

@@ -18,6 +18,7 @@ returns-then-is_missing c =
       absent_here (map part_of c.args.components.now) c.args.places.now i (part_of d) _ here
           (slice_get-get_or c.args.places.now i _ (omega (arith, l, r))) q.0,
       q.1,
+      c.loop-i.invariant,
     )
 
 pub loop-i-preserved : goal.loop-i-preserved

@@ -1,6 +1,6 @@
 use Rattle.std.proofs.Common.{map}
 use Rattle.type_table.specs.Seen.{part_of}
-use Rattle.values.proofs.Missings.{NoneDue}
+use Rattle.values.specs.proving.Arranging.{NoneDue}
 use Rattle.values.proofs.order.missing_in_group.Given as goal
 
 abbrev pub invariant-loop-i : goal.invariant-loop-i
