@@ -2,10 +2,12 @@
 
 ghost use Rattle.asn_base.specs.Abstract.{abstract};
 ghost use Rattle.asn_base.specs.Schemas.{IsSchema};
-ghost use Rattle.asn_base.specs.Typed.{IsValue};
+ghost use Rattle.asn_base.specs.Typed.{IsValue, IsValueWithoutNodes};
 ghost use Rattle.codec_code.specs.Routines.{routine_at, starts_of, steps_at, table_of};
 ghost use Rattle.codec_code.specs.Steps.{IsDefaultAt};
 ghost use Rattle.std.specs.Prelude.{◌≡◌, ◌-◌, ◌<◌, ◌≤◌, ◌↔◌, IsTrue, drop, length, slice_get, take};
+ghost use Rattle.views.specs.Seen.{IsPart};
+ghost use Rattle.views.specs.Tree.{Tree, value_of};
 
 use crate::build::Table;
 use crate::default::is_default_at;
@@ -14,6 +16,8 @@ use asn_base::decide::is_value;
 use asn_base::schema::{Schema, TypeId};
 use asn_base::value::Value;
 use std::marker::Model;
+use view_values::is_surely_value;
+use views::Part;
 
 /// The codec programs of a schema's types. It keeps a copy of the schema, by which contracts name its types, and lends
 /// none.
@@ -80,6 +84,18 @@ impl Code {
         ensures { IsTrue result ↔ IsValue self.now id.index (abstract value.now) }
     {
         is_value(value, &self.schema, id)
+    }
+
+    /// Whether the value that a part of a view shows is surely one of the type, the limit on nodes apart: where it answers
+    /// true, it is. Where it answers false, a copy has to be asked. It takes no memory.
+    pub fn is_surely_value(&self, id: TypeId, part: &Part<'_, '_>) -> bool
+        requires { (t : Tree) × IsPart part.now t }
+        ensures { (t : Tree)
+            → IsPart part.now t
+            → IsTrue result
+            → IsValueWithoutNodes self.now id.index (value_of t) }
+    {
+        is_surely_value(part, &self.schema, id)
     }
 
     /// Whether the component at this place of the type, from 0 in order of definition, has a DEFAULT that the value is

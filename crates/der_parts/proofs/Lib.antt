@@ -1,3 +1,4 @@
 pub mod Room
 pub mod Sending
+pub mod Spelled
 pub mod Writing

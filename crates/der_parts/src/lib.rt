@@ -3,12 +3,14 @@
 #![tactic(auto)]
 
 mod header;
+mod join;
 mod part;
 mod send;
 mod small;
 mod write;
 
 pub use header::push_header;
+pub use join::push_parts;
 pub use part::Part;
-pub use small::{Small, small_part};
+pub use small::{Small, octets_held, small_octet, small_part};
 pub use write::write_parts;

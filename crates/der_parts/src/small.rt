@@ -27,14 +27,22 @@ pub fn small_part(tag: Tag, constructed: bool, octets: &LeafOctets) -> Option<Sm
     ensures few { IfSome result (λ s. length (joined_pieces octets.now) ≤ 21) }
 {
     match octets {
-        LeafOctets::One(octet) => match short_header(tag, constructed, 1) {
-            Some((first, size)) => Some(three(first, size, *octet)),
-            None => None,
-        },
+        LeafOctets::One(octet) => small_octet(tag, constructed, *octet),
         LeafOctets::Few(few) => small_slice(tag, constructed, few.as_slice()),
         LeafOctets::Whole(whole) => small_slice(tag, constructed, whole),
         LeafOctets::Bits(_, _, _) => None,
         LeafOctets::Arcs(_, _) => None,
+    }
+}
+
+/// The header with the fewest octets and one contents octet behind it, where the header has two octets; None for all
+/// others.
+pub fn small_octet(tag: Tag, constructed: bool, octet: u8) -> Option<Small>
+    ensures { IfSome result (λ s. held s ≡ shortest_header tag constructed 1 ++ octet ∷ []) }
+{
+    match short_header(tag, constructed, 1) {
+        Some((first, size)) => Some(three(first, size, octet)),
+        None => None,
     }
 }
 
@@ -85,4 +93,15 @@ fn with_others(two: [u8; 23], others: &[u8]) -> [u8; 23]
         octets[i + 2] = others[i];
     }
     octets
+}
+
+/// The octets that are held.
+pub fn octets_held(small: &Small) -> &[u8]
+    ensures { result.now ≡ held small.now }
+{
+    if (small.len as usize) < small.octets.len() {
+        &small.octets[..small.len as usize]
+    } else {
+        &small.octets
+    }
 }

@@ -7,17 +7,16 @@ ghost use Rattle.der_writer.specs.declared.fault.WriteFault.TheVariants.{Device,
 ghost use Rattle.der_parts.specs.Parts.{Spell};
 ghost use Rattle.encodings.specs.Account.{Tells};
 ghost use Rattle.encodings.specs.Encoding.{Der};
-ghost use Rattle.std.specs.Prelude.{◌≡◌, ◌<◌, ◌^◌, Err, IfErr, IfOk, List, length, ℕ};
+ghost use Rattle.std.specs.Prelude.{◌≡◌, ◌<◌, Err, IfErr, IfOk, List, length, ℕ};
 
 use crate::fault::WriteFault;
 use crate::law::encodings_of_values;
 use asn_base::schema::TypeId;
 use asn_base::value::Value;
 use codec_code::Code;
-use der_parts::write_parts;
+use der_parts::push_parts;
 use octet_account::account::Account;
 use octet_account::law::one_account;
-use sinks::InMemory;
 use std::alloc::{AllocError, Global};
 use writing_table::{Part, measure};
 
@@ -61,12 +60,9 @@ pub fn write_der(
 
 /// The octets that parts spell, in a list with room for so many of them from the start.
 fn joined(alloc: Global, parts: &[Part], octets: usize) -> Result<Vec<u8>, AllocError>
-    requires { (o : List ℕ) × Spell parts.now o × (length o < 2 ^ 64) }
     ensures { (o : List ℕ) → Spell parts.now o → IfOk result (λ v. v.items ≡ o) }
 {
-    let mut sink = InMemory::of(Vec::with_capacity(alloc, octets)?);
-    match write_parts(&mut sink, parts) {
-        Ok(()) => Ok(sink.into_octets()),
-        Err(_) => Err(AllocError),
-    }
+    let mut out = Vec::with_capacity(alloc, octets)?;
+    push_parts(parts, &mut out)?;
+    Ok(out)
 }

@@ -1,7 +1,7 @@
 -- What has contents of a kind, and what has none.
-use Rattle.std.proofs.Common.{◌≡◌, ℕ, ℤ, Bool, true, false, List, [], refl, sym, subst}
+use Rattle.std.proofs.Common.{◌≡◌, ℕ, ℤ, Bool, true, false, List, [], ◌∷◌, refl, sym, subst}
 use Rattle.std.specs.Int.Digits.{AllBelowBase}
-use Rattle.std.specs.Prelude.{flat_map, MatchOption, Option}
+use Rattle.std.specs.Prelude.{flat_map, IfSome, MatchOption, Option}
 use Rattle.asn_base.specs.declared.strings.StringKind.{StringKind}
 use Rattle.asn_base.specs.Abstract.{AbstractValue, boolean, integer, enumerated, bits, octets, text, null, oid, relative_oid}
 use Rattle.asn_base.specs.Types.{any_number, any_size, a_boolean, an_integer, an_enumerated, a_bit_string, a_named_bit_string, an_octet_string, a_null, an_object_identifier, a_relative_oid, a_utf8_string, a_restricted_string}
@@ -128,3 +128,6 @@ is_restricted h = restricted_in h.same h.contents
 -- the same of a kind that is known
 pub given : {k m : LeafKind} (v : AbstractValue) (r : Option LeafOctets) → k ≡ m → MatchOption r (HasNone m v) (λ l. HasContents m v (joined_pieces l)) → MatchOption r (HasNone k v) (λ l. HasContents k v (joined_pieces l))
 given v r e h = subst (λ q. MatchOption r (HasNone q v) (λ l. HasContents q v (joined_pieces l))) (sym e) h
+
+pub octet_given : {k l : LeafKind} (v : AbstractValue) (r : Option ℕ) → k ≡ l → IfSome r (λ o. HasContents l v (o ∷ [])) → IfSome r (λ o. HasContents k v (o ∷ []))
+octet_given v r e h = subst (λ q. IfSome r (λ o. HasContents q v (o ∷ []))) (sym e) h

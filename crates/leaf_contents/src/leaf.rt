@@ -8,7 +8,7 @@ ghost use Rattle.encodings.specs.Contents.{Contents, Number};
 ghost use Rattle.encodings.specs.Rules.{Distinguished};
 ghost use Rattle.leaf_contents.specs.Held.{HasNone};
 ghost use Rattle.leaf_contents.specs.Pieces.{joined_pieces};
-ghost use Rattle.std.specs.Prelude.{MatchOption, [], ◌∷◌, false};
+ghost use Rattle.std.specs.Prelude.{IfSome, MatchOption, [], ◌∷◌, false};
 
 use crate::arcs::{is_object_identifier, is_relative_oid, object_identifier, relative_oid};
 use crate::bits::{are_octets, filled, trimmed};
@@ -56,11 +56,59 @@ pub fn leaf_octets(kind: LeafKind, value: &Value) -> Option<LeafOctets<'_>>
     }
 }
 
+/// The one contents octet of a BOOLEAN, or of a small INTEGER or ENUMERATED; None for all others.
+pub fn leaf_octet(kind: LeafKind, value: &Value) -> Option<u8>
+    ensures { IfSome result (λ o. HasContents kind (abstract value.now) (o ∷ [])) }
+{
+    match kind {
+        LeafKind::Boolean => boolean_octet(value),
+        LeafKind::Integer => integer_octet(value),
+        LeafKind::Enumerated => enumerated_octet(value),
+        _ => None,
+    }
+}
+
 /// All bits are set for TRUE and none for FALSE (X.690, 8.2.2 and 11.1).
 fn truth_octet(truth: bool) -> u8
     ensures { Contents Distinguished a_boolean (boolean truth) false (result ∷ []) }
 {
     if truth { 255 } else { 0 }
+}
+
+fn boolean_octet(value: &Value) -> Option<u8>
+    ensures { IfSome result (λ o. HasContents Boolean (abstract value.now) (o ∷ [])) }
+{
+    abstract_values();
+    match value {
+        Value::Bool(truth) => Some(truth_octet(*truth)),
+        _ => None,
+    }
+}
+
+fn integer_octet(value: &Value) -> Option<u8>
+    ensures { IfSome result (λ o. HasContents Integer (abstract value.now) (o ∷ [])) }
+{
+    abstract_values();
+    match value {
+        Value::Int(number) => match one_octet(*number) {
+            Some(octet) => Some(octet),
+            None => None,
+        },
+        _ => None,
+    }
+}
+
+fn enumerated_octet(value: &Value) -> Option<u8>
+    ensures { IfSome result (λ o. HasContents Enumerated (abstract value.now) (o ∷ [])) }
+{
+    abstract_values();
+    match value {
+        Value::Enum(number) => match one_octet(*number) {
+            Some(octet) => Some(octet),
+            None => None,
+        },
+        _ => None,
+    }
 }
 
 fn of_boolean(value: &Value) -> Option<LeafOctets<'_>>

@@ -12,6 +12,6 @@ mod number;
 mod push;
 
 pub use buffer::{Buffer, push_digits, push_septets};
-pub use leaf::{LeafOctets, leaf_octets};
+pub use leaf::{LeafOctets, leaf_octet, leaf_octets};
 pub use len::{leaf_len, octet_count};
 pub use push::push_leaf;

@@ -5,7 +5,6 @@ pub mod Ordered
 pub mod Placing
 pub mod Seen
 pub mod Small
-pub mod Spelled
 pub mod Standing
 pub mod Trees
 pub mod Whole

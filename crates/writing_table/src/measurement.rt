@@ -25,6 +25,9 @@ use octet_account::law::accounts_within_bounds;
 use octet_account::row::Row;
 use std::alloc::Global;
 
+/// No fewer rows than these are guessed.
+const FEWEST_GUESSED: usize = 32;
+
 /// No more rows than these are guessed.
 const MOST_GUESSED: usize = 1 << 20;
 
@@ -80,16 +83,20 @@ pub fn measure<'a>(
     }
 }
 
-/// How many rows there may be, so that lists needn't grow: as many as if all members of a list were like the first one.
-/// At most 2^20, and any guess will do.
+/// How many rows there may be, so that lists needn't grow: as many as if all members of a list were like the first one,
+/// and one of the list. At least 32 and at most 2^20, and any guess will do.
 fn guessed_rows(value: &Value) -> usize {
     match value {
         Value::List(values) => match values.as_slice().first() {
-            Some(first) => values.len().saturating_mul(guessed_members(first)),
+            Some(first) => values
+                .len()
+                .saturating_mul(guessed_members(first))
+                .saturating_add(1),
             None => 1,
         },
         _ => guessed_members(value),
     }
+    .max(FEWEST_GUESSED)
     .min(MOST_GUESSED)
 }
 

@@ -9,7 +9,7 @@ ghost use Rattle.codec_machine.specs.declared.fault.RunFault.TheVariants.{NotOfT
 ghost use Rattle.octet_account.specs.Seen.{flat, told_of};
 ghost use Rattle.writing_table.specs.Tables.{ContentsAdded, GroupBegins, GroupEnds, HeaderCloses, HeaderOpens};
 ghost use Rattle.writing_table.specs.Tables.{LeftOut, MemberEnds, MembersBegin, MembersEndIfAny, WholeAdded, parts_of, state_of};
-ghost use Rattle.der_parts.specs.Parts.{Spell};
+ghost use Rattle.der_parts.specs.Parts.{Spell, held};
 ghost use Rattle.der_parts.specs.declared.part.Part.{Part as Part'};
 ghost use Rattle.encodings.specs.Fewest.{shortest_header};
 ghost use Rattle.leaf_contents.specs.Pieces.{joined_pieces};
@@ -23,8 +23,8 @@ use crate::table::{Group, Member, Open, Table};
 use asn_base::value::Value;
 use codec_code::{Head, LeafKind, RowKind};
 use codec_machine::RunFault;
-use der_parts::{Part, small_part};
-use leaf_contents::{LeafOctets, leaf_len, leaf_octets, octet_count};
+use der_parts::{Part, Small, small_octet, small_part};
+use leaf_contents::{LeafOctets, leaf_len, leaf_octet, leaf_octets, octet_count};
 use octet_account::row::{Row, Told};
 use octets::header_len;
 use std::alloc::AllocError;
@@ -156,6 +156,47 @@ pub(crate) fn add_contents<'a>(
 /// A header, contents of a value that holds no others, and the end of the header. `NotOfType`: it has none of this
 /// kind.
 pub(crate) fn add_whole<'a>(
+    table: &mut Table<'a>,
+    head: Head,
+    kind: LeafKind,
+    value: &'a Value,
+) -> Result<(), RunFault>
+    ensures adds { OnOk result ((x : List ℕ) × HasContents kind (abstract value.now) x
+        × WholeAdded head x (state_of table.old) (state_of table.new)) }
+    ensures not_of_type { IfErr result (λ e. e ≡ NotOfType → HasNoContents kind (abstract value.now)) }
+{
+    match leaf_octet(kind, value) {
+        Some(octet) => match small_octet(head.tag, head.constructed, octet) {
+            Some(small) => {
+                add_octet(table, head, octet, small)?;
+                Ok(())
+            }
+            None => add_any(table, head, kind, value),
+        },
+        None => add_any(table, head, kind, value),
+    }
+}
+
+/// A header with one contents octet, and the end of the header, as one part that holds them.
+fn add_octet<'a>(
+    table: &mut Table<'a>,
+    head: Head,
+    octet: u8,
+    small: Small,
+) -> Result<(), AllocError>
+    requires { held small ≡ shortest_header head.tag head.constructed 1 ++ octet ∷ [] }
+    ensures { OnOk result (WholeAdded head (octet ∷ []) (state_of table.old) (state_of table.new)) }
+{
+    add_part(&mut table.parts, Part::Small(small))?;
+    add_row(&mut table.rows, leaf_row(head.tag, 1))?;
+    let header = header_len(head.tag, 1);
+    table.count = sum(table.count, sum(header, 1));
+    table.members = sum(table.members, 1);
+    Ok(())
+}
+
+/// The same whatever contents it has.
+fn add_any<'a>(
     table: &mut Table<'a>,
     head: Head,
     kind: LeafKind,

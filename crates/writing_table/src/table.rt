@@ -56,7 +56,7 @@ pub struct Table<'a> {
 }
 
 impl<'a> Table<'a> {
-    /// The table of nothing, with room for so many rows and twice as many parts, where there is memory for them.
+    /// The table of nothing, with room for so many rows and as many parts, where there is memory for them.
     pub(crate) fn new(alloc: Global, rows: usize) -> Self
         ensures parts { result.parts.items ≡ [] }
         ensures opened { result.opened.items ≡ [] }
@@ -67,7 +67,7 @@ impl<'a> Table<'a> {
     {
         Table {
             alloc,
-            parts: with_room(alloc, rows.saturating_mul(2)),
+            parts: with_room(alloc, rows),
             opened: Vec::new(alloc),
             groups: Vec::new(alloc),
             count: 0,

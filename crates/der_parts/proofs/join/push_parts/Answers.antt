@@ -1,6 +1,6 @@
 use Rattle.std.proofs.Common.{rules, ◌<◌, ◌≤◌, length}
-use Rattle.writing_table.proofs.Spelled.{next_written, all_written}
-use Rattle.writing_table.proofs.scratch.push_parts.Goals as goal
+use Rattle.der_parts.proofs.Spelled.{next_written, all_written}
+use Rattle.der_parts.proofs.join.push_parts.Goals as goal
 
 pub loop-i-preserved : goal.loop-i-preserved
 loop-i-preserved c =
