@@ -16,6 +16,8 @@ use Rattle.octet_answers.specs.Answers.{Takes}
 use Rattle.octet_answers.specs.Left.{Leaves}
 use Rattle.octet_answers.specs.States.{State, Token, front}
 use Rattle.reading_law.specs.Shows.{Shows, passed_in, StandIn}
+use Rattle.ber_views.specs.Telling.{IsBuiltOf}
+use Rattle.ber_views.specs.declared.telling.Built.{Built}
 
 -- octets say a value of the type as it stands, with so many unknown additions, by the basic rules; they are at most as
 -- many as a message has, with at most 400 levels of headers. The tokens show the value, and as many skipped additions;
@@ -29,6 +31,12 @@ pub record IsMessage (s : List Resolved) (t : TypeNumber) (o : Octets) (told : L
   pub shown : Shows s t value told
   pub counted : passed_in told ≡ count
   pub stand : StandIn o told
+
+-- The view of such a value, built of the tokens of a message, with the number of additions that were skipped.
+pub record IsViewed (s : List Resolved) (t : TypeNumber) (o : Octets) (b : Built) : Type 0 where
+  pub told : List Token
+  pub message : IsMessage s t o told
+  pub built : IsBuiltOf s told b
 
 -- a proper front of the octets says a value
 pub record HasMessageFirst (s : List Resolved) (t : TypeNumber) (o : Octets) : Type 0 where

@@ -6,7 +6,10 @@
 mod message;
 mod open;
 mod stop;
+mod view;
 
+pub use ber_views::Built;
 pub use message::read_message;
 pub use open::{Open, Part};
 pub use stop::{Whereabouts, most_values, stop_of};
+pub use view::read_view;

@@ -86,12 +86,12 @@ pub fn read_message<'a>(
 }
 
 /// They are octets.
-fn are_octets(octets: &[u8])
+pub(crate) fn are_octets(octets: &[u8])
     ensures { AllBelowBase 256 octets.now }
 {}
 
 /// Whether the octets end within the header at their front, or before the contents that it tells.
-fn ends_early(octets: &[u8]) -> bool
+pub(crate) fn ends_early(octets: &[u8]) -> bool
     ensures early { result ≡ true → EndsEarly octets.now }
     ensures late { EndsEarly octets.now → result ≡ true }
     ensures none { result ≡ true → (g : Tag') (c : Bool) (n k : ℕ) → HeaderAt g c n k octets.now → ⊥ }
@@ -109,7 +109,7 @@ fn ends_early(octets: &[u8]) -> bool
 }
 
 /// A fault within a message: none of its length, none behind it, and none of a constraint.
-fn within(fault: ReadFault) -> ReadFault
+pub(crate) fn within(fault: ReadFault) -> ReadFault
     ensures limit { result ≡ MessageLimit → ⊥ }
     ensures trailing { result ≡ Trailing → ⊥ }
     ensures memory { fault ≡ Memory → result ≡ Memory }

@@ -13,8 +13,13 @@ use Rattle.reading_law.specs.Shows.{Shows, shows, ShowsOf, shows_leaf, shows_seq
 use Rattle.views.specs.Building.{Building, opened, open_fields, open_list, open_alternative, Header, Closes, closes_fields, closes_list, closes_alternative, with_tree, begun as begun'}
 use Rattle.views.specs.Tree.{Leaf, boolean, integer, enumerated, bits, octets, text, null, oid, relative_oid, leaf_value, Tree, leaf, value_of, Members, no_member, member, joined, element_values, component_value, IsBorrowed, AreBorrowed, IsBorrowedLeaf, StandsAt}
 use Rattle.views.specs.Tree as tree
-use Rattle.ber_reader.specs.Shapes.{shape_of, shape_in}
-use Rattle.ber_reader.specs.Wants.{IsShownAs, begun_as, number_as, Wants}
+use Rattle.reading_law.specs.Shows.{passed_in}
+use Rattle.views.specs.Seen.{IsView}
+use Rattle.ber_message.specs.Messages.{IsViewed}
+use Rattle.ber_views.specs.declared.telling.Built.{Built}
+use Rattle.ber_views.specs.Log.{passes}
+use Rattle.ber_views.specs.Shapes.{shape_of, shape_in}
+use Rattle.ber_views.specs.Wants.{IsShownAs, begun_as, number_as, Wants}
 use Rattle.ber_reader.proofs.Shapes.{shape_at, leaf_shape}
 use Rattle.ber_reader.proofs.Rows.{many, Ordered, ordered_none, ordered_absent, ordered_present, ordered_row, Mixed, mixed_none, mixed_more, mixed_row, joined_none, joined_more, found_below}
 
@@ -196,3 +201,22 @@ module _ (s : List Resolved) (schema : IsSchema s) (m : List ℕ) (short : lengt
 pub shown_builds : (s : List Resolved) → IsSchema s → (m : List ℕ) → length m ≤ 16777216 → (t : TypeNumber) (w : AbstractValue) (ts : List Token) → Shows s t w ts → StandIn m ts → Wants s m w ts 0 false begun'
 shown_builds s schema m short t w ts sh st =
     subst (λ q. Wants s m w q 0 false begun') (append-nil ts) (value_wants s schema m short w sh st [] 0 begun' (λ t e b. record { tree = t; whole = refl; shows = e; borrowed = b }))
+
+-- the tree of a message that is viewed
+pub tree_of : (s : List Resolved) → IsSchema s → (t : TypeNumber) (o : List ℕ) (b : Built) (v : IsViewed s t o b)
+    → (u : Tree) × IsView b.view u × (value_of u ≡ v.message.value) × IsBorrowed o u
+tree_of s schema t o b v =
+    v.built.view o v.message.value (shown_builds s schema o v.message.short t v.message.value v.told v.message.shown v.message.stand)
+
+as_many : (ts : List Token) → passes ts ≡ passed_in ts
+as_many [] = refl
+as_many (passed ∷ ts) = ap suc (as_many ts)
+as_many (component i ∷ ts) = as_many ts
+as_many (chosen i ∷ ts) = as_many ts
+as_many (begun t ∷ ts) = as_many ts
+as_many (ended ∷ ts) = as_many ts
+as_many (held k c x at ∷ ts) = as_many ts
+
+-- as many additions were skipped
+pub skipped_of : {s : List Resolved} {t : TypeNumber} {o : List ℕ} (b : Built) (v : IsViewed s t o b) → b.skipped ≡ v.message.count
+skipped_of b v = v.built.counts ∙ as_many v.told ∙ v.message.counted

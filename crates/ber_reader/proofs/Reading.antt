@@ -1,5 +1,7 @@
 -- What is answered of a message that was read.
-use Rattle.std.proofs.Common.{◌≡◌, ℕ, ◌≤◌, Bool, true, List, IsTrue, ◌↔◌, sym, subst}
+use Rattle.std.proofs.Common.{◌≡◌, ◌⊎◌, ⊎_elim, inl, inr, ℕ, ◌≤◌, Bool, true, List, IsTrue, ◌↔◌, refl, sym, ap, subst, ◌∙◌}
+use Rattle.codec_source.specs.declared.fault.ReadFault.{ReadFault}
+use Rattle.codec_source.specs.declared.fault.ReadFault.TheVariants as faults
 use Rattle.std.proofs.Common.{false}
 use Rattle.asn_base.specs.Abstract.{AbstractValue}
 use Rattle.asn_base.specs.Types.{Resolved}
@@ -52,3 +54,44 @@ stop_some s t o m (Err e) h = h
 
 pub stop_most : {E : Type 0} (s : List Resolved) (t : TypeId) (o : List ℕ) (m n : ℕ) (r : Result Whereabouts E) → m ≡ n → IfOk r (λ w. IsStop s t o m w) → IfOk r (λ w. IsStop s t o n w)
 stop_most s t o m n r e h = subst (λ q. IfOk r (λ w. IsStop s t o q w)) e h
+
+-- ---- why a value is refused
+
+abbrev pub fault_in : {A : Type 0} → ReadFault → Result A ReadFault → ReadFault
+fault_in d (Ok a) = d
+fault_in d (Err e) = e
+
+outside_no_memory : faults.OutsideConstraint ≡ faults.Memory → ⊥
+outside_no_memory e = cc
+
+missing_no_memory : faults.Missing ≡ faults.Memory → ⊥
+missing_no_memory e = cc
+
+pub outside_memory : (f : ReadFault) → f ≡ faults.OutsideConstraint → f ≡ faults.Memory → ⊥
+outside_memory f e m = outside_no_memory (sym e ∙ m)
+
+pub missing_memory : (f : ReadFault) → f ≡ faults.Missing → f ≡ faults.Memory → ⊥
+missing_memory f e m = missing_no_memory (sym e ∙ m)
+
+-- a fault is want of memory, or another one
+memory_or_not : (f : ReadFault) → (f ≡ faults.Memory) ⊎ (f ≡ faults.Memory → ⊥)
+memory_or_not faults.Memory = inl refl
+memory_or_not faults.MessageLimit = inr (λ e. cc)
+memory_or_not faults.IntegerLimit = inr (λ e. cc)
+memory_or_not faults.OidLimit = inr (λ e. cc)
+memory_or_not faults.Truncated = inr (λ e. cc)
+memory_or_not faults.Indefinite = inr (λ e. cc)
+memory_or_not faults.BadLength = inr (λ e. cc)
+memory_or_not faults.BadTag = inr (λ e. cc)
+memory_or_not faults.UnexpectedTag = inr (λ e. cc)
+memory_or_not faults.Missing = inr (λ e. cc)
+memory_or_not faults.BadContents = inr (λ e. cc)
+memory_or_not faults.EmptySegments = inr (λ e. cc)
+memory_or_not faults.OutsideConstraint = inr (λ e. cc)
+memory_or_not faults.Trailing = inr (λ e. cc)
+memory_or_not faults.TooDeep = inr (λ e. cc)
+memory_or_not faults.NotDer = inr (λ e. cc)
+
+-- a refusal that is excluded but for want of memory
+pub fault_memory : (f : ReadFault) → ((f ≡ faults.Memory → ⊥) → ⊥) → f ≡ faults.Memory
+fault_memory f n = ⊎_elim (λ e. e) (λ m. absurd (n m)) (memory_or_not f)

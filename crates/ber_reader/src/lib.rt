@@ -2,15 +2,11 @@
 //! and 11).
 #![tactic(auto)]
 
-mod arcs;
-mod build;
 mod der;
 pub mod law;
-mod leaf;
 mod place;
 mod read;
 mod seek;
-mod shape;
 mod wrong;
 
 pub use ber_message::{Open, Part, Whereabouts};

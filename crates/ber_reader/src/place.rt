@@ -2,15 +2,13 @@
 
 ghost use Rattle.ber_message.specs.Messages.{IsMessage, room_of};
 ghost use Rattle.ber_message.specs.Stops.{IsStop};
-ghost use Rattle.ber_source.specs.Seen.{token_of};
 ghost use Rattle.octet_answers.specs.States.{Token as Token'};
-ghost use Rattle.std.specs.Prelude.{◌≤◌, IfOk, length, List, map, ℕ};
+ghost use Rattle.std.specs.Prelude.{◌≤◌, IfOk, length, List, ℕ};
 
-use crate::build::view_of;
 use crate::seek::begun_before;
 use crate::wrong::wrong_from;
 use asn_base::schema::TypeId;
-use ber_message::{Whereabouts, most_values, read_message, stop_of};
+use ber_message::{Whereabouts, most_values, read_message, read_view, stop_of};
 use ber_source::Token;
 use codec_code::Code;
 use codec_source::ReadFault;
@@ -47,19 +45,21 @@ pub fn whereabouts(
     }
 }
 
-/// How many values begin in the message before the innermost one that is none of its type.
+/// How many values begin in the message before the innermost one that is none of its type; its tokens are these.
 fn before_wrong(
     alloc: Global,
     code: &Code,
     id: TypeId,
     octets: &[u8],
     tokens: &[Token<'_>],
-) -> Result<usize, AllocError>
-    requires { IsMessage code.now id.index octets.now (map token_of tokens.now) }
-{
+) -> Result<usize, AllocError> {
     code.accepted();
-    let view = view_of(alloc, code, tokens)?;
-    let value = view.to_value(alloc)?;
+    let built = match read_view(alloc, code, id, octets) {
+        Ok(built) => built,
+        Err(ReadFault::Memory) => return Err(AllocError),
+        Err(_) => return Ok(most_values(octets)),
+    };
+    let value = built.view.to_value(alloc)?;
     if code.is_value(id, &value) {
         return Ok(most_values(octets));
     }

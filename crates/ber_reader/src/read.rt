@@ -1,22 +1,19 @@
 //! Messages read as views.
 
 ghost use Rattle.asn_base.specs.Abstract.{AbstractValue};
+ghost use Rattle.asn_base.specs.Typed.{IsValue, IsValueWithoutNodes};
 ghost use Rattle.ber_message.specs.Messages.{BeginsEncoding, EndsTooSoon, HasEncodingFirst, HasMessageFirst, IsEncoding, SaysNoValue};
 ghost use Rattle.ber_reader.specs.Readings.{IsReading};
-ghost use Rattle.ber_source.specs.Seen.{token_of};
 ghost use Rattle.codec_source.specs.declared.fault.ReadFault.TheVariants.{Memory, MessageLimit, Missing, OutsideConstraint, Trailing, Truncated};
 ghost use Rattle.encodings.specs.Reading.{Encodes};
 ghost use Rattle.encodings.specs.Rules.{Basic};
-ghost use Rattle.reading_law.specs.Shows.{passed_in};
-ghost use Rattle.std.specs.Prelude.{◌≡◌, ◌∷◌, ◌<◌, ◌≤◌, ◌⊎◌, [], Err, IfErr, IfOk, length, map, ℕ};
+ghost use Rattle.std.specs.Prelude.{◌≡◌, ◌<◌, ◌⊎◌, Err, IfErr, IfOk, length, OnOk, ℕ};
 ghost use Rattle.views.specs.Seen.{IsView};
 ghost use Rattle.views.specs.Tree.{Tree, value_of};
 
-use crate::build::view_of;
 use crate::wrong::fault_of;
 use asn_base::schema::TypeId;
-use ber_message::read_message;
-use ber_source::Token;
+use ber_message::read_view;
 use codec_code::Code;
 use codec_source::ReadFault;
 use encodings::message_laws;
@@ -66,14 +63,38 @@ pub fn read_ber<'a>(
 {
     code.accepted();
     message_laws();
-    let tokens = match read_message(alloc, code, id, octets) {
-        Ok(tokens) => tokens,
+    let built = match read_view(alloc, code, id, octets) {
+        Ok(built) => built,
         Err(fault) => return Err(fault),
     };
-    let view = match view_of(alloc, code, tokens.as_slice()) {
-        Ok(view) => view,
-        Err(_) => return Err(ReadFault::Memory),
-    };
+    match judge(alloc, code, id, &built.view) {
+        Ok(()) => {}
+        Err(why) => return Err(why),
+    }
+    Ok(Read {
+        view: built.view,
+        skipped: built.skipped,
+    })
+}
+
+/// Judges whether the value that a view shows is one of the type. A copy is asked only where the view alone doesn't tell
+/// that it is.
+fn judge(alloc: Global, code: &Code, id: TypeId, view: &View<'_>) -> Result<(), ReadFault>
+    requires { (t : Tree) × IsView view.now t }
+    ensures ok { OnOk result ((t : Tree)
+        → IsView view.now t
+        → IsValueWithoutNodes code.now id.index (value_of t)) }
+    ensures err { IfErr result (λ e. (e ≡ Memory → ⊥)
+        → (t : Tree)
+        → IsView view.now t
+        → IsValue code.now id.index (value_of t)
+        → ⊥) }
+    ensures limit { result ≡ Err MessageLimit → ⊥ }
+    ensures trailing { result ≡ Err Trailing → ⊥ }
+{
+    if code.is_surely_value(id, &view.top()) {
+        return Ok(());
+    }
     let value = match view.to_value(alloc) {
         Ok(value) => value,
         Err(_) => return Err(ReadFault::Memory),
@@ -81,39 +102,5 @@ pub fn read_ber<'a>(
     if !code.is_value(id, &value) {
         return Err(fault_of(alloc, code, id, &value));
     }
-    Ok(Read {
-        view,
-        skipped: skipped_in(tokens.as_slice()),
-    })
-}
-
-/// 1 of an addition that was skipped, 0 of any other token.
-fn one_skipped(token: Token<'_>) -> u64
-    ensures few { result ≤ 1 }
-    ensures is { result ≡ passed_in (token_of token.entry ∷ []) }
-{
-    match token {
-        Token::Passed => 1,
-        Token::Component(_) => 0,
-        Token::Chosen(_) => 0,
-        Token::Begun(_) => 0,
-        Token::Ended => 0,
-        Token::Held {
-            kind: _,
-            form: _,
-            octets: _,
-            at: _,
-        } => 0,
-    }
-}
-
-/// How many additions were skipped.
-fn skipped_in(tokens: &[Token<'_>]) -> u64
-    ensures { result ≡ passed_in (map token_of tokens.now) }
-{
-    let mut skipped = 0;
-    for i in 0..tokens.len() {
-        skipped += one_skipped(tokens[i]);
-    }
-    skipped
+    Ok(())
 }

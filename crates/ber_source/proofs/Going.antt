@@ -3,25 +3,14 @@ use Rattle.std.proofs.Common.{◌≡◌, Bool, List, refl, sym, subst, ◌∙◌
 use Rattle.std.specs.Prelude.{Option}
 use Rattle.codec_code.specs.declared.step.Field.{Field}
 use Rattle.codec_code.specs.declared.step.Step.{Step}
-use Rattle.octet_answers.specs.States.{State}
+use Rattle.asn_base.specs.Types.{Resolved}
+use Rattle.octet_answers.specs.States.{State, Token}
 use Rattle.octet_answers.specs.Found.{Passes}
 use Rattle.octet_answers.specs.Left.{Leaves, stays}
 use Rattle.codec_source.specs.declared.fault.ReadFault.{ReadFault}
 use Rattle.codec_source.specs.declared.fault.ReadFault.TheVariants.{Missing}
 use Rattle.ber_source.specs.declared.place.Place.{Place}
 use Rattle.ber_source.specs.Seen.{IsWithin, state_of}
-
--- whatever leads on from q leads on from p, to the same
-pub record IsPassing (ss : List Step) (e : Bool) (p q : Place) : Type 0 where
-  pub within : IsWithin (state_of q)
-  pub code : q.code.now ≡ p.code.now
-  pub to : (f : Option Field) (b : State)
-      → Passes p.code.now ss e (state_of q) f b
-      → Passes p.code.now ss e (state_of p) f b
-  pub back : (f : Option Field) (b : State)
-      → Passes p.code.now ss e (state_of p) f b
-      → Passes p.code.now ss e (state_of q) f b
-  pub onward : (b : State) (x : ReadFault) → Leaves (state_of q) b x → Leaves (state_of p) b x
 
 -- a question that is refused where it was asked, though not since something is missing
 pub here : (a : State) (x : ReadFault) → (x ≡ Missing → ⊥) → Leaves a a x
@@ -30,38 +19,52 @@ here a x n = stays (λ e. absurd (n e))
 pub stays_as : {a b : State} {x : ReadFault} → (x ≡ Missing → ⊥) → a ≡ b → Leaves a b x
 stays_as {a} {b} {x} n e = subst (λ q. Leaves a q x) e (here a x n)
 
-pub at_first : (ss : List Step) (e : Bool) (p : Place) → IsWithin (state_of p) → IsPassing ss e p p
-at_first ss e p w = record { within = w; code = refl; to = λ f b h. h; back = λ f b h. h; onward = λ b x h. h }
+-- by who is told
+module _ {T : Type 0} (suits : T → List Resolved → Type 0) (told : T → List Token) where
+  -- whatever leads on from q leads on from p, to the same
+  pub record IsPassing (ss : List Step) (e : Bool) (p q : Place T) : Type 0 where
+    pub within : IsWithin suits q
+    pub code : q.code.now ≡ p.code.now
+    pub to : (f : Option Field) (b : State)
+        → Passes p.code.now ss e (state_of told q) f b
+        → Passes p.code.now ss e (state_of told p) f b
+    pub back : (f : Option Field) (b : State)
+        → Passes p.code.now ss e (state_of told p) f b
+        → Passes p.code.now ss e (state_of told q) f b
+    pub onward : (b : State) (x : ReadFault) → Leaves (state_of told q) b x → Leaves (state_of told p) b x
 
-pub one_more : (ss : List Step) (e : Bool) (p q r : Place)
-    → IsPassing ss e p q
-    → IsWithin (state_of r)
-    → r.code.now ≡ q.code.now
-    → ((f : Option Field) (b : State)
-    → Passes q.code.now ss e (state_of r) f b
-    → Passes q.code.now ss e (state_of q) f b)
-    → ((f : Option Field) (b : State)
-    → Passes q.code.now ss e (state_of q) f b
-    → Passes q.code.now ss e (state_of r) f b)
-    → ((b : State) (x : ReadFault) → Leaves (state_of r) b x → Leaves (state_of q) b x)
-    → IsPassing ss e p r
-one_more ss e p q r i w c to back onward = record {
-  within = w;
-  code = c ∙ i.code;
-  to = λ f b h. i.to f b (subst (λ s. Passes s ss e (state_of q) f b) i.code (to f b (subst (λ s. Passes s ss e (state_of r) f b) (sym i.code) h)));
-  back = λ f b h. subst (λ s. Passes s ss e (state_of r) f b) i.code (back f b (subst (λ s. Passes s ss e (state_of q) f b) (sym i.code) (i.back f b h)));
-  onward = λ b x h. i.onward b x (onward b x h);
-}
+  pub at_first : (ss : List Step) (e : Bool) (p : Place T) → IsWithin suits p → IsPassing ss e p p
+  at_first ss e p w = record { within = w; code = refl; to = λ f b h. h; back = λ f b h. h; onward = λ b x h. h }
 
--- the same by the code of the first
-pub by_first : (ss : List Step) (e : Bool) (p q : Place) (a b : State) (f : Option Field)
-    → IsPassing ss e p q
-    → Passes q.code.now ss e a f b
-    → Passes p.code.now ss e a f b
-by_first ss e p q a b f i h = subst (λ s. Passes s ss e a f b) i.code h
+  pub one_more : (ss : List Step) (e : Bool) (p q r : Place T)
+      → IsPassing ss e p q
+      → IsWithin suits r
+      → r.code.now ≡ q.code.now
+      → ((f : Option Field) (b : State)
+      → Passes q.code.now ss e (state_of told r) f b
+      → Passes q.code.now ss e (state_of told q) f b)
+      → ((f : Option Field) (b : State)
+      → Passes q.code.now ss e (state_of told q) f b
+      → Passes q.code.now ss e (state_of told r) f b)
+      → ((b : State) (x : ReadFault) → Leaves (state_of told r) b x → Leaves (state_of told q) b x)
+      → IsPassing ss e p r
+  one_more ss e p q r i w c to back onward = record {
+    within = w;
+    code = c ∙ i.code;
+    to = λ f b h. i.to f b (subst (λ s. Passes s ss e (state_of told q) f b) i.code (to f b (subst (λ s. Passes s ss e (state_of told r) f b) (sym i.code) h)));
+    back = λ f b h. subst (λ s. Passes s ss e (state_of told r) f b) i.code (back f b (subst (λ s. Passes s ss e (state_of told q) f b) (sym i.code) (i.back f b h)));
+    onward = λ b x h. i.onward b x (onward b x h);
+  }
 
-pub by_last : (ss : List Step) (e : Bool) (p q : Place) (a b : State) (f : Option Field)
-    → IsPassing ss e p q
-    → Passes p.code.now ss e a f b
-    → Passes q.code.now ss e a f b
-by_last ss e p q a b f i h = subst (λ s. Passes s ss e a f b) (sym i.code) h
+  -- the same by the code of the first
+  pub by_first : (ss : List Step) (e : Bool) (p q : Place T) (a b : State) (f : Option Field)
+      → IsPassing ss e p q
+      → Passes q.code.now ss e a f b
+      → Passes p.code.now ss e a f b
+  by_first ss e p q a b f i h = subst (λ s. Passes s ss e a f b) i.code h
+
+  pub by_last : (ss : List Step) (e : Bool) (p q : Place T) (a b : State) (f : Option Field)
+      → IsPassing ss e p q
+      → Passes p.code.now ss e a f b
+      → Passes q.code.now ss e a f b
+  by_last ss e p q a b f i h = subst (λ s. Passes s ss e a f b) (sym i.code) h

@@ -1,10 +1,15 @@
 -- A cursor in memory, as the state that it is in.
-use Rattle.std.specs.Prelude.{◌+◌, ◌≤◌, map, length}
+use Rattle.std.specs.Prelude.{◌+◌, ◌≤◌, map, length, List, Vec}
+use Rattle.std.specs.declared.alloc.Global.{Global}
 use Rattle.std.specs.List.{AllByRecursion}
+use Rattle.asn_base.specs.Types.{Resolved}
 use Rattle.octets.specs.Forms.{is_constructed}
 use Rattle.ber_source.specs.declared.window.Window.{Window as Window'}
 use Rattle.ber_source.specs.declared.token.Token.{Token as Token'}
 use Rattle.ber_source.specs.declared.token.Token.TheVariants as tokens
+use Rattle.ber_source.specs.declared.token.Mark.{Mark}
+use Rattle.ber_source.specs.declared.token.Mark.TheVariants as marks
+use Rattle.ber_source.specs.declared.token.Held.{Held}
 use Rattle.ber_source.specs.declared.place.Place.{Place}
 use Rattle.octet_answers.specs.States.{Window, Token, component, chosen, begun, ended, held, passed, State}
 
@@ -19,14 +24,29 @@ token_of tokens.Ended = ended
 token_of (tokens.Held k form octets at) = held k (is_constructed form) octets.now at
 token_of tokens.Passed = passed
 
-abbrev pub state_of : Place → State
-state_of p = record {
+-- a list of all that was read
+abbrev pub listed : Vec Token' Global → List Token
+listed v = map token_of v.items
+
+abbrev pub mark_of : Mark → Token
+mark_of (marks.Component i) = component i
+mark_of (marks.Chosen i) = chosen i
+mark_of (marks.Begun t) = begun t
+mark_of marks.Ended = ended
+mark_of marks.Passed = passed
+
+abbrev pub held_of : Held → Token
+held_of h = held h.kind (is_constructed h.form) h.octets.now h.at
+
+-- by what was told so far
+abbrev pub state_of : {T : Type 0} → (T → List Token) → Place T → State
+state_of told p = record {
   schema = p.code.now;
   here = window_of p.here;
   outer = map window_of p.outer.items;
   values = p.values.items;
   marks = p.marks.items;
-  told = map token_of p.told.items;
+  told = told p.told;
   room = p.room;
 }
 
@@ -34,6 +54,8 @@ state_of p = record {
 abbrev pub Fits : Window → Type 0
 Fits w = w.at + length w.octets ≤ 16777216
 
-pub record IsWithin (a : State) : Type 0 where
-  pub here : Fits a.here
-  pub outer : AllByRecursion Fits a.outer
+-- and whoever is told may be told of values of the schema
+pub record IsWithin {T : Type 0} (suits : T → List Resolved → Type 0) (p : Place T) : Type 0 where
+  pub here : Fits (window_of p.here)
+  pub outer : AllByRecursion Fits (map window_of p.outer.items)
+  pub suited : suits p.told p.code.now

@@ -1,7 +1,7 @@
 //! Answers about what stands next: components, elements and alternatives.
 
 ghost use Rattle.asn_base.specs.declared.schema.TypeId.{TypeId as TypeId'};
-ghost use Rattle.ber_source.specs.Seen.{IsWithin, state_of, token_of};
+ghost use Rattle.ber_source.specs.Seen.{IsWithin, mark_of, state_of};
 ghost use Rattle.codec_source.specs.declared.fault.ReadFault.TheVariants.{Memory};
 ghost use Rattle.codec_source.specs.proving.Frames.{IfRefused, IfRefusedWith};
 ghost use Rattle.octet_answers.specs.Answers.{AmongNext, Chooses, MoreNext, Skips, StandsNext};
@@ -9,10 +9,11 @@ ghost use Rattle.octet_answers.specs.Left.{Leaves};
 ghost use Rattle.octet_answers.specs.States.{State, marked, telling};
 ghost use Rattle.std.specs.Prelude.{◌≡◌, ◌++◌, ◌∷◌, [], Bool, IfErr, IfNone, IfOk, IfSome, OnOk, Option as Option', drop, length, List};
 
-use crate::moves::{push_token, told_header};
+use crate::moves::told_header;
 use crate::passing::pass;
 use crate::place::Place;
-use crate::token::Token;
+use crate::teller::Teller;
+use crate::token::Mark;
 use asn_base::schema::TypeId;
 use codec_code::{Coding, Field, Step};
 use codec_source::ReadFault;
@@ -22,33 +23,35 @@ use next_tags::{
 use octet_answers::law::one_unit;
 
 /// Tells one token more.
-fn tell<'c, 'a>(place: &mut Place<'c, 'a>, token: Token<'a>) -> Result<(), ReadFault>
-    requires { IsWithin (state_of place.old) }
-    ensures within { IsWithin (state_of place.new) }
-    ensures ok { OnOk result (state_of place.new ≡ telling (state_of place.old) (token_of token.entry)) }
+fn tell<'c, 'a, T: Teller<'a>>(place: &mut Place<'c, 'a, T>, mark: Mark) -> Result<(), ReadFault>
+    requires { IsWithin T.suits place.old }
+    ensures within { IsWithin T.suits place.new }
+    ensures ok { OnOk result (state_of T.tokens place.new ≡ telling (state_of T.tokens place.old) (mark_of mark)) }
     ensures err { IfErr result (λ e. e ≡ Memory) }
 {
-    push_token(&mut place.told, token)?;
-    Ok(())
+    match place.told.tell(mark) {
+        Ok(()) => Ok(()),
+        Err(fault) => Err(fault),
+    }
 }
 
 /// Whether an encoding stands next.
-pub(crate) fn has_more<'c, 'a>(place: &Place<'c, 'a>) -> bool
-    ensures { MoreNext (state_of place.now) result (state_of place.now) }
+pub fn has_more<'c, 'a, T: Teller<'a>>(place: &Place<'c, 'a, T>) -> bool
+    ensures { MoreNext (state_of T.tokens place.now) result (state_of T.tokens place.now) }
 {
     !place.here.octets.is_empty()
 }
 
 /// Whether the component of a SEQUENCE stands next.
-pub(crate) fn stands_next<'c, 'a>(
-    place: &mut Place<'c, 'a>,
+pub fn stands_next<'c, 'a, T: Teller<'a>>(
+    place: &mut Place<'c, 'a, T>,
     field: Field,
 ) -> Result<bool, ReadFault>
-    requires { IsWithin (state_of place.old) }
-    ensures within { IsWithin (state_of place.new) }
-    ensures ok { IfOk result (λ yes. StandsNext (state_of place.old) field yes (state_of place.new)) }
-    ensures err { IfRefused result ((yes : Bool) (b : State) → StandsNext (state_of place.old) field yes b → ⊥) }
-    ensures left { IfRefusedWith result (Leaves (state_of place.old) (state_of place.new)) }
+    requires { IsWithin T.suits place.old }
+    ensures within { IsWithin T.suits place.new }
+    ensures ok { IfOk result (λ yes. StandsNext (state_of T.tokens place.old) field yes (state_of T.tokens place.new)) }
+    ensures err { IfRefused result ((yes : Bool) (b : State) → StandsNext (state_of T.tokens place.old) field yes b → ⊥) }
+    ensures left { IfRefusedWith result (Leaves (state_of T.tokens place.old) (state_of T.tokens place.new)) }
 {
     one_unit();
     if place.here.octets.is_empty() {
@@ -62,7 +65,7 @@ pub(crate) fn stands_next<'c, 'a>(
         Err(fault) => return Err(told_header(fault)),
     };
     if can_begin(place.code, field.ty, unit.tag) {
-        tell(place, Token::Component(field.place))?;
+        tell(place, Mark::Component(field.place))?;
         return Ok(true);
     }
     if may_be_absent(field.need) {
@@ -72,15 +75,15 @@ pub(crate) fn stands_next<'c, 'a>(
 }
 
 /// The alternative that stands next.
-pub(crate) fn choose_next<'c, 'a>(
-    place: &mut Place<'c, 'a>,
+pub fn choose_next<'c, 'a, T: Teller<'a>>(
+    place: &mut Place<'c, 'a, T>,
     calls: &[Step],
 ) -> Result<TypeId, ReadFault>
-    requires { IsWithin (state_of place.old) }
-    ensures within { IsWithin (state_of place.new) }
-    ensures ok { IfOk result (λ id. Chooses (state_of place.old) calls.now id (state_of place.new)) }
-    ensures err { IfRefused result ((id : TypeId') (b : State) → Chooses (state_of place.old) calls.now id b → ⊥) }
-    ensures left { IfRefusedWith result (Leaves (state_of place.old) (state_of place.new)) }
+    requires { IsWithin T.suits place.old }
+    ensures within { IsWithin T.suits place.new }
+    ensures ok { IfOk result (λ id. Chooses (state_of T.tokens place.old) calls.now id (state_of T.tokens place.new)) }
+    ensures err { IfRefused result ((id : TypeId') (b : State) → Chooses (state_of T.tokens place.old) calls.now id b → ⊥) }
+    ensures left { IfRefusedWith result (Leaves (state_of T.tokens place.old) (state_of T.tokens place.new)) }
 {
     one_unit();
     let unit = match next_unit(place.here.octets) {
@@ -89,7 +92,7 @@ pub(crate) fn choose_next<'c, 'a>(
     };
     match choose(place.code, calls, unit.tag) {
         Some((index, id)) => {
-            tell(place, Token::Chosen(index))?;
+            tell(place, Mark::Chosen(index))?;
             Ok(id)
         }
         None => Err(ReadFault::UnexpectedTag),
@@ -97,12 +100,12 @@ pub(crate) fn choose_next<'c, 'a>(
 }
 
 /// Skips additions behind the last component that must stand, to the end of the contents.
-pub(crate) fn skip<'c, 'a>(place: &mut Place<'c, 'a>) -> Result<(), ReadFault>
-    requires { IsWithin (state_of place.old) }
-    ensures within { IsWithin (state_of place.new) }
-    ensures ok { OnOk result (Skips (state_of place.old) (state_of place.new)) }
-    ensures err { IfRefused result ((b : State) → Skips (state_of place.old) b → ⊥) }
-    ensures left { IfRefusedWith result (Leaves (state_of place.old) (state_of place.new)) }
+pub fn skip<'c, 'a, T: Teller<'a>>(place: &mut Place<'c, 'a, T>) -> Result<(), ReadFault>
+    requires { IsWithin T.suits place.old }
+    ensures within { IsWithin T.suits place.new }
+    ensures ok { OnOk result (Skips (state_of T.tokens place.old) (state_of T.tokens place.new)) }
+    ensures err { IfRefused result ((b : State) → Skips (state_of T.tokens place.old) b → ⊥) }
+    ensures left { IfRefusedWith result (Leaves (state_of T.tokens place.old) (state_of T.tokens place.new)) }
 {
     let id = match innermost(place.values.as_slice()) {
         Some(id) => id,
@@ -141,16 +144,16 @@ fn marks_from(marks: &[usize], from: usize) -> &[usize]
 
 /// The component of a SET that stands next behind additions, of those that the steps begin with, or None where none
 /// does and all that must were read.
-pub(crate) fn among_next<'c, 'a>(
-    place: &mut Place<'c, 'a>,
+pub fn among_next<'c, 'a, T: Teller<'a>>(
+    place: &mut Place<'c, 'a, T>,
     steps: &[Step],
 ) -> Result<Option<TypeId>, ReadFault>
-    requires { IsWithin (state_of place.old) }
-    ensures within { IsWithin (state_of place.new) }
-    ensures ok { IfOk result (λ id. AmongNext (state_of place.old) steps.now id (state_of place.new)) }
+    requires { IsWithin T.suits place.old }
+    ensures within { IsWithin T.suits place.new }
+    ensures ok { IfOk result (λ id. AmongNext (state_of T.tokens place.old) steps.now id (state_of T.tokens place.new)) }
     ensures err { IfRefused result ((id : Option' TypeId') (b : State)
-        → AmongNext (state_of place.old) steps.now id b → ⊥) }
-    ensures left { IfRefusedWith result (Leaves (state_of place.old) (state_of place.new)) }
+        → AmongNext (state_of T.tokens place.old) steps.now id b → ⊥) }
+    ensures left { IfRefusedWith result (Leaves (state_of T.tokens place.old) (state_of T.tokens place.new)) }
 {
     let found = match pass(place, steps, is_extensible(steps)) {
         Ok(found) => found,
@@ -177,15 +180,17 @@ pub(crate) fn among_next<'c, 'a>(
 }
 
 /// The component at a place of a SET was read.
-fn mark<'c, 'a>(place: &mut Place<'c, 'a>, at: usize) -> Result<(), ReadFault>
-    requires { IsWithin (state_of place.old) }
-    ensures within { IsWithin (state_of place.new) }
-    ensures ok { OnOk result (state_of place.new ≡ marked (state_of place.old) at) }
+fn mark<'c, 'a, T: Teller<'a>>(place: &mut Place<'c, 'a, T>, at: usize) -> Result<(), ReadFault>
+    requires { IsWithin T.suits place.old }
+    ensures within { IsWithin T.suits place.new }
+    ensures ok { OnOk result (state_of T.tokens place.new ≡ marked (state_of T.tokens place.old) at) }
     ensures err { IfErr result (λ e. e ≡ Memory) }
 {
     push_mark(&mut place.marks, at)?;
-    push_token(&mut place.told, Token::Component(at))?;
-    Ok(())
+    match place.told.tell(Mark::Component(at)) {
+        Ok(()) => Ok(()),
+        Err(fault) => Err(fault),
+    }
 }
 
 fn push_mark(list: &mut Vec<usize>, one: usize) -> Result<(), ReadFault>

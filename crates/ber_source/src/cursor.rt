@@ -7,27 +7,25 @@ ghost use Rattle.std.specs.Prelude.{◌≡◌, ◌<◌, ◌≤◌, IfErr, IfOk, 
 
 use crate::asking::{among_next, choose_next, has_more, skip, stands_next};
 use crate::moves::{begin, close, end, hold, open};
-use crate::place::Place;
+use crate::place::{Place, at_front};
 use crate::token::Token;
-use crate::window::Window;
 use asn_base::schema::TypeId;
 use codec_code::{Code, Field, Head, LeafKind, Step};
 use codec_source::{ReadFault, Source};
 use limits::MAX_MESSAGE;
 use octet_answers::law::one_answer;
-use octets::Form;
 use std::alloc::Global;
 use std::marker::Model;
 
 /// A message while it is read, from the front, by the basic rules.
 #[derive(Drop)]
 pub struct Cursor<'c, 'a> {
-    place: Place<'c, 'a>,
+    place: Place<'c, 'a, Vec<Token<'a>>>,
 }
 
 impl<'c, 'a> Model for Cursor<'c, 'a> {
     ghost use Rattle.octet_answers.specs.States.{State};
-    ghost use Rattle.ber_source.specs.Seen.{IsWithin, state_of};
+    ghost use Rattle.ber_source.specs.Seen.{IsWithin, listed, state_of};
     ghost use Rattle.std.specs.Coded.{codes};
     ghost use Rattle.asn_base.specs.Codes.{abstract_value_code};
 
@@ -35,9 +33,9 @@ impl<'c, 'a> Model for Cursor<'c, 'a> {
 
     ghost coded = { Prim.hlevel (codes, abstract_value_code) };
 
-    ghost view = { λ c. state_of c.place };
+    ghost view = { λ c. state_of listed c.place };
 
-    ghost invariant = { λ c. IsWithin (state_of c.place) };
+    ghost invariant = { λ c. IsWithin (λ v s. Unit {0}) c.place };
 }
 
 impl<'c, 'a> Cursor<'c, 'a> {
@@ -56,21 +54,7 @@ impl<'c, 'a> Cursor<'c, 'a> {
             return Err(ReadFault::MessageLimit);
         }
         Ok(Cursor {
-            place: Place {
-                alloc,
-                code,
-                here: Window {
-                    form: Form::Constructed,
-                    octets,
-                    at: 0,
-                    from: 0,
-                },
-                outer: Vec::new(alloc),
-                values: Vec::new(alloc),
-                marks: Vec::new(alloc),
-                told: Vec::new(alloc),
-                room,
-            },
+            place: at_front(alloc, code, octets, room, Vec::new(alloc)),
         })
     }
 

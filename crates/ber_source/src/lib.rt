@@ -1,14 +1,17 @@
 //! Octets as a source, read by the basic rules (X.690, 8.1 to 8.14): a cursor that answers a routine's questions just
-//! as `octet_answers` defines, and keeps what was read as tokens whose strings are slices of the message.
+//! as `octet_answers` defines, and tells what is read in tokens whose strings are slices of the message.
 #![tactic(auto)]
 
-mod asking;
+pub mod asking;
 mod cursor;
-mod moves;
+pub mod moves;
 mod passing;
-mod place;
+pub mod place;
+mod teller;
 mod token;
 mod window;
 
 pub use cursor::Cursor;
-pub use token::Token;
+pub use teller::Teller;
+pub use token::{Held, Holding, Mark, Token};
+pub use window::Window;

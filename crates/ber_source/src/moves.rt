@@ -1,7 +1,8 @@
 //! Answers that lead on: values begin and end, headers open and close, and contents are read.
 
 ghost use Rattle.asn_base.specs.Abstract.{AbstractValue};
-ghost use Rattle.ber_source.specs.Seen.{IsWithin, state_of, token_of};
+ghost use Rattle.ber_source.specs.Holding.{AreReadAs};
+ghost use Rattle.ber_source.specs.Seen.{IsWithin, state_of};
 ghost use Rattle.codec_source.specs.declared.fault.ReadFault.{ReadFault as ReadFault'};
 ghost use Rattle.codec_source.specs.declared.fault.ReadFault.TheVariants.{Memory, Missing};
 ghost use Rattle.codec_source.specs.proving.Frames.{IfRefused, IfRefusedWith};
@@ -11,10 +12,11 @@ ghost use Rattle.octet_answers.specs.States.{State, held_at, opened_at};
 ghost use Rattle.octet_answers.specs.Units.{UnitAt};
 ghost use Rattle.octets.specs.Forms.{is_constructed};
 ghost use Rattle.segmented_strings.specs.declared.fault.SegmentsFault.TheVariants.{Memory as NoMemory};
-ghost use Rattle.std.specs.Prelude.{◌≡◌, ◌++◌, ◌∷◌, ◌<◌, ◌≤◌, [], IfErr, OnErr, OnOk, drop, length};
+ghost use Rattle.std.specs.Prelude.{◌≡◌, ◌++◌, ◌∷◌, ◌<◌, ◌≤◌, [], IfErr, IfOk, OnErr, OnOk, drop, length};
 
 use crate::place::Place;
-use crate::token::Token;
+use crate::teller::Teller;
+use crate::token::{Held, Holding, Mark};
 use crate::window::Window;
 use asn_base::schema::TypeId;
 use codec_code::{Head, LeafKind};
@@ -105,22 +107,16 @@ fn push_window<'a>(list: &mut Vec<Window<'a>>, one: Window<'a>) -> Result<(), Re
     Ok(())
 }
 
-/// Tells one token more.
-pub(crate) fn push_token<'a>(list: &mut Vec<Token<'a>>, one: Token<'a>) -> Result<(), ReadFault>
-    ensures ok { OnOk result (list.new.items ≡ list.old.items ++ one.entry ∷ []) }
-    ensures err { IfErr result (λ e. e ≡ Memory) }
-{
-    list.push(one)?;
-    Ok(())
-}
-
 /// A value of the type begins.
-pub(crate) fn begin<'c, 'a>(place: &mut Place<'c, 'a>, id: TypeId) -> Result<(), ReadFault>
-    requires { IsWithin (state_of place.old) }
-    ensures within { IsWithin (state_of place.new) }
-    ensures ok { OnOk result (Begins (state_of place.old) id (state_of place.new)) }
-    ensures err { IfRefused result ((b : State) → Begins (state_of place.old) id b → ⊥) }
-    ensures left { IfRefusedWith result (Leaves (state_of place.old) (state_of place.new)) }
+pub fn begin<'c, 'a, T: Teller<'a>>(
+    place: &mut Place<'c, 'a, T>,
+    id: TypeId,
+) -> Result<(), ReadFault>
+    requires { IsWithin T.suits place.old }
+    ensures within { IsWithin T.suits place.new }
+    ensures ok { OnOk result (Begins (state_of T.tokens place.old) id (state_of T.tokens place.new)) }
+    ensures err { IfRefused result ((b : State) → Begins (state_of T.tokens place.old) id b → ⊥) }
+    ensures left { IfRefusedWith result (Leaves (state_of T.tokens place.old) (state_of T.tokens place.new)) }
 {
     if place.room == 0 {
         return Err(ReadFault::TooDeep);
@@ -129,35 +125,41 @@ pub(crate) fn begin<'c, 'a>(place: &mut Place<'c, 'a>, id: TypeId) -> Result<(),
         return Err(ReadFault::TooDeep);
     }
     push_value(&mut place.values, id)?;
-    push_token(&mut place.told, Token::Begun(id))?;
+    match place.told.tell(Mark::Begun(id)) {
+        Ok(()) => {}
+        Err(fault) => return Err(fault),
+    }
     place.room -= 1;
     Ok(())
 }
 
 /// The value that began last ends.
-pub(crate) fn end<'c, 'a>(place: &mut Place<'c, 'a>) -> Result<(), ReadFault>
-    requires { IsWithin (state_of place.old) }
-    ensures within { IsWithin (state_of place.new) }
-    ensures ok { OnOk result (Ends (state_of place.old) (state_of place.new)) }
-    ensures err { IfRefused result ((b : State) → Ends (state_of place.old) b → ⊥) }
-    ensures left { IfRefusedWith result (Leaves (state_of place.old) (state_of place.new)) }
+pub fn end<'c, 'a, T: Teller<'a>>(place: &mut Place<'c, 'a, T>) -> Result<(), ReadFault>
+    requires { IsWithin T.suits place.old }
+    ensures within { IsWithin T.suits place.new }
+    ensures ok { OnOk result (Ends (state_of T.tokens place.old) (state_of T.tokens place.new)) }
+    ensures err { IfRefused result ((b : State) → Ends (state_of T.tokens place.old) b → ⊥) }
+    ensures left { IfRefusedWith result (Leaves (state_of T.tokens place.old) (state_of T.tokens place.new)) }
 {
     match place.values.pop() {
-        Some(_) => {
-            push_token(&mut place.told, Token::Ended)?;
-            Ok(())
-        }
+        Some(_) => match place.told.tell(Mark::Ended) {
+            Ok(()) => Ok(()),
+            Err(fault) => Err(fault),
+        },
         None => Err(ReadFault::UnexpectedTag),
     }
 }
 
 /// Opens the header that stands next, which has this tag, and is constructed where it must be.
-pub(crate) fn open<'c, 'a>(place: &mut Place<'c, 'a>, head: Head) -> Result<(), ReadFault>
-    requires { IsWithin (state_of place.old) }
-    ensures within { IsWithin (state_of place.new) }
-    ensures ok { OnOk result (Opens (state_of place.old) head (state_of place.new)) }
-    ensures err { IfRefused result ((b : State) → Opens (state_of place.old) head b → ⊥) }
-    ensures left { IfRefusedWith result (Leaves (state_of place.old) (state_of place.new)) }
+pub fn open<'c, 'a, T: Teller<'a>>(
+    place: &mut Place<'c, 'a, T>,
+    head: Head,
+) -> Result<(), ReadFault>
+    requires { IsWithin T.suits place.old }
+    ensures within { IsWithin T.suits place.new }
+    ensures ok { OnOk result (Opens (state_of T.tokens place.old) head (state_of T.tokens place.new)) }
+    ensures err { IfRefused result ((b : State) → Opens (state_of T.tokens place.old) head b → ⊥) }
+    ensures left { IfRefusedWith result (Leaves (state_of T.tokens place.old) (state_of T.tokens place.new)) }
 {
     one_unit();
     let unit = match next_unit(place.here.octets) {
@@ -178,12 +180,15 @@ pub(crate) fn open<'c, 'a>(place: &mut Place<'c, 'a>, head: Head) -> Result<(), 
 }
 
 /// Goes into the contents of the encoding that stands next.
-fn enter<'c, 'a>(place: &mut Place<'c, 'a>, unit: Unit<'a>) -> Result<(), ReadFault>
-    requires within { IsWithin (state_of place.old) }
+fn enter<'c, 'a, T: Teller<'a>>(
+    place: &mut Place<'c, 'a, T>,
+    unit: Unit<'a>,
+) -> Result<(), ReadFault>
+    requires within { IsWithin T.suits place.old }
     requires unit { UnitAt unit.tag (is_constructed unit.form) unit.count unit.contents.now unit.rest.now
         place.old.here.octets.now }
-    ensures within { IsWithin (state_of place.new) }
-    ensures ok { OnOk result (state_of place.new ≡ opened_at (state_of place.old) (is_constructed unit.entry.form)
+    ensures within { IsWithin T.suits place.new }
+    ensures ok { OnOk result (state_of T.tokens place.new ≡ opened_at (state_of T.tokens place.old) (is_constructed unit.entry.form)
         unit.entry.count unit.entry.contents.now unit.entry.rest.now) }
     ensures err { IfErr result (λ e. e ≡ Memory) }
 {
@@ -207,12 +212,12 @@ fn enter<'c, 'a>(place: &mut Place<'c, 'a>, unit: Unit<'a>) -> Result<(), ReadFa
 }
 
 /// Closes the nearest open header, whose contents were read to their end.
-pub(crate) fn close<'c, 'a>(place: &mut Place<'c, 'a>) -> Result<(), ReadFault>
-    requires { IsWithin (state_of place.old) }
-    ensures within { IsWithin (state_of place.new) }
-    ensures ok { OnOk result (Closes (state_of place.old) (state_of place.new)) }
-    ensures err { IfRefused result ((b : State) → Closes (state_of place.old) b → ⊥) }
-    ensures left { IfRefusedWith result (Leaves (state_of place.old) (state_of place.new)) }
+pub fn close<'c, 'a, T: Teller<'a>>(place: &mut Place<'c, 'a, T>) -> Result<(), ReadFault>
+    requires { IsWithin T.suits place.old }
+    ensures within { IsWithin T.suits place.new }
+    ensures ok { OnOk result (Closes (state_of T.tokens place.old) (state_of T.tokens place.new)) }
+    ensures err { IfRefused result ((b : State) → Closes (state_of T.tokens place.old) b → ⊥) }
+    ensures left { IfRefusedWith result (Leaves (state_of T.tokens place.old) (state_of T.tokens place.new)) }
 {
     if !place.here.octets.is_empty() {
         return Err(ReadFault::UnexpectedTag);
@@ -228,26 +233,27 @@ pub(crate) fn close<'c, 'a>(place: &mut Place<'c, 'a>) -> Result<(), ReadFault>
 }
 
 /// Reads the contents octets of a value that holds no others.
-pub(crate) fn hold<'c, 'a>(place: &mut Place<'c, 'a>, kind: LeafKind) -> Result<(), ReadFault>
-    requires { IsWithin (state_of place.old) }
-    ensures within { IsWithin (state_of place.new) }
-    ensures ok { OnOk result (Holds (state_of place.old) kind (state_of place.new)) }
-    ensures err { IfRefused result ((b : State) → Holds (state_of place.old) kind b → ⊥) }
-    ensures left { IfRefusedWith result (Leaves (state_of place.old) (state_of place.new)) }
+pub fn hold<'c, 'a, T: Teller<'a>>(
+    place: &mut Place<'c, 'a, T>,
+    kind: LeafKind,
+) -> Result<(), ReadFault>
+    requires { IsWithin T.suits place.old }
+    ensures within { IsWithin T.suits place.new }
+    ensures ok { OnOk result (Holds (state_of T.tokens place.old) kind (state_of T.tokens place.new)) }
+    ensures err { IfRefused result ((b : State) → Holds (state_of T.tokens place.old) kind b → ⊥) }
+    ensures left { IfRefusedWith result (Leaves (state_of T.tokens place.old) (state_of T.tokens place.new)) }
 {
     if place.outer.len() > MAX_HEADERS {
         return Err(ReadFault::TooDeep);
     }
     let room = MAX_HEADERS - place.outer.len();
     match judge(place.alloc, kind, place.here.form, place.here.octets, room) {
-        Ok(()) => {}
+        Ok(holding) => pass_contents(place, kind, holding),
         Err(bad) => {
             stand_at(place, bad.at);
-            return Err(bad.fault);
+            Err(bad.fault)
         }
     }
-    pass_contents(place, kind)?;
-    Ok(())
 }
 
 /// The octets behind so many.
@@ -262,12 +268,12 @@ fn behind(octets: &[u8], count: usize) -> &[u8]
 }
 
 /// Goes behind so many of the octets, if there are as many.
-fn stand_at<'c, 'a>(place: &mut Place<'c, 'a>, count: usize)
-    requires { IsWithin (state_of place.old) }
-    ensures within { IsWithin (state_of place.new) }
+fn stand_at<'c, 'a, T: Teller<'a>>(place: &mut Place<'c, 'a, T>, count: usize)
+    requires { IsWithin T.suits place.old }
+    ensures within { IsWithin T.suits place.new }
     ensures left { (e : ReadFault')
         → (e ≡ Missing → ⊥)
-        → Leaves (state_of place.old) (state_of place.new) e }
+        → Leaves (state_of T.tokens place.old) (state_of T.tokens place.new) e }
 {
     let here = place.here;
     if count <= here.octets.len() {
@@ -280,10 +286,18 @@ fn stand_at<'c, 'a>(place: &mut Place<'c, 'a>, count: usize)
     }
 }
 
-/// Whether the octets are contents of this kind, where so many levels of headers may stand in them.
-fn judge(alloc: Global, kind: LeafKind, form: Form, octets: &[u8], room: usize) -> Result<(), Bad>
-    requires { length octets.now ≤ 16777216 }
-    ensures ok { OnOk result ((v : AbstractValue) × AreContents (is_constructed form) kind v room octets.now) }
+/// What the octets hold as contents of this kind, where so many levels of headers may stand in them.
+fn judge<'a>(
+    alloc: Global,
+    kind: LeafKind,
+    form: Form,
+    octets: &'a [u8],
+    room: usize,
+) -> Result<Holding<'a>, Bad>
+    requires short { length octets.now ≤ 16777216 }
+    requires few { room ≤ 400 }
+    ensures ok { IfOk result (λ h. (v : AbstractValue) × AreContents (is_constructed form) kind v room octets.now) }
+    ensures read { IfOk result (λ h. AreReadAs (is_constructed form) kind octets.now h) }
     ensures err { IfErr result (λ e. (e.fault ≡ Memory → ⊥)
         → (v : AbstractValue)
         → AreContents (is_constructed form) kind v room octets.now
@@ -292,36 +306,42 @@ fn judge(alloc: Global, kind: LeafKind, form: Form, octets: &[u8], room: usize) 
 {
     match form {
         Form::Primitive => match read_leaf(kind, octets) {
-            Ok(_) => Ok(()),
+            Ok(leaf) => Ok(Holding::Whole(leaf)),
             Err(fault) => Err(Bad {
                 fault: told_leaf(fault),
                 at: 0,
             }),
         },
         Form::Constructed => match read_segments(alloc, kind, octets, room) {
-            Ok(_) => Ok(()),
+            Ok(joined) => Ok(Holding::Joined(joined)),
             Err(fault) => Err(told_segments(fault)),
         },
     }
 }
 
 /// Goes behind the contents, and tells them.
-fn pass_contents<'c, 'a>(place: &mut Place<'c, 'a>, kind: LeafKind) -> Result<(), ReadFault>
-    requires { IsWithin (state_of place.old) }
-    ensures within { IsWithin (state_of place.new) }
-    ensures ok { OnOk result (state_of place.new ≡ held_at (state_of place.old) kind) }
+fn pass_contents<'c, 'a, T: Teller<'a>>(
+    place: &mut Place<'c, 'a, T>,
+    kind: LeafKind,
+    holding: Holding<'a>,
+) -> Result<(), ReadFault>
+    requires within { IsWithin T.suits place.old }
+    requires read { AreReadAs (is_constructed place.old.here.form) kind place.old.here.octets.now holding }
+    ensures within { IsWithin T.suits place.new }
+    ensures ok { OnOk result (state_of T.tokens place.new ≡ held_at (state_of T.tokens place.old) kind) }
     ensures err { IfErr result (λ e. e ≡ Memory) }
 {
     let here = place.here;
-    push_token(
-        &mut place.told,
-        Token::Held {
-            kind,
-            form: here.form,
-            octets: here.octets,
-            at: here.at,
-        },
-    )?;
+    let held = Held {
+        kind,
+        form: here.form,
+        octets: here.octets,
+        at: here.at,
+    };
+    match place.told.hold(held, holding) {
+        Ok(()) => {}
+        Err(fault) => return Err(fault),
+    }
     place.here = Window {
         form: here.form,
         octets: &[],

@@ -12,9 +12,10 @@ ghost use Rattle.octet_answers.specs.Units.{UnitAt};
 ghost use Rattle.octets.specs.Forms.{is_constructed};
 ghost use Rattle.std.specs.Prelude.{◌≡◌, ◌<◌, [], Bool, IfErr, IfNone, IfOk, IfSome, OnOk, Option as Option', length};
 
-use crate::moves::{push_token, told_header};
+use crate::moves::told_header;
 use crate::place::Place;
-use crate::token::Token;
+use crate::teller::Teller;
+use crate::token::Mark;
 use crate::window::Window;
 use codec_code::{Field, Step};
 use codec_source::ReadFault;
@@ -24,26 +25,26 @@ use octet_answers::law::one_unit;
 
 /// Passes additions that the type lacks, where it is extensible, and answers the component that stands behind them, or
 /// None at the end of the contents.
-pub(crate) fn pass<'c, 'a>(
-    place: &mut Place<'c, 'a>,
+pub(crate) fn pass<'c, 'a, T: Teller<'a>>(
+    place: &mut Place<'c, 'a, T>,
     steps: &[Step],
     extensible: bool,
 ) -> Result<Option<Field>, ReadFault>
-    requires { IsWithin (state_of place.old) }
-    ensures within { IsWithin (state_of place.new) }
+    requires { IsWithin T.suits place.old }
+    ensures within { IsWithin T.suits place.new }
     ensures ok { IfOk result (λ f.
-        Passes place.old.code.now steps.now extensible (state_of place.old) f (state_of place.new)) }
+        Passes place.old.code.now steps.now extensible (state_of T.tokens place.old) f (state_of T.tokens place.new)) }
     ensures only { IfOk result (λ f. (g : Option' Field') (b : State)
-        → Passes place.old.code.now steps.now extensible (state_of place.old) g b
-        → (g ≡ f) × (b ≡ state_of place.new)) }
+        → Passes place.old.code.now steps.now extensible (state_of T.tokens place.old) g b
+        → (g ≡ f) × (b ≡ state_of T.tokens place.new)) }
     ensures err { IfRefused result ((f : Option' Field') (b : State)
-        → Passes place.old.code.now steps.now extensible (state_of place.old) f b → ⊥) }
+        → Passes place.old.code.now steps.now extensible (state_of T.tokens place.old) f b → ⊥) }
     ensures code { place.new.code.now ≡ place.old.code.now }
-    ensures left { IfRefusedWith result (Leaves (state_of place.old) (state_of place.new)) }
+    ensures left { IfRefusedWith result (Leaves (state_of T.tokens place.old) (state_of T.tokens place.new)) }
     // A question that is refused behind them is refused before them.
     ensures onward { IfOk result (λ f. (b : State) (e : ReadFault')
-        → Leaves (state_of place.new) b e
-        → Leaves (state_of place.old) b e) }
+        → Leaves (state_of T.tokens place.new) b e
+        → Leaves (state_of T.tokens place.old) b e) }
     ensures at_end { IfOk result (λ f. IfNone f (place.new.here.octets.now ≡ [])) }
 {
     loop {
@@ -56,34 +57,34 @@ pub(crate) fn pass<'c, 'a>(
 }
 
 /// Answers what stands next, if it is a component or the end of the contents; else passes one addition.
-fn pass_one<'c, 'a>(
-    place: &mut Place<'c, 'a>,
+fn pass_one<'c, 'a, T: Teller<'a>>(
+    place: &mut Place<'c, 'a, T>,
     steps: &[Step],
     extensible: bool,
 ) -> Result<Option<Option<Field>>, ReadFault>
-    requires { IsWithin (state_of place.old) }
-    ensures within { IsWithin (state_of place.new) }
+    requires { IsWithin T.suits place.old }
+    ensures within { IsWithin T.suits place.new }
     ensures code { place.new.code.now ≡ place.old.code.now }
     ensures ended { IfOk result (λ r. IfSome r (λ f.
-        (state_of place.new ≡ state_of place.old)
-        × Passes place.old.code.now steps.now extensible (state_of place.old) f (state_of place.old))) }
+        (state_of T.tokens place.new ≡ state_of T.tokens place.old)
+        × Passes place.old.code.now steps.now extensible (state_of T.tokens place.old) f (state_of T.tokens place.old))) }
     ensures only { IfOk result (λ r. IfSome r (λ f. (g : Option' Field') (b : State)
-        → Passes place.old.code.now steps.now extensible (state_of place.old) g b
-        → (g ≡ f) × (b ≡ state_of place.old))) }
+        → Passes place.old.code.now steps.now extensible (state_of T.tokens place.old) g b
+        → (g ≡ f) × (b ≡ state_of T.tokens place.old))) }
     ensures passed { IfOk result (λ r. IfNone r ((f : Option' Field') (b : State)
-        → Passes place.old.code.now steps.now extensible (state_of place.new) f b
-        → Passes place.old.code.now steps.now extensible (state_of place.old) f b)) }
+        → Passes place.old.code.now steps.now extensible (state_of T.tokens place.new) f b
+        → Passes place.old.code.now steps.now extensible (state_of T.tokens place.old) f b)) }
     ensures back { IfOk result (λ r. IfNone r ((f : Option' Field') (b : State)
-        → Passes place.old.code.now steps.now extensible (state_of place.old) f b
-        → Passes place.old.code.now steps.now extensible (state_of place.new) f b)) }
+        → Passes place.old.code.now steps.now extensible (state_of T.tokens place.old) f b
+        → Passes place.old.code.now steps.now extensible (state_of T.tokens place.new) f b)) }
     ensures less { IfOk result (λ r. IfNone r
         (length place.new.here.octets.now < length place.old.here.octets.now)) }
     ensures err { IfRefused result ((f : Option' Field') (b : State)
-        → Passes place.old.code.now steps.now extensible (state_of place.old) f b → ⊥) }
-    ensures left { IfRefusedWith result (Leaves (state_of place.old) (state_of place.new)) }
+        → Passes place.old.code.now steps.now extensible (state_of T.tokens place.old) f b → ⊥) }
+    ensures left { IfRefusedWith result (Leaves (state_of T.tokens place.old) (state_of T.tokens place.new)) }
     ensures onward { IfOk result (λ r. IfNone r ((b : State) (e : ReadFault')
-        → Leaves (state_of place.new) b e
-        → Leaves (state_of place.old) b e)) }
+        → Leaves (state_of T.tokens place.new) b e
+        → Leaves (state_of T.tokens place.old) b e)) }
     ensures at_end { IfOk result (λ r. IfSome r (λ f. IfNone f (place.new.here.octets.now ≡ []))) }
 {
     one_unit();
@@ -109,18 +110,24 @@ fn pass_one<'c, 'a>(
 }
 
 /// Goes behind the encoding that stands next.
-fn step_over<'c, 'a>(place: &mut Place<'c, 'a>, unit: Unit<'a>) -> Result<(), ReadFault>
-    requires within { IsWithin (state_of place.old) }
+fn step_over<'c, 'a, T: Teller<'a>>(
+    place: &mut Place<'c, 'a, T>,
+    unit: Unit<'a>,
+) -> Result<(), ReadFault>
+    requires within { IsWithin T.suits place.old }
     requires unit { UnitAt unit.tag (is_constructed unit.form) unit.count unit.contents.now unit.rest.now
         place.old.here.octets.now }
-    ensures within { IsWithin (state_of place.new) }
+    ensures within { IsWithin T.suits place.new }
     ensures code { place.new.code.now ≡ place.old.code.now }
-    ensures ok { OnOk result (state_of place.new
-        ≡ passing (state_of place.old) unit.entry.count unit.entry.contents.now unit.entry.rest.now) }
+    ensures ok { OnOk result (state_of T.tokens place.new
+        ≡ passing (state_of T.tokens place.old) unit.entry.count unit.entry.contents.now unit.entry.rest.now) }
     ensures less { OnOk result (length place.new.here.octets.now < length place.old.here.octets.now) }
     ensures err { IfErr result (λ e. e ≡ Memory) }
 {
-    push_token(&mut place.told, Token::Passed)?;
+    match place.told.tell(Mark::Passed) {
+        Ok(()) => {}
+        Err(fault) => return Err(fault),
+    }
     place.here = Window {
         form: place.here.form,
         octets: unit.rest,

@@ -251,7 +251,6 @@ impl<'a> Builder<'a> {
     /// Closes the innermost node that is open, with the members that were added since: a CHOICE has just one. It takes
     /// no memory. Where nothing is open, nothing is done.
     pub fn close(&mut self)
-        requires { (b : Building) × Holds self.old b }
         ensures { (b c : Building) (w : Waiting) (ws : List Waiting) (t : Tree)
             → Holds self.old b
             → IsClosed b w ws t c
@@ -259,13 +258,15 @@ impl<'a> Builder<'a> {
     {
         match self.headers.pop() {
             Some(place) => {
-                let extent = self.nodes.len() - place;
-                let node = self.nodes[place];
-                let told = node.told.with_extent(extent);
-                self.nodes[place] = Node {
-                    number: node.number,
-                    told,
-                };
+                let length = self.nodes.len();
+                if place < length {
+                    let node = self.nodes[place];
+                    let told = node.told.with_extent(length - place);
+                    self.nodes[place] = Node {
+                        number: node.number,
+                        told,
+                    };
+                }
             }
             None => {}
         }

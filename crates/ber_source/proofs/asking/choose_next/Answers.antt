@@ -5,15 +5,15 @@ use Rattle.octet_answers.specs.Found.{IsChosen}
 use Rattle.ber_source.proofs.asking.choose_next.Goals as goal
 
 pub returns-in-Err-clause-err : goal.returns-in-Err-clause-err
-returns-in-Err-clause-err c other i b d = c.in-Err.ensures.none d.tag d.constructed d.count d.contents d.rest d.unit
+returns-in-Err-clause-err g c other i b d = c.in-Err.ensures.none d.tag d.constructed d.count d.contents d.rest d.unit
 
 pub returns-in-None-clause-err : goal.returns-in-None-clause-err
-returns-in-None-clause-err c other i b d =
+returns-in-None-clause-err g c other i b d =
     let u = c.one_unit.ensures.once c.in-Ok.unit.tag d.tag (is_constructed c.in-Ok.unit.form) d.constructed c.in-Ok.unit.count d.count c.in-Ok.unit.contents.now d.contents c.in-Ok.unit.rest.now d.rest c.args.place.now.here.octets.now c.in-Ok.ensures.ok d.unit in
     c.in-None.ensures.none d.index i (subst (λ q. IsChosen c.args.place.now.code.now q c.args.calls.now d.index i) (sym u.0) d.alternative)
 
 pub returns-in-Err-clause-left : goal.returns-in-Err-clause-left
-returns-in-Err-clause-left c = λ other. stays (λ e. absurd (c.told_header.ensures.missing e))
+returns-in-Err-clause-left g c = λ other. stays (λ e. absurd (c.told_header.ensures.missing e))
 
 pub returns-in-None-clause-left : goal.returns-in-None-clause-left
-returns-in-None-clause-left c = λ other. stays (λ e. absurd (cc))
+returns-in-None-clause-left g c = λ other. stays (λ e. absurd (cc))

@@ -7,13 +7,13 @@ use Rattle.ber_source.proofs.Asked.{stands_never, other_never}
 use Rattle.ber_source.proofs.asking.stands_next.Goals as goal
 
 pub returns-in-Err-clause-err : goal.returns-in-Err-clause-err
-returns-in-Err-clause-err c other there b d =
-    stands_never (state_of c.args.place.now) b c.args.field there
+returns-in-Err-clause-err g c other there b d =
+    stands_never (state_of g.T.Teller.tokens c.args.place.now) b c.args.field there
     (some_octets c.args.place.now.here.octets.now c.is_empty.result c.is_empty.ensures c.if-is_empty.false)
     c.in-Err.ensures.none d
 
 pub returns-then-can_begin-clause-ok : goal.returns-then-can_begin-clause-ok
-returns-then-can_begin-clause-ok c = record {
+returns-then-can_begin-clause-ok g c = record {
   tag = c.in-Ok.unit.tag;
   constructed = is_constructed c.in-Ok.unit.form;
   count = c.in-Ok.unit.count;
@@ -25,7 +25,7 @@ returns-then-can_begin-clause-ok c = record {
 }
 
 pub returns-then-may_be_absent-2-clause-ok : goal.returns-then-may_be_absent-2-clause-ok
-returns-then-may_be_absent-2-clause-ok c = record {
+returns-then-may_be_absent-2-clause-ok g c = record {
   may_be = sym c.may_be_absent-2.ensures ∙ c.if-may_be_absent-2.true;
   next = inr (record {
     tag = c.in-Ok.unit.tag;
@@ -40,16 +40,16 @@ returns-then-may_be_absent-2-clause-ok c = record {
 }
 
 pub returns-clause-err : goal.returns-clause-err
-returns-clause-err c other there b d =
-    other_never (state_of c.args.place.now) b c.args.field there c.in-Ok.unit.tag (is_constructed c.in-Ok.unit.form) c.in-Ok.unit.count c.in-Ok.unit.contents.now c.in-Ok.unit.rest.now
+returns-clause-err g c other there b d =
+    other_never (state_of g.T.Teller.tokens c.args.place.now) b c.args.field there c.in-Ok.unit.tag (is_constructed c.in-Ok.unit.form) c.in-Ok.unit.count c.in-Ok.unit.contents.now c.in-Ok.unit.rest.now
     c.one_unit.ensures.once c.in-Ok.ensures.ok (fails c.can_begin.result c.if-can_begin.false c.can_begin.ensures)
     (sym c.may_be_absent-2.ensures ∙ c.if-may_be_absent-2.false) d
 
 pub returns-then-is_empty-clause-left : goal.returns-then-is_empty-clause-left
-returns-then-is_empty-clause-left c = λ other. stays (λ e. no_octets c.args.place.now.here.octets.now c.is_empty.result c.is_empty.ensures c.if-is_empty.true)
+returns-then-is_empty-clause-left g c = λ other. stays (λ e. no_octets c.args.place.now.here.octets.now c.is_empty.result c.is_empty.ensures c.if-is_empty.true)
 
 pub returns-in-Err-clause-left : goal.returns-in-Err-clause-left
-returns-in-Err-clause-left c = λ other. stays (λ e. absurd (c.told_header.ensures.missing e))
+returns-in-Err-clause-left g c = λ other. stays (λ e. absurd (c.told_header.ensures.missing e))
 
 pub returns-clause-left : goal.returns-clause-left
-returns-clause-left c = λ other. stays (λ e. absurd (cc))
+returns-clause-left g c = λ other. stays (λ e. absurd (cc))

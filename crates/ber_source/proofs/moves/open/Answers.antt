@@ -6,27 +6,27 @@ use Rattle.ber_source.proofs.Windows.{fails, false_true}
 use Rattle.ber_source.proofs.moves.open.Goals as goal
 
 pub returns-in-Err-clause-err : goal.returns-in-Err-clause-err
-returns-in-Err-clause-err c other b d = c.in-Err.ensures.none c.args.head.tag d.constructed d.count d.contents d.rest d.unit
+returns-in-Err-clause-err g c other b d = c.in-Err.ensures.none c.args.head.tag d.constructed d.count d.contents d.rest d.unit
 
 pub returns-then-not-same_tag-clause-err : goal.returns-then-not-same_tag-clause-err
-returns-then-not-same_tag-clause-err c other b d =
+returns-then-not-same_tag-clause-err g c other b d =
     let u = c.one_unit.ensures.once c.in-Ok.unit.tag c.args.head.tag (is_constructed c.in-Ok.unit.form) d.constructed c.in-Ok.unit.count d.count c.in-Ok.unit.contents.now d.contents c.in-Ok.unit.rest.now d.rest c.args.place.now.here.octets.now c.in-Ok.ensures.ok d.unit in
     fails c.same_tag.result c.if-not-same_tag.true c.same_tag.ensures u.0
 
 pub returns-then-eq-clause-err : goal.returns-then-eq-clause-err
-returns-then-eq-clause-err c other b d =
+returns-then-eq-clause-err g c other b d =
     let u = c.one_unit.ensures.once c.in-Ok.unit.tag c.args.head.tag (is_constructed c.in-Ok.unit.form) d.constructed c.in-Ok.unit.count d.count c.in-Ok.unit.contents.now d.contents c.in-Ok.unit.rest.now d.rest c.args.place.now.here.octets.now c.in-Ok.ensures.ok d.unit in
     let p : c.in-Ok.unit.form ≡ Primitive = search rules in
     false_true (sym (ap is_constructed p) ∙ u.1 ∙ d.form c.if-head.true)
 
 pub returns-in-Err-clause-left : goal.returns-in-Err-clause-left
-returns-in-Err-clause-left c = λ other. stays (λ e. absurd (c.told_header.ensures.missing e))
+returns-in-Err-clause-left g c = λ other. stays (λ e. absurd (c.told_header.ensures.missing e))
 
 pub returns-then-len-ge-MAX_HEADERS-clause-left : goal.returns-then-len-ge-MAX_HEADERS-clause-left
-returns-then-len-ge-MAX_HEADERS-clause-left c = λ other. stays (λ e. absurd (cc))
+returns-then-len-ge-MAX_HEADERS-clause-left g c = λ other. stays (λ e. absurd (cc))
 
 pub returns-then-not-same_tag-clause-left : goal.returns-then-not-same_tag-clause-left
-returns-then-not-same_tag-clause-left c = λ other. stays (λ e. absurd (cc))
+returns-then-not-same_tag-clause-left g c = λ other. stays (λ e. absurd (cc))
 
 pub returns-then-eq-clause-left : goal.returns-then-eq-clause-left
-returns-then-eq-clause-left c = λ other. stays (λ e. absurd (cc))
+returns-then-eq-clause-left g c = λ other. stays (λ e. absurd (cc))

@@ -6,38 +6,38 @@ use Rattle.ber_source.proofs.Passed.{at_end_alone, component_alone, no_unit_none
 use Rattle.ber_source.proofs.passing.pass_one.Goals as goal
 
 pub returns-then-is_empty-clause-ended : goal.returns-then-is_empty-clause-ended
-returns-then-is_empty-clause-ended c =
+returns-then-is_empty-clause-ended g c =
     (refl, at_end_of_contents (no_octets c.args.place.now.here.octets.now c.is_empty.result c.is_empty.ensures c.if-is_empty.true))
 
 pub returns-then-is_empty-clause-only : goal.returns-then-is_empty-clause-only
-returns-then-is_empty-clause-only c g b p =
+returns-then-is_empty-clause-only g c d b p =
     at_end_alone c.one_unit.ensures.some (no_octets c.args.place.now.here.octets.now c.is_empty.result c.is_empty.ensures c.if-is_empty.true) p
 
 pub returns-in-Err-clause-err : goal.returns-in-Err-clause-err
-returns-in-Err-clause-err c other f b p =
+returns-in-Err-clause-err g c other f b p =
     no_unit_none c.in-Err.ensures.none (some_octets c.args.place.now.here.octets.now c.is_empty.result c.is_empty.ensures c.if-is_empty.false) p
 
 pub returns-in-Some-clause-ended : goal.returns-in-Some-clause-ended
-returns-in-Some-clause-ended c = (refl, at_component c.in-Ok.ensures.ok c.in-Some.ensures.some)
+returns-in-Some-clause-ended g c = (refl, at_component c.in-Ok.ensures.ok c.in-Some.ensures.some)
 
 pub returns-in-Some-clause-only : goal.returns-in-Some-clause-only
-returns-in-Some-clause-only c g b p =
+returns-in-Some-clause-only g c d b p =
     component_alone c.one_unit.ensures.some c.one_unit.ensures.once c.in-Ok.ensures.ok c.in-Some.ensures.some p
 
 pub returns-then-len-ge-MAX_HEADERS-clause-err : goal.returns-then-len-ge-MAX_HEADERS-clause-err
-returns-then-len-ge-MAX_HEADERS-clause-err c other f b p =
+returns-then-len-ge-MAX_HEADERS-clause-err g c other f b p =
     let z = must_pass c.one_unit.ensures.some c.one_unit.ensures.once c.in-Ok.ensures.ok c.in-None.ensures.none p in
     let l = z.few_levels in
     let m = as_many c.args.place.now.outer.items in
     omega (arith, l, m, c.len.ensures, c.args.place.now.outer.ok.0, c.if-len-ge-MAX_HEADERS.true)
 
 pub returns-then-not-extensible-clause-err : goal.returns-then-not-extensible-clause-err
-returns-then-not-extensible-clause-err c other f b p =
+returns-then-not-extensible-clause-err g c other f b p =
     let z = must_pass c.one_unit.ensures.some c.one_unit.ensures.once c.in-Ok.ensures.ok c.in-None.ensures.none p in
     false_true (sym c.if-not-extensible.true ∙ z.extensible)
 
 pub returns-clause-passed : goal.returns-clause-passed
-returns-clause-passed c f b p =
+returns-clause-passed g c f b p =
     let s = c.args.place.now.code.now in
     let m = as_many c.args.place.now.outer.items in
     passes c.if-not-extensible.false c.in-Ok.ensures.ok c.in-None.ensures.none
@@ -45,21 +45,21 @@ returns-clause-passed c f b p =
     (subst (λ q. Passes s c.args.steps.now c.args.extensible q f b) c.in_ok-step_over.ensures.ok p)
 
 pub returns-clause-back : goal.returns-clause-back
-returns-clause-back c f b p =
+returns-clause-back g c f b p =
     let z = must_pass c.one_unit.ensures.some c.one_unit.ensures.once c.in-Ok.ensures.ok c.in-None.ensures.none p in
     subst (λ q. Passes c.args.place.now.code.now c.args.steps.now c.args.extensible q f b) (sym c.in_ok-step_over.ensures.ok) z.behind
 
 pub returns-then-is_empty-clause-at_end : goal.returns-then-is_empty-clause-at_end
-returns-then-is_empty-clause-at_end c = no_octets c.args.place.now.here.octets.now c.is_empty.result c.is_empty.ensures c.if-is_empty.true
+returns-then-is_empty-clause-at_end g c = no_octets c.args.place.now.here.octets.now c.is_empty.result c.is_empty.ensures c.if-is_empty.true
 
 pub returns-in-Err-clause-left : goal.returns-in-Err-clause-left
-returns-in-Err-clause-left c = λ other. stays (λ e. absurd (c.told_header.ensures.missing e))
+returns-in-Err-clause-left g c = λ other. stays (λ e. absurd (c.told_header.ensures.missing e))
 
 pub returns-then-len-ge-MAX_HEADERS-clause-left : goal.returns-then-len-ge-MAX_HEADERS-clause-left
-returns-then-len-ge-MAX_HEADERS-clause-left c = λ other. stays (λ e. absurd (cc))
+returns-then-len-ge-MAX_HEADERS-clause-left g c = λ other. stays (λ e. absurd (cc))
 
 pub returns-then-not-extensible-clause-left : goal.returns-then-not-extensible-clause-left
-returns-then-not-extensible-clause-left c = λ other. stays (λ e. absurd (cc))
+returns-then-not-extensible-clause-left g c = λ other. stays (λ e. absurd (cc))
 
 pub returns-clause-onward : goal.returns-clause-onward
-returns-clause-onward c = λ b e h. behind_addition c.in-Ok.ensures.ok (subst (λ q. Leaves q b e) c.in_ok-step_over.ensures.ok h)
+returns-clause-onward g c = λ b e h. behind_addition c.in-Ok.ensures.ok (subst (λ q. Leaves q b e) c.in_ok-step_over.ensures.ok h)

@@ -4,29 +4,19 @@ use Rattle.views.specs.Seen.{beside_of, told_of}
 use Rattle.views.proofs.Steps.{closes, place_within, none_open}
 use Rattle.views.proofs.builder.Builder.close.Goals as goal
 
-pub overflow_sub-extent : goal.overflow_sub-extent
-overflow_sub-extent c =
-    let inside = place_within (beside_of c.args.self.now.lists) c.args.self.now.nodes.items c.args.self.now.headers.items c.pop.new.self.items c.in-Some.place c.requires.0 c.requires.1 c.in-Some.ensures.items in
-    omega (arith, inside, c.len.ensures, c.args.self.now.nodes.ok.0)
-
-pub index-node-requires : goal.index-node-requires
-index-node-requires c =
-    let inside = place_within (beside_of c.args.self.now.lists) c.args.self.now.nodes.items c.args.self.now.headers.items c.pop.new.self.items c.in-Some.place c.requires.0 c.requires.1 c.in-Some.ensures.items in
-    omega (arith, inside, c.args.self.now.nodes.ok.0)
-
-pub index_mut-requires : goal.index_mut-requires
-index_mut-requires c =
-    let inside = place_within (beside_of c.args.self.now.lists) c.args.self.now.nodes.items c.args.self.now.headers.items c.pop.new.self.items c.in-Some.place c.requires.0 c.requires.1 c.in-Some.ensures.items in
-    omega (arith, inside, c.args.self.now.nodes.ok.0)
-
-pub returns-in-Some : goal.returns-in-Some
-returns-in-Some c b d w ws t a cl =
+pub returns-then-place-length : goal.returns-then-place-length
+returns-then-place-length c b d w ws t a cl =
     let s = beside_of c.args.self.now.lists in
     let n = c.index-node.result.now in
-    let long : c.len.result ≡ length c.args.self.now.nodes.items = omega (arith, c.len.ensures, c.args.self.now.nodes.ok.0) in
+    let long : c.len-length.result ≡ length c.args.self.now.nodes.items = omega (arith, c.len-length.ensures, c.args.self.now.nodes.ok.0) in
     closes s c.args.self.now.nodes.items c.args.self.now.headers.items c.pop.new.self.items c.in-Some.place _ n b d w ws t a c.in-Some.ensures.items c.index-node.ensures
     (ap (node n.number) (c.with_extent-told.ensures.told s) ∙ ap (λ q. node n.number (with_extent (told_of s n.told) (q - c.in-Some.place))) long)
     (c.with_extent-told.ensures.within s) cl
+
+pub returns-else-place-length : goal.returns-else-place-length
+returns-else-place-length c b d w ws t a cl =
+    let inside = place_within (beside_of c.args.self.now.lists) c.args.self.now.nodes.items c.args.self.now.headers.items c.pop.new.self.items c.in-Some.place b a c.in-Some.ensures.items in
+    absurd (omega (arith, inside, c.len-length.ensures, c.args.self.now.nodes.ok.0, c.if-place-length.false))
 
 pub returns-in-None : goal.returns-in-None
 returns-in-None c b d w ws t a cl = absurd (none_open c.args.self.now.headers.items b w ws a.places (omega (arith, c.in-None.ensures.cases.0, c.args.self.now.headers.ok.0)) cl.is_open)

@@ -1,0 +1,160 @@
+use Rattle.std.proofs.Common.{arith, rules, refl, ◌≤◌, [], length, sym, ap, subst, ◌∙◌, inr, append-nil, length-append}
+use Rattle.std.specs.Prelude.{Err}
+use Rattle.codec_code.specs.Routines.{routine_at}
+use Rattle.codec_source.specs.Reading.{Reads}
+use Rattle.octet_answers.specs.Answers.{Takes}
+use Rattle.ber_message.specs.Messages.{room_of}
+use Rattle.ber_message.proofs.Reading.{whole_message, front_message, fails, holds, headed, ends_before, is_memory, read_of, true_false, none_there}
+use Rattle.codec_source.specs.Stopping.{StopsReading}
+use Rattle.octet_answers.specs.Left.{Leaves}
+use Rattle.ber_views.specs.Telling.{IsBuiltOf}
+use Rattle.ber_message.proofs.Kept.{if_ok, memory_alone, reads_schema, refused_memory}
+use Rattle.ber_message.proofs.Stopped.{ends_too_soon, fault_or, not_memory}
+use Rattle.codec_source.specs.declared.fault.ReadFault.TheVariants.{Missing, OutsideConstraint}
+use Rattle.ber_message.proofs.view.read_view.Goals as goal
+
+pub returns-in-Err-read-clause-missing : goal.returns-in-Err-read-clause-missing
+returns-in-Err-read-clause-missing c e =
+    let s = c.args.code.now in
+    let o = c.args.octets.now in
+    let f = c.in-Err-read.fault in
+    let m = c.within.ensures.missing (ap (fault_or Missing) e) in
+    let h = c.in-Err-read.ensures.stopped (not_memory f m) in
+    ends_too_soon s c.args.id o f c.read.new.source m (subst (λ q. StopsReading (λ u. routine_at s u) Takes (λ a b. Leaves a b f) c.args.id q c.read.new.source) c.in-Ok.ensures.ok h)
+
+pub returns-in-Err-read-clause-outside : goal.returns-in-Err-read-clause-outside
+returns-in-Err-read-clause-outside c e = c.within.ensures.outside (ap (fault_or OutsideConstraint) e)
+
+pub returns-in-Err-read-clause-err : goal.returns-in-Err-read-clause-err
+returns-in-Err-read-clause-err c memory limit has r =
+    let s = c.args.code.now in
+    c.in-Err-read.ensures.err (λ e. memory (c.within.ensures.memory e)) r.last
+    (subst (λ q. Reads (λ u. routine_at s u) Takes c.args.id q r.last) (sym c.in-Ok.ensures.ok) r.reads)
+
+pub returns-then-not-is_at_end-clause-trailing : goal.returns-then-not-is_at_end-clause-trailing
+returns-then-not-is_at_end-clause-trailing c e =
+    let s = c.args.code.now in
+    let r = subst (λ q. Reads (λ u. routine_at s u) Takes c.args.id q c.read.new.source) c.in-Ok.ensures.ok c.in-Ok-read.ensures.ok in
+    front_message (c.read_is_said.ensures s c.args.id c.args.octets.now (room_of (length c.args.octets.now)) c.read.new.source c.accepted.ensures (holds c.has.result c.if-not-has.false c.has.ensures) c.are_octets.ensures r)
+    (fails c.is_at_end.result c.if-not-is_at_end.true c.is_at_end.ensures)
+
+pub returns-then-not-is_at_end-clause-err : goal.returns-then-not-is_at_end-clause-err
+returns-then-not-is_at_end-clause-err c memory limit has r =
+    let s = c.args.code.now in
+    let e = c.in-Ok-read.ensures.only r.last (subst (λ q. Reads (λ u. routine_at s u) Takes c.args.id q r.last) (sym c.in-Ok.ensures.ok) r.reads) in
+    fails c.is_at_end.result c.if-not-is_at_end.true c.is_at_end.ensures (ap (λ q. q.here.octets) (sym e) ∙ r.at_end)
+
+pub returns-clause-ok : goal.returns-clause-ok
+returns-clause-ok c =
+    let s = c.args.code.now in
+    let z = c.read.new.source in
+    let r = subst (λ q. Reads (λ u. routine_at s u) Takes c.args.id q z) c.in-Ok.ensures.ok c.in-Ok-read.ensures.ok in
+    let m = whole_message z.told (c.read_is_said.ensures s c.args.id c.args.octets.now (room_of (length c.args.octets.now)) z c.accepted.ensures (holds c.has.result c.if-not-has.false c.has.ensures) c.are_octets.ensures r)
+    (holds c.is_at_end.result c.if-not-is_at_end.false c.is_at_end.ensures) c.in-Ok.ensures.few refl in
+    if_ok c.finished.result (λ b h. record { told = z.told; message = m; built = subst (λ q. IsBuiltOf q z.told b) (reads_schema r) h }) c.finished.ensures.ok
+
+pub returns-clause-only : goal.returns-clause-only
+returns-clause-only c =
+    if_ok c.finished.result (λ b h v w k e. c.schema_laws.ensures.says_one c.args.code.now c.args.id.index k v.message.count w v.message.value c.args.octets.now c.accepted.ensures e v.message.is_said) c.finished.ensures.ok
+
+pub returns-clause-limit : goal.returns-clause-limit
+returns-clause-limit c l = absurd (let f = c.in-Ok.ensures.few in omega (arith, l, f))
+
+pub returns-clause-long : goal.returns-clause-long
+returns-clause-long c e = absurd (memory_alone c.finished.result _ c.finished.ensures.err (λ h. cc) e)
+
+pub returns-clause-trailing : goal.returns-clause-trailing
+returns-clause-trailing c e = absurd (memory_alone c.finished.result _ c.finished.ensures.err (λ h. cc) e)
+
+pub returns-clause-missing : goal.returns-clause-missing
+returns-clause-missing c e = absurd (memory_alone c.finished.result _ c.finished.ensures.err (λ h. cc) e)
+
+pub returns-clause-outside : goal.returns-clause-outside
+returns-clause-outside c e = absurd (memory_alone c.finished.result _ c.finished.ensures.err (λ h. cc) e)
+
+pub returns-clause-err : goal.returns-clause-err
+returns-clause-err c = refused_memory _ c.finished.result c.finished.ensures.err
+
+pub returns-then-ends_early-clause-read : goal.returns-then-ends_early-clause-read
+returns-then-ends_early-clause-read c i =
+    let s = c.args.code.now in
+    let o = c.args.octets.now in
+    let u = c.said_is_read.ensures.unit s c.args.id.index i.count i.value o c.accepted.ensures i.is_said in
+    let h = headed [] o u (sym (append-nil o)) i.short in
+    absurd (c.ends_early.ensures.none c.if-ends_early.true h.tag h.constructed h.count h.size h.header)
+
+pub returns-then-ends_early-clause-more : goal.returns-then-ends_early-clause-more
+returns-then-ends_early-clause-more c m =
+    let s = c.args.code.now in
+    let o = c.args.octets.now in
+    let u = c.said_is_read.ensures.unit s c.args.id.index m.is.count m.is.value m.octets c.accepted.ensures m.is.is_said in
+    let h = headed m.rest o u m.whole m.short in
+    absurd (c.ends_early.ensures.none c.if-ends_early.true h.tag h.constructed h.count h.size h.header)
+
+pub returns-then-ends_early-clause-err : goal.returns-then-ends_early-clause-err
+returns-then-ends_early-clause-err c memory limit has r =
+    let s = c.args.code.now in
+    let o = c.args.octets.now in
+    let i = c.read_is_said.ensures s c.args.id o (room_of (length o)) r.last c.accepted.ensures has c.are_octets.ensures r.reads in
+    let u = c.said_is_read.ensures.unit s c.args.id.index i.count i.value i.octets c.accepted.ensures i.is_said in
+    let short : length o ≤ 16777216 = search rules in
+    let h = headed r.last.here.octets o u i.whole short in
+    c.ends_early.ensures.none c.if-ends_early.true h.tag h.constructed h.count h.size h.header
+
+pub returns-in-Err-read-clause-read : goal.returns-in-Err-read-clause-read
+returns-in-Err-read-clause-read c i =
+    let s = c.args.code.now in
+    let o = c.args.octets.now in
+    let r = c.said_is_read.ensures.read s c.args.id i.value i.count o [] (room_of (length o)) i.is_said c.accepted.ensures i.is_value i.few i.short (omega arith) in
+    let q = read_of o r (sym (append-nil o)) in
+    c.within.ensures.memory (is_memory c.in-Err-read.fault (subst (λ x. Reads (λ u. routine_at s u) Takes c.args.id x q.last) (sym c.in-Ok.ensures.ok) q.reads) (λ n x. c.in-Err-read.ensures.err n q.last x))
+
+pub returns-in-Err-read-clause-more : goal.returns-in-Err-read-clause-more
+returns-in-Err-read-clause-more c m =
+    let s = c.args.code.now in
+    let o = c.args.octets.now in
+    let i = m.is in
+    let a = ap length m.whole in
+    let b = length-append m.octets m.rest in
+    let r = c.said_is_read.ensures.read s c.args.id i.value i.count m.octets m.rest (room_of (length o)) i.is_said c.accepted.ensures i.is_value i.few i.short (omega arith) in
+    let q = read_of o r m.whole in
+    inr (ap Err (c.within.ensures.memory (is_memory c.in-Err-read.fault (subst (λ x. Reads (λ u. routine_at s u) Takes c.args.id x q.last) (sym c.in-Ok.ensures.ok) q.reads) (λ n x. c.in-Err-read.ensures.err n q.last x))))
+
+pub returns-in-Err-read-clause-less : goal.returns-in-Err-read-clause-less
+returns-in-Err-read-clause-less c b =
+    let i = b.is in
+    let u = c.said_is_read.ensures.unit c.args.code.now c.args.id.index i.count i.value b.octets c.accepted.ensures i.is_said in
+    absurd (true_false (c.ends_early.ensures.late (ends_before b u)) c.if-ends_early.false)
+
+pub returns-then-not-is_at_end-clause-read : goal.returns-then-not-is_at_end-clause-read
+returns-then-not-is_at_end-clause-read c i =
+    let s = c.args.code.now in
+    let o = c.args.octets.now in
+    let r = c.said_is_read.ensures.read s c.args.id i.value i.count o [] (room_of (length o)) i.is_said c.accepted.ensures i.is_value i.few i.short (omega arith) in
+    let q = read_of o r (sym (append-nil o)) in
+    let e = c.in-Ok-read.ensures.only q.last (subst (λ x. Reads (λ u. routine_at s u) Takes c.args.id x q.last) (sym c.in-Ok.ensures.ok) q.reads) in
+    absurd (fails c.is_at_end.result c.if-not-is_at_end.true c.is_at_end.ensures (ap (λ x. x.here.octets) (sym e) ∙ q.behind))
+
+pub returns-then-not-is_at_end-clause-less : goal.returns-then-not-is_at_end-clause-less
+returns-then-not-is_at_end-clause-less c b =
+    let i = b.is in
+    let u = c.said_is_read.ensures.unit c.args.code.now c.args.id.index i.count i.value b.octets c.accepted.ensures i.is_said in
+    absurd (true_false (c.ends_early.ensures.late (ends_before b u)) c.if-ends_early.false)
+
+pub returns-clause-more : goal.returns-clause-more
+returns-clause-more c m =
+    let s = c.args.code.now in
+    let o = c.args.octets.now in
+    let i = m.is in
+    let a = ap length m.whole in
+    let b = length-append m.octets m.rest in
+    let r = c.said_is_read.ensures.read s c.args.id i.value i.count m.octets m.rest (room_of (length o)) i.is_said c.accepted.ensures i.is_value i.few i.short (omega arith) in
+    let q = read_of o r m.whole in
+    let e = c.in-Ok-read.ensures.only q.last (subst (λ x. Reads (λ u. routine_at s u) Takes c.args.id x q.last) (sym c.in-Ok.ensures.ok) q.reads) in
+    absurd (none_there m.rest m.some (sym q.behind ∙ ap (λ x. x.here.octets) e ∙ holds c.is_at_end.result c.if-not-is_at_end.false c.is_at_end.ensures))
+
+pub returns-clause-less : goal.returns-clause-less
+returns-clause-less c b =
+    let i = b.is in
+    let u = c.said_is_read.ensures.unit c.args.code.now c.args.id.index i.count i.value b.octets c.accepted.ensures i.is_said in
+    absurd (true_false (c.ends_early.ensures.late (ends_before b u)) c.if-ends_early.false)

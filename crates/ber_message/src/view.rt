@@ -1,0 +1,94 @@
+//! Whole messages as views.
+
+ghost use Rattle.asn_base.specs.Abstract.{AbstractValue};
+ghost use Rattle.ber_message.specs.Messages.{BeginsEncoding, EndsTooSoon, HasEncodingFirst, HasMessageFirst, IsEncoding, IsRead, IsViewed};
+ghost use Rattle.ber_views.specs.Telling.{IsBuiltOf};
+ghost use Rattle.codec_source.specs.declared.fault.ReadFault.TheVariants.{Memory, MessageLimit, Missing, OutsideConstraint, Trailing, Truncated};
+ghost use Rattle.encodings.specs.Encoding.{Says};
+ghost use Rattle.encodings.specs.Rules.{Basic};
+ghost use Rattle.std.specs.Prelude.{◌≡◌, ◌<◌, ◌⊎◌, Err, IfErr, IfOk, length, ℕ};
+
+use crate::message::{are_octets, ends_early, within};
+use asn_base::schema::TypeId;
+use ber_views::{Built, Viewer};
+use codec_code::Code;
+use codec_source::{ReadFault, read};
+use encodings::schema_laws;
+use limits::{MAX_MESSAGE, MAX_OPEN};
+use reading_law::law::{read_is_said, said_is_read};
+use std::alloc::Global;
+
+/// The view of a message of the type, read by the basic rules (X.690, 8.1 to 8.14) from the front, with the number of
+/// additions that were skipped; its strings are slices of the message. It is what `read_message` reads, which keeps no
+/// tokens. Constraints are not judged.
+///
+/// `MessageLimit`: it has more than 16,777,216 octets. `Trailing`: a value ends before the octets do. The first fault
+/// met is told. A type that the code lacks is `UnexpectedTag`.
+pub fn read_view<'a>(
+    alloc: Global,
+    code: &Code,
+    id: TypeId,
+    octets: &'a [u8],
+) -> Result<Built<'a>, ReadFault>
+    ensures ok { IfOk result (λ b. IsViewed code.now id.index octets.now b) }
+    // It is the only value that they say, with the only number of additions.
+    ensures only { IfOk result (λ b. (v : IsViewed code.now id.index octets.now b)
+        → (w : AbstractValue) (k : ℕ)
+        → Says code.now Basic id.index w k octets.now
+        → (w ≡ v.message.value) × (k ≡ v.message.count)) }
+    ensures limit { 16777216 < length octets.now → result ≡ Err MessageLimit }
+    ensures long { result ≡ Err MessageLimit → 16777216 < length octets.now }
+    ensures trailing { result ≡ Err Trailing → HasMessageFirst code.now id.index octets.now }
+    // Whatever encodes a value of the type is read, memory apart; 89 is told where its encoding is a proper front of
+    // them, and 80 where they are one of it.
+    ensures read { IsEncoding code.now id.index octets.now → IfErr result (λ e. e ≡ Memory) }
+    ensures more { HasEncodingFirst code.now id.index octets.now → (result ≡ Err Trailing) ⊎ (result ≡ Err Memory) }
+    ensures less { BeginsEncoding code.now id.index octets.now → result ≡ Err Truncated }
+    // 85 is told at the end of contents, and 88 of nothing: constraints are not judged.
+    ensures missing { result ≡ Err Missing → EndsTooSoon code.now id octets.now }
+    ensures outside { result ≡ Err OutsideConstraint → ⊥ }
+    // A refusal but for want of memory or length says that the routine of the type reads nothing to the end.
+    ensures err { IfErr result (λ e. (e ≡ Memory → ⊥)
+        → (e ≡ MessageLimit → ⊥)
+        → id.index < length code.now
+        → IsRead code.now id octets.now
+        → ⊥) }
+{
+    code.accepted();
+    schema_laws();
+    read_is_said();
+    said_is_read();
+    are_octets(octets);
+    if octets.len() > MAX_MESSAGE {
+        return Err(ReadFault::MessageLimit);
+    }
+    if !code.has(id) {
+        return Err(ReadFault::UnexpectedTag);
+    }
+    if ends_early(octets) {
+        return Err(ReadFault::Truncated);
+    }
+    let mut viewer = match Viewer::new(alloc, code, octets, octets.len() * MAX_OPEN + MAX_OPEN) {
+        Ok(viewer) => viewer,
+        Err(fault) => return Err(fault),
+    };
+    match read(alloc, code, id, &mut viewer) {
+        Ok(()) => {}
+        Err(fault) => return Err(within(fault)),
+    }
+    if !viewer.is_at_end() {
+        return Err(ReadFault::Trailing);
+    }
+    finished(viewer)
+}
+
+/// What was read, as a view.
+fn finished<'a>(viewer: Viewer<'_, 'a>) -> Result<Built<'a>, ReadFault>
+    ensures ok { IfOk result (λ b. IsBuiltOf viewer.entry.schema viewer.entry.told b) }
+    ensures err { IfErr result (λ e. e ≡ Memory) }
+{
+    match viewer.into_telling().finish() {
+        Ok(built) => Ok(built),
+        Err(_) => Err(ReadFault::Memory),
+    }
+}

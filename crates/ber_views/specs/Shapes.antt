@@ -1,0 +1,37 @@
+-- What node of a view stands for a value of each type, as its routine tells it.
+use Rattle.std.specs.Prelude.{ℕ, suc, List, [], ◌∷◌, length}
+use Rattle.asn_base.specs.Types.{Kind, a_sequence, a_set, a_sequence_of, a_set_of}
+use Rattle.codec_code.specs.declared.step.Step.{Step}
+use Rattle.codec_code.specs.declared.step.Step.TheVariants.{Head, Leaf, Field, Ranked, Each, EachSorted, Pick}
+use Rattle.codec_code.specs.declared.step.Step.TheVariants.{Call, Rest, End}
+use Rattle.ber_views.specs.declared.shape.Shape.{Shape}
+use Rattle.ber_views.specs.declared.shape.Shape.TheVariants as shapes
+
+-- a row of so many components, a list, or none of its own
+abbrev pub shape_of : Kind → Shape
+shape_of (a_sequence e cs) = shapes.Row (length cs)
+shape_of (a_set e cs) = shapes.Row (length cs)
+shape_of (a_sequence_of c u) = shapes.List
+shape_of (a_set_of c u) = shapes.List
+shape_of k = shapes.Bare
+
+-- how many components steps read
+abbrev pub fields_in : List Step → ℕ
+fields_in [] = 0
+fields_in (Field f ∷ ss) = suc (fields_in ss)
+fields_in (Ranked f r ∷ ss) = suc (fields_in ss)
+fields_in (s ∷ ss) = fields_in ss
+
+-- the same by the steps of a routine
+abbrev pub shape_in : List Step → Shape
+shape_in [] = shapes.Bare
+shape_in (Head h ∷ ss) = shape_in ss
+shape_in (Leaf k ∷ ss) = shapes.Bare
+shape_in (Pick n ∷ ss) = shapes.Bare
+shape_in (Call t ∷ ss) = shapes.Bare
+shape_in (Each t ∷ ss) = shapes.List
+shape_in (EachSorted t ∷ ss) = shapes.List
+shape_in (Field f ∷ ss) = shapes.Row (suc (fields_in ss))
+shape_in (Ranked f r ∷ ss) = shapes.Row (suc (fields_in ss))
+shape_in (Rest ∷ ss) = shapes.Row 0
+shape_in (End ∷ ss) = shapes.Row 0

@@ -1,0 +1,32 @@
+-- A view while it is told what is read.
+use Rattle.std.specs.Prelude.{◌≡◌, ℕ, Bool, false, List, [], ◌++◌, length}
+use Rattle.asn_base.specs.Abstract.{AbstractValue}
+use Rattle.asn_base.specs.Types.{Resolved}
+use Rattle.octet_answers.specs.States.{Token}
+use Rattle.views.specs.Building.{begun}
+use Rattle.views.specs.Seen.{IsView}
+use Rattle.views.specs.Tree.{Tree, value_of, IsBorrowed}
+use Rattle.ber_views.specs.declared.build.Build.{Build}
+use Rattle.ber_views.specs.declared.telling.Built.{Built}
+use Rattle.ber_views.specs.declared.telling.Telling.{Telling}
+use Rattle.ber_views.specs.Log.{logged, passes}
+use Rattle.ber_views.specs.Wants.{IsBefore, Wants}
+
+-- whatever tokens follow those that were told, of which a value's tree is built: so much of it is built
+abbrev pub IsFaithful : List Resolved → List Token → Build → Type 0
+IsFaithful s told b = (m : List ℕ) (w : AbstractValue) (ts : List Token)
+    → Wants s m w (told ++ ts) 0 false begun
+    → IsBefore s m w ts b
+
+-- it is told of values of this schema; unless memory was refused, what was told so far is built
+pub record IsTelling (t : Telling) (s : List Resolved) : Type 0 where
+  pub code : t.code.now ≡ s
+  pub builds : t.failed ≡ false → IsFaithful s (logged t.log) t.build
+  pub counts : t.failed ≡ false → length t.skipped.items ≡ passes (logged t.log)
+
+-- The view of the value of which the tokens build the tree, and how many additions were skipped.
+pub record IsBuiltOf (s : List Resolved) (told : List Token) (b : Built) : Type 0 where
+  pub view : (m : List ℕ) (w : AbstractValue)
+      → Wants s m w told 0 false begun
+      → (t : Tree) × IsView b.view t × (value_of t ≡ w) × IsBorrowed m t
+  pub counts : b.skipped ≡ passes told

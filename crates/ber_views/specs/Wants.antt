@@ -1,0 +1,92 @@
+-- How a view is built of what was read, token by token: what must hold so that the tree of a value is built in the end.
+use Rattle.std.specs.Prelude.{◌≡◌, ℕ, suc, ◌+◌, ◌^◌, ◌<◌, ◌≤◌, Bool, true, false, List, [], ◌∷◌, length, Some, None}
+use Rattle.asn_base.specs.Abstract.{AbstractValue}
+use Rattle.asn_base.specs.Types.{Resolved}
+use Rattle.encodings.specs.Header.{Octets}
+use Rattle.codec_code.specs.declared.step.LeafKind.{LeafKind}
+use Rattle.codec_code.specs.Routines.{routine_at}
+use Rattle.octet_answers.specs.States.{Token, component, chosen, begun, ended, held, passed}
+use Rattle.octet_answers.specs.Answers.{AreContents}
+use Rattle.views.specs.Building.{Building, Waiting, begun as begun', opened, open_fields, open_list, open_alternative}
+use Rattle.views.specs.Building.{with_leaf, with_tree, IsClosed}
+use Rattle.views.specs.Seen.{Holds}
+use Rattle.views.specs.Tree.{Leaf, bits, octets, text, leaf_value}
+use Rattle.views.specs.Tree.{Tree, value_of, IsBorrowed}
+use Rattle.ber_views.specs.declared.shape.Shape.{Shape}
+use Rattle.ber_views.specs.declared.shape.Shape.TheVariants as shapes
+use Rattle.ber_views.specs.declared.build.Build.{Build}
+use Rattle.ber_views.specs.Shapes.{shape_in}
+
+-- A string that was primitive is shown with its place in the message, a BIT STRING's from its second contents octet on;
+-- one that was joined from segments without a place.
+abbrev pub IsShownAs : Bool → Octets → ℕ → Leaf → Type 0
+IsShownAs false x at (octets o p) = (o ≡ x) × (p ≡ Some at)
+IsShownAs false x at (text o p) = (o ≡ x) × (p ≡ Some at)
+IsShownAs false x at (bits n o p) = (x ≡ n ∷ o) × (p ≡ Some (suc at))
+IsShownAs true x at (octets o p) = p ≡ None
+IsShownAs true x at (text o p) = p ≡ None
+IsShownAs true x at (bits n o p) = p ≡ None
+IsShownAs c x at l = Unit {0}
+
+-- contents octets of a value, in a message
+pub record AreHeld (k : LeafKind) (c : Bool) (x : Octets) (at : ℕ) (v : AbstractValue) : Type 0 where
+  pub levels : ℕ
+  pub few : levels ≤ 400
+  pub short : at + length x ≤ 16777216
+  pub contents : AreContents c k v levels x
+
+-- what follows holds of each leaf that shows the value
+pub record Held (k : LeafKind) (c : Bool) (x : Octets) (at : ℕ) (Then : Leaf → Type 0) : Type 0 where
+  pub value : AbstractValue
+  pub held : AreHeld k c x at value
+  pub then : (l : Leaf) → leaf_value l ≡ value → IsShownAs c x at l → Then l
+
+-- what follows holds of what is built once the innermost open node is closed
+pub record Closed (b : Building) (Then : Building → Type 0) : Type 0 where
+  pub building : Building
+  pub wait : Waiting
+  pub waits : List Waiting
+  pub tree : Tree
+  pub closed : IsClosed b wait waits tree building
+  pub then : Then building
+
+-- the whole value is built, and nothing else; what is told with a place stands there in the message
+pub record IsBuilt (message : Octets) (w : AbstractValue) (b : Building) : Type 0 where
+  pub tree : Tree
+  pub whole : b ≡ with_tree 0 tree begun'
+  pub shows : value_of tree ≡ w
+  pub borrowed : IsBorrowed message tree
+
+-- behind the begin of a value of this shape, which is component n: the node that is opened, if any
+abbrev pub begun_as : Shape → ℕ → Building → Building
+begun_as (shapes.Row size) n b = opened n (open_fields size) b
+begun_as shapes.List n b = opened n open_list b
+begun_as shapes.Bare n b = b
+
+-- the number of the value's next part, behind its begin: of a value that has no node of its own its own number
+abbrev pub number_as : Shape → ℕ → ℕ
+number_as (shapes.Row size) n = 0
+number_as shapes.List n = 0
+number_as shapes.Bare n = n
+
+-- the rest of the tokens, where the next value is component n, what was held last was a leaf or not, and so much is
+-- built
+abbrev pub Wants : List Resolved → Octets → AbstractValue → List Token → ℕ → Bool → Building → Type 0
+Wants s m w [] n h b = IsBuilt m w b
+Wants s m w (component i ∷ ts) n h b = (i < 2 ^ 32) × Wants s m w ts i false b
+Wants s m w (chosen i ∷ ts) n h b = Wants s m w ts 0 false (opened n (open_alternative i) b)
+Wants s m w (begun t ∷ ts) n h b =
+    Wants s m w ts
+    (number_as (shape_in (routine_at s t.index)) n)
+    false
+    (begun_as (shape_in (routine_at s t.index)) n b)
+Wants s m w (ended ∷ ts) n true b = Wants s m w ts 0 false b
+Wants s m w (ended ∷ ts) n false b = Closed b (λ c. Wants s m w ts 0 false c)
+Wants s m w (held k c x at ∷ ts) n h b = Held k c x at (λ l. Wants s m w ts 0 true (with_leaf n l b))
+Wants s m w (passed ∷ ts) n h b = Wants s m w ts n h b
+
+-- a builder stands before these tokens
+pub record IsBefore (s : List Resolved) (m : Octets) (w : AbstractValue) (ts : List Token) (b : Build) : Type 0 where
+  pub building : Building
+  pub holds : Holds b.builder building
+  pub wants : Wants s m w ts b.number b.held building

@@ -1,0 +1,150 @@
+//! A view is built of what was read, token by token.
+
+ghost use Rattle.asn_base.specs.Abstract.{AbstractValue};
+ghost use Rattle.ber_source.specs.Holding.{IsHolding};
+ghost use Rattle.ber_source.specs.Seen.{held_of, mark_of};
+ghost use Rattle.ber_views.specs.Wants.{IsBefore};
+ghost use Rattle.std.specs.Prelude.{◌≡◌, ◌∷◌, ◌^◌, ◌<◌, false, List, OnOk, ℕ};
+ghost use Rattle.octet_answers.specs.States.{Token as Token', begun as begun', chosen, component, ended};
+ghost use Rattle.views.specs.Building.{begun};
+ghost use Rattle.views.specs.Seen.{Holds};
+
+use crate::leaf::push_held;
+use crate::shape::{Shape, shape_of};
+use asn_base::schema::TypeId;
+use ber_source::{Held, Holding, Mark};
+use codec_code::{Code, Coding};
+use std::alloc::{AllocError, Global};
+use views::Builder;
+
+/// A view so far: the number of the component that the next value is, and whether a value that holds no others is to
+/// end next.
+#[derive(Drop)]
+pub struct Build<'a> {
+    pub builder: Builder<'a>,
+    pub number: u32,
+    pub held: bool,
+}
+
+/// A value of the type begins.
+fn begin<'a>(code: &Code, build: &mut Build<'a>, id: TypeId) -> Result<(), AllocError>
+    ensures { (m : List ℕ) (w : AbstractValue) (ts : List Token')
+        → IsBefore code.now m w (begun' id ∷ ts) build.old
+        → OnOk result (IsBefore code.now m w ts build.new) }
+{
+    match shape_of(code.steps(id, Coding::Tagged)) {
+        Shape::Row(size) => {
+            build.builder.open_fields(build.number, size)?;
+            build.number = 0;
+        }
+        Shape::List => {
+            build.builder.open_list(build.number)?;
+            build.number = 0;
+        }
+        Shape::Bare => {}
+    }
+    build.held = false;
+    Ok(())
+}
+
+/// The value that began last ends.
+fn end(build: &mut Build<'_>, code: &Code)
+    ensures { (m : List ℕ) (w : AbstractValue) (ts : List Token')
+        → IsBefore code.now m w (ended ∷ ts) build.old
+        → IsBefore code.now m w ts build.new }
+{
+    if build.held {
+        build.number = 0;
+        build.held = false;
+        return;
+    }
+    build.builder.close();
+    build.number = 0;
+    build.held = false;
+}
+
+/// An alternative is told.
+fn choose(code: &Code, build: &mut Build<'_>, index: usize) -> Result<(), AllocError>
+    ensures { (m : List ℕ) (w : AbstractValue) (ts : List Token')
+        → IsBefore code.now m w (chosen index ∷ ts) build.old
+        → OnOk result (IsBefore code.now m w ts build.new) }
+{
+    build.builder.open_alternative(build.number, index)?;
+    build.number = 0;
+    build.held = false;
+    Ok(())
+}
+
+/// A component is told, which has a place below 2^32.
+fn name(code: &Code, build: &mut Build<'_>, place: usize)
+    ensures { (m : List ℕ) (w : AbstractValue) (ts : List Token')
+        → IsBefore code.now m w (component place ∷ ts) build.old
+        → IsBefore code.now m w ts build.new }
+{
+    build.number = number_of(place);
+    build.held = false;
+}
+
+/// The number of a place.
+fn number_of(place: usize) -> u32
+    ensures { place < 2 ^ 32 → result ≡ place }
+{
+    if place < 4_294_967_296 {
+        place as u32
+    } else {
+        0
+    }
+}
+
+/// A value that holds no others is told.
+pub(crate) fn hold<'a>(
+    alloc: Global,
+    code: &Code,
+    build: &mut Build<'a>,
+    held: Held<'a>,
+    holding: Holding<'a>,
+) -> Result<(), AllocError>
+    requires { IsHolding held holding }
+    ensures { (m : List ℕ) (w : AbstractValue) (ts : List Token')
+        → IsBefore code.now m w (held_of held.entry ∷ ts) build.old
+        → OnOk result (IsBefore code.now m w ts build.new) }
+{
+    push_held(alloc, &mut build.builder, build.number, held, holding)?;
+    build.number = 0;
+    build.held = true;
+    Ok(())
+}
+
+/// One token more, which tells no contents octets.
+pub(crate) fn take(code: &Code, build: &mut Build<'_>, mark: Mark) -> Result<(), AllocError>
+    ensures { (m : List ℕ) (w : AbstractValue) (ts : List Token')
+        → IsBefore code.now m w (mark_of mark ∷ ts) build.old
+        → OnOk result (IsBefore code.now m w ts build.new) }
+{
+    match mark {
+        Mark::Component(place) => {
+            name(code, build, place);
+            Ok(())
+        }
+        Mark::Chosen(index) => choose(code, build, index),
+        Mark::Begun(id) => begin(code, build, id),
+        Mark::Ended => {
+            end(build, code);
+            Ok(())
+        }
+        Mark::Passed => Ok(()),
+    }
+}
+
+/// Nothing yet.
+pub(crate) fn nothing<'a>(alloc: Global) -> Build<'a>
+    ensures holds { Holds result.builder begun }
+    ensures number { result.number ≡ 0 }
+    ensures held { result.held ≡ false }
+{
+    Build {
+        builder: Builder::new(alloc),
+        number: 0,
+        held: false,
+    }
+}

@@ -1,0 +1,148 @@
+//! A cursor over a message that builds a view of it.
+
+ghost use Rattle.codec_source.specs.declared.fault.ReadFault.TheVariants.{MessageLimit};
+ghost use Rattle.ber_views.specs.Log.{logged};
+ghost use Rattle.ber_views.specs.Telling.{IsTelling};
+ghost use Rattle.octet_answers.specs.States.{front};
+ghost use Rattle.std.specs.Prelude.{◌≡◌, ◌<◌, ◌≤◌, IfErr, IfOk, IsTrue, [], ◌↔◌, length};
+
+use crate::telling::Telling;
+use asn_base::schema::TypeId;
+use ber_source::asking::{among_next, choose_next, has_more, skip, stands_next};
+use ber_source::moves::{begin, close, end, hold, open};
+use ber_source::place::{Place, at_front};
+use codec_code::{Code, Field, Head, LeafKind, Step};
+use codec_source::{ReadFault, Source};
+use limits::MAX_MESSAGE;
+use octet_answers::law::one_answer;
+use std::alloc::Global;
+use std::marker::Model;
+
+/// A message while it is read, from the front, by the basic rules, and a view of what was read.
+#[derive(Drop)]
+pub struct Viewer<'c, 'a> {
+    place: Place<'c, 'a, Telling<'c, 'a>>,
+}
+
+impl<'c, 'a> Model for Viewer<'c, 'a> {
+    ghost use Rattle.octet_answers.specs.States.{State};
+    ghost use Rattle.ber_source.specs.Seen.{IsWithin, state_of};
+    ghost use Rattle.ber_views.specs.Log.{logged};
+    ghost use Rattle.ber_views.specs.Telling.{IsTelling};
+    ghost use Rattle.std.specs.Coded.{codes};
+    ghost use Rattle.asn_base.specs.Codes.{abstract_value_code};
+
+    ghost Value = { State };
+
+    ghost coded = { Prim.hlevel (codes, abstract_value_code) };
+
+    ghost view = { λ c. state_of (λ t. logged t.log) c.place };
+
+    ghost invariant = { λ c. IsWithin IsTelling c.place };
+}
+
+impl<'c, 'a> Viewer<'c, 'a> {
+    /// At the front of a message, where so many values may begin. `MessageLimit`: it has more than 16,777,216 octets.
+    pub fn new(
+        alloc: Global,
+        code: &'c Code,
+        octets: &'a [u8],
+        room: usize,
+    ) -> Result<Self, ReadFault>
+        ensures ok { IfOk result (λ c. c ≡ front code.now octets.now room) }
+        ensures few { IfOk result (λ c. length octets.now ≤ 16777216) }
+        ensures err { IfErr result (λ e. (e ≡ MessageLimit) × (16777216 < length octets.now)) }
+    {
+        if octets.len() > MAX_MESSAGE {
+            return Err(ReadFault::MessageLimit);
+        }
+        Ok(Viewer {
+            place: at_front(alloc, code, octets, room, Telling::new(alloc, code)),
+        })
+    }
+
+    /// Whether no octets are left of the contents that it stands in.
+    pub fn is_at_end(&self) -> bool
+        ensures { IsTrue result ↔ (self.now.here.octets ≡ []) }
+    {
+        self.place.here.octets.is_empty()
+    }
+
+    /// What was read.
+    pub fn into_telling(self) -> Telling<'c, 'a>
+        ensures tokens { logged result.log ≡ self.entry.told }
+        ensures suits { IsTelling result self.entry.schema }
+    {
+        self.place.told
+    }
+}
+
+impl<'c, 'a> Source for Viewer<'c, 'a> {
+    ghost use Rattle.octet_answers.specs.Answers.{Takes};
+
+    ghost takes = { Takes };
+
+    ghost use Rattle.octet_answers.specs.Left.{Leaves};
+
+    ghost leaves = { Leaves };
+
+    ghost room = { λ a. a.room };
+
+    fn begin(&mut self, id: TypeId) -> Result<(), ReadFault> {
+        one_answer();
+        begin(&mut self.place, id)
+    }
+
+    fn end(&mut self) -> Result<(), ReadFault> {
+        one_answer();
+        end(&mut self.place)
+    }
+
+    fn open(&mut self, head: Head) -> Result<(), ReadFault> {
+        one_answer();
+        open(&mut self.place, head)
+    }
+
+    fn close(&mut self) -> Result<(), ReadFault> {
+        one_answer();
+        close(&mut self.place)
+    }
+
+    fn leaf(&mut self, kind: LeafKind) -> Result<(), ReadFault> {
+        one_answer();
+        hold(&mut self.place, kind)
+    }
+
+    fn skip(&mut self) -> Result<(), ReadFault> {
+        one_answer();
+        skip(&mut self.place)
+    }
+
+    fn has_component(&mut self, field: Field) -> Result<bool, ReadFault> {
+        one_answer();
+        stands_next(&mut self.place, field)
+    }
+
+    fn has_element(&mut self, id: TypeId, sorted: bool) -> Result<bool, ReadFault> {
+        one_answer();
+        Ok(has_more(&self.place))
+    }
+
+    fn next_component(&mut self, steps: &[Step]) -> Result<Option<TypeId>, ReadFault> {
+        one_answer();
+        among_next(&mut self.place, steps)
+    }
+
+    fn alternative(&mut self, calls: &[Step]) -> Result<TypeId, ReadFault> {
+        one_answer();
+        choose_next(&mut self.place, calls)
+    }
+
+    ghost use Rattle.ber_source.specs.Laws.{begins_less, never_more, one_answer as one_answer'};
+
+    ghost one_answer = { one_answer' };
+
+    ghost spends = { begins_less };
+
+    ghost keeps = { never_more };
+}

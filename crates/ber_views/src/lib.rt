@@ -1,0 +1,14 @@
+//! A message as a source, read by the basic rules (X.690, 8.1 to 8.14), while the view of its value is built: no token
+//! is kept.
+#![tactic(auto)]
+
+mod arcs;
+mod build;
+mod cursor;
+mod leaf;
+mod log;
+mod shape;
+mod telling;
+
+pub use cursor::Viewer;
+pub use telling::{Built, Telling};

@@ -1,0 +1,31 @@
+//! What was told, for contracts alone.
+
+ghost use Rattle.ber_source.specs.Seen.{token_of};
+ghost use Rattle.ber_views.specs.Log.{logged};
+ghost use Rattle.std.specs.Prelude.{◌≡◌, ◌++◌, ◌∷◌, []};
+
+use ber_source::{Held, Mark, Token};
+use std::snapshot::Snapshot;
+
+/// The tokens that were told, in order, of which no memory is taken: contracts see them, and no code does.
+#[derive(Drop)]
+pub enum Log<'a> {
+    Empty,
+    More(Snapshot<Token<'a>>, Snapshot<Log<'a>>),
+}
+
+/// No tokens.
+pub(crate) fn empty<'a>() -> Log<'a>
+    ensures { logged result ≡ [] }
+{
+    Log::Empty
+}
+
+/// One token more.
+pub(crate) fn add<'a>(log: &mut Log<'a>, token: Token<'a>)
+    ensures { logged log.new ≡ logged log.old ++ token_of token.entry ∷ [] }
+{
+    let one = Snapshot::of(&token);
+    let before = Snapshot::of(log);
+    *log = Log::More(one, before);
+}

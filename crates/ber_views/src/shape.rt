@@ -1,0 +1,49 @@
+//! What node of a view stands for a value of each type.
+
+ghost use Rattle.ber_views.specs.Shapes.{fields_in as fields_in', shape_in};
+ghost use Rattle.std.specs.Prelude.{◌≡◌, ◌≤◌, length};
+
+use codec_code::Step;
+
+/// A row of so many components, a list of elements, or none of its own: a value that holds no others, or an
+/// alternative, whose number is told behind its begin.
+#[derive(Clone, Copy)]
+pub enum Shape {
+    Row(usize),
+    List,
+    Bare,
+}
+
+/// How many components the steps read.
+fn fields_in(steps: &[Step]) -> usize
+    ensures few { result ≤ length steps.now }
+    ensures as_many { result ≡ fields_in' steps.now }
+{
+    match steps.split_first() {
+        Some((Step::Field(_), behind)) => 1 + fields_in(behind),
+        Some((Step::Ranked(_, _), behind)) => 1 + fields_in(behind),
+        Some((_, behind)) => fields_in(behind),
+        None => 0,
+    }
+}
+
+/// The node of a value that these steps read.
+pub(crate) fn shape_of(steps: &[Step]) -> Shape
+    ensures { result ≡ shape_in steps.now }
+{
+    let Some((step, behind)) = steps.split_first() else {
+        return Shape::Bare;
+    };
+    match *step {
+        Step::Head(_) => shape_of(behind),
+        Step::Leaf(_) => Shape::Bare,
+        Step::Pick(_) => Shape::Bare,
+        Step::Call(_) => Shape::Bare,
+        Step::Each(_) => Shape::List,
+        Step::EachSorted(_) => Shape::List,
+        Step::Field(_) => Shape::Row(fields_in(steps)),
+        Step::Ranked(_, _) => Shape::Row(fields_in(steps)),
+        Step::Rest => Shape::Row(0),
+        Step::End => Shape::Row(0),
+    }
+}

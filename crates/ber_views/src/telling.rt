@@ -1,0 +1,173 @@
+//! A view while it is told what is read.
+
+ghost use Rattle.asn_base.specs.Types.{Resolved};
+ghost use Rattle.ber_source.specs.Holding.{IsHolding};
+ghost use Rattle.ber_source.specs.Seen.{held_of, mark_of, token_of};
+ghost use Rattle.ber_views.specs.Log.{logged, passes};
+ghost use Rattle.ber_views.specs.Telling.{IsBuiltOf, IsTelling};
+ghost use Rattle.std.specs.Prelude.{◌≡◌, ◌+◌, ◌++◌, ◌∷◌, [], IfOk, length, List, OnOk};
+
+use crate::build::{Build, hold, nothing, take};
+use crate::log::{Log, add, empty};
+use ber_source::{Held, Holding, Mark, Teller, Token};
+use codec_code::Code;
+use codec_source::ReadFault;
+use std::alloc::{AllocError, Global};
+use views::View;
+
+/// A view while its message is read, which is told what is read, and how many additions were skipped. Once memory was
+/// refused it is of no more use.
+#[derive(Drop)]
+pub struct Telling<'c, 'a> {
+    pub(crate) alloc: Global,
+    pub(crate) code: &'c Code,
+    pub(crate) build: Build<'a>,
+    pub(crate) skipped: Vec<u8>,
+    pub(crate) failed: bool,
+    pub(crate) log: Log<'a>,
+}
+
+/// The view of a value, and how many additions that its type lacks were skipped.
+#[derive(Drop)]
+pub struct Built<'a> {
+    pub view: View<'a>,
+    pub skipped: u64,
+}
+
+impl<'c, 'a> Telling<'c, 'a> {
+    /// Nothing was told yet.
+    pub(crate) fn new(alloc: Global, code: &'c Code) -> Self
+        ensures suits { IsTelling result code.now }
+        ensures nothing { logged result.log ≡ [] }
+    {
+        Telling {
+            alloc,
+            code,
+            build: nothing(alloc),
+            skipped: Vec::new(alloc),
+            failed: false,
+            log: empty(),
+        }
+    }
+
+    /// The view of the value of which the tokens that were told build the tree, and how many additions were skipped.
+    /// `AllocError`: memory was refused while they were told.
+    pub fn finish(self) -> Result<Built<'a>, AllocError>
+        ensures { (s : List Resolved)
+            → IsTelling self.entry s
+            → IfOk result (IsBuiltOf s (logged self.entry.log)) }
+    {
+        if self.failed {
+            return Err(AllocError);
+        }
+        let skipped = as_many(&self.skipped);
+        Ok(Built {
+            view: self.build.builder.finish(),
+            skipped,
+        })
+    }
+}
+
+/// How many there are.
+fn as_many(list: &Vec<u8>) -> u64
+    ensures { result ≡ length list.now.items }
+{
+    list.len() as u64
+}
+
+/// A mark as a token.
+fn marked<'a>(mark: Mark) -> Token<'a>
+    ensures { token_of result ≡ mark_of mark }
+{
+    match mark {
+        Mark::Component(place) => Token::Component(place),
+        Mark::Chosen(index) => Token::Chosen(index),
+        Mark::Begun(id) => Token::Begun(id),
+        Mark::Ended => Token::Ended,
+        Mark::Passed => Token::Passed,
+    }
+}
+
+/// One is added where an addition was skipped.
+fn count(skipped: &mut Vec<u8>, mark: Mark) -> Result<(), AllocError>
+    ensures { OnOk result (length skipped.new.items ≡ length skipped.old.items + passes (mark_of mark ∷ [])) }
+{
+    match mark {
+        Mark::Passed => {
+            skipped.push(0)?;
+            Ok(())
+        }
+        Mark::Component(_) => Ok(()),
+        Mark::Chosen(_) => Ok(()),
+        Mark::Begun(_) => Ok(()),
+        Mark::Ended => Ok(()),
+    }
+}
+
+/// One token more, which tells no contents octets.
+fn add_mark<'c, 'a>(telling: &mut Telling<'c, 'a>, mark: Mark) -> Result<(), AllocError>
+    ensures ok { OnOk result (logged telling.new.log ≡ logged telling.old.log ++ mark_of mark ∷ []) }
+    ensures suits { OnOk result ((s : List Resolved) → IsTelling telling.old s → IsTelling telling.new s) }
+    ensures code { telling.new.code.now ≡ telling.old.code.now }
+{
+    take(telling.code, &mut telling.build, mark)?;
+    count(&mut telling.skipped, mark)?;
+    add(&mut telling.log, marked(mark));
+    Ok(())
+}
+
+/// The contents octets of a value that holds no others.
+fn add_held<'c, 'a>(
+    telling: &mut Telling<'c, 'a>,
+    held: Held<'a>,
+    holding: Holding<'a>,
+) -> Result<(), AllocError>
+    requires { IsHolding held holding }
+    ensures ok { OnOk result (logged telling.new.log ≡ logged telling.old.log ++ held_of held.entry ∷ []) }
+    ensures suits { OnOk result ((s : List Resolved) → IsTelling telling.old s → IsTelling telling.new s) }
+    ensures code { telling.new.code.now ≡ telling.old.code.now }
+{
+    hold(
+        telling.alloc,
+        telling.code,
+        &mut telling.build,
+        held,
+        holding,
+    )?;
+    add(
+        &mut telling.log,
+        Token::Held {
+            kind: held.kind,
+            form: held.form,
+            octets: held.octets,
+            at: held.at,
+        },
+    );
+    Ok(())
+}
+
+impl<'c, 'a> Teller<'a> for Telling<'c, 'a> {
+    ghost tokens = { λ t. logged t.log };
+
+    ghost suits = { IsTelling };
+
+    fn tell(&mut self, mark: Mark) -> Result<(), ReadFault> {
+        match add_mark(self, mark) {
+            Ok(()) => Ok(()),
+            Err(_) => {
+                self.failed = true;
+                Err(ReadFault::Memory)
+            }
+        }
+    }
+
+    fn hold(&mut self, held: Held<'a>, holding: Holding<'a>) -> Result<(), ReadFault> {
+        match add_held(self, held, holding) {
+            Ok(()) => Ok(()),
+            Err(_) => {
+                self.failed = true;
+                Err(ReadFault::Memory)
+            }
+        }
+    }
+}

@@ -1,0 +1,4 @@
+pub mod Finding
+pub mod Strings
+pub mod Held
+pub mod Rows

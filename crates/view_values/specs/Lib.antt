@@ -1,0 +1,2 @@
+-- Members among which later components are found (`Members`).
+pub mod Members

@@ -1,0 +1,198 @@
+//! Whether a string, or the numbers of an object identifier, are a value of a kind (X.680, 22 to 24, 32, 33, 41 and 51).
+//! Each test may answer false of a value that is one, where ranges or codes don't ascend.
+
+ghost use Rattle.asn_base.specs.Abstract.{bits as bits', octets as octets', oid as oid', relative_oid as relative_oid', text as text'};
+ghost use Rattle.asn_base.specs.Names.{IsMember};
+ghost use Rattle.asn_base.specs.Seen.{constraint_of, kind_of, range_of};
+ghost use Rattle.asn_base.specs.Typed.{Fits, IsAllowed, IsAllowedSize, IsInRange, IsInSome, IsObjectIdentifier, IsRelativeOid};
+ghost use Rattle.std.specs.Int.Digits.{AllBelowBase};
+ghost use Rattle.std.specs.List.{AllByRecursion};
+ghost use Rattle.std.specs.Prelude.{◌≡◌, ◌-◌, ◌*◌, ◌<◌, ◌^◌, ◌↔◌, IsTrue, IsUtf8, chars, length, map};
+ghost use Rattle.views.specs.Tree.{bits_in};
+
+use asn_base::constraint::{Constraint, Range};
+use asn_base::schema::Core;
+use limits::MAX_ARCS;
+
+/// Whether the range has the number.
+fn is_in_range(range: &Range, number: i128) -> bool
+    ensures { IsTrue result ↔ IsInRange number (range_of range.now) }
+{
+    let above = match range.least {
+        Some(least) => least <= number,
+        None => true,
+    };
+    let below = match range.greatest {
+        Some(greatest) => number <= greatest,
+        None => true,
+    };
+    above && below
+}
+
+/// Whether the number stands in one of the ranges, where these ascend.
+fn finds_range(ranges: &[Range], number: i128) -> bool
+    ensures { IsTrue result → IsInSome number (map range_of ranges.now) }
+{
+    let place = ranges.partition_point(|range| match range.greatest {
+        Some(greatest) => greatest < number,
+        None => false,
+    });
+    match ranges.get(place) {
+        Some(range) => is_in_range(range, number),
+        None => false,
+    }
+}
+
+/// Whether the constraint allows the number.
+fn allows(constraint: &Constraint, number: i128) -> bool
+    ensures { IsTrue result → IsAllowed (constraint_of constraint.now) number }
+{
+    match &constraint.allowed {
+        Some(ranges) => finds_range(ranges.as_slice(), number),
+        None => true,
+    }
+}
+
+/// Whether the constraint allows the size.
+pub(crate) fn allows_size(constraint: &Constraint, size: u128) -> bool
+    requires { size < 2 ^ 127 }
+    ensures { IsTrue result → IsAllowedSize (constraint_of constraint.now) size }
+{
+    allows(constraint, size as i128)
+}
+
+/// Whether the code stands in the alphabet, where its codes ascend.
+fn finds_code(alphabet: &[u8], code: u8) -> bool
+    ensures { IsTrue result → IsMember code alphabet.now }
+{
+    let place = alphabet.partition_point(|other| *other < code);
+    match alphabet.get(place) {
+        Some(other) => *other == code,
+        None => false,
+    }
+}
+
+/// Whether each octet stands in the alphabet.
+fn are_codes(alphabet: &[u8], octets: &[u8]) -> bool
+    ensures { IsTrue result → AllByRecursion (λ x. IsMember x alphabet.now) octets.now }
+{
+    for i in 0..octets.len() {
+        if !finds_code(alphabet, octets[i]) {
+            return false;
+        }
+    }
+    true
+}
+
+/// Whether the characters are codes of the alphabet, and as many as are allowed.
+fn is_string_of(alphabet: &[u8], size: &Constraint, text: &str) -> bool
+    ensures codes { IsTrue result → AllByRecursion (λ x. IsMember x alphabet.now) text.now }
+    ensures size { IsTrue result → IsAllowedSize (constraint_of size.now) (length text.now) }
+{
+    let octets = text.as_bytes();
+    allows_size(size, octets.len() as u128) && are_codes(alphabet, octets)
+}
+
+/// Whether there are as many octets as are allowed.
+fn has_allowed_octets(size: &Constraint, octets: &[u8]) -> bool
+    ensures octets { AllBelowBase 256 octets.now }
+    ensures size { IsTrue result → IsAllowedSize (constraint_of size.now) (length octets.now) }
+{
+    allows_size(size, octets.len() as u128)
+}
+
+/// How many characters it has.
+fn character_count(text: &str) -> usize
+    ensures { result ≡ length (chars text.now) }
+{
+    text.chars().count()
+}
+
+/// Whether there are as many characters as are allowed.
+fn has_allowed_characters(size: &Constraint, text: &str) -> bool
+    ensures utf8 { IsUtf8 text.now }
+    ensures size { IsTrue result → IsAllowedSize (constraint_of size.now) (length (chars text.now)) }
+{
+    allows_size(size, character_count(text) as u128)
+}
+
+/// How many bits octets have of which so many are unused.
+fn bit_count(octets: &[u8], unused: u8) -> u128
+    ensures is { result ≡ 8 * length octets.now - unused }
+    ensures small { result < 2 ^ 127 }
+{
+    (octets.len() as u128 * 8).saturating_sub(unused as u128)
+}
+
+/// Whether these are the numbers of an OBJECT IDENTIFIER (X.680, 32).
+fn is_object_identifier(numbers: &[u64]) -> bool
+    ensures { IsTrue result ↔ IsObjectIdentifier numbers.now }
+{
+    if numbers.len() < 2 || numbers.len() > MAX_ARCS {
+        return false;
+    }
+    let first = numbers[0];
+    if first < 2 {
+        return numbers[1] < 40;
+    }
+    first == 2
+}
+
+/// Whether these are the numbers of a RELATIVE-OID (X.680, 33).
+fn is_relative_oid(numbers: &[u64]) -> bool
+    ensures { IsTrue result ↔ IsRelativeOid numbers.now }
+{
+    !numbers.is_empty() && numbers.len() <= MAX_ARCS
+}
+
+/// Whether octets are a value of the kind.
+pub(crate) fn fits_octets(core: &Core, octets: &[u8]) -> bool
+    ensures { IsTrue result → Fits (kind_of core.now) (octets' octets.now) }
+{
+    match core {
+        Core::OctetString(size) => has_allowed_octets(size, octets),
+        _ => false,
+    }
+}
+
+/// Whether the bits of octets, of which so many are unused, are a value of the kind.
+pub(crate) fn fits_bits(core: &Core, unused: u8, octets: &[u8]) -> bool
+    ensures { IsTrue result → Fits (kind_of core.now) (bits' (bits_in unused octets.now)) }
+{
+    match core {
+        Core::BitString(size) => allows_size(size, bit_count(octets, unused)),
+        Core::NamedBits(_) => true,
+        _ => false,
+    }
+}
+
+/// Whether a text is a value of the kind.
+pub(crate) fn fits_text(core: &Core, text: &str) -> bool
+    ensures { IsTrue result → Fits (kind_of core.now) (text' text.now) }
+{
+    match core {
+        Core::Utf8String(size) => has_allowed_characters(size, text),
+        Core::RestrictedString(_, alphabet, size) => is_string_of(alphabet.as_slice(), size, text),
+        _ => false,
+    }
+}
+
+/// Whether the numbers are an OBJECT IDENTIFIER, and the kind is.
+pub(crate) fn fits_oid(core: &Core, numbers: &[u64]) -> bool
+    ensures { IsTrue result → Fits (kind_of core.now) (oid' numbers.now) }
+{
+    match core {
+        Core::ObjectIdentifier => is_object_identifier(numbers),
+        _ => false,
+    }
+}
+
+/// Whether the numbers are a RELATIVE-OID, and the kind is.
+pub(crate) fn fits_relative_oid(core: &Core, numbers: &[u64]) -> bool
+    ensures { IsTrue result → Fits (kind_of core.now) (relative_oid' numbers.now) }
+{
+    match core {
+        Core::RelativeOid => is_relative_oid(numbers),
+        _ => false,
+    }
+}

@@ -1,0 +1,9 @@
+//! Whether the value that a view shows is one of a type, without a copy of it.
+#![tactic(auto)]
+
+mod groups;
+mod leaf;
+mod members;
+mod value;
+
+pub use value::is_surely_value;

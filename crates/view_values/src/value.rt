@@ -1,0 +1,231 @@
+//! Whether a value is surely one of a type.
+
+ghost use Rattle.asn_base.specs.Abstract.{abstract, row_of_options};
+ghost use Rattle.asn_base.specs.Decided.{IsComponent, IsFlat};
+ghost use Rattle.asn_base.specs.Seen.{component_of, constraint_of, presence_of};
+ghost use Rattle.asn_base.specs.Typed.{AreComponents, AreElements, GroupsAreWhole, IsAllowedSize, IsValueWithoutNodes, MayBeAbsent, ValueIn, members as members'};
+ghost use Rattle.std.specs.Prelude.{◌≡◌, ◌≤◌, IfSome, IsTrue, MatchOption, None, Option as Option', Some, length, map, option_map};
+ghost use Rattle.views.specs.Seen.{AreParts, IsPart};
+ghost use Rattle.views.specs.Tree.{Members, Tree, component_value, element_values, placed, value_of};
+
+use crate::groups::have_no_groups;
+use crate::leaf::{allows_size, fits_bits, fits_octets, fits_oid, fits_relative_oid, fits_text};
+use crate::members::taken;
+use asn_base::constraint::Constraint;
+use asn_base::decide::is_value_without_nodes;
+use asn_base::law::{abstract_values, without_groups};
+use asn_base::schema::{Component, Core, Presence, Schema, TypeId};
+use asn_base::value::Value;
+use limits::MAX_LEVELS;
+use value_text::names::alternative_at;
+use views::{Part, Parts, Shown};
+
+/// Whether the value that a part shows is surely one of the type, the limit on nodes apart: where it answers true, it
+/// is. Where it answers false, a copy has to be asked: it may be one of which a component stands in version brackets, or
+/// is absent and has a DEFAULT that holds others. It takes no memory, and time with the nodes.
+pub fn is_surely_value(part: &Part<'_, '_>, schema: &Schema, id: TypeId) -> bool
+    requires { (t : Tree) × IsPart part.now t }
+    ensures { (t : Tree) → IsPart part.now t → IsTrue result → IsValueWithoutNodes schema.now id.index (value_of t) }
+{
+    is_within(part, schema, MAX_LEVELS, id)
+}
+
+/// Whether a value that holds no others is one of the type.
+fn is_small_value(value: &Value, schema: &Schema, id: TypeId) -> bool
+    ensures { IsTrue result → ValueIn schema.now 64 id.index (abstract value.now) }
+{
+    is_value_without_nodes(value, schema, id)
+}
+
+/// Whether it is surely one of the type with at most this many levels.
+#[cycle(within)]
+fn is_within(part: &Part<'_, '_>, schema: &Schema, levels: u8, id: TypeId) -> bool
+    requires { (t : Tree) × IsPart part.now t }
+    ensures { (t : Tree) → IsPart part.now t → IsTrue result → ValueIn schema.now levels id.index (value_of t) }
+{
+    abstract_values();
+    if levels == 0 || !schema.has(id) {
+        return false;
+    }
+    let core = &schema.get(id).core;
+    match part.shown() {
+        Shown::Bool(truth) => is_small_value(&Value::Bool(truth), schema, id),
+        Shown::Int(number) => is_small_value(&Value::Int(number), schema, id),
+        Shown::Enum(number) => is_small_value(&Value::Enum(number), schema, id),
+        Shown::Null => is_small_value(&Value::Null, schema, id),
+        Shown::Bits(unused, octets) => fits_bits(core, unused, octets),
+        Shown::Octets(octets) => fits_octets(core, octets),
+        Shown::Text(text) => fits_text(core, text),
+        Shown::Oid(numbers) => fits_oid(core, numbers),
+        Shown::RelativeOid(numbers) => fits_relative_oid(core, numbers),
+        Shown::Fields(size, members) => match core {
+            Core::Sequence(_, components) => {
+                are_fields(components.as_slice(), size, &members, schema, levels - 1)
+            }
+            Core::Set(_, components) => {
+                are_fields(components.as_slice(), size, &members, schema, levels - 1)
+            }
+            _ => false,
+        },
+        Shown::List(members) => match core {
+            Core::SequenceOf(size, element) => {
+                are_elements(size, *element, &members, schema, levels - 1)
+            }
+            Core::SetOf(size, element) => {
+                are_elements(size, *element, &members, schema, levels - 1)
+            }
+            _ => false,
+        },
+        Shown::Alternative(number, inner) => match alternative_at(core, number) {
+            Some(alternative) => is_within(&inner, schema, levels - 1, alternative.ty),
+            None => false,
+        },
+    }
+}
+
+/// Whether these are surely the components of a value, none of which stands in version brackets.
+#[cycle(within)]
+fn are_fields(
+    components: &[Component],
+    size: usize,
+    members: &Parts<'_, '_>,
+    schema: &Schema,
+    levels: u8,
+) -> bool
+    requires { (ms : Members) × AreParts members.now ms }
+    ensures { (ms : Members)
+        → AreParts members.now ms
+        → IsTrue result
+        → AreComponents schema.now levels (map component_of components.now) (row_of_options (placed size (λ i. component_value ms i)))
+        × GroupsAreWhole (map component_of components.now) (row_of_options (placed size (λ i. component_value ms i))) }
+{
+    without_groups();
+    let count = components.len();
+    if count != size || count > 65_535 || !have_no_groups(components) {
+        return false;
+    }
+    are_components(components, size, members, schema, levels)
+}
+
+/// Whether these are surely the components of a value, as many as the value has places.
+#[cycle(within)]
+fn are_components(
+    components: &[Component],
+    size: usize,
+    members: &Parts<'_, '_>,
+    schema: &Schema,
+    levels: u8,
+) -> bool
+    requires long { length components.now ≡ size }
+    requires few { size ≤ 65535 }
+    requires tree { (ms : Members) × AreParts members.now ms }
+    ensures { (ms : Members)
+        → AreParts members.now ms
+        → IsTrue result
+        → AreComponents schema.now levels (map component_of components.now) (row_of_options (placed size (λ i. component_value ms i))) }
+{
+    let mut left = *members;
+    for i in 0..components.len() {
+        let (found, behind) = taken(&left, i as u32);
+        if !is_component(&components[i], &found, schema, levels) {
+            return false;
+        }
+        left = behind;
+    }
+    true
+}
+
+/// Whether it is surely a value of the component, or none where that may be.
+#[cycle(within)]
+fn is_component(
+    component: &Component,
+    found: &Option<Part<'_, '_>>,
+    schema: &Schema,
+    levels: u8,
+) -> bool
+    requires { IfSome found.now (λ p. (t : Tree) × IsPart p t) }
+    ensures { (o : Option' Tree)
+        → MatchOption found.now (o ≡ None) (λ p. (t : Tree) × (o ≡ Some t) × IsPart p t)
+        → IsTrue result
+        → IsComponent schema.now levels (component_of component.now) (option_map value_of o) }
+{
+    match found {
+        Some(part) => is_within(part, schema, levels, component.ty),
+        None => may_be_absent(&component.presence, schema, levels, component.ty),
+    }
+}
+
+/// Whether a component of the type surely may be absent.
+fn may_be_absent(presence: &Presence, schema: &Schema, levels: u8, id: TypeId) -> bool
+    ensures { IsTrue result → MayBeAbsent schema.now levels id.index (presence_of presence.now) }
+{
+    match presence {
+        Presence::Mandatory => false,
+        Presence::Optional => true,
+        Presence::Default(default) => is_small_default(default, schema, levels, id),
+        Presence::Addition(_) => true,
+    }
+}
+
+/// Whether it holds no others, and is one of the type with at most this many levels.
+fn is_small_default(default: &Value, schema: &Schema, levels: u8, id: TypeId) -> bool
+    ensures { IsTrue result → ValueIn schema.now levels id.index (abstract default.now) }
+{
+    if levels == 0 {
+        return false;
+    }
+    if !is_flat(default) {
+        return false;
+    }
+    is_small_value(default, schema, id)
+}
+
+/// Whether the value holds no others.
+fn is_flat(value: &Value) -> bool
+    ensures { IsTrue result → IsFlat (abstract value.now) }
+{
+    abstract_values();
+    match value {
+        Value::Fields(_) => false,
+        Value::List(_) => false,
+        Value::Alt(_, _) => false,
+        Value::Bool(_) => true,
+        Value::Int(_) => true,
+        Value::Enum(_) => true,
+        Value::Bits(_) => true,
+        Value::Octets(_) => true,
+        Value::Text(_) => true,
+        Value::Null => true,
+        Value::Oid(_) => true,
+        Value::RelativeOid(_) => true,
+    }
+}
+
+/// Whether these are surely the elements of a value, as many as are allowed.
+#[cycle(within)]
+fn are_elements(
+    size: &Constraint,
+    element: TypeId,
+    members: &Parts<'_, '_>,
+    schema: &Schema,
+    levels: u8,
+) -> bool
+    requires { (ms : Members) × AreParts members.now ms }
+    ensures { (ms : Members)
+        → AreParts members.now ms
+        → IsTrue result
+        → AreElements schema.now levels element.index (element_values ms)
+        × IsAllowedSize (constraint_of size.now) (members' (element_values ms)) }
+{
+    if !allows_size(size, members.count() as u128) {
+        return false;
+    }
+    let mut left = *members;
+    while let Some((_, part, behind)) = left.split() {
+        if !is_within(&part, schema, levels, element) {
+            return false;
+        }
+        left = behind;
+    }
+    true
+}
