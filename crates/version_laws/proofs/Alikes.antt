@@ -95,13 +95,13 @@ one_more {s} {u} {n} {w} (there {y = y} {xs = ws} {ys = xs} i) =
     behind_first f a (one_element b c) = one_element b (f a c)
 
 -- the default of the earlier version
-record Earlier (s : List Resolved) (t : ℕ) (p : Presence) (e : AbstractValue) : Type 0 where
-  value : AbstractValue
-  is : p ≡ default value
-  none_out : left_out s t e ≡ 0
-  same : Same s t value (kept s t e)
+pub record Earlier (s : List Resolved) (t : ℕ) (p : Presence) (e : AbstractValue) : Type 0 where
+  pub value : AbstractValue
+  pub is : p ≡ default value
+  pub none_out : left_out s t e ≡ 0
+  pub same : Same s t value (kept s t e)
 
-earlier : {s : List Resolved} {t : ℕ} {p q : Presence} {e : AbstractValue} → IsMarkedAlike s t p q → q ≡ default e → Earlier s t p e
+pub earlier : {s : List Resolved} {t : ℕ} {p q : Presence} {e : AbstractValue} → IsMarkedAlike s t p q → q ≡ default e → Earlier s t p e
 earlier both_mandatory f = absurd (cc)
 earlier both_optional f = absurd (cc)
 earlier {s} {t} {p} (both_default {d = d} {e = x} z sm) f =

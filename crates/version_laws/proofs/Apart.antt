@@ -49,7 +49,7 @@ some_of P (Some r) h = (r, refl)
 pub has_type : (s : List Resolved) (u : ℕ) → HasTag s u → HasType s u
 has_type s u h = some_of (λ q. 0 < length q.tags) (slice_get s u) h
 
-longer : (root others more all : List Alternative) (n : ℕ) → map (λ a. a.name) root ≡ map (λ a. a.name) others → length more ≤ length all → n < length (root ++ more) → n < length (others ++ all)
+pub longer : (root others more all : List Alternative) (n : ℕ) → map (λ a. a.name) root ≡ map (λ a. a.name) others → length more ≤ length all → n < length (root ++ more) → n < length (others ++ all)
 longer root others more all n names l m =
     let e = ap length names in
     let a = length-map root (λ b. b.name) in
@@ -125,7 +125,7 @@ any_same : {s s' : List Resolved} {cs ds : List Component} → Beside s s' cs ds
 any_same (appended {ds = ds} a) = sym (none_needed ds a)
 any_same (beside {c = c} {d = d} {cs = cs} l m b) = ap (λ q. q || any_mandatory cs) (mandatory_same c d m) ∙ ap (λ q. is_mandatory d || q) (any_same b)
 
-type_there : (s : List Resolved) (u : ℕ) → u < length s → HasType s u
+pub type_there : (s : List Resolved) (u : ℕ) → u < length s → HasType s u
 type_there s u l = there s u l
 
 -- none of the last components of a SEQUENCE can begin so

@@ -5,3 +5,12 @@ pub mod Places
 pub mod Mixed
 pub mod Older
 pub mod Alikes
+pub mod Back
+pub mod Groups
+pub mod Newer
+pub mod NewerAlike
+pub mod NewerSays
+pub mod Basics
+pub mod Wide
+pub mod Rows
+pub mod Read

@@ -29,7 +29,7 @@ use Rattle.version_laws.proofs.Mixed.{Below, below_rest, below_each, below_frame
 basic_header : {q : Rules} {t : Tag} {c : Bool} {n : ℕ} {h : List ℕ} → HeaderBy q t c n h → HeaderBy Basic t c n h
 basic_header a = record { header = a.header; fewest = tt }
 
-basic_frame : {q : Rules} {ts : List Tag} {c : Bool} {x o : List ℕ} → Framed q ts c x o → Framed Basic ts c x o
+pub basic_frame : {q : Rules} {ts : List Tag} {c : Bool} {x o : List ℕ} → Framed q ts c x o → Framed Basic ts c x o
 basic_frame bare = bare
 basic_frame (innermost h) = innermost (basic_header h)
 basic_frame (outer f h) = outer (basic_frame f) (basic_header h)
@@ -87,7 +87,7 @@ unknown_few m closed f = omega arith
 unknown_few m (extensible no_unknown) f = omega arith
 unknown_few m (extensible (unknown x h b g u)) f = f (omega arith)
 
-none_unknown : {s : List Resolved} {known : List Component} {e : Bool} {k : ℕ} {us : List (List ℕ)} → UnknownIf s known e k us → k ≡ 0 → us ≡ []
+pub none_unknown : {s : List Resolved} {known : List Component} {e : Bool} {k : ℕ} {us : List (List ℕ)} → UnknownIf s known e k us → k ≡ 0 → us ≡ []
 none_unknown closed e = refl
 none_unknown (extensible no_unknown) e = refl
 none_unknown (extensible (unknown x h b f u)) e = absurd (omega (arith, e))

@@ -5,8 +5,9 @@ use Rattle.asn_base.specs.Types.{TypeNumber, Resolved}
 use Rattle.asn_base.specs.Typed.{IsValueWithoutNodes}
 use Rattle.asn_base.specs.Same.{Same}
 use Rattle.encodings.specs.Header.{Octets}
-use Rattle.encodings.specs.Rules.{Basic}
+use Rattle.encodings.specs.Rules.{Basic, Distinguished}
 use Rattle.encodings.specs.Levels.{levels}
+use Rattle.encodings.specs.Encoding.{Says}
 use Rattle.encodings.specs.Reading.{Encodes}
 use Rattle.later_versions.specs.Kept.{kept}
 
@@ -22,3 +23,8 @@ pub record IsReadAs (s : List Resolved) (t : TypeNumber) (v : AbstractValue) (k 
   pub same : Same s t v value
   pub encodes : Encodes s Basic t value k o
   pub few : levels encodes.says_it ≤ 400
+
+-- and by the distinguished rules, too
+pub record IsStrictlyReadAs (s : List Resolved) (t : ℕ) (v : AbstractValue) (k : ℕ) (o : Octets) : Type 0 where
+  pub is : IsReadAs s t v k o
+  pub strict : Says s Distinguished t is.value k o

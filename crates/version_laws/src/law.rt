@@ -1,14 +1,19 @@
-//! What is written of a later version is read by the earlier one.
+//! What is written of one version is read by the other.
 
 ghost use Rattle.asn_base.specs.Abstract.{AbstractValue};
+ghost use Rattle.asn_base.specs.Same.{Same};
 ghost use Rattle.asn_base.specs.Schemas.{IsSchema};
+ghost use Rattle.asn_base.specs.Typed.{IsValue, IsValueWithoutNodes};
 ghost use Rattle.asn_base.specs.Types.{Resolved};
-ghost use Rattle.encodings.specs.Encoding.{Der};
+ghost use Rattle.encodings.specs.Encoding.{Der, EncodesBy};
+ghost use Rattle.encodings.specs.Reading.{Encodes};
+ghost use Rattle.encodings.specs.Rules.{Rules};
 ghost use Rattle.later_versions.specs.Kept.{kept, left_out};
 ghost use Rattle.later_versions.specs.Later.{Later};
 ghost use Rattle.std.specs.Int.Digits.{AllBelowBase};
-ghost use Rattle.std.specs.Prelude.{List, ℕ};
-ghost use Rattle.version_laws.specs.Versions.{IsKnown, IsReadAs};
+ghost use Rattle.std.specs.Prelude.{◌≡◌, ◌<◌, List, length, ℕ};
+ghost use Rattle.version_laws.specs.Versions.{IsKnown, IsReadAs, IsStrictlyReadAs};
+ghost use Rattle.version_laws.specs.Widened.{widened};
 
 use asn_base::law::{alike_values, sameness};
 use encodings::schema_laws;
@@ -24,6 +29,74 @@ pub fn earlier_reads()
         → AllBelowBase 256 o
         → Der s' t' v 0 o
         → IsReadAs s t (kept s t v) (left_out s t v) o }
+{
+    sameness();
+    alike_values();
+    schema_laws();
+}
+
+/// A value of an earlier version is one of the later type, where the components that were appended are absent; values
+/// that are the same are so there. What the earlier type keeps of it is the value, and nothing is left out.
+pub fn widening()
+    ensures value { (s s' : List Resolved) (t t' : ℕ) (v : AbstractValue)
+        → IsSchema s'
+        → Later s t s' t'
+        → t' < length s'
+        → IsValueWithoutNodes s t v
+        → IsValueWithoutNodes s' t' (widened s' t' v) }
+    // With the limit on nodes, too: it has as many.
+    ensures few_nodes { (s s' : List Resolved) (t t' : ℕ) (v : AbstractValue)
+        → IsSchema s'
+        → Later s t s' t'
+        → t' < length s'
+        → IsValue s t v
+        → IsValue s' t' (widened s' t' v) }
+    ensures same { (s s' : List Resolved) (t t' : ℕ) (v w : AbstractValue)
+        → IsSchema s'
+        → Later s t s' t'
+        → t' < length s'
+        → Same s t v w
+        → Same s' t' (widened s' t' v) (widened s' t' w) }
+    ensures back { (s s' : List Resolved) (t t' : ℕ) (v : AbstractValue)
+        → IsSchema s'
+        → Later s t s' t'
+        → t' < length s'
+        → IsValueWithoutNodes s t v
+        → (kept s t (widened s' t' v) ≡ v) × (left_out s t (widened s' t' v) ≡ 0) }
+{
+    sameness();
+    alike_values();
+}
+
+/// The encoding of a value of an earlier version is one of what it is under the later type, by the same rules, with no
+/// unknown additions.
+pub fn later_reads()
+    ensures encodes { (s s' : List Resolved) (r : Rules) (t t' : ℕ) (v : AbstractValue) (o : List ℕ)
+        → IsSchema s'
+        → Later s t s' t'
+        → t' < length s'
+        → EncodesBy r s t v 0 o
+        → EncodesBy r s' t' (widened s' t' v) 0 o }
+    // As it stands, too.
+    ensures stands { (s s' : List Resolved) (r : Rules) (t t' : ℕ) (w : AbstractValue) (o : List ℕ)
+        → IsSchema s'
+        → Later s t s' t'
+        → t' < length s'
+        → Encodes s r t w 0 o
+        → Encodes s' r t' (widened s' t' w) 0 o }
+    // It has no more levels of headers there: at most 400 where it had, and by the distinguished rules always.
+    ensures basic { (s s' : List Resolved) (t t' : ℕ) (v : AbstractValue) (o : List ℕ)
+        → IsSchema s'
+        → Later s t s' t'
+        → t' < length s'
+        → IsReadAs s t v 0 o
+        → IsReadAs s' t' (widened s' t' v) 0 o }
+    ensures distinguished { (s s' : List Resolved) (t t' : ℕ) (v : AbstractValue) (o : List ℕ)
+        → IsSchema s'
+        → Later s t s' t'
+        → t' < length s'
+        → Der s t v 0 o
+        → IsStrictlyReadAs s' t' (widened s' t' v) 0 o }
 {
     sameness();
     alike_values();

@@ -2,6 +2,8 @@
 #![tactic(auto)]
 
 mod earlier;
+mod later;
 pub mod law;
 
 pub use earlier::read_of_later;
+pub use later::{read_der_of_earlier, read_of_earlier};

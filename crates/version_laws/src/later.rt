@@ -1,0 +1,99 @@
+//! Messages of an earlier version, read as the later one.
+
+ghost use Rattle.asn_base.specs.Abstract.{AbstractValue};
+ghost use Rattle.asn_base.specs.Same.{Same};
+ghost use Rattle.asn_base.specs.Types.{Resolved};
+ghost use Rattle.ber_reader.specs.Readings.{IsStrictReading};
+ghost use Rattle.codec_source.specs.declared.fault.ReadFault.TheVariants.{Memory};
+ghost use Rattle.encodings.specs.Encoding.{Der};
+ghost use Rattle.encodings.specs.Reading.{Encodes};
+ghost use Rattle.encodings.specs.Rules.{Basic};
+ghost use Rattle.later_versions.specs.Later.{Later};
+ghost use Rattle.std.specs.Prelude.{◌≡◌, ◌<◌, ◌≤◌, IfErr, IfOk, List, length, ℕ};
+ghost use Rattle.version_laws.specs.Versions.{IsReadAs};
+ghost use Rattle.version_laws.specs.Widened.{widened};
+ghost use Rattle.views.specs.Seen.{IsView};
+ghost use Rattle.views.specs.Tree.{Tree, value_of};
+
+use crate::law::later_reads;
+use asn_base::schema::TypeId;
+use ber_reader::{Read, read_ber, read_der};
+use codec_code::Code;
+use codec_source::ReadFault;
+use std::alloc::Global;
+
+/// What `read_ber` answers, as a later type, of an encoding of a value of an earlier version, of at most 16,777,216
+/// octets: the value with the components that were appended absent, and no skipped additions. It is refused for want of
+/// memory alone.
+pub fn read_of_earlier<'a>(
+    alloc: Global,
+    code: &Code,
+    id: TypeId,
+    octets: &'a [u8],
+) -> Result<Read<'a>, ReadFault>
+    ensures read { (s : List Resolved) (t : ℕ) (v : AbstractValue)
+        → Later s t code.now id.index
+        → id.index < length code.now
+        → Der s t v 0 octets.now
+        → length octets.now ≤ 16777216
+        → IfErr result (λ e. e ≡ Memory) }
+    ensures same { IfOk result (λ r. (s : List Resolved) (t : ℕ) (v : AbstractValue) (tree : Tree)
+        → Later s t code.now id.index
+        → id.index < length code.now
+        → Der s t v 0 octets.now
+        → IsView r.view tree
+        → Same code.now id.index (widened code.now id.index v) (value_of tree) × (r.skipped ≡ 0)) }
+    // So it is of each encoding by the basic rules without unknown additions, within 400 levels of headers.
+    ensures basic { (s : List Resolved) (t : ℕ) (v : AbstractValue)
+        → Later s t code.now id.index
+        → id.index < length code.now
+        → IsReadAs s t v 0 octets.now
+        → length octets.now ≤ 16777216
+        → IfErr result (λ e. e ≡ Memory) }
+    // The value that it says, as it stands, is read as it stands.
+    ensures stands { IfOk result (λ r. (s : List Resolved) (t : ℕ) (w : AbstractValue) (tree : Tree)
+        → Later s t code.now id.index
+        → id.index < length code.now
+        → Encodes s Basic t w 0 octets.now
+        → IsView r.view tree
+        → (value_of tree ≡ widened code.now id.index w) × (r.skipped ≡ 0)) }
+{
+    code.accepted();
+    later_reads();
+    match read_ber(alloc, code, id, octets) {
+        Ok(read) => Ok(read),
+        Err(fault) => Err(fault),
+    }
+}
+
+/// What `read_der` answers, as a later type, of the encoding by the distinguished rules of a value of an earlier
+/// version, of at most 16,777,216 octets: the value with the components that were appended absent, and no skipped
+/// additions. It is refused for want of memory alone.
+pub fn read_der_of_earlier<'a>(
+    alloc: Global,
+    code: &Code,
+    id: TypeId,
+    octets: &'a [u8],
+) -> Result<Read<'a>, ReadFault>
+    ensures read { (s : List Resolved) (t : ℕ) (v : AbstractValue)
+        → Later s t code.now id.index
+        → id.index < length code.now
+        → Der s t v 0 octets.now
+        → length octets.now ≤ 16777216
+        → IfErr result (λ e. e ≡ Memory) }
+    ensures same { IfOk result (λ r. (s : List Resolved) (t : ℕ) (v : AbstractValue) (tree : Tree)
+        → Later s t code.now id.index
+        → id.index < length code.now
+        → Der s t v 0 octets.now
+        → IsView r.view tree
+        → Same code.now id.index (widened code.now id.index v) (value_of tree) × (r.skipped ≡ 0)) }
+    // Whatever else the octets are, what is read is what they encode by the distinguished rules.
+    ensures strict { IfOk result (λ r. IsStrictReading code.now id.index octets.now r) }
+{
+    code.accepted();
+    later_reads();
+    match read_der(alloc, code, id, octets) {
+        Ok(read) => Ok(read),
+        Err(fault) => Err(fault),
+    }
+}
