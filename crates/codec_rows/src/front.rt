@@ -1,7 +1,7 @@
 //! The header at the front of octets.
 
-use crate::asked;
 use crate::refusal::{Refusal, told};
+use crate::words::{octets_in, word};
 use asn_base::tag::Class;
 use octets::{Form, Header, read_header};
 use row_files::Row;
@@ -17,7 +17,7 @@ fn class_name(class: Class) -> &'static str {
 }
 
 /// What a header tells.
-fn written(alloc: Global, header: Header) -> Result<String, AllocError> {
+fn shown(alloc: Global, header: Header) -> Result<String, AllocError> {
     let class = class_name(header.tag.class);
     let number = header.tag.number;
     let form = match header.form {
@@ -29,19 +29,17 @@ fn written(alloc: Global, header: Header) -> Result<String, AllocError> {
     format!(in alloc; "{class} {number} {form}, {count} octets before {contents}")
 }
 
-/// `front NAME [HEX]`: what the header at the front of the octets tells, or the fault.
-pub fn answer(alloc: Global, row: &Row) -> Result<String, Refusal> {
-    let words = asked(alloc, row)?;
-    let digits = match words.as_slice().first() {
-        Some(digits) => *digits,
-        None => "",
-    };
-    let octets = match hex::decode(alloc, digits) {
-        Ok(octets) => octets,
-        Err(fault) => return Err(told(alloc, &fault)),
-    };
-    match read_header(octets.as_slice()) {
-        Ok(header) => Ok(written(alloc, header)?),
+/// The header at the front of octets, or its fault.
+pub fn header_of(alloc: Global, octets: &[u8]) -> Result<Header, Refusal> {
+    match read_header(octets) {
+        Ok(header) => Ok(header),
         Err(fault) => Err(told(alloc, &fault)),
     }
+}
+
+/// `front NAME [HEX]`: what the header at the front of the octets tells, or the fault.
+pub fn answer(alloc: Global, row: &Row) -> Result<String, Refusal> {
+    let octets = octets_in(alloc, word(row, 2))?;
+    let header = header_of(alloc, octets.as_slice())?;
+    Ok(shown(alloc, header)?)
 }

@@ -1,19 +1,11 @@
 //! Header octets, and the octets of numbers.
 
-use crate::asked;
 use crate::refusal::{Refusal, told};
+use crate::words::{octets_in, word};
 use asn_base::tag::{Class, Tag};
 use octets::{Form, header_len, octets_of, write_header};
 use row_files::Row;
 use std::alloc::{AllocError, Global};
-
-/// A word by its place, empty where there is none.
-fn word<'a>(words: &[&'a str], place: usize) -> &'a str {
-    match words.get(place) {
-        Some(word) => word,
-        None => "",
-    }
-}
 
 fn class(word: &str) -> Option<Class> {
     match word {
@@ -44,21 +36,13 @@ fn tag(class: Class, number: u32) -> Option<Tag> {
     }
 }
 
-/// The header that words ask for: its tag, its form and the length that it tells.
-fn header_in(words: &[&str]) -> Option<(Tag, Form, u64)> {
-    let class = class(word(words, 0))?;
-    let number = word(words, 1).parse::<u32>().ok()?;
-    let form = form(word(words, 2))?;
-    let contents = word(words, 3).parse::<u64>().ok()?;
+/// The header that a row asks for: its tag, its form and the length that it tells.
+fn header_in(row: &Row) -> Option<(Tag, Form, u64)> {
+    let class = class(word(row, 2))?;
+    let number = word(row, 3).parse::<u32>().ok()?;
+    let form = form(word(row, 4))?;
+    let contents = word(row, 5).parse::<u64>().ok()?;
     Some((tag(class, number)?, form, contents))
-}
-
-/// The octets of a word, in hexadecimal.
-fn octets_in(alloc: Global, word: &str) -> Result<Vec<u8>, Refusal> {
-    match hex::decode(alloc, word) {
-        Ok(octets) => Ok(octets),
-        Err(fault) => Err(told(alloc, &fault)),
-    }
 }
 
 fn written(alloc: Global, octets: &[u8], count: usize) -> Result<String, AllocError> {
@@ -68,11 +52,10 @@ fn written(alloc: Global, octets: &[u8], count: usize) -> Result<String, AllocEr
 
 /// `header NAME CLASS NUMBER FORM LENGTH [BEFORE]`: the octets before and those of the header, and how many those are.
 pub fn header(alloc: Global, row: &Row) -> Result<String, Refusal> {
-    let words = asked(alloc, row)?;
-    let Some((tag, form, contents)) = header_in(words.as_slice()) else {
+    let Some((tag, form, contents)) = header_in(row) else {
         return Err(told(alloc, &"no class, number, form and length"));
     };
-    let mut out = octets_in(alloc, word(words.as_slice(), 4))?;
+    let mut out = octets_in(alloc, word(row, 6))?;
     match write_header(alloc, tag, form, contents, &mut out) {
         Ok(()) => Ok(written(alloc, out.as_slice(), header_len(tag, contents))?),
         Err(fault) => Err(told(alloc, &fault)),
@@ -81,8 +64,7 @@ pub fn header(alloc: Global, row: &Row) -> Result<String, Refusal> {
 
 /// `octets NAME NUMBER`: the fewest octets of a number.
 pub fn octets(alloc: Global, row: &Row) -> Result<String, Refusal> {
-    let words = asked(alloc, row)?;
-    let Ok(number) = word(words.as_slice(), 0).parse::<u128>() else {
+    let Ok(number) = word(row, 2).parse::<u128>() else {
         return Err(told(alloc, &"no number"));
     };
     let octets = match octets_of(alloc, number) {

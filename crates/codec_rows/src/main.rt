@@ -1,38 +1,42 @@
-//! Answers rows of data by the public calls of the crates that codecs stand on, and prints each answer below its row's
-//! words.
+//! Answers rows of data by the public calls of the crates that codecs stand on, of the writer and of the readers, and
+//! prints each answer below its row's words.
 //!
-//! The files that its words name are files of rows. A row's first word is a command and its second the row's own name:
-//! `front`, `header`, `octets`, `bits`, `print`, `value`, `same`, `default` and `listing`, each described where it is
-//! answered and at the head of the file that uses it. The answers that the stored run compares are written by hand, not
-//! taken from this program.
+//! The files that its words name are files of rows. A row's first word is a command and its second the row's own name;
+//! each command is described where it is answered and at the head of the file that uses it. The answers that the stored
+//! run compares are written by hand, or counted by a second reader, not taken from this program.
 #![tactic(auto)]
 
+mod account;
 mod buffer;
+mod built;
+mod built_shown;
 mod front;
 mod headers;
+mod leaf;
+mod message;
+mod place;
 mod refusal;
+mod segments;
+mod strict;
+mod sweep;
 mod typed;
 mod value;
+mod versions;
+mod view;
+mod words;
+mod written;
 
 use crate::refusal::{Refusal, told};
 use asn_base::schema::Schema;
+use codec_code::{Code, compile};
 use row_files::{Row, rows};
 use sample_types::schema;
 use std::alloc::{AllocError, Global};
 use std::process::ExitCode;
 use std::{env, fs, io};
 
-/// The words of a row behind its command and its own name.
-pub fn asked(alloc: Global, row: &Row) -> Result<Vec<&str>, AllocError> {
-    let mut words = Vec::new(alloc);
-    for word in row.words.iter().skip(2) {
-        words.push(word.as_str())?;
-    }
-    Ok(words)
-}
-
-/// What a row's command answers.
-fn answer_of(alloc: Global, schema: &Schema, row: &Row) -> Result<String, Refusal> {
+/// What a row's command answers that asks for octets and values.
+fn answer_of(alloc: Global, schema: &Schema, code: &Code, row: &Row) -> Result<String, Refusal> {
     match row.command() {
         "front" => front::answer(alloc, row),
         "header" => headers::header(alloc, row),
@@ -41,20 +45,43 @@ fn answer_of(alloc: Global, schema: &Schema, row: &Row) -> Result<String, Refusa
         "print" => typed::print(alloc, schema, row),
         "value" => typed::value(alloc, schema, row),
         "same" => typed::alike(alloc, schema, row),
-        "default" => typed::default(alloc, schema, row),
-        "listing" => typed::listing(alloc, schema),
+        "later" => versions::answer(alloc, schema, row),
+        "default" => typed::default(alloc, code, row),
+        "listing" => typed::listing(alloc, code),
+        "der" => written::in_memory(alloc, code, row),
+        "sink" => written::to_sink(alloc, code, row),
+        _ => answer_of_reader(alloc, schema, code, row),
+    }
+}
+
+/// What a row's command answers that asks for what is read, and for views.
+fn answer_of_reader(
+    alloc: Global,
+    schema: &Schema,
+    code: &Code,
+    row: &Row,
+) -> Result<String, Refusal> {
+    match row.command() {
+        "leaf" => leaf::answer(alloc, row),
+        "segments" => segments::answer(alloc, row),
+        "read" => message::answer(alloc, code, row),
+        "place" => place::answer(alloc, code, row),
+        "sweep" => sweep::answer(alloc, code, row),
+        "view" => view::answer(alloc, schema, code, row),
+        "read-der" => strict::answer(alloc, schema, code, row),
+        "built" => built::answer(alloc),
         _ => Err(told(alloc, &"no such command")),
     }
 }
 
 /// A row's words, and below them the lines of its answer, each behind two blanks.
-fn entry(alloc: Global, schema: &Schema, row: &Row) -> Result<String, AllocError> {
+fn entry(alloc: Global, schema: &Schema, code: &Code, row: &Row) -> Result<String, AllocError> {
     let mut text = String::from_str(alloc, row.command())?;
     for word in row.words.iter().skip(1) {
         text.push(' ')?;
         text.push_str(word.as_str())?;
     }
-    let answer = match answer_of(alloc, schema, row) {
+    let answer = match answer_of(alloc, schema, code, row) {
         Ok(answer) => answer,
         Err(Refusal::Told(words)) => words,
         Err(Refusal::Memory) => return Err(AllocError),
@@ -79,7 +106,7 @@ fn copied(alloc: Global) -> Result<Schema, AllocError> {
 }
 
 /// Prints the answers to the rows of a file.
-fn answer_file(rt: &HostRuntime, schema: &Schema, file: &str) -> io::Result<()> {
+fn answer_file(rt: &HostRuntime, schema: &Schema, code: &Code, file: &str) -> io::Result<()> {
     println!(rt; "{file}")?;
     let octets = fs::read(rt, file)?;
     let rows = match rows(rt.alloc(), octets.as_slice()) {
@@ -87,7 +114,7 @@ fn answer_file(rt: &HostRuntime, schema: &Schema, file: &str) -> io::Result<()> 
         Err(fault) => return println!(rt; "{fault}"),
     };
     for row in &rows {
-        let text = entry(rt.alloc(), schema, row)?;
+        let text = entry(rt.alloc(), schema, code, row)?;
         println!(rt; "{text}")?;
     }
     Ok(())
@@ -95,8 +122,16 @@ fn answer_file(rt: &HostRuntime, schema: &Schema, file: &str) -> io::Result<()> 
 
 fn main(rt: HostRuntime) -> io::Result<ExitCode> {
     let schema = copied(rt.alloc())?;
-    for file in env::args(&rt)?.skip(1) {
-        answer_file(&rt, &schema, file.as_str())?;
+    match compile(rt.alloc(), &schema) {
+        Ok(code) => {
+            for file in env::args(&rt)?.skip(1) {
+                answer_file(&rt, &schema, &code, file.as_str())?;
+            }
+            Ok(ExitCode::SUCCESS)
+        }
+        Err(fault) => {
+            println!(rt; "{fault}")?;
+            Ok(ExitCode::FAILURE)
+        }
     }
-    Ok(ExitCode::SUCCESS)
 }

@@ -55,6 +55,13 @@ fn numbers_of(alloc: Global, text: &str) -> Result<Option<Vec<u64>>, AllocError>
     Ok(Some(numbers))
 }
 
+/// So many octets, each 0.
+fn zeros(alloc: Global, count: usize) -> Result<Value, AllocError> {
+    let mut octets = Vec::with_capacity(alloc, count)?;
+    octets.resize(count, 0)?;
+    Ok(Value::Octets(octets))
+}
+
 /// The value that holds no others.
 fn leaf(alloc: Global, kind: &str, rest: &str) -> Result<Option<Value>, AllocError> {
     match kind {
@@ -65,6 +72,7 @@ fn leaf(alloc: Global, kind: &str, rest: &str) -> Result<Option<Value>, AllocErr
         "enum" => Ok(rest.parse::<i128>().ok().map(|number| Value::Enum(number))),
         "bits" => Ok(Some(Value::Bits(bits_of(alloc, rest)?))),
         "octets" => Ok(octets_of(alloc, rest).map(|octets| Value::Octets(octets))),
+        "zeros" => Ok(Some(zeros(alloc, rest.parse::<usize>().unwrap_or(0))?)),
         "text" => text_of(alloc, rest),
         "oid" => Ok(numbers_of(alloc, rest)?.map(|numbers| Value::Oid(numbers))),
         "relative-oid" => Ok(numbers_of(alloc, rest)?.map(|numbers| Value::RelativeOid(numbers))),
@@ -104,6 +112,22 @@ fn present(
     Ok(Some(all))
 }
 
+/// A list of so many values, each the one on top of the stack.
+fn repeated(
+    alloc: Global,
+    stack: &mut Vec<Option<Value>>,
+    count: usize,
+) -> Result<Option<Value>, AllocError> {
+    let Some(Some(one)) = stack.pop() else {
+        return Ok(None);
+    };
+    let mut all = Vec::with_capacity(alloc, count)?;
+    for _ in 0..count {
+        all.push(one.copy(alloc)?)?;
+    }
+    Ok(Some(Value::List(all)))
+}
+
 /// The alternative with a number.
 fn alternative(
     alloc: Global,
@@ -127,6 +151,7 @@ fn told(
     match kind {
         "fields" => Ok(taken(alloc, stack, count)?.map(|values| Value::Fields(values))),
         "list" => Ok(present(alloc, stack, count)?.map(|values| Value::List(values))),
+        "repeat" => repeated(alloc, stack, count),
         "alt" => alternative(alloc, stack, count),
         _ => leaf(alloc, kind, rest),
     }
@@ -149,8 +174,9 @@ fn put(alloc: Global, stack: &mut Vec<Option<Value>>, word: &str) -> Result<bool
 
 /// The value of a text: each value's word stands before those of its members, as in `fields:2 int:1 absent`.
 ///
-/// `list:3`, `fields:3` and `alt:0` hold others; `bits:011`, `octets:0A`, `text:6162` (its octets), `oid:1.2.840`,
-/// `relative-oid:1`, `int:-5`, `enum:0`, `true`, `false` and `null` hold none. None where it is no value.
+/// `list:3`, `fields:3` and `alt:0` hold others, and `repeat:3` one other three times; `bits:011`, `octets:0A`,
+/// `zeros:300` (octets), `text:6162` (its octets), `oid:1.2.840`, `relative-oid:1`, `int:-5`, `enum:0`, `true`, `false`
+/// and `null` hold none. None where it is no value.
 pub fn value_of(alloc: Global, text: &str) -> Result<Option<Value>, AllocError> {
     let mut words = Vec::new(alloc);
     for word in text.split_ascii_whitespace() {

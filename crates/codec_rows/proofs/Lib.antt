@@ -1,0 +1,2 @@
+pub mod ViewRows
+pub mod WrittenRows

@@ -1,0 +1,117 @@
+//! The text of an account's rows.
+
+use octet_account::row::{Numbers, Places, Row, Told};
+use std::alloc::{AllocError, Global};
+
+/// Of more rows than these the first ones are shown, and how many there are.
+const MOST_ROWS: usize = 12;
+
+/// Numbers with commas between, in brackets.
+fn push_list(text: &mut String, numbers: &[u32]) -> Result<(), AllocError> {
+    text.push('[')?;
+    for i in 0..numbers.len() {
+        if i > 0 {
+            text.push(',')?;
+        }
+        let number = numbers[i];
+        write!(text, "{number}")?;
+    }
+    text.push(']')?;
+    Ok(())
+}
+
+/// How many octets a header's identifier has, its length octets, and its contents.
+fn push_numbers(text: &mut String, kind: &str, numbers: Numbers) -> Result<(), AllocError> {
+    let identifier = numbers.identifier;
+    let size = numbers.size;
+    let contents = numbers.contents;
+    write!(text, "\"{kind}\",{identifier},{size},{contents}")?;
+    Ok(())
+}
+
+/// The same, and the members at their places.
+fn push_places(
+    text: &mut String,
+    kind: &str,
+    numbers: Numbers,
+    places: &Places,
+) -> Result<(), AllocError> {
+    push_numbers(text, kind, numbers)?;
+    let members = places.members;
+    write!(text, ",{members},")?;
+    push_list(text, places.places.as_slice())?;
+    text.push(',')?;
+    push_list(text, places.inverse.as_slice())?;
+    Ok(())
+}
+
+/// The same, and how many members there are.
+fn push_members(
+    text: &mut String,
+    kind: &str,
+    numbers: Numbers,
+    members: u32,
+) -> Result<(), AllocError> {
+    push_numbers(text, kind, numbers)?;
+    write!(text, ",{members}")?;
+    Ok(())
+}
+
+fn push_row(text: &mut String, row: &Row) -> Result<(), AllocError> {
+    text.push('[')?;
+    match &row.told {
+        Told::Leaf(numbers) => push_numbers(text, "leaf", *numbers)?,
+        Told::Wrap(numbers) => push_numbers(text, "wrap", *numbers)?,
+        Told::Seq(numbers, members) => push_members(text, "seq", *numbers, *members)?,
+        Told::SeqOf(numbers, members) => push_members(text, "seqof", *numbers, *members)?,
+        Told::Set(numbers, places) => push_places(text, "set", *numbers, &**places)?,
+        Told::SetOf(numbers, places) => push_places(text, "setof", *numbers, &**places)?,
+        Told::Absent => text.push_str("\"absent\"")?,
+        Told::Default => text.push_str("\"default\"")?,
+    }
+    text.push(']')?;
+    Ok(())
+}
+
+/// The rows of an account from the root down: `["leaf",1,1,1]` tells how many octets identifier, length and contents
+/// have; `seq` and `seqof` also how many members follow; `set` and `setof` besides that the place of each member that
+/// is written, and for each place the member that stands there.
+pub fn text_of(alloc: Global, rows: &[Row]) -> Result<String, AllocError> {
+    let mut text = String::from_str(alloc, "[")?;
+    for i in 0..rows.len().min(MOST_ROWS) {
+        if i > 0 {
+            text.push(',')?;
+        }
+        push_row(&mut text, &rows[i])?;
+    }
+    if rows.len() > MOST_ROWS {
+        let count = rows.len();
+        write!(text, ",.. {count} rows")?;
+    }
+    text.push(']')?;
+    Ok(text)
+}
+
+/// The numbers of a row's header.
+fn numbers_of(told: &Told) -> Option<Numbers> {
+    match told {
+        Told::Leaf(numbers) | Told::Wrap(numbers) => Some(*numbers),
+        Told::Seq(numbers, _) | Told::SeqOf(numbers, _) => Some(*numbers),
+        Told::Set(numbers, _) | Told::SetOf(numbers, _) => Some(*numbers),
+        Told::Absent | Told::Default => None,
+    }
+}
+
+/// How many octets the first row tells: those of its header and of its contents.
+pub fn octets_of(rows: &[Row]) -> u64 {
+    let Some(row) = rows.first() else {
+        return 0;
+    };
+    match numbers_of(&row.told) {
+        Some(numbers) => {
+            let header = numbers.identifier as u64 + numbers.size as u64;
+            header + numbers.contents as u64
+        }
+        None => 0,
+    }
+}

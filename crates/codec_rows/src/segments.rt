@@ -1,0 +1,71 @@
+//! A string in segments.
+
+use crate::front::header_of;
+use crate::leaf::kind_named;
+use crate::refusal::{Refusal, told};
+use crate::words::{octets_in, word};
+use codec_code::LeafKind;
+use octets::Form;
+use row_files::Row;
+use segmented_strings::{Joined, read_segments};
+use std::alloc::{AllocError, Global};
+
+/// The most octets that are read.
+const MOST: usize = 16_777_216;
+
+/// What was joined.
+fn written(alloc: Global, joined: &Joined) -> Result<String, AllocError> {
+    match joined {
+        Joined::Bits(unused, octets) => {
+            let digits = hex::encode_upper(alloc, octets.as_slice())?;
+            format!(in alloc; "bits of '{digits}'H but {unused}")
+        }
+        Joined::Octets(octets) => {
+            let digits = hex::encode_upper(alloc, octets.as_slice())?;
+            format!(in alloc; "'{digits}'H")
+        }
+        Joined::Text(words) => format!(in alloc; "\"{words}\""),
+    }
+}
+
+/// What these contents are joined to, where so many levels of headers may stand in them; or the fault.
+fn join(alloc: Global, kind: LeafKind, contents: &[u8], room: usize) -> Result<String, Refusal> {
+    if contents.len() > MOST {
+        return Err(told(alloc, &"too long"));
+    }
+    match read_segments(alloc, kind, contents, room) {
+        Ok(joined) => Ok(written(alloc, &joined)?),
+        Err(fault) => Err(told(alloc, &fault)),
+    }
+}
+
+/// The same of the contents behind a header, which tells the constructed form.
+fn join_encoding(
+    alloc: Global,
+    kind: LeafKind,
+    octets: &[u8],
+    room: usize,
+) -> Result<String, Refusal> {
+    let header = header_of(alloc, octets)?;
+    if header.form == Form::Primitive {
+        return Err(told(alloc, &"primitive"));
+    }
+    match octets.get(header.octets..) {
+        Some(contents) => join(alloc, kind, contents, room),
+        None => Err(told(alloc, &"no contents")),
+    }
+}
+
+/// `segments NAME KIND LEVELS HEX`: the string that a constructed encoding holds, where so many levels of headers may
+/// stand in its contents; or the fault of its header, or of its contents and at which of their octets it stands, from
+/// 0.
+pub fn answer(alloc: Global, row: &Row) -> Result<String, Refusal> {
+    let Some(kind) = kind_named(word(row, 2)) else {
+        return Err(told(alloc, &"no such kind"));
+    };
+    let Ok(room) = word(row, 3).parse::<usize>() else {
+        return Err(told(alloc, &"no number of levels"));
+    };
+    let octets = octets_in(alloc, word(row, 4))?;
+    join_encoding(alloc, kind, octets.as_slice(), room)
+}
