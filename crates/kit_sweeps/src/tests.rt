@@ -1,5 +1,6 @@
-//! `Kit::open`, `der`, `der_to` and `list` of two small modules.
+//! `Kit::open`, `der`, `der_to`, `ber` and `list` of small modules.
 
 mod growths;
 mod modules;
+mod reading;
 mod stopping;

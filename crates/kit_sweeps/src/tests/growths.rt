@@ -16,7 +16,7 @@ fn refusal(fault: &Fault) -> Turn {
 }
 
 /// Whether an answer is right.
-fn answer(right: bool) -> Turn {
+pub fn answer(right: bool) -> Turn {
     if right { Turn::Right } else { Turn::Wrong }
 }
 
@@ -120,7 +120,7 @@ impl Starved for Listing {
 }
 
 /// That a sweep met many refusals and many answers, and nothing else.
-fn told(rt: &HostRuntime, name: &str, swept: Swept) -> Result<(), Fail> {
+pub fn told(rt: &HostRuntime, name: &str, swept: Swept) -> Result<(), Fail> {
     match swept {
         Swept::Endless => Ok(()),
         Swept::Wrong(turn) => {

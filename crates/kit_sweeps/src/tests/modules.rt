@@ -12,6 +12,11 @@ T ::= SEQUENCE {n Num, s SET OF BOOLEAN, d INTEGER DEFAULT 5}
 Num ::= INTEGER (0..9)
 END";
 
+const R: &str = "\
+R DEFINITIONS AUTOMATIC TAGS ::= BEGIN
+T ::= SEQUENCE {n INTEGER (0..9), s SET OF BOOLEAN, ...}
+END";
+
 /// The two modules; the first imports from the second.
 pub fn texts(alloc: Global) -> Result<Vec<Vec<u8>>, Fail> {
     let mut texts = Vec::with_capacity(alloc, 2)?;
@@ -26,6 +31,16 @@ pub fn texts(alloc: Global) -> Result<Vec<Vec<u8>>, Fail> {
 /// Their kit.
 pub fn kit(alloc: Global) -> Result<Kit, Fail> {
     match Kit::open(alloc, &texts(alloc)?) {
+        Ok(kit) => Ok(kit),
+        Err(_) => Err("no kit".into()),
+    }
+}
+
+/// The kit of a module with an extensible type.
+pub fn reading_kit(alloc: Global) -> Result<Kit, Fail> {
+    let mut octets = Vec::new(alloc);
+    octets.extend_from_slice(R.as_bytes())?;
+    match Kit::open(alloc, &vec![in alloc; octets]?) {
         Ok(kit) => Ok(kit),
         Err(_) => Err("no kit".into()),
     }

@@ -1,0 +1,165 @@
+//! Octets that a kit reads, each growth refused in turn: `Memory`, or the answer.
+
+use super::growths::{answer, told};
+use super::modules::reading_kit;
+use asnc::{Fault, Kit, Rules, number};
+use starving::{Starved, Turn, sweep};
+use std::alloc::Global;
+use std::test::Fail;
+
+/// What octets are read as.
+#[derive(Clone, Copy)]
+enum Wanted {
+    /// The value as it is printed, and how many additions were skipped.
+    Value(&'static str, u64),
+    /// The number of the fault, the octet, and the part of the value that was being read.
+    Refused(u8, usize, &'static str),
+}
+
+/// Octets that are read as the type R.T.
+#[derive(Clone, Copy)]
+struct Row {
+    name: &'static str,
+    rules: Rules,
+    octets: &'static [u8],
+    wanted: Wanted,
+}
+
+/// {n 7, s {FALSE, TRUE}}.
+const WHOLE: [u8; 13] = [
+    0x30, 0x0B, 0x80, 0x01, 0x07, 0xA1, 0x06, 0x01, 0x01, 0x00, 0x01, 0x01, 0xFF,
+];
+
+/// The same with two additions that the type lacks.
+const LATER: [u8; 18] = [
+    0x30, 0x10, 0x80, 0x01, 0x07, 0xA1, 0x06, 0x01, 0x01, 0x00, 0x01, 0x01, 0xFF, 0x82, 0x01, 0x05,
+    0x83, 0x00,
+];
+
+/// The first element has no contents, which had to stand at octet 9.
+const EMPTY: [u8; 9] = [0x30, 0x07, 0x80, 0x01, 0x07, 0xA1, 0x02, 0x01, 0x00];
+
+/// The elements in another order than the distinguished rules ask for.
+const TURNED: [u8; 13] = [
+    0x30, 0x0B, 0x80, 0x01, 0x07, 0xA1, 0x06, 0x01, 0x01, 0xFF, 0x01, 0x01, 0x00,
+];
+
+/// The rows by their numbers; there are seven.
+fn nth_row(number: usize) -> Row {
+    match number {
+        0 => Row {
+            name: "Kit::ber by the basic rules",
+            rules: Rules::Ber,
+            octets: &WHOLE,
+            wanted: Wanted::Value("{n 7, s {FALSE, TRUE}}", 0),
+        },
+        1 => Row {
+            name: "Kit::ber by the distinguished rules",
+            rules: Rules::Der,
+            octets: &WHOLE,
+            wanted: Wanted::Value("{n 7, s {FALSE, TRUE}}", 0),
+        },
+        2 => Row {
+            name: "Kit::ber with additions",
+            rules: Rules::Ber,
+            octets: &LATER,
+            wanted: Wanted::Value("{n 7, s {FALSE, TRUE}}", 2),
+        },
+        3 => Row {
+            name: "Kit::ber with additions by the distinguished rules",
+            rules: Rules::Der,
+            octets: &LATER,
+            wanted: Wanted::Value("{n 7, s {FALSE, TRUE}}", 2),
+        },
+        4 => Row {
+            name: "Kit::ber of contents that are none",
+            rules: Rules::Ber,
+            octets: &EMPTY,
+            wanted: Wanted::Refused(86, 9, "s[0]"),
+        },
+        5 => Row {
+            name: "Kit::ber of elements in another order",
+            rules: Rules::Ber,
+            octets: &TURNED,
+            wanted: Wanted::Value("{n 7, s {TRUE, FALSE}}", 0),
+        },
+        _ => Row {
+            name: "Kit::ber of elements in another order by the distinguished rules",
+            rules: Rules::Der,
+            octets: &TURNED,
+            wanted: Wanted::Refused(96, 13, ""),
+        },
+    }
+}
+
+/// Whether a value and a number of additions are what is wanted.
+fn is_value(wanted: Wanted, text: &str, skipped: u64) -> bool {
+    match wanted {
+        Wanted::Value(value, count) => text == value && skipped == count,
+        Wanted::Refused(_, _, _) => false,
+    }
+}
+
+/// Whether a refusal is what is wanted.
+fn is_refused(wanted: Wanted, fault: u8, octet: usize, path: &str) -> bool {
+    match wanted {
+        Wanted::Value(_, _) => false,
+        Wanted::Refused(number, at, part) => fault == number && octet == at && path == part,
+    }
+}
+
+/// What a refusal is to a sweep.
+fn refusal(wanted: Wanted, fault: &Fault) -> Turn {
+    match fault {
+        Fault::Memory => Turn::Refused,
+        Fault::Unread(unread) => answer(is_refused(
+            wanted,
+            number(fault),
+            unread.octet,
+            unread.path.as_str(),
+        )),
+        _ => Turn::Wrong,
+    }
+}
+
+/// What an answer is to a sweep.
+fn turn_of(wanted: Wanted, answered: &Result<(String, u64), Fault>) -> Turn {
+    match answered {
+        Ok((text, skipped)) => answer(is_value(wanted, text.as_str(), *skipped)),
+        Err(fault) => refusal(wanted, fault),
+    }
+}
+
+/// `Kit::ber`.
+#[derive(Drop)]
+struct Reading {
+    kit: Kit,
+    row: Row,
+}
+
+impl Starved for Reading {
+    fn call(&mut self, alloc: Global) -> Turn {
+        let row = self.row;
+        let answered = self.kit.ber(alloc, "R.T", row.octets, row.rules);
+        turn_of(row.wanted, &answered)
+    }
+}
+
+/// The sweep of a row.
+fn read_with_ever_more_memory(rt: &HostRuntime, row: Row) -> Result<(), Fail> {
+    let alloc = rt.alloc();
+    let mut reading = Reading {
+        kit: reading_kit(alloc)?,
+        row,
+    };
+    let swept = sweep(alloc, &mut reading)?;
+    told(rt, row.name, swept)
+}
+
+#[test]
+fn ber_with_ever_more_memory(rt: HostRuntime) -> Result<(), Fail> {
+    for number in 0..7 {
+        read_with_ever_more_memory(&rt, nth_row(number))?;
+    }
+    Ok(())
+}
