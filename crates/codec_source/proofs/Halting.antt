@@ -1,14 +1,14 @@
 -- Where frames stop.
-use Rattle.std.proofs.Common.{arith, ◌≡◌, ◌⊎◌, inl, inr, ℕ, ◌<◌, List, [], ◌∷◌, ◌++◌, length, refl, sym, subst}
+use Rattle.std.proofs.Common.{arith, ◌≡◌, inl, inr, ℕ, ◌<◌, List, [], ◌∷◌, ◌++◌, length, refl, sym, subst}
 use Rattle.std.specs.Prelude.{Option, Some, None, Result, Ok, Err, IfErr}
 use Rattle.asn_base.specs.declared.schema.TypeId.{TypeId}
 use Rattle.codec_code.specs.declared.step.Step.{Step}
 use Rattle.codec_source.specs.declared.fault.ReadFault.{ReadFault}
 use Rattle.codec_source.specs.declared.fault.ReadFault.TheVariants.{Memory}
 use Rattle.codec_source.specs.declared.frame.Frame.{Frame}
-use Rattle.codec_source.specs.Events.{Event, begins, ends, IsOneAnswer}
-use Rattle.codec_source.specs.Reading.{Asks, Does, finished, goes_on, reads, Reads}
-use Rattle.codec_source.specs.Stopping.{AsksNothing, Stops, unanswered, answered, StopsThen, stops_on, not_begun, stops_within, not_ended, stops_behind, StopsReading}
+use Rattle.codec_source.specs.Events.{Event, begins, ends}
+use Rattle.codec_source.specs.Reading.{Asks, Does, finished, goes_on, reads}
+use Rattle.codec_source.specs.Stopping.{AsksNothing, unanswered, answered, stops_on, not_begun, stops_within, not_ended, stops_behind, StopsReading}
 use Rattle.codec_source.specs.proving.Frames.{IfRefusedWith, Rests, Goes, RestsStop, GoesStop, BeforeStops, Then, ThenBeforeStops}
 
 pub no_memory_with : {A : Type 0} (P : ReadFault → Type 0) (q : Result A ReadFault) → IfErr q (λ e. e ≡ Memory) → IfRefusedWith q P
@@ -88,8 +88,8 @@ module _ {S : Type 0} (r : ℕ → List Step) (takes : S → Event → S → Typ
   none_begun_stops t b fs x z n l = inl (inl (not_begun n l))
 
   -- a value begins above the steps that go on behind it
-  pub called_stops : (t : TypeId) (b : List Step) (olds mids news : List Frame) (f g : Frame) (x y z : S) → mids ≡ olds ++ f ∷ [] → news ≡ mids ++ g ∷ [] → f.steps.now ≡ b → g.steps.now ≡ r t.index → takes x (begins t) y → GoesStop r takes leaves news y z → ThenBeforeStops r takes leaves (Some t) b olds x z
-  called_stops t b olds mids news f g x y z e h fs gs k s = inner (subst (λ q. BeforeStops r takes leaves q mids y z) gs (stops_at news mids g y z h s))
+  pub called_stops_before : (t : TypeId) (b ss : List Step) (olds mids : List Frame) (f : Frame) (x y z : S) → mids ≡ olds ++ f ∷ [] → f.steps.now ≡ b → ss ≡ r t.index → takes x (begins t) y → BeforeStops r takes leaves ss mids y z → ThenBeforeStops r takes leaves (Some t) b olds x z
+  called_stops_before t b ss olds mids f x y z e fs gs k s = inner (subst (λ q. BeforeStops r takes leaves q mids y z) gs s)
     where
       outer : (w c : S) → Does r takes (r t.index) y w → takes w ends c → BeforeStops r takes leaves b olds c z → ThenBeforeStops r takes leaves (Some t) b olds x z
       outer w c d i (inl (inl q)) = inl (inl (stops_behind k d i q))
@@ -100,6 +100,9 @@ module _ {S : Type 0} (r : ℕ → List Step) (takes : S → Event → S → Typ
       inner (inl (inl q)) = inl (inl (stops_within k q))
       inner (inl (inr (w, d, n, l))) = inl (inl (not_ended k d n l))
       inner (inr (c, (w, d, i), q)) = outer w c d i (subst (λ j. BeforeStops r takes leaves j olds c z) fs (stops_at mids olds f c z e q))
+
+  pub called_stops : (t : TypeId) (b : List Step) (olds mids : List Frame) (f g : Frame) (x y z : S) → mids ≡ olds ++ f ∷ [] → f.steps.now ≡ b → g.steps.now ≡ r t.index → takes x (begins t) y → GoesStop r takes leaves (mids ++ g ∷ []) y z → ThenBeforeStops r takes leaves (Some t) b olds x z
+  called_stops t b olds mids f g x y z e fs gs k s = called_stops_before t b g.steps.now olds mids f x y z e fs gs k (stops_at (mids ++ g ∷ []) mids g y z refl s)
 
   -- the start of a run
   pub started_stops : (t : TypeId) (f : Frame) (mids news : List Frame) (x y z : S) → mids ≡ [] → news ≡ mids ++ f ∷ [] → f.steps.now ≡ r t.index → takes x (begins t) y → GoesStop r takes leaves news y z → StopsReading r takes leaves t x z

@@ -1,3 +1,4 @@
 pub mod Asking
 pub mod Running
 pub mod Halting
+pub mod Wholes

@@ -13,6 +13,7 @@ use Rattle.codec_source.specs.Events.{Event, begins, ends, both_begin, both_end,
 use Rattle.codec_source.specs.Reading.{Asks, Does, finished, goes_on, reads, Reads}
 use Rattle.codec_source.specs.Stopping.{AsksNothing}
 use Rattle.codec_source.specs.proving.Frames.{IfRefused, Same, Never, Rests, Goes, Before, Then, ThenBefore, frame_steps, weighs}
+use Rattle.codec_source.specs.proving.Waiting.{and_next}
 use Rattle.codec_source.proofs.Asking.{one_ask, none_asked}
 
 none_some : {A : Type 0} {t : TypeId} → None ≡ Some t → A
@@ -103,23 +104,23 @@ module _ {S : Type 0} (r : ℕ → List Step) (takes : S → Event → S → Typ
   goes_at news fs f x e = subst (λ q. Same (Before r takes f.steps.now fs x) (Goes r takes q x)) (sym e) (record { to = goes_from fs f x; from = goes_to fs f x })
 
   -- a value begins above the steps that go on behind it
-  pub called : (t : TypeId) (b : List Step) (olds mids news : List Frame) (f g : Frame) (x y : S) → mids ≡ olds ++ f ∷ [] → news ≡ mids ++ g ∷ [] → f.steps.now ≡ b → g.steps.now ≡ r t.index → takes x (begins t) y → Same (ThenBefore r takes (Some t) b olds x) (Goes r takes news y)
-  called t b olds mids news f g x y e h fs gs k = same_then (record { to = to; from = from }) (goes_at news mids g y h)
+  pub called_before : (t : TypeId) (b ss : List Step) (olds mids : List Frame) (f : Frame) (x y : S) → mids ≡ olds ++ f ∷ [] → f.steps.now ≡ b → ss ≡ r t.index → takes x (begins t) y → Same (ThenBefore r takes (Some t) b olds x) (Before r takes ss mids y)
+  called_before t b ss olds mids f x y e fs gs k = record { to = to; from = from }
     where
-      m : Same (Before r takes f.steps.now olds y) (Goes r takes mids y)
-      m = goes_at mids olds f y e
-
-      to : (z : S) → ThenBefore r takes (Some t) b olds x z → Before r takes g.steps.now mids y z
+      to : (z : S) → ThenBefore r takes (Some t) b olds x z → Before r takes ss mids y z
       to z (u, (w, (p, q, s, begun, did, end, rest), ended), d) =
           let o : p ≡ y = (one x p y (begins t) (begins t) both_begin begun k).1 in
           let n : Same (Before r takes f.steps.now olds s) (Goes r takes mids s) = goes_at mids olds f s e in
           (s, (q, subst (λ i. Does r takes i y q) (sym gs) (subst (λ i. Does r takes (r t.index) i q) o did), end), n.to z (u, (w, subst (λ i. Does r takes i s w) (sym fs) rest, ended), d))
 
-      from : (z : S) → Before r takes g.steps.now mids y z → ThenBefore r takes (Some t) b olds x z
+      from : (z : S) → Before r takes ss mids y z → ThenBefore r takes (Some t) b olds x z
       from z (s, (q, did, end), d) =
           let n : Same (Before r takes f.steps.now olds s) (Goes r takes mids s) = goes_at mids olds f s e in
           let i = n.from z d in
           (i.0, (i.1.0, (y, q, s, k, subst (λ j. Does r takes j y q) gs did, end, subst (λ j. Does r takes j s i.1.0) fs i.1.1), i.1.2), i.2)
+
+  pub called : (t : TypeId) (b : List Step) (olds mids : List Frame) (f g : Frame) (x y : S) → mids ≡ olds ++ f ∷ [] → f.steps.now ≡ b → g.steps.now ≡ r t.index → takes x (begins t) y → Same (ThenBefore r takes (Some t) b olds x) (Goes r takes (mids ++ g ∷ []) y)
+  called t b olds mids f g x y e fs gs k = same_then (called_before t b g.steps.now olds mids f x y e fs gs k) (goes_at (mids ++ g ∷ []) mids g y refl)
 
   -- ---- the start and the end of a run
 
@@ -165,15 +166,20 @@ less_ended l a b olds f le =
     let m = mul-le-mul_left (2 + l) le in
     omega (arith, m, steps_add olds f)
 
-pub less_one : (l a b : ℕ) (olds news : List Frame) (f g : Frame) → b ≤ a → news ≡ olds ++ g ∷ [] → length g.steps.now < length f.steps.now → weighs l b news < weighs l a (olds ++ f ∷ [])
-less_one l a b olds news f g le e s =
+pub less_one : (l a b : ℕ) (olds : List Frame) (f g : Frame) → b ≤ a → length g.steps.now < length f.steps.now → weighs l b (olds ++ g ∷ []) < weighs l a (olds ++ f ∷ [])
+less_one l a b olds f g le s =
     let m = mul-le-mul_left (2 + l) le in
-    omega (arith, m, s, ap frame_steps e, steps_add olds f, steps_add olds g)
+    omega (arith, m, s, steps_add olds f, steps_add olds g)
 
-pub less_two : (l a b n : ℕ) (olds mids news : List Frame) (f g : Frame) → b < a → mids ≡ olds ++ f ∷ [] → news ≡ mids ++ g ∷ [] → length f.steps.now ≡ n → length g.steps.now ≤ l → weighs l b news < weighs l a olds + (1 + n)
-less_two l a b n olds mids news f g lt e h s t =
+pub less_two : (l a b n : ℕ) (olds mids : List Frame) (f g : Frame) → b < a → mids ≡ olds ++ f ∷ [] → length f.steps.now ≡ n → length g.steps.now ≤ l → weighs l b (mids ++ g ∷ []) < weighs l a olds + (1 + n)
+less_two l a b n olds mids f g lt e s t =
     let m = mul-le-mul_left (2 + l) (let q : suc b ≤ a = omega arith in q) in
-    omega (arith, m, s, t, ap frame_steps e, steps_add olds f, ap frame_steps h, steps_add mids g)
+    omega (arith, m, s, t, ap frame_steps e, steps_add olds f, steps_add mids g)
+
+pub less_whole : (l a b n : ℕ) (olds : List Frame) (f : Frame) → b < a → length f.steps.now ≡ n → weighs l b (olds ++ f ∷ []) < weighs l a olds + (1 + n)
+less_whole l a b n olds f lt s =
+    let m = mul-le-mul_left (2 + l) (let q : suc b ≤ a = omega arith in q) in
+    omega (arith, m, s, steps_add olds f)
 
 pub less_called : (l a b c n : ℕ) (olds news : List Frame) (f : Frame) → weighs l c news < weighs l b olds + (1 + n) → b ≤ a → n ≤ length f.steps.now → weighs l c news < weighs l a (olds ++ f ∷ [])
 less_called l a b c n olds news f lt le s =
@@ -207,6 +213,7 @@ pub refused : {A : Type 0} {P Q : Type 0} (q : Result A ReadFault) → (P → Q)
 refused (Ok a) f p = p
 refused (Err e) f p = λ other. f (p other)
 
-pub no_frames : (fs : List Frame) → length fs ≡ 0 → fs ≡ []
-no_frames [] e = refl
-no_frames (x ∷ fs) e = absurd (omega arith)
+-- none goes on, and none waits
+pub none_next : (fs : List Frame) (o : Option Frame) → ((f : Frame) → o ≡ Some f → ⊥) → (o ≡ None → fs ≡ []) → and_next fs o ≡ []
+none_next fs None n e = e refl
+none_next fs (Some f) n e = absurd (n f refl)

@@ -3,7 +3,7 @@
 use codec_code::Step;
 
 /// Steps that are left of a routine, to the end of its value.
-#[derive(Drop)]
+#[derive(Clone, Copy)]
 pub struct Frame<'a> {
     pub steps: &'a [Step],
 }

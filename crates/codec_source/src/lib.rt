@@ -7,6 +7,7 @@ mod fault;
 mod frame;
 mod machine;
 mod source;
+mod whole;
 
 pub use fault::ReadFault;
 pub use machine::read;

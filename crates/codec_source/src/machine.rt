@@ -6,19 +6,21 @@ ghost use Rattle.codec_source.specs.declared.fault.ReadFault.TheVariants.{Memory
 ghost use Rattle.codec_source.specs.Stopping.{StopsReading};
 ghost use Rattle.codec_source.specs.declared.fault.ReadFault.{ReadFault as ReadFault'};
 ghost use Rattle.codec_source.specs.proving.Frames.{Before, BeforeStops, Goes, GoesStop, IfRefused, IfRefusedWith, Never, Same, ThenBefore, ThenBeforeStops, weighs};
-ghost use Rattle.std.specs.Prelude.{◌≡◌, ◌<◌, ◌+◌, ◌∷◌, ◌++◌, [], IfErr, OnOk, Some, length};
+ghost use Rattle.codec_source.specs.proving.Waiting.{and_next};
+ghost use Rattle.std.specs.Prelude.{◌≡◌, ◌<◌, ◌+◌, ◌∷◌, ◌++◌, [], IfErr, IfOk, None, OnOk, Some, length};
 
 use crate::ask::ask;
 use crate::fault::ReadFault;
 use crate::frame::Frame;
 use crate::source::Source;
+use crate::whole::{leaf_routine, read_whole};
 use asn_base::schema::TypeId;
 use codec_code::{Code, Coding, Step};
 use std::alloc::Global;
 
 /// Reads a value by the type's routine for encodings with tags: what was read is in the source. A refusal but for want
 /// of memory says that the routine reads nothing. It calls nothing in itself, and takes memory for one frame a value
-/// that is open.
+/// that is open and holds others.
 pub fn read<S: Source>(
     alloc: Global,
     code: &Code,
@@ -37,19 +39,26 @@ pub fn read<S: Source>(
         Err(fault) => return Err(fault),
     }
     let mut frames = Vec::new(alloc);
-    add(
-        &mut frames,
-        Frame {
-            steps: code.steps(id, Coding::Tagged),
-        },
-    )?;
-    while let Some(frame) = frames.pop() {
+    let steps = code.steps(id, Coding::Tagged);
+    let mut next = Some(Frame { steps });
+    while let Some(frame) = next {
         match turn(code, frame, &mut frames, source) {
-            Ok(()) => {}
+            Ok(after) => next = next_of(&mut frames, after),
             Err(fault) => return Err(fault),
         }
     }
     Ok(())
+}
+
+/// The frame that goes on: this one, or the last of those that wait, which is taken from them.
+fn next_of<'a>(frames: &mut Vec<Frame<'a>>, next: Option<Frame<'a>>) -> Option<Frame<'a>>
+    ensures same { and_next frames.new.items result ≡ and_next frames.old.items next.entry }
+    ensures last { result ≡ None → frames.new.items ≡ [] }
+{
+    match next {
+        Some(frame) => Some(frame),
+        None => frames.pop(),
+    }
 }
 
 /// One frame more.
@@ -61,22 +70,22 @@ fn add<'a>(frames: &mut Vec<Frame<'a>>, frame: Frame<'a>) -> Result<(), ReadFaul
     Ok(())
 }
 
-/// One step of the last frame, which is handed in apart.
+/// One step of a frame above those that wait, and the frame that goes on then, where it isn't the last of these.
 fn turn<'a, S: Source>(
     code: &'a Code,
     frame: Frame<'a>,
     frames: &mut Vec<Frame<'a>>,
     source: &mut S,
-) -> Result<(), ReadFault>
-    ensures ok { OnOk result (Same
+) -> Result<Option<Frame<'a>>, ReadFault>
+    ensures ok { IfOk result (λ o. Same
         (Before (routine_at code.now) S.takes frame.entry.steps.now frames.old.items source.old)
-        (Goes (routine_at code.now) S.takes frames.new.items source.new)) }
-    ensures less { OnOk result (weighs (length (table_of code.now)) (S.room source.new) frames.new.items
+        (Goes (routine_at code.now) S.takes (and_next frames.new.items o) source.new)) }
+    ensures less { IfOk result (λ o. weighs (length (table_of code.now)) (S.room source.new) (and_next frames.new.items o)
         < weighs (length (table_of code.now)) (S.room source.old) (frames.old.items ++ frame.entry ∷ [])) }
     ensures err { IfRefused result
         (Never (Before (routine_at code.now) S.takes frame.entry.steps.now frames.old.items source.old)) }
-    ensures on { OnOk result ((e : ReadFault') (z : S)
-        → GoesStop (routine_at code.now) S.takes (λ a b. S.leaves a b e) frames.new.items source.new z
+    ensures on { IfOk result (λ o. (e : ReadFault') (z : S)
+        → GoesStop (routine_at code.now) S.takes (λ a b. S.leaves a b e) (and_next frames.new.items o) source.new z
         → BeforeStops (routine_at code.now) S.takes (λ a b. S.leaves a b e) frame.entry.steps.now frames.old.items
         source.old z) }
     ensures stopped { IfRefusedWith result (λ e. BeforeStops (routine_at code.now) S.takes (λ a b. S.leaves a b e)
@@ -84,7 +93,7 @@ fn turn<'a, S: Source>(
 {
     match frame.steps.split_first() {
         None => match source.end() {
-            Ok(()) => Ok(()),
+            Ok(()) => Ok(None),
             Err(fault) => Err(fault),
         },
         Some((step, rest)) => {
@@ -93,35 +102,36 @@ fn turn<'a, S: Source>(
                 Err(fault) => return Err(fault),
             };
             match answer.value {
-                None => add(
-                    frames,
-                    Frame {
-                        steps: answer.behind,
-                    },
-                ),
-                Some(id) => call(code, id, answer.behind, frames, source),
+                None => Ok(Some(Frame {
+                    steps: answer.behind,
+                })),
+                Some(id) => match call(code, id, answer.behind, frames, source) {
+                    Ok(next) => Ok(Some(next)),
+                    Err(fault) => Err(fault),
+                },
             }
         }
     }
 }
 
-/// A value of the type begins, behind which these steps go on.
+/// A value of the type begins, behind which these steps go on. It is read at once where it holds no others.
 fn call<'a, S: Source>(
     code: &'a Code,
     id: TypeId,
     behind: &'a [Step],
     frames: &mut Vec<Frame<'a>>,
     source: &mut S,
-) -> Result<(), ReadFault>
-    ensures ok { OnOk result (Same
+) -> Result<Frame<'a>, ReadFault>
+    ensures ok { IfOk result (λ f. Same
         (ThenBefore (routine_at code.now) S.takes (Some id) behind.now frames.old.items source.old)
-        (Goes (routine_at code.now) S.takes frames.new.items source.new)) }
-    ensures less { OnOk result (weighs (length (table_of code.now)) (S.room source.new) frames.new.items
+        (Goes (routine_at code.now) S.takes (frames.new.items ++ f ∷ []) source.new)) }
+    ensures less { IfOk result (λ f.
+        weighs (length (table_of code.now)) (S.room source.new) (frames.new.items ++ f ∷ [])
         < weighs (length (table_of code.now)) (S.room source.old) frames.old.items + (1 + length behind.now)) }
     ensures err { IfRefused result
         (Never (ThenBefore (routine_at code.now) S.takes (Some id) behind.now frames.old.items source.old)) }
-    ensures on { OnOk result ((e : ReadFault') (z : S)
-        → GoesStop (routine_at code.now) S.takes (λ a b. S.leaves a b e) frames.new.items source.new z
+    ensures on { IfOk result (λ f. (e : ReadFault') (z : S)
+        → GoesStop (routine_at code.now) S.takes (λ a b. S.leaves a b e) (frames.new.items ++ f ∷ []) source.new z
         → ThenBeforeStops (routine_at code.now) S.takes (λ a b. S.leaves a b e) (Some id) behind.now frames.old.items
         source.old z) }
     ensures stopped { IfRefusedWith result (λ e. ThenBeforeStops (routine_at code.now) S.takes (λ a b. S.leaves a b e)
@@ -131,11 +141,15 @@ fn call<'a, S: Source>(
         Ok(()) => {}
         Err(fault) => return Err(fault),
     }
-    add(frames, Frame { steps: behind })?;
-    add(
-        frames,
-        Frame {
-            steps: code.steps(id, Coding::Tagged),
+    let steps = code.steps(id, Coding::Tagged);
+    match leaf_routine(steps) {
+        Some((head, kind)) => match read_whole(head, kind, source) {
+            Ok(()) => Ok(Frame { steps: behind }),
+            Err(fault) => Err(fault),
         },
-    )
+        None => {
+            add(frames, Frame { steps: behind })?;
+            Ok(Frame { steps })
+        }
+    }
 }

@@ -1,12 +1,12 @@
-use Rattle.std.proofs.Common.{arith, ◌<◌, length, sym, ap, subst}
+use Rattle.std.proofs.Common.{arith, ◌<◌, ◌++◌, ◌∷◌, [], length, refl, sym, ap, subst}
 use Rattle.std.specs.Prelude.{Some, None}
 use Rattle.codec_code.specs.Routines.{routine_at, table_of}
 use Rattle.codec_source.specs.Events.{ends}
 use Rattle.codec_source.specs.Reading.{Asks}
 use Rattle.codec_source.specs.Stopping.{AsksNothing}
 use Rattle.codec_source.proofs.Asking.{shorter, no_more_room}
-use Rattle.codec_source.proofs.Running.{same_then, asked_before, goes_at, ended_before, never_ended, never_asked, less_ended, less_one, less_called, on_ok, no_memory, refused}
-use Rattle.codec_source.proofs.Halting.{asked_stops, before_none, nothing_asked, none_ended, ended_stops, stops_at, no_memory_with, refused_with}
+use Rattle.codec_source.proofs.Running.{same_then, asked_before, goes_at, ended_before, never_ended, never_asked, less_ended, less_one, less_called}
+use Rattle.codec_source.proofs.Halting.{asked_stops, before_none, nothing_asked, none_ended, ended_stops, stops_at}
 use Rattle.codec_source.proofs.machine.turn.Goals as goal
 
 pub ask-requires : goal.ask-requires
@@ -34,9 +34,9 @@ returns-in-None-value-clause-ok g c =
     let a : Asks g.S.Source.takes c.args.frame.steps.now c.args.source.now b None c.ask.new.source =
     subst (λ t. Asks g.S.Source.takes c.args.frame.steps.now c.args.source.now b t c.ask.new.source) c.in-None-value.is
     (subst (λ q. Asks g.S.Source.takes q c.args.source.now b c.in-Ok-ask.answer.value c.ask.new.source) (sym c.in-Some.ensures.cases.0) c.in-Ok-ask.ensures.ok) in
-    on_ok c.add.result (λ e. same_then
+    same_then
     (asked_before r g.S.Source.takes g.met.S.Source.one_answer c.args.frame.steps.now b None c.args.frames.now.items c.args.source.now c.ask.new.source a)
-    (goes_at r g.S.Source.takes g.met.S.Source.one_answer c.add.new.frames.items c.args.frames.now.items _ c.ask.new.source e)) c.add.ensures.ok
+    (goes_at r g.S.Source.takes g.met.S.Source.one_answer _ c.args.frames.now.items (record { steps = c.in-Ok-ask.answer.behind }) c.ask.new.source refl)
 
 pub returns-in-None-value-clause-less : goal.returns-in-None-value-clause-less
 returns-in-None-value-clause-less g c =
@@ -44,36 +44,33 @@ returns-in-None-value-clause-less g c =
     let a : Asks g.S.Source.takes c.args.frame.steps.now c.args.source.now b None c.ask.new.source =
     subst (λ t. Asks g.S.Source.takes c.args.frame.steps.now c.args.source.now b t c.ask.new.source) c.in-None-value.is
     (subst (λ q. Asks g.S.Source.takes q c.args.source.now b c.in-Ok-ask.answer.value c.ask.new.source) (sym c.in-Some.ensures.cases.0) c.in-Ok-ask.ensures.ok) in
-    on_ok c.add.result (λ e. less_one (length (table_of c.args.code.now)) (g.S.Source.room c.args.source.now) (g.S.Source.room c.ask.new.source) c.args.frames.now.items c.add.new.frames.items c.args.frame _
-    (no_more_room g.S.Source.takes g.S.Source.room g.met.S.Source.keeps a) e (shorter g.S.Source.takes a)) c.add.ensures.ok
+    less_one (length (table_of c.args.code.now)) (g.S.Source.room c.args.source.now) (g.S.Source.room c.ask.new.source) c.args.frames.now.items c.args.frame (record { steps = c.in-Ok-ask.answer.behind })
+    (no_more_room g.S.Source.takes g.S.Source.room g.met.S.Source.keeps a) (shorter g.S.Source.takes a)
 
-pub returns-in-None-value-clause-err : goal.returns-in-None-value-clause-err
-returns-in-None-value-clause-err g c = no_memory _ c.add.result c.add.ensures.err
-
-pub returns-in-Some-value-clause-ok : goal.returns-in-Some-value-clause-ok
-returns-in-Some-value-clause-ok g c =
+pub returns-in-Ok-call-clause-ok : goal.returns-in-Ok-call-clause-ok
+returns-in-Ok-call-clause-ok g c =
     let b = c.in-Ok-ask.answer.behind.now in
     let a : Asks g.S.Source.takes c.args.frame.steps.now c.args.source.now b (Some c.in-Some-value.id) c.ask.new.source =
     subst (λ t. Asks g.S.Source.takes c.args.frame.steps.now c.args.source.now b t c.ask.new.source) c.in-Some-value.is
     (subst (λ q. Asks g.S.Source.takes q c.args.source.now b c.in-Ok-ask.answer.value c.ask.new.source) (sym c.in-Some.ensures.cases.0) c.in-Ok-ask.ensures.ok) in
-    on_ok c.call.result (λ s. same_then (asked_before (routine_at c.args.code.now) g.S.Source.takes g.met.S.Source.one_answer c.args.frame.steps.now b (Some c.in-Some-value.id) c.args.frames.now.items c.args.source.now c.ask.new.source a) s) c.call.ensures.ok
+    same_then (asked_before (routine_at c.args.code.now) g.S.Source.takes g.met.S.Source.one_answer c.args.frame.steps.now b (Some c.in-Some-value.id) c.args.frames.now.items c.args.source.now c.ask.new.source a) c.in-Ok-call.ensures.ok
 
-pub returns-in-Some-value-clause-less : goal.returns-in-Some-value-clause-less
-returns-in-Some-value-clause-less g c =
+pub returns-in-Ok-call-clause-less : goal.returns-in-Ok-call-clause-less
+returns-in-Ok-call-clause-less g c =
     let b = c.in-Ok-ask.answer.behind.now in
     let a : Asks g.S.Source.takes c.args.frame.steps.now c.args.source.now b (Some c.in-Some-value.id) c.ask.new.source =
     subst (λ t. Asks g.S.Source.takes c.args.frame.steps.now c.args.source.now b t c.ask.new.source) c.in-Some-value.is
     (subst (λ q. Asks g.S.Source.takes q c.args.source.now b c.in-Ok-ask.answer.value c.ask.new.source) (sym c.in-Some.ensures.cases.0) c.in-Ok-ask.ensures.ok) in
-    on_ok c.call.result (λ l. less_called (length (table_of c.args.code.now)) (g.S.Source.room c.args.source.now) (g.S.Source.room c.ask.new.source) (g.S.Source.room c.call.new.source) (length b) c.args.frames.now.items c.call.new.frames.items c.args.frame l
-    (no_more_room g.S.Source.takes g.S.Source.room g.met.S.Source.keeps a) (shorter g.S.Source.takes a)) c.call.ensures.less
+    less_called (length (table_of c.args.code.now)) (g.S.Source.room c.args.source.now) (g.S.Source.room c.ask.new.source) (g.S.Source.room c.call.new.source) (length b) c.args.frames.now.items (c.call.new.frames.items ++ c.in-Ok-call.next ∷ []) c.args.frame c.in-Ok-call.ensures.less
+    (no_more_room g.S.Source.takes g.S.Source.room g.met.S.Source.keeps a) (shorter g.S.Source.takes a)
 
-pub returns-in-Some-value-clause-err : goal.returns-in-Some-value-clause-err
-returns-in-Some-value-clause-err g c =
+pub returns-in-Err-call-clause-err : goal.returns-in-Err-call-clause-err
+returns-in-Err-call-clause-err g c =
     let b = c.in-Ok-ask.answer.behind.now in
     let a : Asks g.S.Source.takes c.args.frame.steps.now c.args.source.now b (Some c.in-Some-value.id) c.ask.new.source =
     subst (λ t. Asks g.S.Source.takes c.args.frame.steps.now c.args.source.now b t c.ask.new.source) c.in-Some-value.is
     (subst (λ q. Asks g.S.Source.takes q c.args.source.now b c.in-Ok-ask.answer.value c.ask.new.source) (sym c.in-Some.ensures.cases.0) c.in-Ok-ask.ensures.ok) in
-    refused c.call.result (λ n z d. n z ((asked_before (routine_at c.args.code.now) g.S.Source.takes g.met.S.Source.one_answer c.args.frame.steps.now b (Some c.in-Some-value.id) c.args.frames.now.items c.args.source.now c.ask.new.source a).to z d)) c.call.ensures.err
+    λ other z d. c.in-Err-call.ensures.err other z ((asked_before (routine_at c.args.code.now) g.S.Source.takes g.met.S.Source.one_answer c.args.frame.steps.now b (Some c.in-Some-value.id) c.args.frames.now.items c.args.source.now c.ask.new.source a).to z d)
 
 pub returns-in-Ok-clause-on : goal.returns-in-Ok-clause-on
 returns-in-Ok-clause-on g c e z s = ended_stops (routine_at c.args.code.now) g.S.Source.takes (λ a b. g.S.Source.leaves a b e) c.args.frame.steps.now c.args.frames.now.items c.args.source.now c.end.new.self z c.in-None.ensures.cases c.in-Ok.ensures.ok s
@@ -94,24 +91,21 @@ returns-in-None-value-clause-on g c =
     let a : Asks g.S.Source.takes c.args.frame.steps.now c.args.source.now b None c.ask.new.source =
     subst (λ t. Asks g.S.Source.takes c.args.frame.steps.now c.args.source.now b t c.ask.new.source) c.in-None-value.is
     (subst (λ q. Asks g.S.Source.takes q c.args.source.now b c.in-Ok-ask.answer.value c.ask.new.source) (sym c.in-Some.ensures.cases.0) c.in-Ok-ask.ensures.ok) in
-    on_ok c.add.result (λ h e z s. asked_stops r g.S.Source.takes (λ a b. g.S.Source.leaves a b e) c.args.frame.steps.now b None c.args.frames.now.items c.args.source.now c.ask.new.source z a
-    (before_none r g.S.Source.takes (λ a b. g.S.Source.leaves a b e) b c.args.frames.now.items c.ask.new.source z (stops_at r g.S.Source.takes (λ a b. g.S.Source.leaves a b e) c.add.new.frames.items c.args.frames.now.items _ c.ask.new.source z h s))) c.add.ensures.ok
+    λ e z s. asked_stops r g.S.Source.takes (λ a b. g.S.Source.leaves a b e) c.args.frame.steps.now b None c.args.frames.now.items c.args.source.now c.ask.new.source z a
+    (before_none r g.S.Source.takes (λ a b. g.S.Source.leaves a b e) b c.args.frames.now.items c.ask.new.source z (stops_at r g.S.Source.takes (λ a b. g.S.Source.leaves a b e) _ c.args.frames.now.items (record { steps = c.in-Ok-ask.answer.behind }) c.ask.new.source z refl s))
 
-pub returns-in-None-value-clause-stopped : goal.returns-in-None-value-clause-stopped
-returns-in-None-value-clause-stopped g c = no_memory_with _ c.add.result c.add.ensures.err
-
-pub returns-in-Some-value-clause-on : goal.returns-in-Some-value-clause-on
-returns-in-Some-value-clause-on g c =
+pub returns-in-Ok-call-clause-on : goal.returns-in-Ok-call-clause-on
+returns-in-Ok-call-clause-on g c =
     let b = c.in-Ok-ask.answer.behind.now in
     let a : Asks g.S.Source.takes c.args.frame.steps.now c.args.source.now b (Some c.in-Some-value.id) c.ask.new.source =
     subst (λ t. Asks g.S.Source.takes c.args.frame.steps.now c.args.source.now b t c.ask.new.source) c.in-Some-value.is
     (subst (λ q. Asks g.S.Source.takes q c.args.source.now b c.in-Ok-ask.answer.value c.ask.new.source) (sym c.in-Some.ensures.cases.0) c.in-Ok-ask.ensures.ok) in
-    on_ok c.call.result (λ k e z s. asked_stops (routine_at c.args.code.now) g.S.Source.takes (λ a b. g.S.Source.leaves a b e) c.args.frame.steps.now b (Some c.in-Some-value.id) c.args.frames.now.items c.args.source.now c.ask.new.source z a (k e z s)) c.call.ensures.on
+    λ e z s. asked_stops (routine_at c.args.code.now) g.S.Source.takes (λ a b. g.S.Source.leaves a b e) c.args.frame.steps.now b (Some c.in-Some-value.id) c.args.frames.now.items c.args.source.now c.ask.new.source z a (c.in-Ok-call.ensures.on e z s)
 
-pub returns-in-Some-value-clause-stopped : goal.returns-in-Some-value-clause-stopped
-returns-in-Some-value-clause-stopped g c =
+pub returns-in-Err-call-clause-stopped : goal.returns-in-Err-call-clause-stopped
+returns-in-Err-call-clause-stopped g c =
     let b = c.in-Ok-ask.answer.behind.now in
     let a : Asks g.S.Source.takes c.args.frame.steps.now c.args.source.now b (Some c.in-Some-value.id) c.ask.new.source =
     subst (λ t. Asks g.S.Source.takes c.args.frame.steps.now c.args.source.now b t c.ask.new.source) c.in-Some-value.is
     (subst (λ q. Asks g.S.Source.takes q c.args.source.now b c.in-Ok-ask.answer.value c.ask.new.source) (sym c.in-Some.ensures.cases.0) c.in-Ok-ask.ensures.ok) in
-    refused_with c.call.result (λ e s. asked_stops (routine_at c.args.code.now) g.S.Source.takes (λ a b. g.S.Source.leaves a b e) c.args.frame.steps.now b (Some c.in-Some-value.id) c.args.frames.now.items c.args.source.now c.ask.new.source c.call.new.source a s) c.call.ensures.stopped
+    λ other. asked_stops (routine_at c.args.code.now) g.S.Source.takes (λ a b. g.S.Source.leaves a b c.in-Err-call.fault) c.args.frame.steps.now b (Some c.in-Some-value.id) c.args.frames.now.items c.args.source.now c.ask.new.source c.call.new.source a (c.in-Err-call.ensures.stopped other)

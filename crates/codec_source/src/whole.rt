@@ -1,0 +1,69 @@
+//! Values that hold no others, read at once.
+
+ghost use Rattle.codec_code.specs.declared.step.Step.{Step as Step'};
+ghost use Rattle.codec_code.specs.declared.step.Step.TheVariants.{End, Head as Head', Leaf};
+ghost use Rattle.codec_source.specs.declared.fault.ReadFault.{ReadFault as ReadFault'};
+ghost use Rattle.codec_source.specs.declared.frame.Frame.{Frame as Frame'};
+ghost use Rattle.codec_source.specs.proving.Frames.{Before, BeforeStops, Goes, GoesStop, IfRefused, IfRefusedWith, Never, Same};
+ghost use Rattle.std.specs.Prelude.{◌≡◌, ◌≤◌, ◌∷◌, [], IfSome, List, OnOk, ℕ};
+
+use crate::fault::ReadFault;
+use crate::source::Source;
+use codec_code::{Head, LeafKind, Step};
+
+/// The header and the kind of contents, where the steps are a header, contents and the end: those of a type with one
+/// tag that holds no others.
+pub(crate) fn leaf_routine(steps: &[Step]) -> Option<(Head, LeafKind)>
+    ensures { IfSome result (λ p. steps.now ≡ Head' p.0 ∷ Leaf p.1 ∷ End ∷ []) }
+{
+    if steps.len() != 3 {
+        return None;
+    }
+    match steps[0] {
+        Step::Head(head) => match steps[1] {
+            Step::Leaf(kind) => match steps[2] {
+                Step::End => Some((head, kind)),
+                _ => None,
+            },
+            _ => None,
+        },
+        _ => None,
+    }
+}
+
+/// Takes what these three steps and the end of their value ask for: whatever frames wait behind it, they go on where
+/// they would behind the steps, whatever routines types have.
+pub(crate) fn read_whole<S: Source>(
+    head: Head,
+    kind: LeafKind,
+    source: &mut S,
+) -> Result<(), ReadFault>
+    ensures ok { OnOk result ((r : ℕ → List Step') (fs : List Frame') → Same
+        (Before r S.takes (Head' head ∷ Leaf kind ∷ End ∷ []) fs source.old)
+        (Goes r S.takes fs source.new)) }
+    ensures room { OnOk result (S.room source.new ≤ S.room source.old) }
+    ensures err { IfRefused result ((r : ℕ → List Step') (fs : List Frame')
+        → Never (Before r S.takes (Head' head ∷ Leaf kind ∷ End ∷ []) fs source.old)) }
+    ensures on { OnOk result ((r : ℕ → List Step') (fs : List Frame') (e : ReadFault') (z : S)
+        → GoesStop r S.takes (λ a b. S.leaves a b e) fs source.new z
+        → BeforeStops r S.takes (λ a b. S.leaves a b e) (Head' head ∷ Leaf kind ∷ End ∷ []) fs source.old z) }
+    ensures stopped { IfRefusedWith result (λ e. (r : ℕ → List Step') (fs : List Frame')
+        → BeforeStops r S.takes (λ a b. S.leaves a b e) (Head' head ∷ Leaf kind ∷ End ∷ []) fs source.old source.new) }
+{
+    match source.open(head) {
+        Ok(()) => {}
+        Err(fault) => return Err(fault),
+    }
+    match source.leaf(kind) {
+        Ok(()) => {}
+        Err(fault) => return Err(fault),
+    }
+    match source.close() {
+        Ok(()) => {}
+        Err(fault) => return Err(fault),
+    }
+    match source.end() {
+        Ok(()) => Ok(()),
+        Err(fault) => Err(fault),
+    }
+}
