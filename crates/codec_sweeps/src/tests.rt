@@ -1,4 +1,4 @@
-//! `compile`, `write_der`, `write_der_to`, `read_ber` and `whereabouts` over the sample types.
+//! `compile`, `write_der`, `write_der_to`, `read_ber`, `read_der` and `whereabouts` over the sample types.
 
 mod memory;
 mod reading;

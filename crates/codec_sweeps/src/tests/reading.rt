@@ -2,7 +2,7 @@
 
 use super::memory::{sample_code, told};
 use asn_base::schema::TypeId;
-use ber_reader::{read_ber, whereabouts};
+use ber_reader::{read_ber, read_der, whereabouts};
 use codec_code::Code;
 use codec_source::ReadFault;
 use sample_types::type_named;
@@ -27,6 +27,25 @@ impl Starved for Reading {
             Err(fault) => self.wanted == Err(fault),
         };
         if right { Turn::Right } else { Turn::Wrong }
+    }
+}
+
+/// `read_der`: so many additions are skipped.
+#[derive(Drop)]
+struct ReadingStrictly {
+    code: Code,
+    id: TypeId,
+    octets: Vec<u8>,
+    skipped: u64,
+}
+
+impl Starved for ReadingStrictly {
+    fn call(&mut self, alloc: Global) -> Turn {
+        match read_der(alloc, &self.code, self.id, self.octets.as_slice()) {
+            Err(ReadFault::Memory) => Turn::Refused,
+            Ok(read) if read.skipped == self.skipped => Turn::Right,
+            _ => Turn::Wrong,
+        }
     }
 }
 
@@ -80,6 +99,20 @@ fn read_ber_with_ever_more_memory(rt: HostRuntime) -> Result<(), Fail> {
     };
     let swept = sweep(alloc, &mut reading)?;
     told(&rt, "read_ber", swept)
+}
+
+/// The same octets keep the distinguished rules: known tags ascend, and unknown additions may stand anywhere.
+#[test]
+fn read_der_with_ever_more_memory(rt: HostRuntime) -> Result<(), Fail> {
+    let alloc = rt.alloc();
+    let mut reading = ReadingStrictly {
+        code: sample_code(alloc)?,
+        id: named("mixed")?,
+        octets: two_unknown(alloc)?,
+        skipped: 2,
+    };
+    let swept = sweep(alloc, &mut reading)?;
+    told(&rt, "read_der", swept)
 }
 
 /// No growth by a told length before it is seen to lie within the message: the fault in each turn.
