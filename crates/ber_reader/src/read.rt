@@ -77,8 +77,8 @@ pub fn read_ber<'a>(
     })
 }
 
-/// Judges whether the value that a view shows is one of the type. A copy is asked only where the view alone doesn't tell
-/// that it is.
+/// Judges whether the value that a view shows is one of the type. A copy is asked only where the view alone
+/// doesn't tell that it is.
 fn judge(alloc: Global, code: &Code, id: TypeId, view: &View<'_>) -> Result<(), ReadFault>
     requires { (t : Tree) × IsView view.now t }
     ensures ok { OnOk result ((t : Tree)

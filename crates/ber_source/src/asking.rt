@@ -50,7 +50,8 @@ pub fn stands_next<'c, 'a, T: Teller<'a>>(
     requires { IsWithin T.suits place.old }
     ensures within { IsWithin T.suits place.new }
     ensures ok { IfOk result (λ yes. StandsNext (state_of T.tokens place.old) field yes (state_of T.tokens place.new)) }
-    ensures err { IfRefused result ((yes : Bool) (b : State) → StandsNext (state_of T.tokens place.old) field yes b → ⊥) }
+    ensures err { IfRefused result ((yes : Bool) (b : State)
+        → StandsNext (state_of T.tokens place.old) field yes b → ⊥) }
     ensures left { IfRefusedWith result (Leaves (state_of T.tokens place.old) (state_of T.tokens place.new)) }
 {
     one_unit();
@@ -82,7 +83,8 @@ pub fn choose_next<'c, 'a, T: Teller<'a>>(
     requires { IsWithin T.suits place.old }
     ensures within { IsWithin T.suits place.new }
     ensures ok { IfOk result (λ id. Chooses (state_of T.tokens place.old) calls.now id (state_of T.tokens place.new)) }
-    ensures err { IfRefused result ((id : TypeId') (b : State) → Chooses (state_of T.tokens place.old) calls.now id b → ⊥) }
+    ensures err { IfRefused result ((id : TypeId') (b : State)
+        → Chooses (state_of T.tokens place.old) calls.now id b → ⊥) }
     ensures left { IfRefusedWith result (Leaves (state_of T.tokens place.old) (state_of T.tokens place.new)) }
 {
     one_unit();
@@ -150,7 +152,8 @@ pub fn among_next<'c, 'a, T: Teller<'a>>(
 ) -> Result<Option<TypeId>, ReadFault>
     requires { IsWithin T.suits place.old }
     ensures within { IsWithin T.suits place.new }
-    ensures ok { IfOk result (λ id. AmongNext (state_of T.tokens place.old) steps.now id (state_of T.tokens place.new)) }
+    ensures ok { IfOk result (λ id.
+        AmongNext (state_of T.tokens place.old) steps.now id (state_of T.tokens place.new)) }
     ensures err { IfRefused result ((id : Option' TypeId') (b : State)
         → AmongNext (state_of T.tokens place.old) steps.now id b → ⊥) }
     ensures left { IfRefusedWith result (Leaves (state_of T.tokens place.old) (state_of T.tokens place.new)) }

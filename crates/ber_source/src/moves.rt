@@ -188,7 +188,8 @@ fn enter<'c, 'a, T: Teller<'a>>(
     requires unit { UnitAt unit.tag (is_constructed unit.form) unit.count unit.contents.now unit.rest.now
         place.old.here.octets.now }
     ensures within { IsWithin T.suits place.new }
-    ensures ok { OnOk result (state_of T.tokens place.new ≡ opened_at (state_of T.tokens place.old) (is_constructed unit.entry.form)
+    ensures ok { OnOk result (state_of T.tokens place.new
+        ≡ opened_at (state_of T.tokens place.old) (is_constructed unit.entry.form)
         unit.entry.count unit.entry.contents.now unit.entry.rest.now) }
     ensures err { IfErr result (λ e. e ≡ Memory) }
 {

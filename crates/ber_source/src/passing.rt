@@ -67,7 +67,8 @@ fn pass_one<'c, 'a, T: Teller<'a>>(
     ensures code { place.new.code.now ≡ place.old.code.now }
     ensures ended { IfOk result (λ r. IfSome r (λ f.
         (state_of T.tokens place.new ≡ state_of T.tokens place.old)
-        × Passes place.old.code.now steps.now extensible (state_of T.tokens place.old) f (state_of T.tokens place.old))) }
+        × Passes place.old.code.now steps.now extensible (state_of T.tokens place.old) f
+        (state_of T.tokens place.old))) }
     ensures only { IfOk result (λ r. IfSome r (λ f. (g : Option' Field') (b : State)
         → Passes place.old.code.now steps.now extensible (state_of T.tokens place.old) g b
         → (g ≡ f) × (b ≡ state_of T.tokens place.old))) }

@@ -80,7 +80,8 @@ fn turn<'a, S: Source>(
     ensures ok { IfOk result (λ o. Same
         (Before (routine_at code.now) S.takes frame.entry.steps.now frames.old.items source.old)
         (Goes (routine_at code.now) S.takes (and_next frames.new.items o) source.new)) }
-    ensures less { IfOk result (λ o. weighs (length (table_of code.now)) (S.room source.new) (and_next frames.new.items o)
+    ensures less { IfOk result (λ o.
+        weighs (length (table_of code.now)) (S.room source.new) (and_next frames.new.items o)
         < weighs (length (table_of code.now)) (S.room source.old) (frames.old.items ++ frame.entry ∷ [])) }
     ensures err { IfRefused result
         (Never (Before (routine_at code.now) S.takes frame.entry.steps.now frames.old.items source.old)) }

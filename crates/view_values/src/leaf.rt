@@ -1,5 +1,5 @@
-//! Whether a string, or the numbers of an object identifier, are a value of a kind (X.680, 22 to 24, 32, 33, 41 and 51).
-//! Each test may answer false of a value that is one, where ranges or codes don't ascend.
+//! Whether a string, or the numbers of an object identifier, are a value of a kind (X.680, 22 to 24, 32, 33, 41 and
+//! 51). Each test may answer false of a value that is one, where ranges or codes don't ascend.
 
 ghost use Rattle.asn_base.specs.Abstract.{bits as bits', octets as octets', oid as oid', relative_oid as relative_oid', text as text'};
 ghost use Rattle.asn_base.specs.Names.{IsMember};

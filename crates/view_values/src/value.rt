@@ -21,8 +21,8 @@ use value_text::names::alternative_at;
 use views::{Part, Parts, Shown};
 
 /// Whether the value that a part shows is surely one of the type, the limit on nodes apart: where it answers true, it
-/// is. Where it answers false, a copy has to be asked: it may be one of which a component stands in version brackets, or
-/// is absent and has a DEFAULT that holds others. It takes no memory, and time with the nodes.
+/// is. Where it answers false, a copy has to be asked: it may be one of which a component stands in version brackets,
+/// or is absent and has a DEFAULT that holds others. It takes no memory, and time with the nodes.
 pub fn is_surely_value(part: &Part<'_, '_>, schema: &Schema, id: TypeId) -> bool
     requires { (t : Tree) × IsPart part.now t }
     ensures { (t : Tree) → IsPart part.now t → IsTrue result → IsValueWithoutNodes schema.now id.index (value_of t) }
@@ -96,7 +96,8 @@ fn are_fields(
     ensures { (ms : Members)
         → AreParts members.now ms
         → IsTrue result
-        → AreComponents schema.now levels (map component_of components.now) (row_of_options (placed size (λ i. component_value ms i)))
+        → AreComponents schema.now levels (map component_of components.now)
+        (row_of_options (placed size (λ i. component_value ms i)))
         × GroupsAreWhole (map component_of components.now) (row_of_options (placed size (λ i. component_value ms i))) }
 {
     without_groups();
@@ -122,7 +123,8 @@ fn are_components(
     ensures { (ms : Members)
         → AreParts members.now ms
         → IsTrue result
-        → AreComponents schema.now levels (map component_of components.now) (row_of_options (placed size (λ i. component_value ms i))) }
+        → AreComponents schema.now levels (map component_of components.now)
+        (row_of_options (placed size (λ i. component_value ms i))) }
 {
     let mut left = *members;
     for i in 0..components.len() {
