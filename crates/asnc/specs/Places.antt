@@ -1,5 +1,5 @@
 -- Where octets are refused, in the names of a schema.
-use Rattle.std.specs.Prelude.{◌≡◌, ℕ, ◌≤◌, List, [], ◌∷◌, ◌++◌, length, Option, Some, None, codes, decimal, slice_get}
+use Rattle.std.specs.Prelude.{◌≡◌, ℕ, ◌<◌, ◌≤◌, List, [], ◌∷◌, ◌++◌, length, Option, Some, None, codes, decimal, slice_get}
 use Rattle.asn_base.specs.declared.schema.TypeId.{TypeId}
 use Rattle.asn_base.specs.Schemas.{components}
 use Rattle.asn_base.specs.Types.{Resolved}
@@ -9,8 +9,9 @@ use Rattle.ber_message.specs.declared.open.Open.{Open}
 use Rattle.ber_message.specs.declared.open.Part.{Part}
 use Rattle.ber_message.specs.declared.open.Part.TheVariants.{Component, Alternative, Element}
 use Rattle.ber_message.specs.declared.stop.Whereabouts.{Whereabouts}
-use Rattle.ber_message.specs.Messages.{IsMessage, room_of}
-use Rattle.ber_message.specs.Stops.{IsStop}
+use Rattle.ber_message.specs.Messages.{IsMessage, IsRead, room_of}
+use Rattle.ber_message.specs.Stops.{IsStop, IsStopBefore}
+use Rattle.ber_reader.specs.Readings.{IsPlace}
 
 -- the identifier of component i of type t
 abbrev pub component_name : List Resolved → ℕ → ℕ → List ℕ
@@ -56,15 +57,14 @@ path_behind s p (o ∷ os) = path_behind s (with_open s p o) os
 abbrev pub path_of : List Resolved → List Open → List ℕ
 path_of s os = path_behind s [] os
 
--- Reading the octets as a value of type t comes to a question without an answer at this octet, or reads one as far as
--- it; of octets that say nothing of the type it is where reading stops by any number of values. These parts were being
--- read there.
+-- Reading the octets as a value of type t comes to a question without an answer at this octet. Octets that say
+-- something of the type are read as far as the part that is judged wrong. These parts were being read there.
 pub record IsStopped (s : List Resolved) (t : ℕ) (o : List ℕ) (octet : ℕ) (path : List ℕ) : Type 0 where
   pub id : TypeId
   pub numbered : id.index ≡ t
   pub found : Whereabouts
-  pub most : ℕ
-  pub stop : IsStop s id o most found
+  pub is : IsPlace s id o found
   pub first : ((ts : List Token) → IsMessage s t o ts → ⊥) → length o ≤ 16777216 → IsStop s id o (room_of (length o)) found
+  pub judged : IsRead s id o → t < length s → length o ≤ 16777216 → IsStopBefore s id o found
   pub at : octet ≡ found.place
   pub parts : path ≡ path_of s found.values.items

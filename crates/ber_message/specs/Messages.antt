@@ -8,7 +8,7 @@ use Rattle.encodings.specs.Header.{Octets}
 use Rattle.encodings.specs.Rules.{Basic}
 use Rattle.encodings.specs.Encoding.{Says}
 use Rattle.encodings.specs.Levels.{levels}
-use Rattle.codec_code.specs.Routines.{routine_at}
+use Rattle.codec_code.specs.Routines.{id_of, routine_at}
 use Rattle.codec_source.specs.Reading.{Reads}
 use Rattle.codec_source.specs.Stopping.{StopsReading}
 use Rattle.codec_source.specs.declared.fault.ReadFault.TheVariants.{Missing}
@@ -32,11 +32,22 @@ pub record IsMessage (s : List Resolved) (t : TypeNumber) (o : Octets) (told : L
   pub counted : passed_in told ≡ count
   pub stand : StandIn o told
 
--- The view of such a value, built of the tokens of a message, with the number of additions that were skipped.
+-- as many values begin at most: each octet but the last begins a header at most, and 64 values stand one in another
+abbrev pub room_of : ℕ → ℕ
+room_of n = n * 64 + 64
+
+-- the type's routine reads the octets to their end
+pub record IsRead (s : List Resolved) (t : TypeId) (o : Octets) : Type 0 where
+  pub last : State
+  pub reads : Reads (λ u. routine_at s u) Takes t (front s o (room_of (length o))) last
+  pub at_end : last.here.octets ≡ []
+
+-- The view of such a value, built of the tokens that the type's routine reads of a message to its end, with the number of
+-- additions that were skipped.
 pub record IsViewed (s : List Resolved) (t : TypeNumber) (o : Octets) (b : Built) : Type 0 where
-  pub told : List Token
-  pub message : IsMessage s t o told
-  pub built : IsBuiltOf s told b
+  pub read : IsRead s (id_of t) o
+  pub message : IsMessage s t o read.last.told
+  pub built : IsBuiltOf s read.last.told b
 
 -- a proper front of the octets says a value
 pub record HasMessageFirst (s : List Resolved) (t : TypeNumber) (o : Octets) : Type 0 where
@@ -47,16 +58,6 @@ pub record HasMessageFirst (s : List Resolved) (t : TypeNumber) (o : Octets) : T
   pub is_said : Says s Basic t value count octets
   pub whole : o ≡ octets ++ rest
   pub some : 1 ≤ length rest
-
--- as many values begin at most: each octet but the last begins a header at most, and 64 values stand one in another
-abbrev pub room_of : ℕ → ℕ
-room_of n = n * 64 + 64
-
--- the type's routine reads the octets to their end
-pub record IsRead (s : List Resolved) (t : TypeId) (o : Octets) : Type 0 where
-  pub last : State
-  pub reads : Reads (λ u. routine_at s u) Takes t (front s o (room_of (length o))) last
-  pub at_end : last.here.octets ≡ []
 
 -- the type's routine comes to the end of contents in which something must stand yet
 pub record EndsTooSoon (s : List Resolved) (t : TypeId) (o : Octets) : Type 0 where

@@ -11,7 +11,7 @@ use Rattle.octet_answers.specs.Answers.{Takes}
 use Rattle.octet_answers.specs.Left.{Leaves}
 use Rattle.octet_answers.specs.States.{State, front}
 use Rattle.reading_law.specs.Shows.{IsSliceAt}
-use Rattle.ber_message.specs.Opened.{opens}
+use Rattle.ber_message.specs.Opened.{entered, on_last, opens}
 use Rattle.ber_message.specs.declared.stop.Whereabouts.{Whereabouts}
 
 -- the place of the octets that aren't read, which stand there in the message, and the values that are open behind what
@@ -30,3 +30,15 @@ pub data IsStop (s : List Resolved) (t : TypeId) (o : Octets) (most : ℕ) (w : 
       → IsStop s t o most w
   reads : (z : State) → Reads (λ u. routine_at s u) Takes t (front s o most) z → IsAt o w z → IsStop s t o most w
   is_long : 16777216 < length o → w.place ≡ 16777216 → w.values.items ≡ [] → IsStop s t o most w
+
+-- the same place, at which a part of the innermost open value begins: the one that was told, or else its next element
+pub record IsEntered (v w : Whereabouts) : Type 0 where
+  pub place : w.place ≡ v.place
+  pub values : w.values.items ≡ on_last entered v.values.items
+
+-- Reading stops there if so many values may begin, and what isn't read is a part of the innermost open value.
+pub record IsStopBefore (s : List Resolved) (t : TypeId) (o : Octets) (w : Whereabouts) : Type 0 where
+  pub most : ℕ
+  pub stopped : Whereabouts
+  pub stop : IsStop s t o most stopped
+  pub part : IsEntered stopped w

@@ -62,8 +62,8 @@ fn tell(list: &mut Vec<Open>, part: Part) -> Result<(), AllocError>
     }
 }
 
-/// A part of the innermost open value begins.
-fn enter(list: &mut Vec<Open>) -> Result<(), AllocError>
+/// A part of the innermost open value begins: the one that was told, or else its next element.
+pub(crate) fn enter(list: &mut Vec<Open>) -> Result<(), AllocError>
     ensures { OnOk result (list.new.items ≡ on_last entered list.old.items) }
 {
     match list.pop() {

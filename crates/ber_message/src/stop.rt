@@ -2,11 +2,11 @@
 
 ghost use Rattle.ber_message.specs.Messages.{room_of};
 ghost use Rattle.ber_message.specs.Opened.{opens};
-ghost use Rattle.ber_message.specs.Stops.{IsStop};
+ghost use Rattle.ber_message.specs.Stops.{IsEntered, IsStop};
 ghost use Rattle.codec_source.specs.declared.fault.ReadFault.TheVariants.{Memory};
-ghost use Rattle.std.specs.Prelude.{◌≡◌, ◌≤◌, false, IfOk, length};
+ghost use Rattle.std.specs.Prelude.{◌≡◌, ◌≤◌, false, IfOk, length, OnOk};
 
-use crate::open::{Open, open_behind};
+use crate::open::{Open, enter, open_behind};
 use asn_base::schema::TypeId;
 use ber_source::Cursor;
 use codec_code::Code;
@@ -21,6 +21,15 @@ use std::alloc::{AllocError, Global};
 pub struct Whereabouts {
     pub place: usize,
     pub values: Vec<Open>,
+}
+
+impl Whereabouts {
+    /// What was not read is a part of the innermost open value: the one that was told, or else its next element.
+    pub fn enter(&mut self) -> Result<(), AllocError>
+        ensures { OnOk result (IsEntered self.old self.new) }
+    {
+        enter(&mut self.values)
+    }
 }
 
 /// How many values begin in the message at most: each octet but the last begins a header at most, and 64 values stand

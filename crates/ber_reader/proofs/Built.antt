@@ -19,7 +19,8 @@ use Rattle.ber_message.specs.Messages.{IsViewed}
 use Rattle.ber_views.specs.declared.telling.Built.{Built}
 use Rattle.ber_views.specs.Log.{passes}
 use Rattle.ber_views.specs.Shapes.{shape_of, shape_in}
-use Rattle.ber_views.specs.Wants.{IsShownAs, begun_as, number_as, Wants}
+use Rattle.ber_views.specs.Shown.{IsShownAs, leaves_of, leaves_in, AreShown}
+use Rattle.ber_views.specs.Wants.{Reading, begun_as, number_as, Wants}
 use Rattle.ber_reader.proofs.Shapes.{shape_at, leaf_shape}
 use Rattle.ber_reader.proofs.Rows.{many, Ordered, ordered_none, ordered_absent, ordered_present, ordered_row, Mixed, mixed_none, mixed_more, mixed_row, joined_none, joined_more, found_below}
 
@@ -83,10 +84,41 @@ leaf_stands m true x at (octets o p) s h = joined_stands m o p h
 leaf_stands m true x at (text o p) s h = joined_stands m o p h
 leaf_stands m true x at (bits n o p) s h = joined_stands m o p h
 
-module _ (s : List Resolved) (schema : IsSchema s) (m : List ℕ) (short : length m ≤ 16777216) (w0 : AbstractValue) where
-  -- what follows holds of each tree that shows the value
-  abbrev Tree_then : List Token → ℕ → Building → AbstractValue → Type 0
-  Tree_then rest n b w = (t : Tree) → value_of t ≡ w → IsBorrowed m t → Wants s m w0 rest 0 false (with_tree n t b)
+-- ---- what is shown
+
+shown_both : (xs ys : List Token) (ks ls : List Leaf) → AreShown xs ks → AreShown ys ls → AreShown (xs ++ ys) (ks ++ ls)
+shown_both [] ys [] ls a b = b
+shown_both [] ys (l ∷ ks) ls a b = absurd a
+shown_both (held k c x at ∷ xs) ys [] ls a b = absurd a
+shown_both (held k c x at ∷ xs) ys (l ∷ ks) ls a b = (a.0, shown_both xs ys ks ls a.1 b)
+shown_both (component i ∷ xs) ys ks ls a b = shown_both xs ys ks ls a b
+shown_both (chosen i ∷ xs) ys ks ls a b = shown_both xs ys ks ls a b
+shown_both (begun t ∷ xs) ys ks ls a b = shown_both xs ys ks ls a b
+shown_both (ended ∷ xs) ys ks ls a b = shown_both xs ys ks ls a b
+shown_both (passed ∷ xs) ys ks ls a b = shown_both xs ys ks ls a b
+
+none_passed : (n : ℕ) → AreShown (replicate n passed) []
+none_passed zero = tt
+none_passed (suc n) = none_passed n
+
+-- tokens that hold nothing stand behind
+shown_end : (ts : List Token) (ls : List Leaf) → AreShown ts ls → AreShown (ts ++ ended ∷ []) ls
+shown_end ts ls a = subst (λ q. AreShown (ts ++ ended ∷ []) q) (append-nil ls) (shown_both ts (ended ∷ []) ls [] a tt)
+
+shown_passed : (ts : List Token) (n : ℕ) (ls : List Leaf) → AreShown ts ls → AreShown (ts ++ replicate n passed) ls
+shown_passed ts n ls a = subst (λ q. AreShown (ts ++ replicate n passed) q) (append-nil ls) (shown_both ts (replicate n passed) ls [] a (none_passed n))
+
+-- a member, and those behind it
+shown_next : {all : List Token} (xs ts : List Token) (t : Tree) (ms : Members) → AreShown xs (leaves_of t) → AreShown ts (leaves_in ms) → xs ++ ts ≡ all → AreShown all (leaves_of t ++ leaves_in ms)
+shown_next xs ts t ms a b e = subst (λ q. AreShown q (leaves_of t ++ leaves_in ms)) e (shown_both xs ts (leaves_of t) (leaves_in ms) a b)
+
+shown_more : {i : ℕ} {all : List Token} (xs ts : List Token) (t : Tree) (ms : Members) → AreShown xs (leaves_of t) → AreShown ts (leaves_in ms) → component i ∷ (xs ++ ts) ≡ all → AreShown all (leaves_of t ++ leaves_in ms)
+shown_more {i = i} xs ts t ms a b e = subst (λ q. AreShown q (leaves_of t ++ leaves_in ms)) e (shown_both xs ts (leaves_of t) (leaves_in ms) a b)
+
+module _ (s : List Resolved) (schema : IsSchema s) (g : Reading) (short : length g.message ≤ 16777216) (w0 : AbstractValue) where
+  -- what follows holds of each tree that shows the value, and what these tokens tell
+  abbrev Tree_then : List Token → List Token → ℕ → Building → AbstractValue → Type 0
+  Tree_then ts rest n b w = (t : Tree) → value_of t ≡ w → IsBorrowed g.message t → AreShown ts (leaves_of t) → Wants s g w0 rest 0 false (with_tree n t b)
 
   abbrev more : Building → Members → Building
   more b ms = record { here = joined b.here ms; waits = b.waits }
@@ -97,12 +129,12 @@ module _ (s : List Resolved) (schema : IsSchema s) (m : List ℕ) (short : lengt
   more_more : (b : Building) (n : ℕ) (t : Tree) (ms : Members) → more (with_tree n t b) ms ≡ more b (member n t ms)
   more_more b n t ms = ap (λ q. record { here = q; waits = b.waits }) (joined_more b.here (member n t no_member) ms)
 
-  passed_over : (j : ℕ) (ts : List Token) (n : ℕ) (h : Bool) (b : Building) → Wants s m w0 ts n h b → Wants s m w0 (replicate j passed ++ ts) n h b
+  passed_over : (j : ℕ) (ts : List Token) (n : ℕ) (h : Bool) (b : Building) → Wants s g w0 ts n h b → Wants s g w0 (replicate j passed ++ ts) n h b
   passed_over zero ts n h b f = f
   passed_over (suc j) ts n h b f = passed_over j ts n h b f
 
   -- the innermost open node is closed
-  closed_with : (rest : List Token) (n : ℕ) (h : Header) (b : Building) (ms : Members) (t : Tree) → Closes h ms t → Wants s m w0 rest 0 false (with_tree n t b) → Wants s m w0 (ended ∷ rest) 0 false (more (opened n h b) ms)
+  closed_with : (rest : List Token) (n : ℕ) (h : Header) (b : Building) (ms : Members) (t : Tree) → Closes h ms t → Wants s g w0 rest 0 false (with_tree n t b) → Wants s g w0 (ended ∷ rest) 0 false (more (opened n h b) ms)
   closed_with rest n h b ms t c f = record {
     building = with_tree n t b;
     wait = record { number = n; header = h; before = b.here };
@@ -116,97 +148,100 @@ module _ (s : List Resolved) (schema : IsSchema s) (m : List ℕ) (short : lengt
   few_of e cs a = let p = ap length a.parts in let q = length-append a.root a.more in let x = a.few_root in let y = a.few_more in omega arith
 
   mutual
-    value_wants : {t : TypeNumber} {w : AbstractValue} {ts : List Token} → Shows s t w ts → StandIn m ts → (rest : List Token) (n : ℕ) (b : Building) → Tree_then rest n b w → Wants s m w0 (ts ++ rest) n false b
+    value_wants : {t : TypeNumber} {w : AbstractValue} {ts : List Token} → Shows s t w ts → StandIn g.message ts → (rest : List Token) (n : ℕ) (b : Building) → Tree_then ts rest n b w → Wants s g w0 (ts ++ rest) n false b
     value_wants (shows {t = t} {tags = tags} {k = k} {w = w} {ts = ts} i o e) st rest n b f =
-        let st2 = stand_first m ts (ended ∷ []) (subst (StandIn m) e st) in
-        let inner = kind_wants k o (schema.sound t tags k i) st2 rest n b f in
+        let st2 = stand_first g.message ts (ended ∷ []) (subst (StandIn g.message) e st) in
+        let g2 : Tree_then ts rest n b w = λ u x bor sh. f u x bor (subst (λ q. AreShown q (leaves_of u)) (sym e) (shown_end ts (leaves_of u) sh)) in
+        let inner = kind_wants k o (schema.sound t tags k i) st2 rest n b g2 in
         let shape = shape_at s t tags k i (λ q. schema.tagged t k (subst (λ g. Is s t g k) q i)) in
-        let one = subst (λ q. Wants s m w0 (ts ++ ended ∷ rest) (number_as q n) false (begun_as q n b)) (sym shape) inner in
-        let two = subst (λ q. Wants s m w0 q (number_as (shape_in (routine_at s t)) n) false (begun_as (shape_in (routine_at s t)) n b)) (sym (append_assoc ts (ended ∷ []) rest)) one in
-        subst (λ q. Wants s m w0 (q ++ rest) n false b) (sym e) two
+        let one = subst (λ q. Wants s g w0 (ts ++ ended ∷ rest) (number_as q n) false (begun_as q n b)) (sym shape) inner in
+        let two = subst (λ q. Wants s g w0 q (number_as (shape_in (routine_at s t)) n) false (begun_as (shape_in (routine_at s t)) n b)) (sym (append_assoc ts (ended ∷ []) rest)) one in
+        subst (λ q. Wants s g w0 (q ++ rest) n false b) (sym e) two
 
-    kind_wants : (k : Kind) {w : AbstractValue} {ts : List Token} → ShowsOf s k w ts → IsSound s k → StandIn m ts → (rest : List Token) (n : ℕ) (b : Building) → Tree_then rest n b w → Wants s m w0 (ts ++ ended ∷ rest) (number_as (shape_of k) n) false (begun_as (shape_of k) n b)
+    kind_wants : (k : Kind) {w : AbstractValue} {ts : List Token} → ShowsOf s k w ts → IsSound s k → StandIn g.message ts → (rest : List Token) (n : ℕ) (b : Building) → Tree_then ts rest n b w → Wants s g w0 (ts ++ ended ∷ rest) (number_as (shape_of k) n) false (begun_as (shape_of k) n b)
     kind_wants k {w = w} (shows_leaf {lk = lk} {c = c} {at = at} {x = x} levels few steps contents) sound st rest n b f =
         let place = st.0 in
         let l1 = ap length place.whole in
         let l2 = length-append place.before (x ++ place.behind) in
         let l3 = length-append x place.behind in
         let l4 = place.place in
-        subst (λ q. Wants s m w0 (held lk c x at ∷ ended ∷ rest) (number_as q n) false (begun_as q n b)) (sym (leaf_shape s k lk steps)) (record {
+        subst (λ q. Wants s g w0 (held lk c x at ∷ ended ∷ rest) (number_as q n) false (begun_as q n b)) (sym (leaf_shape s k lk steps)) (record {
           value = w;
           held = record { levels = levels; few = few; short = omega arith; contents = contents };
-          then = λ l e h. f (leaf l) e (leaf_stands m c x at l place h);
+          then = λ l e h. f (leaf l) e (leaf_stands g.message c x at l place h) (h, tt);
         })
     kind_wants (a_sequence e cs) (shows_sequence {ws = ws} {ts = ts} j fs all) sound st rest n b f =
-        let st2 = stand_first m ts (replicate j passed) (subst (StandIn m) all st) in
+        let st2 = stand_first g.message ts (replicate j passed) (subst (StandIn g.message) all st) in
         let size = length cs in
         let b2 = opened n (open_fields size) b in
         let q = fields_want fs (let z = few_of e cs sound in omega arith) st2 (replicate j passed ++ ended ∷ rest) b2
-        (λ ms r o bor. passed_over j (ended ∷ rest) 0 false (more b2 ms) (closed_with rest n (open_fields size) b ms (tree.fields size ms) closes_fields (f (tree.fields size ms) (ap fields (ordered_row size ws ms r o)) bor))) in
-        subst (λ z. Wants s m w0 (z ++ ended ∷ rest) 0 false b2) (sym all) (subst (λ z. Wants s m w0 z 0 false b2) (sym (append_assoc ts (replicate j passed) (ended ∷ rest))) q)
+        (λ ms r o bor sh. passed_over j (ended ∷ rest) 0 false (more b2 ms) (closed_with rest n (open_fields size) b ms (tree.fields size ms) closes_fields
+        (f (tree.fields size ms) (ap fields (ordered_row size ws ms r o)) bor (subst (λ z. AreShown z (leaves_in ms)) (sym all) (shown_passed ts j (leaves_in ms) sh))))) in
+        subst (λ z. Wants s g w0 (z ++ ended ∷ rest) 0 false b2) (sym all) (subst (λ z. Wants s g w0 z 0 false b2) (sym (append_assoc ts (replicate j passed) (ended ∷ rest))) q)
     kind_wants (a_set e cs) (shows_set {ws = ws} ms') sound st rest n b f =
         let size = length cs in
         let b2 = opened n (open_fields size) b in
         mixed_want ms' (let z = few_of e cs sound.0 in omega arith) st (ended ∷ rest) b2
-        (λ ms x bor. closed_with rest n (open_fields size) b ms (tree.fields size ms) closes_fields (f (tree.fields size ms) (ap fields (mixed_row size ws ms x)) bor))
+        (λ ms x bor sh. closed_with rest n (open_fields size) b ms (tree.fields size ms) closes_fields (f (tree.fields size ms) (ap fields (mixed_row size ws ms x)) bor sh))
     kind_wants (a_sequence_of c u) (shows_sequence_of es) sound st rest n b f =
         let b2 = opened n open_list b in
-        elements_want es st (ended ∷ rest) b2 (λ ms x bor. closed_with rest n open_list b ms (tree.list ms) closes_list (f (tree.list ms) (ap list x) bor))
+        elements_want es st (ended ∷ rest) b2 (λ ms x bor sh. closed_with rest n open_list b ms (tree.list ms) closes_list (f (tree.list ms) (ap list x) bor sh))
     kind_wants (a_set_of c u) (shows_set_of es) sound st rest n b f =
         let b2 = opened n open_list b in
-        elements_want es st (ended ∷ rest) b2 (λ ms x bor. closed_with rest n open_list b ms (tree.list ms) closes_list (f (tree.list ms) (ap list x) bor))
+        elements_want es st (ended ∷ rest) b2 (λ ms x bor sh. closed_with rest n open_list b ms (tree.list ms) closes_list (f (tree.list ms) (ap list x) bor sh))
     kind_wants (a_choice root e more') (shows_choice {i = i} g sh) sound st rest n b f =
         value_wants sh st (ended ∷ rest) 0 (opened n (open_alternative i) b)
-        (λ t x bor. closed_with rest n (open_alternative i) b (member 0 t no_member) (tree.alternative i t) closes_alternative (f (tree.alternative i t) (ap (alternative i) x) bor))
+        (λ t x bor sh. closed_with rest n (open_alternative i) b (member 0 t no_member) (tree.alternative i t) closes_alternative (f (tree.alternative i t) (ap (alternative i) x) bor sh))
 
-    fields_want : {i : ℕ} {cs : List Component} {ws : Row} {ts : List Token} → ShowsFields s i cs ws ts → i + length cs ≤ 400 → StandIn m ts → (rest : List Token) (b : Building)
-        → ((ms : Members) → many ws ≡ length cs → Ordered i ws ms → AreBorrowed m ms → Wants s m w0 rest 0 false (more b ms))
-        → Wants s m w0 (ts ++ rest) 0 false b
-    fields_want {i = i} no_field few st rest b f = subst (λ q. Wants s m w0 rest 0 false q) (more_none b) (f no_member refl (ordered_none i) tt)
-    fields_want {i = i} (absent_field {ws = ws} fs) few st rest b f = fields_want fs (omega arith) st rest b (λ ms r o bor. f ms (ap suc r) (ordered_absent i ws ms o) bor)
+    fields_want : {i : ℕ} {cs : List Component} {ws : Row} {ts : List Token} → ShowsFields s i cs ws ts → i + length cs ≤ 400 → StandIn g.message ts → (rest : List Token) (b : Building)
+        → ((ms : Members) → many ws ≡ length cs → Ordered i ws ms → AreBorrowed g.message ms → AreShown ts (leaves_in ms) → Wants s g w0 rest 0 false (more b ms))
+        → Wants s g w0 (ts ++ rest) 0 false b
+    fields_want {i = i} no_field few st rest b f = subst (λ q. Wants s g w0 rest 0 false q) (more_none b) (f no_member refl (ordered_none i) tt tt)
+    fields_want {i = i} (absent_field {ws = ws} fs) few st rest b f = fields_want fs (omega arith) st rest b (λ ms r o bor sh. f ms (ap suc r) (ordered_absent i ws ms o) bor sh)
     fields_want {i = i} {cs = cs} (present_field {c = c} {cs = ds} {w = w} {ws = ws} {xs = xs} {ts = ts} sh fs all) few st rest b f =
-        let st2 = subst (StandIn m) all st in
-        let sx = stand_first m xs ts st2 in
-        let sy = stand_second m xs ts st2 in
-        let q = value_wants sh sx (ts ++ rest) i b (λ t e bt. fields_want fs (omega arith) sy rest (with_tree i t b)
-        (λ ms r o bor. subst (λ z. Wants s m w0 rest 0 false z) (sym (more_more b i t ms)) (f (member i t ms) (ap suc r) (ordered_present i ws ms t w e o) (bt, bor)))) in
-        subst (λ z. Wants s m w0 (z ++ rest) 0 false b) (sym all) (omega arith, subst (λ z. Wants s m w0 z i false b) (sym (append_assoc xs ts rest)) q)
+        let st2 = subst (StandIn g.message) all st in
+        let sx = stand_first g.message xs ts st2 in
+        let sy = stand_second g.message xs ts st2 in
+        let q = value_wants sh sx (ts ++ rest) i b (λ t e bt sht. fields_want fs (omega arith) sy rest (with_tree i t b)
+        (λ ms r o bor shm. subst (λ z. Wants s g w0 rest 0 false z) (sym (more_more b i t ms)) (f (member i t ms) (ap suc r) (ordered_present i ws ms t w e o) (bt, bor) (shown_more xs ts t ms sht shm (sym all))))) in
+        subst (λ z. Wants s g w0 (z ++ rest) 0 false b) (sym all) (omega arith, subst (λ z. Wants s g w0 z i false b) (sym (append_assoc xs ts rest)) q)
 
-    mixed_want : {cs : List Component} {ws : Row} {ts : List Token} → ShowsMixed s cs ws ts → length cs ≤ 400 → StandIn m ts → (rest : List Token) (b : Building)
-        → ((ms : Members) → Mixed (length cs) ws ms → AreBorrowed m ms → Wants s m w0 rest 0 false (more b ms))
-        → Wants s m w0 (ts ++ rest) 0 false b
-    mixed_want {cs = cs} nothing_mixed few st rest b f = subst (λ q. Wants s m w0 rest 0 false q) (more_none b) (f no_member (mixed_none cs) tt)
+    mixed_want : {cs : List Component} {ws : Row} {ts : List Token} → ShowsMixed s cs ws ts → length cs ≤ 400 → StandIn g.message ts → (rest : List Token) (b : Building)
+        → ((ms : Members) → Mixed (length cs) ws ms → AreBorrowed g.message ms → AreShown ts (leaves_in ms) → Wants s g w0 rest 0 false (more b ms))
+        → Wants s g w0 (ts ++ rest) 0 false b
+    mixed_want {cs = cs} nothing_mixed few st rest b f = subst (λ q. Wants s g w0 rest 0 false q) (more_none b) (f no_member (mixed_none cs) tt tt)
     mixed_want (passed_mixed ms') few st rest b f = mixed_want ms' few st rest b f
-    mixed_want {cs = cs} (component_mixed {i = i} {w = w} {ws = ws} {xs = xs} {ts = ts} g a sh ms' with all) few st rest b f =
-        let st2 = subst (StandIn m) all st in
-        let sx = stand_first m xs ts st2 in
-        let sy = stand_second m xs ts st2 in
-        let below = found_below cs i _ g in
-        let q = value_wants sh sx (ts ++ rest) i b (λ t e bt. mixed_want ms' few sy rest (with_tree i t b)
-        (λ ms x bor. subst (λ z. Wants s m w0 rest 0 false z) (sym (more_more b i t ms)) (f (member i t ms) (subst (λ z. Mixed (length cs) z (member i t ms)) (sym with) (mixed_more (length cs) ws ms i t w e a below x)) (bt, bor)))) in
-        subst (λ z. Wants s m w0 (z ++ rest) 0 false b) (sym all) (omega arith, subst (λ z. Wants s m w0 z i false b) (sym (append_assoc xs ts rest)) q)
+    mixed_want {cs = cs} (component_mixed {i = i} {w = w} {ws = ws} {xs = xs} {ts = ts} has a sh ms' with all) few st rest b f =
+        let st2 = subst (StandIn g.message) all st in
+        let sx = stand_first g.message xs ts st2 in
+        let sy = stand_second g.message xs ts st2 in
+        let below = found_below cs i _ has in
+        let q = value_wants sh sx (ts ++ rest) i b (λ t e bt sht. mixed_want ms' few sy rest (with_tree i t b)
+        (λ ms x bor shm. subst (λ z. Wants s g w0 rest 0 false z) (sym (more_more b i t ms)) (f (member i t ms) (subst (λ z. Mixed (length cs) z (member i t ms)) (sym with) (mixed_more (length cs) ws ms i t w e a below x)) (bt, bor) (shown_more xs ts t ms sht shm (sym all))))) in
+        subst (λ z. Wants s g w0 (z ++ rest) 0 false b) (sym all) (omega arith, subst (λ z. Wants s g w0 z i false b) (sym (append_assoc xs ts rest)) q)
 
-    elements_want : {u : TypeNumber} {ws : Row} {ts : List Token} → ShowsElements s u ws ts → StandIn m ts → (rest : List Token) (b : Building)
-        → ((ms : Members) → element_values ms ≡ ws → AreBorrowed m ms → Wants s m w0 rest 0 false (more b ms))
-        → Wants s m w0 (ts ++ rest) 0 false b
-    elements_want no_element_shown st rest b f = subst (λ q. Wants s m w0 rest 0 false q) (more_none b) (f no_member refl tt)
+    elements_want : {u : TypeNumber} {ws : Row} {ts : List Token} → ShowsElements s u ws ts → StandIn g.message ts → (rest : List Token) (b : Building)
+        → ((ms : Members) → element_values ms ≡ ws → AreBorrowed g.message ms → AreShown ts (leaves_in ms) → Wants s g w0 rest 0 false (more b ms))
+        → Wants s g w0 (ts ++ rest) 0 false b
+    elements_want no_element_shown st rest b f = subst (λ q. Wants s g w0 rest 0 false q) (more_none b) (f no_member refl tt tt)
     elements_want (element_shown {w = w} {ws = ws} {xs = xs} {ts = ts} sh es all) st rest b f =
-        let st2 = subst (StandIn m) all st in
-        let sx = stand_first m xs ts st2 in
-        let sy = stand_second m xs ts st2 in
-        let q = value_wants sh sx (ts ++ rest) 0 b (λ t e bt. elements_want es sy rest (with_tree 0 t b)
-        (λ ms x bor. subst (λ z. Wants s m w0 rest 0 false z) (sym (more_more b 0 t ms)) (f (member 0 t ms) (ap (λ z. present z (element_values ms)) e ∙ ap (present w) x) (bt, bor)))) in
-        subst (λ z. Wants s m w0 (z ++ rest) 0 false b) (sym all) (subst (λ z. Wants s m w0 z 0 false b) (sym (append_assoc xs ts rest)) q)
+        let st2 = subst (StandIn g.message) all st in
+        let sx = stand_first g.message xs ts st2 in
+        let sy = stand_second g.message xs ts st2 in
+        let q = value_wants sh sx (ts ++ rest) 0 b (λ t e bt sht. elements_want es sy rest (with_tree 0 t b)
+        (λ ms x bor shm. subst (λ z. Wants s g w0 rest 0 false z) (sym (more_more b 0 t ms)) (f (member 0 t ms) (ap (λ z. present z (element_values ms)) e ∙ ap (present w) x) (bt, bor) (shown_next xs ts t ms sht shm (sym all))))) in
+        subst (λ z. Wants s g w0 (z ++ rest) 0 false b) (sym all) (subst (λ z. Wants s g w0 z 0 false b) (sym (append_assoc xs ts rest)) q)
 
-pub shown_builds : (s : List Resolved) → IsSchema s → (m : List ℕ) → length m ≤ 16777216 → (t : TypeNumber) (w : AbstractValue) (ts : List Token) → Shows s t w ts → StandIn m ts → Wants s m w ts 0 false begun'
+pub shown_builds : (s : List Resolved) → IsSchema s → (m : List ℕ) → length m ≤ 16777216 → (t : TypeNumber) (w : AbstractValue) (ts : List Token) → Shows s t w ts → StandIn m ts → Wants s (record { message = m; tokens = ts }) w ts 0 false begun'
 shown_builds s schema m short t w ts sh st =
-    subst (λ q. Wants s m w q 0 false begun') (append-nil ts) (value_wants s schema m short w sh st [] 0 begun' (λ t e b. record { tree = t; whole = refl; shows = e; borrowed = b }))
+    subst (λ q. Wants s (record { message = m; tokens = ts }) w q 0 false begun') (append-nil ts) (value_wants s schema (record { message = m; tokens = ts }) short w sh st [] 0 begun' (λ t e b c. record { tree = t; whole = refl; shows = e; borrowed = b; shown = c }))
 
 -- the tree of a message that is viewed
 pub tree_of : (s : List Resolved) → IsSchema s → (t : TypeNumber) (o : List ℕ) (b : Built) (v : IsViewed s t o b)
-    → (u : Tree) × IsView b.view u × (value_of u ≡ v.message.value) × IsBorrowed o u
+    → (u : Tree) × IsView b.view u × (value_of u ≡ v.message.value) × IsBorrowed o u × AreShown v.read.last.told (leaves_of u)
 tree_of s schema t o b v =
-    v.built.view o v.message.value (shown_builds s schema o v.message.short t v.message.value v.told v.message.shown v.message.stand)
+    v.built.view (record { message = o; tokens = v.read.last.told }) v.message.value
+    (shown_builds s schema o v.message.short t v.message.value v.read.last.told v.message.shown v.message.stand)
 
 as_many : (ts : List Token) → passes ts ≡ passed_in ts
 as_many [] = refl
@@ -219,4 +254,4 @@ as_many (held k c x at ∷ ts) = as_many ts
 
 -- as many additions were skipped
 pub skipped_of : {s : List Resolved} {t : TypeNumber} {o : List ℕ} (b : Built) (v : IsViewed s t o b) → b.skipped ≡ v.message.count
-skipped_of b v = v.built.counts ∙ as_many v.told ∙ v.message.counted
+skipped_of b v = v.built.counts ∙ as_many v.read.last.told ∙ v.message.counted

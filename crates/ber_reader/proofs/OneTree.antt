@@ -1,5 +1,5 @@
 -- A view shows one tree.
-use Rattle.std.proofs.Common.{arith, ◌≡◌, ℕ, suc, ◌+◌, List, [], ◌∷◌, ◌++◌, length, refl, sym, ap, ◌∙◌}
+use Rattle.std.proofs.Common.{arith, ◌≡◌, ℕ, List, [], ◌∷◌, ◌++◌, length, refl, sym, ap, ◌∙◌}
 use Rattle.views.specs.declared.view.View.{View}
 use Rattle.views.specs.Nodes.{Told, a_leaf, some_fields, some_elements, an_alternative, Node, node, nodes, member_nodes}
 use Rattle.views.specs.Seen.{IsView}

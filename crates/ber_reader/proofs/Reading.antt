@@ -1,5 +1,5 @@
 -- What is answered of a message that was read.
-use Rattle.std.proofs.Common.{◌≡◌, ◌⊎◌, ⊎_elim, inl, inr, ℕ, ◌≤◌, Bool, true, List, IsTrue, ◌↔◌, refl, sym, ap, subst, ◌∙◌}
+use Rattle.std.proofs.Common.{◌≡◌, ◌⊎◌, ⊎_elim, inl, inr, ℕ, ◌≤◌, Bool, true, List, IsTrue, ◌↔◌, refl, sym, subst, ◌∙◌}
 use Rattle.codec_source.specs.declared.fault.ReadFault.{ReadFault}
 use Rattle.codec_source.specs.declared.fault.ReadFault.TheVariants as faults
 use Rattle.std.proofs.Common.{false}
@@ -13,12 +13,12 @@ use Rattle.octet_answers.specs.States.{Token}
 use Rattle.std.specs.Prelude.{Result, Ok, Err, IfOk}
 use Rattle.asn_base.specs.declared.schema.TypeId.{TypeId}
 use Rattle.ber_message.specs.Messages.{IsMessage, SaysNoValue}
-use Rattle.ber_message.specs.Stops.{IsStop}
+use Rattle.ber_message.specs.Stops.{IsStop, IsStopBefore}
 use Rattle.ber_message.specs.declared.stop.Whereabouts.{Whereabouts}
 use Rattle.views.specs.Tree.{Tree, value_of, IsBorrowed}
 use Rattle.views.specs.Seen.{IsView}
 use Rattle.ber_reader.specs.declared.read.Read.{Read}
-use Rattle.ber_reader.specs.Readings.{IsReading}
+use Rattle.ber_reader.specs.Readings.{IsShown, IsReading, IsPlace, unread}
 
 record SaidWithin (s : List Resolved) (t : ℕ) (w : AbstractValue) (k : ℕ) (o : List ℕ) : Type 0 where
   is_said : Says s Basic t w k o
@@ -27,13 +27,14 @@ record SaidWithin (s : List Resolved) (t : ℕ) (w : AbstractValue) (k : ℕ) (o
 pub reading_of : {s : List Resolved} {t : ℕ} {o : List ℕ} {ts : List Token} (r : Read) (m : IsMessage s t o ts) (tree : Tree)
     → IsView r.view tree
     → IsBorrowed o tree
+    → IsShown s t o tree
     → value_of tree ≡ m.value
     → r.skipped ≡ m.count
     → IsValueWithoutNodes s t (value_of tree)
     → IsReading s t o r
-reading_of {s} {t} {o} r m tree v b e k w =
+reading_of {s} {t} {o} r m tree v b h e k w =
     let d : SaidWithin s t (value_of tree) r.skipped o = subst (λ q. SaidWithin s t (value_of tree) q o) (sym k) (subst (λ q. SaidWithin s t q m.count o) (sym e) (record { is_said = m.is_said; few = m.few })) in
-    record { tree = tree; view = v; encodes = record { value = w; says_it = d.is_said }; few = d.few; short = m.short; borrowed = b }
+    record { tree = tree; view = v; encodes = record { value = w; says_it = d.is_said }; few = d.few; short = m.short; borrowed = b; shown = h }
 
 -- a test that holds
 pub holds : {P : Type 0} (b : Bool) → b ≡ true → IsTrue b ↔ P → P
@@ -48,9 +49,13 @@ never_holds false e h p = absurd (let f : false ≡ true = h.1 p in cc)
 pub says_none : {s : List Resolved} {t : ℕ} {o : List ℕ} {ts : List Token} (m : IsMessage s t o ts) → (IsValueWithoutNodes s t m.value → ⊥) → SaysNoValue s t o
 says_none m n = record { value = m.value; count = m.count; is_said = m.is_said; few = m.few; short = m.short; is_none = n }
 
-pub stop_some : {E : Type 0} (s : List Resolved) (t : TypeId) (o : List ℕ) (m : ℕ) (r : Result Whereabouts E) → IfOk r (λ w. IsStop s t o m w) → IfOk r (λ w. (n : ℕ) × IsStop s t o n w)
-stop_some s t o m (Ok w) h = (m, h)
+pub stop_some : {E : Type 0} (s : List Resolved) (t : TypeId) (o : List ℕ) (m : ℕ) (r : Result Whereabouts E) → IfOk r (λ w. IsStop s t o m w) → IfOk r (λ w. IsPlace s t o w)
+stop_some s t o m (Ok w) h = unread m h
 stop_some s t o m (Err e) h = h
+
+-- of what is read to its end nothing else is asked
+pub never_stops : {E : Type 0} (s : List Resolved) (t : TypeId) (o : List ℕ) (r : Result Whereabouts E) → ⊥ → IfOk r (λ w. IsStopBefore s t o w)
+never_stops s t o r e = absurd e
 
 pub stop_most : {E : Type 0} (s : List Resolved) (t : TypeId) (o : List ℕ) (m n : ℕ) (r : Result Whereabouts E) → m ≡ n → IfOk r (λ w. IsStop s t o m w) → IfOk r (λ w. IsStop s t o n w)
 stop_most s t o m n r e h = subst (λ q. IfOk r (λ w. IsStop s t o q w)) e h

@@ -1,9 +1,11 @@
 //! Where a message is refused.
 
-ghost use Rattle.ber_message.specs.Messages.{IsMessage, room_of};
-ghost use Rattle.ber_message.specs.Stops.{IsStop};
+ghost use Rattle.ber_message.specs.Messages.{IsMessage, IsRead, room_of};
+ghost use Rattle.ber_message.specs.Stops.{IsStop, IsStopBefore};
+ghost use Rattle.ber_reader.specs.Readings.{IsPlace};
 ghost use Rattle.octet_answers.specs.States.{Token as Token'};
-ghost use Rattle.std.specs.Prelude.{◌≤◌, IfOk, length, List, ℕ};
+ghost use Rattle.codec_source.specs.declared.fault.ReadFault.TheVariants.{Memory};
+ghost use Rattle.std.specs.Prelude.{◌≡◌, ◌<◌, ◌≤◌, false, IfOk, length, List};
 
 use crate::seek::begun_before;
 use crate::wrong::wrong_from;
@@ -21,15 +23,19 @@ use std::alloc::{AllocError, Global};
 /// `OidLimit`: the first of the contents octets. `Missing`: the end of the contents. `TooDeep`: the header one too
 /// many. `Trailing`: the first octet behind the value. `MessageLimit`: the first octet behind those that a message may
 /// have. Where all of a message was read and is no value of the type, the header of the innermost value that is none of
-/// its own.
+/// its own, which is the part that was being read.
 pub fn whereabouts(
     alloc: Global,
     code: &Code,
     id: TypeId,
     octets: &[u8],
 ) -> Result<Whereabouts, AllocError>
-    ensures is { IfOk result (λ w. (most : ℕ) × IsStop code.now id octets.now most w) }
-    // Of what is not read as a whole it is where reading it stops.
+    ensures is { IfOk result (λ w. IsPlace code.now id octets.now w) }
+    // Of what is read as a whole it is before the part that is judged wrong, of anything else where reading it stops.
+    ensures judged { IsRead code.now id octets.now
+        → id.index < length code.now
+        → length octets.now ≤ 16777216
+        → IfOk result (λ w. IsStopBefore code.now id octets.now w) }
     ensures first { ((ts : List Token') → IsMessage code.now id.index octets.now ts → ⊥)
         → length octets.now ≤ 16777216
         → IfOk result (λ w. IsStop code.now id octets.now (room_of (length octets.now)) w) }
@@ -38,11 +44,23 @@ pub fn whereabouts(
     match read_message(alloc, code, id, octets) {
         Ok(tokens) => {
             let most = before_wrong(alloc, code, id, octets, tokens.as_slice())?;
-            stop_of(alloc, code, id, octets, most)
+            let mut stop = stop_of(alloc, code, id, octets, most)?;
+            stop.enter()?;
+            Ok(stop)
         }
-        Err(ReadFault::Memory) => Err(AllocError),
-        Err(_) => stop_of(alloc, code, id, octets, most_values(octets)),
+        Err(fault) => {
+            if is_memory(fault) {
+                return Err(AllocError);
+            }
+            stop_of(alloc, code, id, octets, most_values(octets))
+        }
     }
+}
+
+fn is_memory(fault: ReadFault) -> bool
+    ensures { result ≡ false → fault ≡ Memory → ⊥ }
+{
+    fault == ReadFault::Memory
 }
 
 /// How many values begin in the message before the innermost one that is none of its type; its tokens are these.

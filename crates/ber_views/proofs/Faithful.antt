@@ -1,5 +1,5 @@
 -- What is built stays faithful to what is told, token by token.
-use Rattle.std.proofs.Common.{arith, ◌≡◌, ℕ, suc, ◌+◌, Bool, true, false, List, [], ◌∷◌, ◌++◌, refl, sym, ap, subst, ◌∙◌, append_assoc}
+use Rattle.std.proofs.Common.{arith, ◌≡◌, ℕ, ◌+◌, true, false, List, [], ◌∷◌, ◌++◌, sym, ap, subst, ◌∙◌, append_assoc}
 use Rattle.std.proofs.lemmas.List.{append-nil}
 use Rattle.asn_base.specs.Abstract.{AbstractValue}
 use Rattle.asn_base.specs.Types.{Resolved}
@@ -8,13 +8,13 @@ use Rattle.views.specs.Building.{begun as begun'}
 use Rattle.ber_views.specs.declared.build.Build.{Build}
 use Rattle.ber_views.specs.Log.{passes}
 use Rattle.ber_views.specs.Telling.{IsFaithful}
-use Rattle.ber_views.specs.Wants.{IsBefore, Wants}
+use Rattle.ber_views.specs.Wants.{Reading, IsBefore, Wants}
 
 -- one token more, which is built
 pub faithful_more : (s r : List Resolved) (told all : List Token) (t : Token) (b c : Build)
     → r ≡ s
     → all ≡ told ++ t ∷ []
-    → ((m : List ℕ) (w : AbstractValue) (ts : List Token) → IsBefore r m w (t ∷ ts) b → IsBefore r m w ts c)
+    → ((m : Reading) (w : AbstractValue) (ts : List Token) → IsBefore r m w (t ∷ ts) b → IsBefore r m w ts c)
     → IsFaithful s told b
     → IsFaithful s all c
 faithful_more s r told all t b c i e step f m w ts q =
@@ -24,11 +24,11 @@ faithful_more s r told all t b c i e step f m w ts q =
 -- nothing is told yet
 pub faithful_first : (s : List Resolved) (told : List Token) (b : Build)
     → told ≡ []
-    → ((m : List ℕ) (w : AbstractValue) (ts : List Token) → Wants s m w ts 0 false begun' → IsBefore s m w ts b)
+    → ((m : Reading) (w : AbstractValue) (ts : List Token) → Wants s m w ts 0 false begun' → IsBefore s m w ts b)
     → IsFaithful s told b
 faithful_first s told b e f m w ts q = f m w ts (subst (λ z. Wants s m w (z ++ ts) 0 false begun') e q)
 
-pub all_told : (s : List Resolved) (told : List Token) (b : Build) (m : List ℕ) (w : AbstractValue)
+pub all_told : (s : List Resolved) (told : List Token) (b : Build) (m : Reading) (w : AbstractValue)
     → IsFaithful s told b
     → Wants s m w told 0 false begun'
     → IsBefore s m w [] b

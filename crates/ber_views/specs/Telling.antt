@@ -1,5 +1,5 @@
 -- A view while it is told what is read.
-use Rattle.std.specs.Prelude.{◌≡◌, ℕ, Bool, false, List, [], ◌++◌, length}
+use Rattle.std.specs.Prelude.{◌≡◌, false, List, ◌++◌, length}
 use Rattle.asn_base.specs.Abstract.{AbstractValue}
 use Rattle.asn_base.specs.Types.{Resolved}
 use Rattle.octet_answers.specs.States.{Token}
@@ -10,11 +10,12 @@ use Rattle.ber_views.specs.declared.build.Build.{Build}
 use Rattle.ber_views.specs.declared.telling.Built.{Built}
 use Rattle.ber_views.specs.declared.telling.Telling.{Telling}
 use Rattle.ber_views.specs.Log.{logged, passes}
-use Rattle.ber_views.specs.Wants.{IsBefore, Wants}
+use Rattle.ber_views.specs.Shown.{leaves_of, AreShown}
+use Rattle.ber_views.specs.Wants.{Reading, IsBefore, Wants}
 
 -- whatever tokens follow those that were told, of which a value's tree is built: so much of it is built
 abbrev pub IsFaithful : List Resolved → List Token → Build → Type 0
-IsFaithful s told b = (m : List ℕ) (w : AbstractValue) (ts : List Token)
+IsFaithful s told b = (m : Reading) (w : AbstractValue) (ts : List Token)
     → Wants s m w (told ++ ts) 0 false begun
     → IsBefore s m w ts b
 
@@ -26,7 +27,7 @@ pub record IsTelling (t : Telling) (s : List Resolved) : Type 0 where
 
 -- The view of the value of which the tokens build the tree, and how many additions were skipped.
 pub record IsBuiltOf (s : List Resolved) (told : List Token) (b : Built) : Type 0 where
-  pub view : (m : List ℕ) (w : AbstractValue)
+  pub view : (m : Reading) (w : AbstractValue)
       → Wants s m w told 0 false begun
-      → (t : Tree) × IsView b.view t × (value_of t ≡ w) × IsBorrowed m t
+      → (t : Tree) × IsView b.view t × (value_of t ≡ w) × IsBorrowed m.message t × AreShown m.tokens (leaves_of t)
   pub counts : b.skipped ≡ passes told

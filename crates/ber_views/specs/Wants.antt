@@ -1,5 +1,5 @@
 -- How a view is built of what was read, token by token: what must hold so that the tree of a value is built in the end.
-use Rattle.std.specs.Prelude.{◌≡◌, ℕ, suc, ◌+◌, ◌^◌, ◌<◌, ◌≤◌, Bool, true, false, List, [], ◌∷◌, length, Some, None}
+use Rattle.std.specs.Prelude.{◌≡◌, ℕ, ◌+◌, ◌^◌, ◌<◌, ◌≤◌, Bool, true, false, List, [], ◌∷◌, length}
 use Rattle.asn_base.specs.Abstract.{AbstractValue}
 use Rattle.asn_base.specs.Types.{Resolved}
 use Rattle.encodings.specs.Header.{Octets}
@@ -10,23 +10,12 @@ use Rattle.octet_answers.specs.Answers.{AreContents}
 use Rattle.views.specs.Building.{Building, Waiting, begun as begun', opened, open_fields, open_list, open_alternative}
 use Rattle.views.specs.Building.{with_leaf, with_tree, IsClosed}
 use Rattle.views.specs.Seen.{Holds}
-use Rattle.views.specs.Tree.{Leaf, bits, octets, text, leaf_value}
-use Rattle.views.specs.Tree.{Tree, value_of, IsBorrowed}
+use Rattle.views.specs.Tree.{Leaf, leaf_value, Tree, value_of, IsBorrowed}
 use Rattle.ber_views.specs.declared.shape.Shape.{Shape}
 use Rattle.ber_views.specs.declared.shape.Shape.TheVariants as shapes
 use Rattle.ber_views.specs.declared.build.Build.{Build}
 use Rattle.ber_views.specs.Shapes.{shape_in}
-
--- A string that was primitive is shown with its place in the message, a BIT STRING's from its second contents octet on;
--- one that was joined from segments without a place.
-abbrev pub IsShownAs : Bool → Octets → ℕ → Leaf → Type 0
-IsShownAs false x at (octets o p) = (o ≡ x) × (p ≡ Some at)
-IsShownAs false x at (text o p) = (o ≡ x) × (p ≡ Some at)
-IsShownAs false x at (bits n o p) = (x ≡ n ∷ o) × (p ≡ Some (suc at))
-IsShownAs true x at (octets o p) = p ≡ None
-IsShownAs true x at (text o p) = p ≡ None
-IsShownAs true x at (bits n o p) = p ≡ None
-IsShownAs c x at l = Unit {0}
+use Rattle.ber_views.specs.Shown.{IsShownAs, leaves_of, AreShown}
 
 -- contents octets of a value, in a message
 pub record AreHeld (k : LeafKind) (c : Bool) (x : Octets) (at : ℕ) (v : AbstractValue) : Type 0 where
@@ -50,12 +39,19 @@ pub record Closed (b : Building) (Then : Building → Type 0) : Type 0 where
   pub closed : IsClosed b wait waits tree building
   pub then : Then building
 
--- the whole value is built, and nothing else; what is told with a place stands there in the message
-pub record IsBuilt (message : Octets) (w : AbstractValue) (b : Building) : Type 0 where
+-- a message, and the tokens that it is read as
+pub record Reading : Type 0 where
+  pub message : Octets
+  pub tokens : List Token
+
+-- The whole value is built, and nothing else. What is told with a place stands there in the message, and each string is
+-- shown as it was held.
+pub record IsBuilt (m : Reading) (w : AbstractValue) (b : Building) : Type 0 where
   pub tree : Tree
   pub whole : b ≡ with_tree 0 tree begun'
   pub shows : value_of tree ≡ w
-  pub borrowed : IsBorrowed message tree
+  pub borrowed : IsBorrowed m.message tree
+  pub shown : AreShown m.tokens (leaves_of tree)
 
 -- behind the begin of a value of this shape, which is component n: the node that is opened, if any
 abbrev pub begun_as : Shape → ℕ → Building → Building
@@ -71,7 +67,7 @@ number_as shapes.Bare n = n
 
 -- the rest of the tokens, where the next value is component n, what was held last was a leaf or not, and so much is
 -- built
-abbrev pub Wants : List Resolved → Octets → AbstractValue → List Token → ℕ → Bool → Building → Type 0
+abbrev pub Wants : List Resolved → Reading → AbstractValue → List Token → ℕ → Bool → Building → Type 0
 Wants s m w [] n h b = IsBuilt m w b
 Wants s m w (component i ∷ ts) n h b = (i < 2 ^ 32) × Wants s m w ts i false b
 Wants s m w (chosen i ∷ ts) n h b = Wants s m w ts 0 false (opened n (open_alternative i) b)
@@ -86,7 +82,7 @@ Wants s m w (held k c x at ∷ ts) n h b = Held k c x at (λ l. Wants s m w ts 0
 Wants s m w (passed ∷ ts) n h b = Wants s m w ts n h b
 
 -- a builder stands before these tokens
-pub record IsBefore (s : List Resolved) (m : Octets) (w : AbstractValue) (ts : List Token) (b : Build) : Type 0 where
+pub record IsBefore (s : List Resolved) (m : Reading) (w : AbstractValue) (ts : List Token) (b : Build) : Type 0 where
   pub building : Building
   pub holds : Holds b.builder building
   pub wants : Wants s m w ts b.number b.held building

@@ -3,8 +3,8 @@
 ghost use Rattle.asn_base.specs.Abstract.{AbstractValue};
 ghost use Rattle.ber_source.specs.Holding.{IsHolding};
 ghost use Rattle.ber_source.specs.Seen.{held_of, mark_of};
-ghost use Rattle.ber_views.specs.Wants.{IsBefore};
-ghost use Rattle.std.specs.Prelude.{◌≡◌, ◌∷◌, ◌^◌, ◌<◌, false, List, OnOk, ℕ};
+ghost use Rattle.ber_views.specs.Wants.{IsBefore, Reading};
+ghost use Rattle.std.specs.Prelude.{◌≡◌, ◌∷◌, ◌^◌, ◌<◌, false, List, OnOk};
 ghost use Rattle.octet_answers.specs.States.{Token as Token', begun as begun', chosen, component, ended};
 ghost use Rattle.views.specs.Building.{begun};
 ghost use Rattle.views.specs.Seen.{Holds};
@@ -28,7 +28,7 @@ pub struct Build<'a> {
 
 /// A value of the type begins.
 fn begin<'a>(code: &Code, build: &mut Build<'a>, id: TypeId) -> Result<(), AllocError>
-    ensures { (m : List ℕ) (w : AbstractValue) (ts : List Token')
+    ensures { (m : Reading) (w : AbstractValue) (ts : List Token')
         → IsBefore code.now m w (begun' id ∷ ts) build.old
         → OnOk result (IsBefore code.now m w ts build.new) }
 {
@@ -49,7 +49,7 @@ fn begin<'a>(code: &Code, build: &mut Build<'a>, id: TypeId) -> Result<(), Alloc
 
 /// The value that began last ends.
 fn end(build: &mut Build<'_>, code: &Code)
-    ensures { (m : List ℕ) (w : AbstractValue) (ts : List Token')
+    ensures { (m : Reading) (w : AbstractValue) (ts : List Token')
         → IsBefore code.now m w (ended ∷ ts) build.old
         → IsBefore code.now m w ts build.new }
 {
@@ -65,7 +65,7 @@ fn end(build: &mut Build<'_>, code: &Code)
 
 /// An alternative is told.
 fn choose(code: &Code, build: &mut Build<'_>, index: usize) -> Result<(), AllocError>
-    ensures { (m : List ℕ) (w : AbstractValue) (ts : List Token')
+    ensures { (m : Reading) (w : AbstractValue) (ts : List Token')
         → IsBefore code.now m w (chosen index ∷ ts) build.old
         → OnOk result (IsBefore code.now m w ts build.new) }
 {
@@ -77,7 +77,7 @@ fn choose(code: &Code, build: &mut Build<'_>, index: usize) -> Result<(), AllocE
 
 /// A component is told, which has a place below 2^32.
 fn name(code: &Code, build: &mut Build<'_>, place: usize)
-    ensures { (m : List ℕ) (w : AbstractValue) (ts : List Token')
+    ensures { (m : Reading) (w : AbstractValue) (ts : List Token')
         → IsBefore code.now m w (component place ∷ ts) build.old
         → IsBefore code.now m w ts build.new }
 {
@@ -105,7 +105,7 @@ pub(crate) fn hold<'a>(
     holding: Holding<'a>,
 ) -> Result<(), AllocError>
     requires { IsHolding held holding }
-    ensures { (m : List ℕ) (w : AbstractValue) (ts : List Token')
+    ensures { (m : Reading) (w : AbstractValue) (ts : List Token')
         → IsBefore code.now m w (held_of held.entry ∷ ts) build.old
         → OnOk result (IsBefore code.now m w ts build.new) }
 {
@@ -117,7 +117,7 @@ pub(crate) fn hold<'a>(
 
 /// One token more, which tells no contents octets.
 pub(crate) fn take(code: &Code, build: &mut Build<'_>, mark: Mark) -> Result<(), AllocError>
-    ensures { (m : List ℕ) (w : AbstractValue) (ts : List Token')
+    ensures { (m : Reading) (w : AbstractValue) (ts : List Token')
         → IsBefore code.now m w (mark_of mark ∷ ts) build.old
         → OnOk result (IsBefore code.now m w ts build.new) }
 {

@@ -2,7 +2,8 @@
 
 ghost use Rattle.asn_base.specs.Abstract.{AbstractValue, bits};
 ghost use Rattle.ber_source.specs.Holding.{IsHolding};
-ghost use Rattle.ber_views.specs.Wants.{AreHeld, IsShownAs};
+ghost use Rattle.ber_views.specs.Shown.{IsShownAs};
+ghost use Rattle.ber_views.specs.Wants.{AreHeld};
 ghost use Rattle.encodings.specs.Strings.{WholeBits};
 ghost use Rattle.leaf_readings.specs.Leaves.{Reads};
 ghost use Rattle.octets.specs.Forms.{is_constructed};

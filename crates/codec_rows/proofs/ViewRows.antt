@@ -2,6 +2,10 @@
 use Rattle.std.proofs.Common.{arith, ◌≡◌, ℕ, Bool, true, false, List, [], ◌∷◌, Option, Some, None, refl, ap}
 use Rattle.std.specs.Prelude.{ℤ, pos, negsuc}
 use Rattle.asn_base.specs.Abstract as value
+use Rattle.codec_code.specs.declared.step.LeafKind.TheVariants.{OctetString}
+use Rattle.codec_code.specs.Routines.{id_of}
+use Rattle.octet_answers.specs.States.{Token, component as component', begun, ended, held, passed}
+use Rattle.ber_views.specs.Shown.{IsShownAs, leaves_of, AreShown}
 use Rattle.views.specs.Tree.{boolean, integer, enumerated, bits, octets, text, null, oid, relative_oid, Leaf, Tree, leaf, fields, list, alternative, Members, no_member, member, bits_in, leaf_value, value_of, component_value, component, count, joined, StandsAt, IsBorrowed, boolean_in, integer_in, members_in, alternative_in, enumerated_in, null_in, octets_in, bit_string_in, text_in, oid_in, relative_oid_in}
 
 abbrev head_or_0 : List ℕ → ℕ
@@ -48,6 +52,64 @@ bits_not_borrowed b = not_one_earlier b
 
 pub text_not_borrowed : IsBorrowed message (leaf (text (1 ∷ 2 ∷ []) (Some 3))) → ⊥
 text_not_borrowed b = not_one_earlier b
+
+-- ---- how contents octets are shown: 0102 at 4, primitive, and 0401C3 0401A9 at 8 in segments
+
+abbrev held_at : Bool → List ℕ → ℕ → Token
+held_at c x at = held OctetString c x at
+
+pub shows_both : AreShown (begun (id_of 0) ∷ component' 0 ∷ held_at false (1 ∷ 2 ∷ []) 4 ∷ component' 1 ∷ held_at true (4 ∷ 1 ∷ 195 ∷ 4 ∷ 1 ∷ 169 ∷ []) 8 ∷ passed ∷ ended ∷ []) (leaves_of row)
+shows_both = ((refl, refl), (refl, tt))
+
+some_none : {n : ℕ} → Some n ≡ None → ⊥
+some_none e = cc
+
+none_some : {n : ℕ} → None ≡ Some n → ⊥
+none_some e = cc
+
+abbrev number_in : Option ℕ → ℕ
+number_in None = 0
+number_in (Some n) = n
+
+-- what was primitive is no copy, and what was joined is told with no place
+pub octets_are_no_copy : IsShownAs false (1 ∷ 2 ∷ []) 4 (octets (1 ∷ 2 ∷ []) None) → ⊥
+octets_are_no_copy h = none_some h.1
+
+pub text_is_no_copy : IsShownAs false (1 ∷ 2 ∷ []) 4 (text (1 ∷ 2 ∷ []) None) → ⊥
+text_is_no_copy h = none_some h.1
+
+pub bits_are_no_copy : IsShownAs false (0 ∷ 2 ∷ []) 4 (bits 0 (2 ∷ []) None) → ⊥
+bits_are_no_copy h = none_some h.1
+
+pub joined_octets_have_no_place : IsShownAs true (4 ∷ 1 ∷ 2 ∷ []) 4 (octets (2 ∷ []) (Some 6)) → ⊥
+joined_octets_have_no_place h = some_none h
+
+pub joined_text_has_no_place : IsShownAs true (4 ∷ 1 ∷ 2 ∷ []) 4 (text (2 ∷ []) (Some 6)) → ⊥
+joined_text_has_no_place h = some_none h
+
+pub joined_bits_have_no_place : IsShownAs true (3 ∷ 2 ∷ 0 ∷ 2 ∷ []) 4 (bits 0 (2 ∷ []) (Some 7)) → ⊥
+joined_bits_have_no_place h = some_none h
+
+-- at its own place, a BIT STRING from its second contents octet on
+pub bits_from_the_second_octet : IsShownAs false (0 ∷ 2 ∷ []) 4 (bits 0 (2 ∷ []) (Some 5))
+bits_from_the_second_octet = (refl, refl)
+
+pub not_at_the_octet_behind : IsShownAs false (1 ∷ 2 ∷ []) 4 (octets (1 ∷ 2 ∷ []) (Some 5)) → ⊥
+not_at_the_octet_behind h = let e : 5 ≡ 4 = ap number_in h.1 in omega (arith, e)
+
+pub text_not_at_the_octet_behind : IsShownAs false (1 ∷ 2 ∷ []) 4 (text (1 ∷ 2 ∷ []) (Some 5)) → ⊥
+text_not_at_the_octet_behind h = let e : 5 ≡ 4 = ap number_in h.1 in omega (arith, e)
+
+-- as many leaves as contents octets
+pub no_leaf_too_many : AreShown [] (null ∷ []) → ⊥
+no_leaf_too_many h = h
+
+pub no_leaf_too_few : AreShown (held_at false [] 2 ∷ []) [] → ⊥
+no_leaf_too_few h = h
+
+-- each leaf by its own ones
+pub second_is_shown_too : AreShown (held_at false [] 2 ∷ held_at false [] 4 ∷ []) (octets [] (Some 2) ∷ octets [] None ∷ []) → ⊥
+second_is_shown_too h = none_some h.1.0.1
 
 -- ---- values of leaves
 

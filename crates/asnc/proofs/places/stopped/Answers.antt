@@ -9,9 +9,9 @@ returns c =
       id = c.args.id;
       numbered = refl;
       found = c.in_ok-found.found;
-      most = found.is.0;
-      stop = found.is.1;
+      is = found.is;
       first = found.first;
+      judged = found.judged;
       at = refl;
       parts = c.in_ok-path.ensures ∙ ap (path_of c.args.schema.now) c.as_slice.ensures.value
           ∙ ap (λ s. path_of s c.in_ok-found.found.values.items) c.requires.same;

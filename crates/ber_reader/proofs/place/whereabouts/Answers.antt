@@ -1,17 +1,27 @@
-use Rattle.std.proofs.Common.{length}
+use Rattle.std.proofs.Common.{arith, ap, Err, length}
 use Rattle.ber_message.specs.Messages.{room_of}
-use Rattle.ber_reader.proofs.Reading.{stop_some, stop_most}
+use Rattle.ber_reader.specs.Readings.{judged}
+use Rattle.ber_reader.proofs.Reading.{stop_some, stop_most, never_stops}
 use Rattle.ber_reader.proofs.place.whereabouts.Goals as goal
 
-pub returns-in_ok-most-in-Ok-clause-is : goal.returns-in_ok-most-in-Ok-clause-is
-returns-in_ok-most-in-Ok-clause-is c = stop_some c.args.code.now c.args.id c.args.octets.now _ c.stop_of.result c.stop_of.ensures.is
+pub returns-in_ok-enter-in-Ok-clause-is : goal.returns-in_ok-enter-in-Ok-clause-is
+returns-in_ok-enter-in-Ok-clause-is c =
+    judged (record {
+      most = c.in_ok-most-in-Ok.most;
+      stopped = c.in_ok-stop-in-Ok.stop;
+      stop = c.in_ok-stop-in-Ok.ensures.is;
+      part = c.in_ok-enter-in-Ok.ensures;
+    })
 
-pub returns-in_ok-most-in-Ok-clause-first : goal.returns-in_ok-most-in-Ok-clause-first
-returns-in_ok-most-in-Ok-clause-first c none few = absurd (none _ c.in-Ok.ensures.ok)
-
-pub returns-in-Err : goal.returns-in-Err
-returns-in-Err c = record {
-  is = stop_some c.args.code.now c.args.id c.args.octets.now _ c.stop_of-in-Err.result c.stop_of-in-Err.ensures.is;
-  first = λ none few. stop_most c.args.code.now c.args.id c.args.octets.now _ (room_of (length c.args.octets.now)) c.stop_of-in-Err.result (c.most_values.ensures few) c.stop_of-in-Err.ensures.is;
-  place = c.stop_of-in-Err.ensures.place;
-}
+pub returns-else-is_memory : goal.returns-else-is_memory
+returns-else-is_memory c =
+    let s = c.args.code.now in
+    let o = c.args.octets.now in
+    record {
+      is = stop_some s c.args.id o _ c.stop_of-in-Err.result c.stop_of-in-Err.ensures.is;
+      judged = λ r has few. never_stops s c.args.id o c.stop_of-in-Err.result
+          (c.in-Err.ensures.err (λ e. c.is_memory.ensures c.if-is_memory.false e)
+          (λ e. let f = c.in-Err.ensures.long (ap Err e) in omega (arith, f, few)) has r);
+      first = λ none few. stop_most s c.args.id o _ (room_of (length o)) c.stop_of-in-Err.result (c.most_values.ensures few) c.stop_of-in-Err.ensures.is;
+      place = c.stop_of-in-Err.ensures.place;
+    }

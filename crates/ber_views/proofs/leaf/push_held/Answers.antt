@@ -1,11 +1,12 @@
-use Rattle.std.proofs.Common.{◌≡◌, true, sym, subst}
+use Rattle.std.proofs.Common.{◌≡◌, sym, subst}
 use Rattle.std.specs.Prelude.{OnOk}
 use Rattle.octets.specs.Forms.{is_constructed}
 use Rattle.views.specs.Building.{with_leaf}
 use Rattle.views.specs.Seen.{Holds}
 use Rattle.views.specs.Tree.{Leaf, leaf_value}
 use Rattle.ber_source.specs.Holding.{AreReadAs}
-use Rattle.ber_views.specs.Wants.{AreHeld, IsShownAs}
+use Rattle.ber_views.specs.Shown.{IsShownAs}
+use Rattle.ber_views.specs.Wants.{AreHeld}
 use Rattle.ber_views.proofs.Leaves.{joined_in, joined_of, whole_of, widened}
 use Rattle.ber_views.proofs.leaf.push_held.Goals as goal
 

@@ -9,6 +9,6 @@ returns c s t = record {
   view = λ m w q.
       (let a = all_told s (logged c.args.self.log) c.args.self.build m w (t.builds c.if-self.false) q in
       let b = a.wants in
-      (b.tree, c.finish.ensures b.tree (subst (Holds c.args.self.build.builder) b.whole a.holds), b.shows, b.borrowed));
+      (b.tree, c.finish.ensures b.tree (subst (Holds c.args.self.build.builder) b.whole a.holds), b.shows, b.borrowed, b.shown));
   counts = c.as_many-skipped.ensures ∙ t.counts c.if-self.false;
 }

@@ -1,4 +1,4 @@
-use Rattle.std.proofs.Common.{refl, rules, subst, sym, false}
+use Rattle.std.proofs.Common.{refl, rules, subst, sym}
 use Rattle.views.specs.Building.{begun}
 use Rattle.ber_views.specs.Wants.{Wants}
 use Rattle.ber_views.proofs.Faithful.{faithful_first}
