@@ -1,5 +1,5 @@
 -- What readers answer, and where they refuse a message.
-use Rattle.std.specs.Prelude.{ℕ, ◌≤◌, List, length}
+use Rattle.std.specs.Prelude.{◌≡◌, ℕ, ◌≤◌, List, length}
 use Rattle.asn_base.specs.declared.schema.TypeId.{TypeId}
 use Rattle.asn_base.specs.Types.{TypeNumber, Resolved}
 use Rattle.encodings.specs.Header.{Octets}
@@ -16,12 +16,13 @@ use Rattle.views.specs.Tree.{Tree, value_of, IsBorrowed}
 use Rattle.views.specs.Seen.{IsView}
 use Rattle.ber_reader.specs.declared.read.Read.{Read}
 
--- The type's routine reads the octets to their end. For each value that holds no others, of whose contents octets it
+-- The type's routine reads the octets to their end, in one way alone. For each value that holds no others, of whose contents octets it
 -- tells, the tree has a leaf, in the order of the message: a string is shown with the place of its contents octets in the
 -- message just where its header is primitive, a BIT STRING's from the second one on, and as a copy where its header is
 -- constructed.
 pub record IsShown (s : List Resolved) (t : TypeNumber) (o : Octets) (tree : Tree) : Type 0 where
   pub read : IsRead s (id_of t) o
+  pub one : (other : IsRead s (id_of t) o) → other.last ≡ read.last
   pub as_held : AreShown read.last.told (leaves_of tree)
 
 -- A view of a value of the type, which the octets encode as it stands, with as many unknown additions as were skipped;

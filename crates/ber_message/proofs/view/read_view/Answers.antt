@@ -52,7 +52,7 @@ returns-clause-ok c =
     let end = holds c.is_at_end.result c.if-not-is_at_end.false c.is_at_end.ensures in
     let m = whole_message z.told (c.read_is_said.ensures s c.args.id c.args.octets.now (room_of (length c.args.octets.now)) z c.accepted.ensures (holds c.has.result c.if-not-has.false c.has.ensures) c.are_octets.ensures r)
     end c.in-Ok.ensures.few refl in
-    if_ok c.finished.result (λ b h. record { read = record { last = z; reads = r; at_end = end }; message = m; built = subst (λ q. IsBuiltOf q z.told b) (reads_schema r) h }) c.finished.ensures.ok
+    if_ok c.finished.result (λ b h. record { read = record { last = z; reads = r; at_end = end }; one = λ q. c.in-Ok-read.ensures.only q.last (subst (λ x. Reads (λ u. routine_at s u) Takes c.args.id x q.last) (sym c.in-Ok.ensures.ok) q.reads); message = m; built = subst (λ q. IsBuiltOf q z.told b) (reads_schema r) h }) c.finished.ensures.ok
 
 pub returns-clause-only : goal.returns-clause-only
 returns-clause-only c =

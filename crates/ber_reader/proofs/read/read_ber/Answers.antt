@@ -18,7 +18,7 @@ returns-clause-ok c =
     let m = n.message in
     let o = c.args.octets.now in
     let q = tree_of c.args.code.now c.accepted.ensures c.args.id.index o c.in-Ok.built n in
-    reading_of _ m q.0 q.1 q.3 (record { read = n.read; as_held = q.4 }) q.2 (skipped_of c.in-Ok.built n) (c.in-Ok-judge.ensures.ok q.0 q.1)
+    reading_of _ m q.0 q.1 q.3 (record { read = n.read; one = n.one; as_held = q.4 }) q.2 (skipped_of c.in-Ok.built n) (c.in-Ok-judge.ensures.ok q.0 q.1)
 
 pub returns-clause-only : goal.returns-clause-only
 returns-clause-only c t w k view e =
