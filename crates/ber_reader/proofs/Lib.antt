@@ -4,3 +4,6 @@ pub mod Built
 pub mod Reading
 pub mod Strictly
 pub mod OneTree
+pub mod Stepping
+pub mod Judging
+pub mod Owing

@@ -1,5 +1,5 @@
 -- What is answered of a message that was read.
-use Rattle.std.proofs.Common.{◌≡◌, ◌⊎◌, ⊎_elim, inl, inr, ℕ, ◌≤◌, Bool, true, List, IsTrue, ◌↔◌, refl, sym, subst, ◌∙◌}
+use Rattle.std.proofs.Common.{◌≡◌, ◌⊎◌, ⊎_elim, inl, inr, ℕ, ◌≤◌, ◌<◌, length, Bool, true, List, IsTrue, ◌↔◌, refl, sym, subst, ◌∙◌}
 use Rattle.codec_source.specs.declared.fault.ReadFault.{ReadFault}
 use Rattle.codec_source.specs.declared.fault.ReadFault.TheVariants as faults
 use Rattle.std.proofs.Common.{false}
@@ -7,7 +7,8 @@ use Rattle.asn_base.specs.Abstract.{AbstractValue}
 use Rattle.asn_base.specs.Types.{Resolved}
 use Rattle.asn_base.specs.Typed.{IsValueWithoutNodes}
 use Rattle.encodings.specs.Rules.{Basic}
-use Rattle.encodings.specs.Encoding.{Says}
+use Rattle.encodings.specs.Rules.{Rules}
+use Rattle.encodings.specs.Encoding.{Says, says}
 use Rattle.encodings.specs.Levels.{levels}
 use Rattle.octet_answers.specs.States.{Token}
 use Rattle.std.specs.Prelude.{Result, Ok, Err, IfOk}
@@ -18,6 +19,8 @@ use Rattle.ber_message.specs.declared.stop.Whereabouts.{Whereabouts}
 use Rattle.views.specs.Tree.{Tree, value_of, IsBorrowed}
 use Rattle.views.specs.Seen.{IsView}
 use Rattle.ber_reader.specs.declared.read.Read.{Read}
+use Rattle.ber_reader.specs.Judged.{IsJudged}
+use Rattle.ber_reader.proofs.Rows.{found_below}
 use Rattle.ber_reader.specs.Readings.{IsShown, IsReading, IsPlace, unread}
 
 record SaidWithin (s : List Resolved) (t : ℕ) (w : AbstractValue) (k : ℕ) (o : List ℕ) : Type 0 where
@@ -100,3 +103,13 @@ memory_or_not faults.NotDer = inr (λ e. cc)
 -- a refusal that is excluded but for want of memory
 pub fault_memory : (f : ReadFault) → ((f ≡ faults.Memory → ⊥) → ⊥) → f ≡ faults.Memory
 fault_memory f n = ⊎_elim (λ e. e) (λ m. absurd (n m)) (memory_or_not f)
+
+-- ---- what is no value of its type
+
+-- what is said is of a type that stands
+pub says_type : {s : List Resolved} {r : Rules} {t k : ℕ} {w : AbstractValue} {o : List ℕ} → Says s r t w k o → t < length s
+says_type {s} {t = t} (says i h f) = found_below s t _ i.found
+
+-- want of memory, or the fault of the value that was read
+pub told_or : {s : List Resolved} {t : ℕ} {v w : AbstractValue} (f : ReadFault) → v ≡ w → ((f ≡ faults.Memory → ⊥) → IsJudged s t v f) → (f ≡ faults.Memory) ⊎ IsJudged s t w f
+told_or {s} {t} f e j = ⊎_elim (λ m. inl m) (λ n. inr (subst (λ q. IsJudged s t q f) e (j n))) (memory_or_not f)

@@ -11,6 +11,8 @@ use Rattle.ber_message.specs.Messages.{IsEncoding}
 use Rattle.views.specs.Tree.{value_of}
 use Rattle.ber_reader.specs.declared.read.Read.{Read}
 use Rattle.ber_reader.specs.Readings.{IsReading, IsStrictReading}
+use Rattle.ber_reader.specs.Judged.{IsJudged}
+use Rattle.ber_reader.proofs.Judging.{never_not_der}
 
 -- an octet string that is read is an encoding of the value
 pub encoding_of : {s : List Resolved} {t : ℕ} {o : List ℕ} {r : Read} → IsReading s t o r → IsEncoding s t o
@@ -64,3 +66,12 @@ stays n same e = same (λ z. n (sym e ∙ z)) ∙ e
 -- and came from itself
 pub came : {f g h : ReadFault} → (h ≡ faults.UnexpectedTag → ⊥) → ((f ≡ faults.NotDer → ⊥) → g ≡ f) → (f ≡ faults.NotDer → g ≡ faults.UnexpectedTag) → g ≡ h → f ≡ h
 came {f} n same to e = ⊎_elim (λ z. absurd (n (sym e ∙ to z))) (λ z. sym (same z) ∙ e) (not_der_or f)
+
+no_memory : faults.Memory ≡ faults.NotDer → ⊥
+no_memory e = cc
+
+-- the fault of what is no value of its type stays
+pub same_judged : {s : List Resolved} {t : ℕ} {v : AbstractValue} (f g : ReadFault) → ((f ≡ faults.NotDer → ⊥) → g ≡ f) → (f ≡ faults.Memory) ⊎ IsJudged s t v f → (g ≡ faults.Memory) ⊎ IsJudged s t v g
+same_judged {s} {t} {v} f g same j =
+    ⊎_elim (λ m. inl (same (λ z. no_memory (sym m ∙ z)) ∙ m))
+    (λ d. inr (subst (IsJudged s t v) (sym (same (λ z. never_not_der (subst (IsJudged s t v) z d)))) d)) j

@@ -1,13 +1,14 @@
 //! Messages by the distinguished rules.
 
 ghost use Rattle.asn_base.specs.Abstract.{AbstractValue};
-ghost use Rattle.ber_message.specs.Messages.{BeginsEncoding, HasEncodingFirst, HasMessageFirst, IsEncoding};
+ghost use Rattle.ber_message.specs.Messages.{BeginsEncoding, HasEncodingFirst, HasMessageFirst, IsEncoding, IsRead, SaysNoValue};
+ghost use Rattle.ber_reader.specs.Judged.{IsJudged};
 ghost use Rattle.ber_reader.specs.Readings.{IsStrictReading};
 ghost use Rattle.codec_source.specs.declared.fault.ReadFault.TheVariants.{Memory, MessageLimit, NotDer, Trailing, Truncated, UnexpectedTag};
 ghost use Rattle.encodings.specs.Encoding.{Says};
 ghost use Rattle.encodings.specs.Reading.{Encodes};
 ghost use Rattle.encodings.specs.Rules.{Basic, Distinguished};
-ghost use Rattle.std.specs.Prelude.{◌≡◌, ◌<◌, ◌⊎◌, Err, IfErr, IfOk, length, ℕ};
+ghost use Rattle.std.specs.Prelude.{◌≡◌, ◌<◌, ◌⊎◌, Err, IfErr, IfOk, length, MatchResult, ℕ};
 ghost use Rattle.views.specs.Seen.{IsView};
 ghost use Rattle.views.specs.Tree.{Tree, value_of};
 
@@ -53,6 +54,10 @@ pub fn read_der<'a>(
         → IfErr result (λ e. e ≡ Memory) }
     ensures more { HasEncodingFirst code.now id.index octets.now → (result ≡ Err Trailing) ⊎ (result ≡ Err Memory) }
     ensures less { BeginsEncoding code.now id.index octets.now → result ≡ Err Truncated }
+    // Of what is no value of the type the fault is told that `read_ber` tells.
+    ensures judged { IsRead code.now id octets.now
+        → (n : SaysNoValue code.now id.index octets.now)
+        → MatchResult result (λ r. ⊥) (λ e. (e ≡ Memory) ⊎ IsJudged code.now id.index n.value e) }
 {
     code.accepted();
     schema_laws();

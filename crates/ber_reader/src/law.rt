@@ -1,14 +1,20 @@
-//! Encodings by the distinguished rules are read by the basic ones.
+//! Encodings by the distinguished rules are read by the basic ones; what the fault of what is no value of its type says.
 
-ghost use Rattle.asn_base.specs.Abstract.{AbstractValue};
+ghost use Rattle.asn_base.specs.Abstract.{AbstractValue, Row, fields};
+ghost use Rattle.asn_base.specs.declared.tag.Tag.{Tag};
 ghost use Rattle.asn_base.specs.Same.{Same};
-ghost use Rattle.asn_base.specs.Schemas.{IsSchema};
-ghost use Rattle.asn_base.specs.Types.{Resolved};
+ghost use Rattle.asn_base.specs.Schemas.{IsSchema, components};
+ghost use Rattle.asn_base.specs.Typed.{AreComponents, GroupsAreWhole, IsValue, ValueIn, nodes};
+ghost use Rattle.asn_base.specs.Types.{Component, Is, Resolved, a_sequence, a_set};
 ghost use Rattle.ber_message.specs.Messages.{IsEncoding};
+ghost use Rattle.ber_reader.specs.Judged.{IsJudged, IsOwn, component_pieces, kind_at};
+ghost use Rattle.codec_source.specs.declared.fault.ReadFault.TheVariants.{Missing, TooDeep};
+ghost use Rattle.codec_source.specs.declared.fault.ReadFault.{ReadFault};
 ghost use Rattle.encodings.specs.Encoding.{Der};
 ghost use Rattle.encodings.specs.Reading.{Encodes};
 ghost use Rattle.encodings.specs.Rules.{Basic};
-ghost use Rattle.std.specs.Prelude.{◌≡◌, ◌≤◌, length, List, ℕ};
+ghost use Rattle.std.specs.List.{AllByRecursion};
+ghost use Rattle.std.specs.Prelude.{◌≡◌, ◌≤◌, Bool, length, List, ℕ};
 
 use encodings::{der_laws, level_laws, message_laws, reading_laws};
 
@@ -32,3 +38,36 @@ pub fn written_is_read()
     message_laws();
     reading_laws();
 }
+
+/// One fault at most is that of a value which is none of its type.
+pub fn judged_once()
+    ensures { (s : List Resolved) (t : ℕ) (v : AbstractValue) (e f : ReadFault)
+        → IsJudged s t v e
+        → IsJudged s t v f
+        → e ≡ f }
+{}
+
+/// What the faults of components say that are no value of their type, of at most 16,777,216 nodes. 85: a group is not
+/// whole, where each component that is present has a level less than a value may have. 95: there is one that has not,
+/// or an absent one's DEFAULT has not, or one is none of its type.
+pub fn faults_of_components()
+    ensures half_a_group { (s : List Resolved) (t : ℕ) (vs : Row)
+        → IsOwn s t (fields vs) Missing
+        → (IsValue s t (fields vs) → ⊥)
+        → nodes (fields vs) ≤ 16777216
+        → AllByRecursion (λ p. ValueIn s 63 p.type p.value) (component_pieces (components (kind_at s t)) vs)
+        → GroupsAreWhole (components (kind_at s t)) vs
+        → ⊥ }
+    ensures deep_sequence { (s : List Resolved) (t : ℕ) (tags : List Tag) (e : Bool) (cs : List Component) (vs : Row)
+        → Is s t tags (a_sequence e cs)
+        → IsOwn s t (fields vs) TooDeep
+        → nodes (fields vs) ≤ 16777216
+        → AreComponents s 63 cs vs
+        → ⊥ }
+    ensures deep_set { (s : List Resolved) (t : ℕ) (tags : List Tag) (e : Bool) (cs : List Component) (vs : Row)
+        → Is s t tags (a_set e cs)
+        → IsOwn s t (fields vs) TooDeep
+        → nodes (fields vs) ≤ 16777216
+        → AreComponents s 63 cs vs
+        → ⊥ }
+{}

@@ -4,6 +4,7 @@
 
 mod der;
 pub mod law;
+mod parts;
 mod place;
 mod read;
 mod seek;

@@ -2,12 +2,13 @@
 
 ghost use Rattle.asn_base.specs.Abstract.{AbstractValue};
 ghost use Rattle.asn_base.specs.Typed.{IsValue, IsValueWithoutNodes};
-ghost use Rattle.ber_message.specs.Messages.{BeginsEncoding, EndsTooSoon, HasEncodingFirst, HasMessageFirst, IsEncoding, SaysNoValue};
+ghost use Rattle.ber_message.specs.Messages.{BeginsEncoding, EndsTooSoon, HasEncodingFirst, HasMessageFirst, IsEncoding, IsRead, SaysNoValue};
+ghost use Rattle.ber_reader.specs.Judged.{IsJudged};
 ghost use Rattle.ber_reader.specs.Readings.{IsReading};
 ghost use Rattle.codec_source.specs.declared.fault.ReadFault.TheVariants.{Memory, MessageLimit, Missing, OutsideConstraint, Trailing, Truncated};
 ghost use Rattle.encodings.specs.Reading.{Encodes};
 ghost use Rattle.encodings.specs.Rules.{Basic};
-ghost use Rattle.std.specs.Prelude.{◌≡◌, ◌<◌, ◌⊎◌, Err, IfErr, IfOk, length, OnOk, ℕ};
+ghost use Rattle.std.specs.Prelude.{◌≡◌, ◌<◌, ◌⊎◌, Err, IfErr, IfOk, length, MatchResult, OnOk, ℕ};
 ghost use Rattle.views.specs.Seen.{IsView};
 ghost use Rattle.views.specs.Tree.{Tree, value_of};
 
@@ -60,6 +61,11 @@ pub fn read_ber<'a>(
     ensures outside { result ≡ Err OutsideConstraint → SaysNoValue code.now id.index octets.now }
     ensures missing { result ≡ Err Missing
         → EndsTooSoon code.now id octets.now ⊎ SaysNoValue code.now id.index octets.now }
+    // Where the type's routine reads them to their end and what they say is no value of the type, the fault is told of
+    // the innermost value that is none of its own, memory apart.
+    ensures judged { IsRead code.now id octets.now
+        → (n : SaysNoValue code.now id.index octets.now)
+        → MatchResult result (λ r. ⊥) (λ e. (e ≡ Memory) ⊎ IsJudged code.now id.index n.value e) }
 {
     code.accepted();
     message_laws();
@@ -89,6 +95,10 @@ fn judge(alloc: Global, code: &Code, id: TypeId, view: &View<'_>) -> Result<(), 
         → IsView view.now t
         → IsValue code.now id.index (value_of t)
         → ⊥) }
+    ensures judged { IfErr result (λ e. (e ≡ Memory → ⊥)
+        → (t : Tree)
+        → IsView view.now t
+        → IsJudged code.now id.index (value_of t) e) }
     ensures limit { result ≡ Err MessageLimit → ⊥ }
     ensures trailing { result ≡ Err Trailing → ⊥ }
 {

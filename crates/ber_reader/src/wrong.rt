@@ -1,16 +1,22 @@
 //! What it is that makes a value none of its type, where all of it was read.
 
-ghost use Rattle.asn_base.specs.Abstract.{abstract};
+ghost use Rattle.asn_base.specs.Abstract.{abstract, fields, row_of_list, row_of_options};
+ghost use Rattle.asn_base.specs.Schemas.{components};
 ghost use Rattle.asn_base.specs.Typed.{IsValue};
-ghost use Rattle.codec_source.specs.declared.fault.ReadFault.TheVariants.{MessageLimit, Trailing};
-ghost use Rattle.std.specs.Prelude.{◌≡◌, IfSome};
+ghost use Rattle.ber_reader.specs.Judged.{FirstWrong, IsJudged, IsOwn, in_root, kind_at, parts, piece};
+ghost use Rattle.ber_reader.specs.Judged.{component_piece, component_pieces, element_pieces};
+ghost use Rattle.ber_reader.specs.Judged.{without_additions as without_additions'};
+ghost use Rattle.codec_source.specs.declared.fault.ReadFault.TheVariants.{Memory, MessageLimit, Trailing};
+ghost use Rattle.std.specs.Prelude.{◌≡◌, ◌++◌, ◌∷◌, [], IfOk, map, OnOk, option_map, slice_get};
 
+use crate::parts::{alternative_at, component_type, element_at, is_addition};
 use crate::seek::part_from;
+use asn_base::law::abstract_values;
 use asn_base::schema::TypeId;
 use asn_base::value::Value;
 use ber_message::Part;
 use ber_source::Token;
-use codec_code::{Code, Coding, Field, Need, Step};
+use codec_code::Code;
 use codec_source::ReadFault;
 use limits::MAX_OPEN;
 use std::alloc::{AllocError, Global};
@@ -25,7 +31,8 @@ pub(crate) struct Wrong<'v> {
 
 /// The value as a part, where it is none of the type.
 fn if_wrong<'v>(code: &Code, part: Part, ty: TypeId, value: &'v Value) -> Option<Wrong<'v>>
-    ensures { IfSome result (λ w. IsValue code.now w.ty.index (abstract w.value.now) → ⊥) }
+    ensures { FirstWrong code.now (piece ty.index (abstract value.now) ∷ [])
+        (option_map (λ w. piece w.ty.index (abstract w.value.now)) result) }
 {
     if code.is_value(ty, value) {
         return None;
@@ -33,32 +40,35 @@ fn if_wrong<'v>(code: &Code, part: Part, ty: TypeId, value: &'v Value) -> Option
     Some(Wrong { part, ty, value })
 }
 
-/// The component that a step reads.
-fn field_in(step: Step) -> Option<Field> {
-    match step {
-        Step::Field(field) => Some(field),
-        Step::Ranked(field, _) => Some(field),
-        _ => None,
-    }
-}
-
-/// The value of the component that a step reads, where it is none of its type.
-fn wrong_at<'v>(code: &Code, step: Step, members: &'v [Option<Value>]) -> Option<Wrong<'v>>
-    ensures { IfSome result (λ w. IsValue code.now w.ty.index (abstract w.value.now) → ⊥) }
+/// The component at a place, where it is present and none of its type.
+fn wrong_at<'v>(
+    code: &Code,
+    id: TypeId,
+    place: usize,
+    member: &'v Option<Value>,
+) -> Option<Wrong<'v>>
+    ensures { FirstWrong code.now
+        (component_piece (slice_get (components (kind_at code.now id.index)) place) (option_map abstract member.now))
+        (option_map (λ w. piece w.ty.index (abstract w.value.now)) result) }
 {
-    let field = field_in(step)?;
-    match members.get(field.place) {
-        Some(Some(value)) => if_wrong(code, Part::Component(field.place), field.ty, value),
-        _ => None,
+    match member {
+        Some(value) => match component_type(code, id, place) {
+            Some(ty) => if_wrong(code, Part::Component(place), ty, value),
+            None => None,
+        },
+        None => None,
     }
 }
 
 /// The first component that is no value of its type.
-fn wrong_field<'v>(code: &Code, steps: &[Step], members: &'v [Option<Value>]) -> Option<Wrong<'v>>
-    ensures { IfSome result (λ w. IsValue code.now w.ty.index (abstract w.value.now) → ⊥) }
+fn wrong_field<'v>(code: &Code, id: TypeId, members: &'v [Option<Value>]) -> Option<Wrong<'v>>
+    ensures { FirstWrong code.now
+        (component_pieces (components (kind_at code.now id.index))
+        (row_of_options (map (option_map abstract) members.now)))
+        (option_map (λ w. piece w.ty.index (abstract w.value.now)) result) }
 {
-    for i in 0..steps.len() {
-        match wrong_at(code, steps[i], members) {
+    for i in 0..members.len() {
+        match wrong_at(code, id, i, &members[i]) {
             Some(wrong) => return Some(wrong),
             None => {}
         }
@@ -66,21 +76,10 @@ fn wrong_field<'v>(code: &Code, steps: &[Step], members: &'v [Option<Value>]) ->
     None
 }
 
-/// The type of the elements that the steps read.
-fn element_in(steps: &[Step]) -> Option<TypeId> {
-    for i in 0..steps.len() {
-        match steps[i] {
-            Step::Each(id) => return Some(id),
-            Step::EachSorted(id) => return Some(id),
-            _ => {}
-        }
-    }
-    None
-}
-
 /// The first element that is no value of the type.
 fn wrong_element<'v>(code: &Code, ty: TypeId, members: &'v [Value]) -> Option<Wrong<'v>>
-    ensures { IfSome result (λ w. IsValue code.now w.ty.index (abstract w.value.now) → ⊥) }
+    ensures { FirstWrong code.now (element_pieces ty.index (row_of_list (map abstract members.now)))
+        (option_map (λ w. piece w.ty.index (abstract w.value.now)) result) }
 {
     for i in 0..members.len() {
         match if_wrong(code, Part::Element(i), ty, &members[i]) {
@@ -91,64 +90,32 @@ fn wrong_element<'v>(code: &Code, ty: TypeId, members: &'v [Value]) -> Option<Wr
     None
 }
 
-/// The type of the alternative with this number, from 0, of those that the steps call.
-fn alternative_in(steps: &[Step], index: usize) -> Option<TypeId> {
-    let mut before: usize = 0;
-    for i in 0..steps.len() {
-        if let Step::Call(id) = steps[i] {
-            if before == index {
-                return Some(id);
-            }
-            before = before.saturating_add(1);
-        }
-    }
-    None
-}
-
-/// The first member that is no value of its type, of a value of this one.
+/// The first part that is no value of its type, of a value of this one.
 pub(crate) fn wrong_member<'v>(code: &Code, id: TypeId, value: &'v Value) -> Option<Wrong<'v>>
-    ensures { IfSome result (λ w. IsValue code.now w.ty.index (abstract w.value.now) → ⊥) }
+    ensures { FirstWrong code.now (parts (kind_at code.now id.index) (abstract value.now))
+        (option_map (λ w. piece w.ty.index (abstract w.value.now)) result) }
 {
-    let steps = code.steps(id, Coding::Tagged);
+    abstract_values();
     match value {
-        Value::Fields(members) => wrong_field(code, steps, members.as_slice()),
-        Value::List(members) => wrong_element(code, element_in(steps)?, members.as_slice()),
-        Value::Alt(index, inner) => if_wrong(
-            code,
-            Part::Alternative(*index),
-            alternative_in(steps, *index)?,
-            inner,
-        ),
-        _ => None,
+        Value::Fields(members) => wrong_field(code, id, members.as_slice()),
+        Value::List(members) => match element_at(code, id) {
+            Some(ty) => wrong_element(code, ty, members.as_slice()),
+            None => None,
+        },
+        Value::Alt(index, inner) => match alternative_at(code, id, *index) {
+            Some(ty) => if_wrong(code, Part::Alternative(*index), ty, inner),
+            None => None,
+        },
+        Value::Bool(_) => None,
+        Value::Int(_) => None,
+        Value::Enum(_) => None,
+        Value::Bits(_) => None,
+        Value::Octets(_) => None,
+        Value::Text(_) => None,
+        Value::Null => None,
+        Value::Oid(_) => None,
+        Value::RelativeOid(_) => None,
     }
-}
-
-/// The innermost value that is none of its type, in one that is none of its.
-fn innermost<'v>(code: &Code, id: TypeId, value: &'v Value) -> (TypeId, &'v Value) {
-    let mut ty = id;
-    let mut inner = value;
-    for _ in 0..MAX_OPEN {
-        match wrong_member(code, ty, inner) {
-            Some(wrong) => {
-                ty = wrong.ty;
-                inner = wrong.value;
-            }
-            None => return (ty, inner),
-        }
-    }
-    (ty, inner)
-}
-
-/// Whether the component at the place is an addition.
-fn is_addition(steps: &[Step], place: usize) -> bool {
-    for i in 0..steps.len() {
-        if let Some(field) = field_in(steps[i]) {
-            if field.place == place {
-                return field.need == Need::Addition;
-            }
-        }
-    }
-    false
 }
 
 /// A component like this one, which is left out where it is an addition.
@@ -156,7 +123,9 @@ fn without(
     alloc: Global,
     is_addition: bool,
     member: &Option<Value>,
-) -> Result<Option<Value>, AllocError> {
+) -> Result<Option<Value>, AllocError>
+    ensures { IfOk result (λ o. option_map abstract o ≡ in_root is_addition (option_map abstract member.now)) }
+{
     match member {
         Some(value) => {
             if is_addition {
@@ -168,15 +137,30 @@ fn without(
     }
 }
 
+/// Adds one more.
+fn add(list: &mut Vec<Option<Value>>, one: Option<Value>) -> Result<(), AllocError>
+    ensures { OnOk result (list.new.items ≡ list.old.items ++ one ∷ []) }
+{
+    list.push(one)?;
+    Ok(())
+}
+
 /// The components, but for additions.
 fn without_additions(
     alloc: Global,
-    steps: &[Step],
+    code: &Code,
+    id: TypeId,
     members: &[Option<Value>],
-) -> Result<Value, AllocError> {
+) -> Result<Value, AllocError>
+    ensures { IfOk result (λ v. abstract v
+        ≡ fields (without_additions' (components (kind_at code.now id.index))
+        (row_of_options (map (option_map abstract) members.now)))) }
+{
+    abstract_values();
     let mut root = Vec::new(alloc);
     for i in 0..members.len() {
-        root.push(without(alloc, is_addition(steps, i), &members[i])?)?;
+        let member = without(alloc, is_addition(code, id, i), &members[i])?;
+        add(&mut root, member)?;
     }
     Ok(Value::Fields(root))
 }
@@ -191,8 +175,10 @@ fn fault_of_components(
 ) -> ReadFault
     ensures limit { result ≡ MessageLimit → ⊥ }
     ensures trailing { result ≡ Trailing → ⊥ }
+    ensures own { (result ≡ Memory → ⊥)
+        → IsOwn code.now id.index (fields (row_of_options (map (option_map abstract) members.now))) result }
 {
-    match without_additions(alloc, code.steps(id, Coding::Tagged), members) {
+    match without_additions(alloc, code, id, members) {
         Ok(value) => {
             if code.is_value(id, &value) {
                 ReadFault::Missing
@@ -204,19 +190,43 @@ fn fault_of_components(
     }
 }
 
-/// Why the value, which is none of the type, is none: the fault of the innermost one in it that is none of its type.
-/// `BadContents`: an ENUMERATED lacks the number. `Missing`: a component of a group that must stand beside others.
-/// `TooDeep`: the levels of an absent component's DEFAULT are too many. `OutsideConstraint`: any other.
+/// Why the value is none of the type, though each part of it is a value of its own. `BadContents`: an ENUMERATED lacks
+/// the number. `Missing`: a component of a group that must stand beside others. `TooDeep`: the levels of an absent
+/// component's DEFAULT are too many. `OutsideConstraint`: any other.
+fn own_fault(alloc: Global, code: &Code, id: TypeId, value: &Value) -> ReadFault
+    ensures limit { result ≡ MessageLimit → ⊥ }
+    ensures trailing { result ≡ Trailing → ⊥ }
+    ensures own { (result ≡ Memory → ⊥) → IsOwn code.now id.index (abstract value.now) result }
+{
+    abstract_values();
+    match value {
+        Value::Enum(_) => ReadFault::BadContents,
+        Value::Fields(members) => fault_of_components(alloc, code, id, members.as_slice()),
+        Value::Alt(_, _) => ReadFault::TooDeep,
+        Value::List(_) => ReadFault::OutsideConstraint,
+        Value::Bool(_) => ReadFault::OutsideConstraint,
+        Value::Int(_) => ReadFault::OutsideConstraint,
+        Value::Bits(_) => ReadFault::OutsideConstraint,
+        Value::Octets(_) => ReadFault::OutsideConstraint,
+        Value::Text(_) => ReadFault::OutsideConstraint,
+        Value::Null => ReadFault::OutsideConstraint,
+        Value::Oid(_) => ReadFault::OutsideConstraint,
+        Value::RelativeOid(_) => ReadFault::OutsideConstraint,
+    }
+}
+
+/// Why the value, which is none of the type, is none: the own fault of the innermost one in it that is none of its
+/// type. It calls itself once for each level of the value.
 pub(crate) fn fault_of(alloc: Global, code: &Code, id: TypeId, value: &Value) -> ReadFault
     ensures limit { result ≡ MessageLimit → ⊥ }
     ensures trailing { result ≡ Trailing → ⊥ }
+    ensures judged { (IsValue code.now id.index (abstract value.now) → ⊥)
+        → (result ≡ Memory → ⊥)
+        → IsJudged code.now id.index (abstract value.now) result }
 {
-    let (ty, inner) = innermost(code, id, value);
-    match inner {
-        Value::Enum(_) => ReadFault::BadContents,
-        Value::Fields(members) => fault_of_components(alloc, code, ty, members.as_slice()),
-        Value::Alt(_, _) => ReadFault::TooDeep,
-        _ => ReadFault::OutsideConstraint,
+    match wrong_member(code, id, value) {
+        Some(wrong) => fault_of(alloc, code, wrong.ty, wrong.value),
+        None => own_fault(alloc, code, id, value),
     }
 }
 

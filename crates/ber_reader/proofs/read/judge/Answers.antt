@@ -1,5 +1,6 @@
 use Rattle.std.proofs.Common.{sym, subst}
 use Rattle.asn_base.specs.Typed.{IsValue, IsValueWithoutNodes}
+use Rattle.ber_reader.specs.Judged.{IsJudged}
 use Rattle.ber_reader.proofs.Reading.{holds, never_holds}
 use Rattle.ber_reader.proofs.read.judge.Goals as goal
 
@@ -17,3 +18,8 @@ pub returns-clause-ok : goal.returns-clause-ok
 returns-clause-ok c t v =
     let w = holds c.is_value.result c.if-not-is_value.false c.is_value.ensures in
     subst (IsValueWithoutNodes c.args.code.now c.args.id.index) (c.in-Ok.ensures t v) w.shaped
+
+pub returns-then-not-is_value-clause-judged : goal.returns-then-not-is_value-clause-judged
+returns-then-not-is_value-clause-judged c = λ other t v.
+    subst (λ q. IsJudged c.args.code.now c.args.id.index q c.fault_of.result) (c.in-Ok.ensures t v)
+    (c.fault_of.ensures.judged (λ w. never_holds c.is_value.result c.if-not-is_value.true c.is_value.ensures w) other)

@@ -1,10 +1,10 @@
-use Rattle.std.proofs.Common.{inr, sym, ap, subst, ◌∙◌}
+use Rattle.std.proofs.Common.{arith, inl, inr, Err, sym, ap, subst, ◌∙◌}
 use Rattle.encodings.specs.Rules.{Basic}
-use Rattle.asn_base.specs.Typed.{IsValue}
+use Rattle.asn_base.specs.Typed.{IsValue, IsValueWithoutNodes}
 use Rattle.codec_source.specs.declared.fault.ReadFault.TheVariants.{Missing, OutsideConstraint}
 use Rattle.ber_reader.proofs.Built.{skipped_of, tree_of}
 use Rattle.ber_reader.proofs.OneTree.{one_tree}
-use Rattle.ber_reader.proofs.Reading.{fault_in, fault_memory, outside_memory, missing_memory, reading_of, says_none}
+use Rattle.ber_reader.proofs.Reading.{fault_in, fault_memory, outside_memory, missing_memory, reading_of, says_none, says_type, told_or}
 use Rattle.ber_reader.proofs.read.read_ber.Goals as goal
 
 pub judge-requires : goal.judge-requires
@@ -57,3 +57,26 @@ returns-in-Err-judge-clause-missing c e =
     let o = c.args.octets.now in
     let q = tree_of s c.accepted.ensures t o c.in-Ok.built n in
     inr (says_none m (λ v. c.in-Err-judge.ensures.err (missing_memory c.in-Err-judge.why (ap (fault_in Missing) e)) q.0 q.1 (subst (IsValue s t) (sym q.2) (c.message_laws.ensures.value s Basic t m.count m.value o c.accepted.ensures v m.is_said m.short))))
+
+pub returns-in-Err-clause-judged : goal.returns-in-Err-clause-judged
+returns-in-Err-clause-judged c = λ read n.
+    let few = n.short in
+    inl (fault_memory c.in-Err.fault (λ other. c.in-Err.ensures.err other (λ e. let l = c.in-Err.ensures.long (ap Err e) in omega arith) (says_type n.is_said) read))
+
+pub returns-in-Err-judge-clause-judged : goal.returns-in-Err-judge-clause-judged
+returns-in-Err-judge-clause-judged c = λ read n.
+    let v = c.in-Ok.ensures.ok in
+    let s = c.args.code.now in
+    let t = c.args.id.index in
+    let q = tree_of s c.accepted.ensures t c.args.octets.now c.in-Ok.built v in
+    let r = c.in-Ok.ensures.only v n.value n.count n.is_said in
+    told_or c.in-Err-judge.why (q.2 ∙ sym r.0) (λ other. c.in-Err-judge.ensures.judged other q.0 q.1)
+
+pub returns-clause-judged : goal.returns-clause-judged
+returns-clause-judged c = λ read n.
+    let v = c.in-Ok.ensures.ok in
+    let s = c.args.code.now in
+    let t = c.args.id.index in
+    let q = tree_of s c.accepted.ensures t c.args.octets.now c.in-Ok.built v in
+    let r = c.in-Ok.ensures.only v n.value n.count n.is_said in
+    n.is_none (subst (IsValueWithoutNodes s t) (q.2 ∙ sym r.0) (c.in-Ok-judge.ensures.ok q.0 q.1))

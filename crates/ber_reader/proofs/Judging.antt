@@ -1,0 +1,360 @@
+-- The first part that is no value of its type, and the innermost value that is none of its.
+use Rattle.std.proofs.Common.{arith, ◌≡◌, ℕ, zero, suc, ◌+◌, ◌≤◌, ◌<◌, Bool, true, false, List, [], ◌∷◌, ◌++◌, length, map, drop, get_or, refl, sym, ap, subst, ◌∙◌, IsTrue, ◌↔◌}
+use Rattle.std.proofs.lemmas.List.{map-append}
+use Rattle.std.specs.Prelude.{Option, Some, None, option_map, slice_get, if◌then◌else◌}
+use Rattle.asn_base.specs.declared.schema.TypeId.{TypeId}
+use Rattle.asn_base.specs.Abstract.{AbstractValue, boolean, integer, enumerated, bits, octets, text, null, oid, relative_oid, fields, list, alternative, Row, end, absent, present, row_of_options, row_of_list}
+use Rattle.asn_base.specs.Schemas.{components, is_addition}
+use Rattle.asn_base.specs.Typed.{IsValue, nodes, row_nodes}
+use Rattle.asn_base.specs.Types.{TypeNumber, Component, Alternative, Kind, Resolved}
+use Rattle.codec_source.specs.declared.fault.ReadFault.{ReadFault}
+use Rattle.codec_source.specs.declared.fault.ReadFault.TheVariants as faults
+use Rattle.codec_code.specs.Routines.{id_of}
+use Rattle.ber_reader.specs.Judged.{Piece, piece, kind_at, element_of, alternatives, FirstWrong, none_wrong, wrong_here, right_here, component_piece, component_pieces, element_pieces, parts, IsWrong, Innermost, is_itself, is_within, IsOwn, lacks_number, half_a_group, deep_component, deep_alternative, outside, IsJudged, is_addition_in, in_root, without_additions}
+
+-- ---- lists that are left
+
+pub drop_is : {A B : Type 0} (f : A → B) (xs : List A) (i : ℕ) (d : A) → i < length xs → d ≡ get_or xs i d → drop i (map f xs) ≡ f d ∷ drop (i + 1) (map f xs)
+drop_is f [] i d h e = absurd (omega arith)
+drop_is f (x ∷ xs) zero d h e = ap (λ q. f q ∷ map f xs) (sym e)
+drop_is f (x ∷ xs) (suc i) d h e =
+    let z : suc (i + 1) ≡ suc i + 1 = omega arith in
+    drop_is f xs i d (omega arith) e ∙ ap (λ k. f d ∷ drop k (f x ∷ map f xs)) z
+
+pub drop_end : {A B : Type 0} (f : A → B) (xs : List A) (i : ℕ) → length xs ≤ i → drop i (map f xs) ≡ []
+drop_end f [] zero h = refl
+drop_end f [] (suc i) h = refl
+drop_end f (x ∷ xs) zero h = absurd (omega arith)
+drop_end f (x ∷ xs) (suc i) h = drop_end f xs i (omega arith)
+
+drop_none : {A : Type 0} (i : ℕ) → drop i (let n : List A = [] in n) ≡ []
+drop_none zero = refl
+drop_none (suc i) = refl
+
+-- ---- pieces
+
+-- behind pieces that are values of their types
+pub behind : {s : List Resolved} {ps qs : List Piece} {o : Option Piece} → FirstWrong s ps None → FirstWrong s qs o → FirstWrong s (ps ++ qs) o
+behind none_wrong g = g
+behind (right_here r h) g = right_here r (behind h g)
+
+-- one that is none stays the first
+pub before : {s : List Resolved} {ps : List Piece} {p : Piece} (qs : List Piece) → FirstWrong s ps (Some p) → FirstWrong s (ps ++ qs) (Some p)
+before qs (wrong_here n) = wrong_here n
+before qs (right_here r h) = right_here r (before qs h)
+
+-- the first that is none is none
+pub is_wrong : {s : List Resolved} {ps : List Piece} {p : Piece} → FirstWrong s ps (Some p) → IsWrong s p
+is_wrong (wrong_here n) = n
+is_wrong (right_here r h) = is_wrong h
+
+-- a piece that was asked
+pub one_right : {s : List Resolved} (b : Bool) (p : Piece) → b ≡ true → IsTrue b ↔ IsValue s p.type p.value → FirstWrong s (p ∷ []) None
+one_right b p e h = right_here (h.0 e) none_wrong
+
+pub one_wrong : {s : List Resolved} (b : Bool) (p : Piece) → b ≡ false → IsTrue b ↔ IsValue s p.type p.value → FirstWrong s (p ∷ []) (Some p)
+one_wrong b p e h = wrong_here (λ v. let t = h.1 v in cc)
+
+-- ---- elements
+
+pub element_next : {A : Type 0} {s : List Resolved} {o : Option Piece} (u : TypeNumber) (f : A → AbstractValue) (xs : List A) (i : ℕ) (d : A)
+    → i < length xs
+    → d ≡ get_or xs i d
+    → FirstWrong s (piece u (f d) ∷ element_pieces u (row_of_list (drop (i + 1) (map f xs)))) o
+    → FirstWrong s (element_pieces u (row_of_list (drop i (map f xs)))) o
+element_next {s = s} {o = o} u f xs i d l e h = subst (λ q. FirstWrong s (element_pieces u (row_of_list q)) o) (sym (drop_is f xs i d l e)) h
+
+pub no_more_elements : {A : Type 0} {s : List Resolved} (u : TypeNumber) (f : A → AbstractValue) (xs : List A) (i : ℕ) → length xs ≤ i → FirstWrong s (element_pieces u (row_of_list (drop i (map f xs)))) None
+no_more_elements {s = s} u f xs i l = subst (λ q. FirstWrong s (element_pieces u (row_of_list q)) None) (sym (drop_end f xs i l)) none_wrong
+
+-- ---- components
+
+no_pieces : (cs : List Component) → component_pieces cs end ≡ []
+no_pieces [] = refl
+no_pieces (c ∷ cs) = refl
+
+pieces_split : (cs : List Component) (i : ℕ) (o : Option AbstractValue) (os : List (Option AbstractValue))
+    → component_pieces (drop i cs) (row_of_options (o ∷ os)) ≡ component_piece (slice_get cs i) o ++ component_pieces (drop (i + 1) cs) (row_of_options os)
+pieces_split [] i o os =
+    ap (λ q. component_pieces q (row_of_options (o ∷ os))) (drop_none i) ∙ sym (ap (λ q. component_pieces q (row_of_options os)) (drop_none (i + 1)))
+pieces_split (c ∷ cs) zero None os = refl
+pieces_split (c ∷ cs) zero (Some v) os = refl
+pieces_split (c ∷ cs) (suc i) o os =
+    let z : suc (i + 1) ≡ suc i + 1 = omega arith in
+    pieces_split cs i o os ∙ ap (λ k. component_piece (slice_get cs i) o ++ component_pieces (drop k (c ∷ cs)) (row_of_options os)) z
+
+pub component_next : {A : Type 0} {s : List Resolved} {r : Option Piece} (cs : List Component) (f : A → Option AbstractValue) (xs : List A) (i : ℕ) (d : A)
+    → i < length xs
+    → d ≡ get_or xs i d
+    → FirstWrong s (component_piece (slice_get cs i) (f d) ++ component_pieces (drop (i + 1) cs) (row_of_options (drop (i + 1) (map f xs)))) r
+    → FirstWrong s (component_pieces (drop i cs) (row_of_options (drop i (map f xs)))) r
+component_next {s = s} {r = r} cs f xs i d l e h =
+    subst (λ q. FirstWrong s (component_pieces (drop i cs) (row_of_options q)) r) (sym (drop_is f xs i d l e))
+    (subst (λ q. FirstWrong s q r) (sym (pieces_split cs i (f d) (drop (i + 1) (map f xs)))) h)
+
+pub no_more_components : {A : Type 0} {s : List Resolved} (cs : List Component) (f : A → Option AbstractValue) (xs : List A) (i : ℕ) → length xs ≤ i → FirstWrong s (component_pieces (drop i cs) (row_of_options (drop i (map f xs)))) None
+no_more_components {s = s} cs f xs i l =
+    subst (λ q. FirstWrong s (component_pieces (drop i cs) (row_of_options q)) None) (sym (drop_end f xs i l))
+    (subst (λ q. FirstWrong s q None) (sym (no_pieces (drop i cs))) none_wrong)
+
+-- a component that is present, of a type that was looked up
+pub component_is : {s : List Resolved} {r : Option Piece} (u : TypeId) (v : AbstractValue) (o : Option Component) (m : Option AbstractValue)
+    → Some u ≡ option_map (λ c. id_of c.type) o
+    → m ≡ Some v
+    → FirstWrong s (piece u.index v ∷ []) r
+    → FirstWrong s (component_piece o m) r
+component_is {s} {r} u v None m e g h = cc
+component_is {s} {r} u v (Some c) m e g h =
+    subst (λ q. FirstWrong s (component_piece (Some c) q) r) (sym g)
+    (let w : u ≡ id_of c.type = (let a = e in cc) in subst (λ (q : TypeId). FirstWrong s (piece q.index v ∷ []) r) w h)
+
+pub component_lacks : {s : List Resolved} (o : Option Component) (m : Option AbstractValue)
+    → None ≡ option_map (λ c. id_of c.type) o
+    → FirstWrong s (component_piece o m) None
+component_lacks None m e = none_wrong
+component_lacks (Some c) m e = cc
+
+pub component_absent : {s : List Resolved} (o : Option Component) (m : Option AbstractValue) → m ≡ None → FirstWrong s (component_piece o m) None
+component_absent {s} None m e = none_wrong
+component_absent {s} (Some c) m e = subst (λ q. FirstWrong s (component_piece (Some c) q) None) (sym e) none_wrong
+
+-- ---- the parts of a value
+
+pub list_is : {s : List Resolved} {r : Option Piece} (u : TypeId) (vs : Row) (k : Kind)
+    → Some u ≡ option_map id_of (element_of k)
+    → FirstWrong s (element_pieces u.index vs) r
+    → FirstWrong s (parts k (list vs)) r
+list_is {s} {r} u vs k e h = by (element_of k) e
+  where
+    by : (o : Option TypeNumber) → Some u ≡ option_map id_of o → FirstWrong s (elim o [ None ↦ [] | Some t ↦ element_pieces t vs ]) r
+    by None d = cc
+    by (Some t) d = let w : u ≡ id_of t = (let a = d in cc) in subst (λ (q : TypeId). FirstWrong s (element_pieces q.index vs) r) w h
+
+pub list_lacks : {s : List Resolved} (vs : Row) (k : Kind) → None ≡ option_map id_of (element_of k) → FirstWrong s (parts k (list vs)) None
+list_lacks {s} vs k e = by (element_of k) e
+  where
+    by : (o : Option TypeNumber) → None ≡ option_map id_of o → FirstWrong s (elim o [ None ↦ [] | Some t ↦ element_pieces t vs ]) None
+    by None d = none_wrong
+    by (Some t) d = cc
+
+pub choice_is : {s : List Resolved} {r : Option Piece} (u : TypeId) (i : ℕ) (v : AbstractValue) (k : Kind)
+    → Some u ≡ option_map (λ a. id_of a.type) (slice_get (alternatives k) i)
+    → FirstWrong s (piece u.index v ∷ []) r
+    → FirstWrong s (parts k (alternative i v)) r
+choice_is {s} {r} u i v k e h = by (slice_get (alternatives k) i) e
+  where
+    by : (o : Option Alternative) → Some u ≡ option_map (λ a. id_of a.type) o → FirstWrong s (elim o [ None ↦ [] | Some a ↦ piece a.type v ∷ [] ]) r
+    by None d = cc
+    by (Some a) d = let w : u ≡ id_of a.type = (let b = d in cc) in subst (λ (q : TypeId). FirstWrong s (piece q.index v ∷ []) r) w h
+
+pub choice_lacks : {s : List Resolved} (i : ℕ) (v : AbstractValue) (k : Kind)
+    → None ≡ option_map (λ a. id_of a.type) (slice_get (alternatives k) i)
+    → FirstWrong s (parts k (alternative i v)) None
+choice_lacks {s} i v k e = by (slice_get (alternatives k) i) e
+  where
+    by : (o : Option Alternative) → None ≡ option_map (λ a. id_of a.type) o → FirstWrong s (elim o [ None ↦ [] | Some a ↦ piece a.type v ∷ [] ]) None
+    by None d = none_wrong
+    by (Some a) d = cc
+
+-- the parts of what is the same value
+pub parts_as : {s : List Resolved} {v w : AbstractValue} {r : Option Piece} (k : Kind) → v ≡ w → FirstWrong s (parts k w) r → FirstWrong s (parts k v) r
+parts_as {s} {r = r} k e h = subst (λ q. FirstWrong s (parts k q) r) (sym e) h
+
+-- ---- parts are smaller
+
+component_less : {s : List Resolved} {p : Piece} (cs : List Component) (vs : Row) → FirstWrong s (component_pieces cs vs) (Some p) → nodes p.value ≤ row_nodes vs
+component_less [] vs f = elim f [ ]
+component_less (c ∷ cs) end f = elim f [ ]
+component_less (c ∷ cs) (absent vs) f = component_less cs vs f
+component_less (c ∷ cs) (present v vs) (wrong_here n) = omega arith
+component_less (c ∷ cs) (present v vs) (right_here r h) = let q = component_less cs vs h in omega arith
+
+element_less : {s : List Resolved} {p : Piece} (u : TypeNumber) (vs : Row) → FirstWrong s (element_pieces u vs) (Some p) → nodes p.value ≤ row_nodes vs
+element_less u end f = elim f [ ]
+element_less u (absent vs) f = element_less u vs f
+element_less u (present v vs) (wrong_here n) = omega arith
+element_less u (present v vs) (right_here r h) = let q = element_less u vs h in omega arith
+
+list_less : {s : List Resolved} {p : Piece} (o : Option TypeNumber) (vs : Row) → FirstWrong s (elim o [ None ↦ [] | Some u ↦ element_pieces u vs ]) (Some p) → nodes p.value ≤ row_nodes vs
+list_less None vs f = elim f [ ]
+list_less (Some u) vs f = element_less u vs f
+
+choice_less : {s : List Resolved} {p : Piece} (o : Option Alternative) (v : AbstractValue) → FirstWrong s (elim o [ None ↦ [] | Some a ↦ piece a.type v ∷ [] ]) (Some p) → nodes p.value ≤ nodes v
+choice_less None v f = elim f [ ]
+choice_less (Some a) v (wrong_here n) = omega arith
+choice_less (Some a) v (right_here r h) = elim h [ ]
+
+pub part_less : {s : List Resolved} {p : Piece} (k : Kind) (v : AbstractValue) → FirstWrong s (parts k v) (Some p) → nodes p.value < nodes v
+part_less k (boolean b) f = elim f [ ]
+part_less k (integer z) f = elim f [ ]
+part_less k (enumerated z) f = elim f [ ]
+part_less k (bits b) f = elim f [ ]
+part_less k (octets o) f = elim f [ ]
+part_less k (text o) f = elim f [ ]
+part_less k null f = elim f [ ]
+part_less k (oid o) f = elim f [ ]
+part_less k (relative_oid o) f = elim f [ ]
+part_less k (fields vs) f = let q = component_less (components k) vs f in omega arith
+part_less k (list vs) f = let q = list_less (element_of k) vs f in omega arith
+part_less k (alternative i v) f = let q = choice_less (slice_get (alternatives k) i) v f in omega arith
+
+-- ---- what is judged
+
+-- the value itself
+pub judged_itself : {s : List Resolved} {t : TypeNumber} {v : AbstractValue} {f : ReadFault}
+    → (IsValue s t v → ⊥)
+    → FirstWrong s (parts (kind_at s t) v) None
+    → IsOwn s t v f
+    → IsJudged s t v f
+judged_itself {s} {t} {v} n w o = record { inner = piece t v; is_innermost = is_itself n w; own = o }
+
+-- a value within
+pub judged_within : {s : List Resolved} {t u : TypeNumber} {v w : AbstractValue} {f : ReadFault}
+    → FirstWrong s (parts (kind_at s t) v) (Some (piece u w))
+    → IsJudged s u w f
+    → IsJudged s t v f
+judged_within w j = record { inner = j.inner; is_innermost = is_within w j.is_innermost; own = j.own }
+
+-- one of each
+
+first_once : {s : List Resolved} {ps : List Piece} {o q : Option Piece} → FirstWrong s ps o → FirstWrong s ps q → o ≡ q
+first_once none_wrong none_wrong = refl
+first_once (wrong_here n) (wrong_here m) = refl
+first_once (wrong_here n) (right_here r h) = absurd (n r)
+first_once (right_here r h) (wrong_here n) = absurd (n r)
+first_once (right_here r h) (right_here q g) = first_once h g
+
+none_some : {A : Type 0} {x : A} → None ≡ Some x → ⊥
+none_some e = cc
+
+some_same : {A : Type 0} {x y : A} → Some x ≡ Some y → x ≡ y
+some_same e = cc
+
+inner_once : {s : List Resolved} {p q r : Piece} → Innermost s p q → Innermost s p r → q ≡ r
+inner_once (is_itself n w) (is_itself m z) = refl
+inner_once (is_itself n w) (is_within x j) = absurd (none_some (first_once w x))
+inner_once (is_within x i) (is_itself m z) = absurd (none_some (first_once z x))
+inner_once {s} {r = r} (is_within x i) (is_within y j) = inner_once i (subst (λ z. Innermost s z r) (sym (some_same (first_once x y))) j)
+
+own_once : {s : List Resolved} {t : TypeNumber} {v : AbstractValue} {e f : ReadFault} → IsOwn s t v e → IsOwn s t v f → e ≡ f
+own_once lacks_number lacks_number = refl
+own_once lacks_number (outside o) = absurd o
+own_once (half_a_group r) (half_a_group q) = refl
+own_once (half_a_group r) (deep_component n) = absurd (n r)
+own_once (half_a_group r) (outside o) = absurd o
+own_once (deep_component n) (half_a_group r) = absurd (n r)
+own_once (deep_component n) (deep_component m) = refl
+own_once (deep_component n) (outside o) = absurd o
+own_once deep_alternative deep_alternative = refl
+own_once deep_alternative (outside o) = absurd o
+own_once (outside o) lacks_number = absurd o
+own_once (outside o) (half_a_group r) = absurd o
+own_once (outside o) (deep_component n) = absurd o
+own_once (outside o) deep_alternative = absurd o
+own_once (outside o) (outside q) = refl
+
+pub once_judged : (s : List Resolved) (t : TypeNumber) (v : AbstractValue) (e f : ReadFault) → IsJudged s t v e → IsJudged s t v f → e ≡ f
+once_judged s t v e f a b = own_once a.own (subst (λ p. IsOwn s p.type p.value f) (sym (inner_once a.is_innermost b.is_innermost)) b.own)
+
+never_own : {s : List Resolved} {t : TypeNumber} {v : AbstractValue} {f : ReadFault} → IsOwn s t v f → f ≡ faults.NotDer → ⊥
+never_own lacks_number e = cc
+never_own (half_a_group r) e = cc
+never_own (deep_component n) e = cc
+never_own deep_alternative e = cc
+never_own (outside o) e = cc
+
+-- 96 is the fault of none
+pub never_not_der : {s : List Resolved} {t : TypeNumber} {v : AbstractValue} → IsJudged s t v faults.NotDer → ⊥
+never_not_der j = never_own j.own refl
+
+-- the own fault of what is the same value
+pub own_as : {s : List Resolved} {t : TypeNumber} {v w : AbstractValue} {f : ReadFault} → v ≡ w → IsOwn s t w f → IsOwn s t v f
+own_as {s} {t} {f = f} e h = subst (λ q. IsOwn s t q f) (sym e) h
+
+-- components that were asked without additions
+pub value_in_root : {s : List Resolved} {t : TypeNumber} {v w : AbstractValue} (b : Bool) → b ≡ true → v ≡ w → IsTrue b ↔ IsValue s t v → IsValue s t w
+value_in_root {s} {t} b e g h = subst (IsValue s t) g (h.0 e)
+
+pub none_in_root : {s : List Resolved} {t : TypeNumber} {v w : AbstractValue} (b : Bool) → b ≡ false → v ≡ w → IsTrue b ↔ IsValue s t v → IsValue s t w → ⊥
+none_in_root {s} {t} b e g h i = let z : b ≡ true = h.1 (subst (IsValue s t) (sym g) i) in cc
+
+-- ---- components without additions
+
+abbrev place : Option AbstractValue → Row → Row
+place None r = absent r
+place (Some v) r = present v r
+
+-- components before a row
+abbrev pub onto : List (Option AbstractValue) → Row → Row
+onto [] r = r
+onto (o ∷ os) r = place o (onto os r)
+
+row_place : (o : Option AbstractValue) (os : List (Option AbstractValue)) → row_of_options (o ∷ os) ≡ place o (row_of_options os)
+row_place None os = refl
+row_place (Some v) os = refl
+
+onto_more : (xs : List (Option AbstractValue)) (o : Option AbstractValue) (r : Row) → onto (xs ++ o ∷ []) r ≡ onto xs (place o r)
+onto_more [] o r = refl
+onto_more (x ∷ xs) o r = ap (place x) (onto_more xs o r)
+
+onto_end : (xs : List (Option AbstractValue)) → onto xs end ≡ row_of_options xs
+onto_end [] = refl
+onto_end (o ∷ os) = ap (place o) (onto_end os) ∙ sym (row_place o os)
+
+root_none : (b : Bool) → in_root b None ≡ None
+root_none true = refl
+root_none false = refl
+
+root_some : (b : Bool) (v : AbstractValue) (r : Row) → (if b then absent r else present v r) ≡ place (in_root b (Some v)) r
+root_some true v r = refl
+root_some false v r = refl
+
+none_left_out : (o : Option AbstractValue) (os : List (Option AbstractValue)) → without_additions [] (row_of_options (o ∷ os)) ≡ place (in_root false o) (without_additions [] (row_of_options os))
+none_left_out None os = refl
+none_left_out (Some v) os = refl
+
+left_out_split : (cs : List Component) (i : ℕ) (o : Option AbstractValue) (os : List (Option AbstractValue))
+    → without_additions (drop i cs) (row_of_options (o ∷ os)) ≡ place (in_root (is_addition_in (slice_get cs i)) o) (without_additions (drop (i + 1) cs) (row_of_options os))
+left_out_split [] i o os =
+    ap (λ q. without_additions q (row_of_options (o ∷ os))) (drop_none i) ∙ none_left_out o os
+    ∙ sym (ap (λ q. place (in_root false o) (without_additions q (row_of_options os))) (drop_none (i + 1)))
+left_out_split (c ∷ cs) zero None os = ap (λ q. place q (without_additions cs (row_of_options os))) (sym (root_none (is_addition c)))
+left_out_split (c ∷ cs) zero (Some v) os = root_some (is_addition c) v (without_additions cs (row_of_options os))
+left_out_split (c ∷ cs) (suc i) o os =
+    let z : suc (i + 1) ≡ suc i + 1 = omega arith in
+    left_out_split cs i o os ∙ ap (λ k. place (in_root (is_addition_in (slice_get cs i)) o) (without_additions (drop k (c ∷ cs)) (row_of_options os))) z
+
+left_out_end : (cs : List Component) → without_additions cs end ≡ end
+left_out_end [] = refl
+left_out_end (c ∷ cs) = refl
+
+-- what was copied, before what is left
+abbrev pub IsCopied : {A : Type 0} → (A → Option AbstractValue) → List Component → List A → List A → ℕ → Type 0
+IsCopied f cs xs done i = onto (map f done) (without_additions (drop i cs) (row_of_options (drop i (map f xs)))) ≡ without_additions cs (row_of_options (map f xs))
+
+pub copied_begin : {A : Type 0} (f : A → Option AbstractValue) (cs : List Component) (xs done : List A) → done ≡ [] → IsCopied f cs xs done 0
+copied_begin f cs xs done e = ap (λ q. onto (map f q) (without_additions cs (row_of_options (map f xs)))) e
+
+pub copied_more : {A : Type 0} (f : A → Option AbstractValue) (cs : List Component) (xs done more : List A) (i : ℕ) (d one : A)
+    → i < length xs
+    → d ≡ get_or xs i d
+    → f one ≡ in_root (is_addition_in (slice_get cs i)) (f d)
+    → more ≡ done ++ one ∷ []
+    → IsCopied f cs xs done i
+    → IsCopied f cs xs more (i + 1)
+copied_more f cs xs done more i d one l e g m h =
+    let rest = without_additions (drop (i + 1) cs) (row_of_options (drop (i + 1) (map f xs))) in
+    ap (λ q. onto (map f q) rest) m
+    ∙ ap (λ q. onto q rest) (map-append f done (one ∷ []))
+    ∙ onto_more (map f done) (f one) rest
+    ∙ ap (λ q. onto (map f done) (place q rest)) g
+    ∙ ap (λ q. onto (map f done) q) (sym (left_out_split cs i (f d) (drop (i + 1) (map f xs))))
+    ∙ ap (λ q. onto (map f done) (without_additions (drop i cs) (row_of_options q))) (sym (drop_is f xs i d l e))
+    ∙ h
+
+pub copied_all : {A : Type 0} (f : A → Option AbstractValue) (cs : List Component) (xs done : List A) (i : ℕ) → length xs ≤ i → IsCopied f cs xs done i → row_of_options (map f done) ≡ without_additions cs (row_of_options (map f xs))
+copied_all f cs xs done i l h =
+    sym (onto_end (map f done))
+    ∙ sym (ap (onto (map f done)) (left_out_end (drop i cs)))
+    ∙ ap (λ q. onto (map f done) (without_additions (drop i cs) (row_of_options q))) (sym (drop_end f xs i l))
+    ∙ h

@@ -1,0 +1,177 @@
+//! What the parts of a value are of: components, elements and alternatives, as the steps of its type read them.
+
+ghost use Rattle.asn_base.specs.Schemas.{components};
+ghost use Rattle.ber_reader.specs.Judged.{alternatives, element_of, is_addition_in, kind_at};
+ghost use Rattle.ber_reader.specs.Stepped.{behind_heads, called_in as called_in', element_in as element_in', is_of_addition as is_of_addition'};
+ghost use Rattle.codec_code.specs.Routines.{field_of, id_of, routine_at};
+ghost use Rattle.octet_answers.specs.Found.{field_in as field_in'};
+ghost use Rattle.std.specs.Prelude.{◌≡◌, false, option_map, slice_get, suc, true};
+
+use asn_base::schema::TypeId;
+use codec_code::{Code, Coding, Field, Need, Step};
+
+/// The component that a step reads.
+fn field_in(step: Step) -> Option<Field>
+    ensures { result ≡ field_in' step }
+{
+    match step {
+        Step::Field(field) => Some(field),
+        Step::Ranked(field, _) => Some(field),
+        Step::Head(_) => None,
+        Step::Leaf(_) => None,
+        Step::Each(_) => None,
+        Step::EachSorted(_) => None,
+        Step::Pick(_) => None,
+        Step::Call(_) => None,
+        Step::Rest => None,
+        Step::End => None,
+    }
+}
+
+/// The type of the elements that a step reads.
+fn element_in(step: Step) -> Option<TypeId>
+    ensures { result ≡ element_in' step }
+{
+    match step {
+        Step::Each(id) => Some(id),
+        Step::EachSorted(id) => Some(id),
+        Step::Field(_) => None,
+        Step::Ranked(_, _) => None,
+        Step::Head(_) => None,
+        Step::Leaf(_) => None,
+        Step::Pick(_) => None,
+        Step::Call(_) => None,
+        Step::Rest => None,
+        Step::End => None,
+    }
+}
+
+/// The type that a step calls.
+fn called_in(step: Step) -> Option<TypeId>
+    ensures { result ≡ called_in' step }
+{
+    match step {
+        Step::Call(id) => Some(id),
+        Step::Each(_) => None,
+        Step::EachSorted(_) => None,
+        Step::Field(_) => None,
+        Step::Ranked(_, _) => None,
+        Step::Head(_) => None,
+        Step::Leaf(_) => None,
+        Step::Pick(_) => None,
+        Step::Rest => None,
+        Step::End => None,
+    }
+}
+
+/// The steps behind the headers that steps begin with.
+fn within(steps: &[Step]) -> &[Step]
+    ensures { result.now ≡ behind_heads steps.now }
+{
+    let Some((step, behind)) = steps.split_first() else {
+        return steps;
+    };
+    match *step {
+        Step::Head(_) => within(behind),
+        Step::Call(_) => steps,
+        Step::Each(_) => steps,
+        Step::EachSorted(_) => steps,
+        Step::Field(_) => steps,
+        Step::Ranked(_, _) => steps,
+        Step::Leaf(_) => steps,
+        Step::Pick(_) => steps,
+        Step::Rest => steps,
+        Step::End => steps,
+    }
+}
+
+/// The steps that read the contents of a type.
+fn contents(code: &Code, id: TypeId) -> &[Step]
+    ensures { result.now ≡ behind_heads (routine_at code.now id.index) }
+{
+    within(code.steps(id, Coding::Tagged))
+}
+
+/// The step at a place.
+fn step_at(steps: &[Step], place: usize) -> Option<Step>
+    ensures { result ≡ slice_get steps.now place }
+{
+    if place < steps.len() {
+        Some(steps[place])
+    } else {
+        None
+    }
+}
+
+/// The step at a place behind the first one.
+fn step_behind(steps: &[Step], place: usize) -> Option<Step>
+    ensures { result ≡ slice_get steps.now (suc place) }
+{
+    match steps.split_first() {
+        Some((_, behind)) => step_at(behind, place),
+        None => None,
+    }
+}
+
+/// The component at a place of a type, from 0 in order of definition.
+fn component_at(code: &Code, id: TypeId, place: usize) -> Option<Field>
+    ensures { result ≡ option_map (field_of place) (slice_get (components (kind_at code.now id.index)) place) }
+{
+    match step_at(contents(code, id), place) {
+        Some(step) => field_in(step),
+        None => None,
+    }
+}
+
+/// The type of the elements.
+pub(crate) fn element_at(code: &Code, id: TypeId) -> Option<TypeId>
+    ensures { result ≡ option_map id_of (element_of (kind_at code.now id.index)) }
+{
+    match step_at(contents(code, id), 0) {
+        Some(step) => element_in(step),
+        None => None,
+    }
+}
+
+/// The type of the alternative with this number, from 0 in order of definition.
+pub(crate) fn alternative_at(code: &Code, id: TypeId, index: usize) -> Option<TypeId>
+    ensures { result
+        ≡ option_map (λ a. id_of a.type) (slice_get (alternatives (kind_at code.now id.index)) index) }
+{
+    match step_behind(contents(code, id), index) {
+        Some(step) => called_in(step),
+        None => None,
+    }
+}
+
+/// The type of the component at a place.
+pub(crate) fn component_type(code: &Code, id: TypeId, place: usize) -> Option<TypeId>
+    ensures { result ≡ option_map (λ c. id_of c.type) (slice_get (components (kind_at code.now id.index)) place) }
+{
+    match component_at(code, id, place) {
+        Some(field) => Some(field.ty),
+        None => None,
+    }
+}
+
+/// Whether it is the need of an addition.
+fn is_of_addition(need: Need) -> bool
+    ensures { result ≡ is_of_addition' need }
+{
+    match need {
+        Need::Addition => true,
+        Need::Mandatory => false,
+        Need::Optional => false,
+        Need::Default => false,
+    }
+}
+
+/// Whether the component at a place is an addition.
+pub(crate) fn is_addition(code: &Code, id: TypeId, place: usize) -> bool
+    ensures { result ≡ is_addition_in (slice_get (components (kind_at code.now id.index)) place) }
+{
+    match component_at(code, id, place) {
+        Some(field) => is_of_addition(field.need),
+        None => false,
+    }
+}
