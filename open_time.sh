@@ -3,7 +3,7 @@
 # more than their length: the least processor time of five runs each, in milliseconds. The time grows as the text does. Where
 # the program bound_bench is built, it says too how long constraints take, one of 60,000 numbers among them, in microseconds, and how long
 # the notation of a long value takes to be typed, and its value to be printed: one run each, in milliseconds. Where
-# settle_rows is built, it says how long modules full of types, values and DEFAULTs take to be opened and to be settled, and
+# module_rows is built, it says how long modules full of types, values and DEFAULTs take to be opened and to be settled, and
 # how long two of their types take to be compared: one run each, in milliseconds.
 set -euo pipefail
 
@@ -177,7 +177,7 @@ else
   printf '%s\n' "bounds: bound_bench is not built (rt run in crates/bound_bench)"
 fi
 
-# settlings: lays out what settle_rows says of modules that were opened and settled, and of types that were compared.
+# settlings: lays out what module_rows says of modules that were opened and settled, and of types that were compared.
 settlings() {
   awk -F '[:,] ' '
     function tell(call, what, words,   took) {
@@ -189,9 +189,9 @@ settlings() {
 }
 
 # Types are settled and compared by a program of their own too: modules of 2,048 and of 4,096 types, and all that fit in.
-rows=$here/crates/settle_rows
-if [[ -x $rows/out/settle_rows ]]; then
-  { "$rows/out/settle_rows" "$rows/data/speed.rows" >/dev/null; } 2>&1 | settlings
+rows=$here/crates/module_rows
+if [[ -x $rows/out/module_rows ]]; then
+  { "$rows/out/module_rows" "$rows/data/speed.rows" >/dev/null; } 2>&1 | settlings
 else
-  printf '%s\n' "settlings: settle_rows is not built (rt run in crates/settle_rows)"
+  printf '%s\n' "settlings: module_rows is not built (rt run in crates/module_rows)"
 fi

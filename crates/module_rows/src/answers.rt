@@ -1,0 +1,65 @@
+//! Answers as they are printed.
+
+use crate::refusal::Refusal;
+use crate::words::{asked, wanted};
+use row_files::Row;
+use std::alloc::{AllocError, Global};
+
+/// A heading, and below it the line of each word that says what a row asks.
+pub fn lines<F: Fn(&str) -> Result<String, AllocError>>(
+    alloc: Global,
+    row: &Row,
+    heading: &str,
+    line: F,
+) -> Result<String, AllocError>
+    requires { F.IsAlwaysCallable line }
+{
+    let mut text = String::from_str(alloc, heading)?;
+    for word in &asked(alloc, row)? {
+        let line = line(word)?;
+        text.push('\n')?;
+        text.push_str(line.as_str())?;
+    }
+    Ok(text)
+}
+
+/// The words of an answer, whether it is one or a fault.
+fn words_of(answer: Result<String, Refusal>) -> Result<String, AllocError> {
+    match answer {
+        Ok(words) | Err(Refusal::Told(words)) => Ok(words),
+        Err(Refusal::Memory) => Err(AllocError),
+    }
+}
+
+/// What is said of an answer: itself where nothing is wanted, else whether it is what is wanted.
+fn judged(alloc: Global, row: &Row, answer: String) -> Result<String, AllocError> {
+    match wanted(row) {
+        None => Ok(answer),
+        Some(wanted) if answer.as_str() == wanted => String::from_str(alloc, "as wanted"),
+        Some(wanted) => format!(in alloc; "wanted:\n{wanted}\nanswered:\n{answer}"),
+    }
+}
+
+/// A text, and behind it the lines of an answer, each behind two blanks.
+fn indent(mut text: String, answer: &str) -> Result<String, AllocError> {
+    for line in answer.lines() {
+        text.push_str(if line.is_empty() { "\n" } else { "\n  " })?;
+        text.push_str(line)?;
+    }
+    Ok(text)
+}
+
+/// A row's words, and below them what is said of its answer.
+pub fn entry(
+    alloc: Global,
+    row: &Row,
+    answer: Result<String, Refusal>,
+) -> Result<String, AllocError> {
+    let said = judged(alloc, row, words_of(answer)?)?;
+    let mut text = String::from_str(alloc, row.command())?;
+    for word in row.words.iter().skip(1) {
+        text.push(' ')?;
+        text.push_str(word.as_str())?;
+    }
+    indent(text, said.as_str())
+}

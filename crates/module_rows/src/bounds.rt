@@ -1,0 +1,120 @@
+//! What the constraints of types leave.
+
+ghost use Rattle.std.specs.Prelude.{◌<◌, length};
+
+use crate::linking::type_at;
+use crate::marks::{put_end, put_ranges};
+use asn_base::constraint::Bounds;
+use asn_base::schema::TypeId;
+use constraints::{
+    Bounded, allows_character, allows_number, allows_size, alphabet, codes, constraint, range, size,
+};
+use std::alloc::{AllocError, Global};
+
+/// Adds bounds, nothing where there are none.
+fn put_seen(out: &mut String, what: &str, bounds: Option<Bounds>) -> Result<(), AllocError> {
+    let Some(bounds) = bounds else {
+        return Ok(());
+    };
+    write!(out, " {what} ")?;
+    put_end(out, bounds.least, "MIN")?;
+    out.push_str(" to ")?;
+    put_end(out, bounds.greatest, "MAX")?;
+    out.push_str(if bounds.extensible { ", ...;" } else { ";" })
+}
+
+/// Adds the characters of a string type, how many where there are some that can't be printed.
+fn put_characters(
+    alloc: Global,
+    out: &mut String,
+    bounded: &Bounded<'_>,
+    ty: TypeId,
+) -> Result<(), AllocError>
+    requires { ty.index < length bounded.now.types }
+{
+    let Some(seen) = alphabet(bounded, ty) else {
+        return Ok(());
+    };
+    let count = seen.count();
+    let kept = codes(alloc, bounded, ty)?;
+    match str::from_utf8(kept.as_slice()) {
+        Ok(text) if count < 96 => write!(out, " characters {text};"),
+        _ => write!(out, " {count} characters;"),
+    }
+}
+
+/// Adds what a type's constraints leave: what the packed encoding sees, and what is allowed.
+fn put_left(
+    alloc: Global,
+    out: &mut String,
+    bounded: &Bounded<'_>,
+    ty: TypeId,
+) -> Result<(), AllocError>
+    requires { ty.index < length bounded.now.types }
+{
+    put_seen(out, "range", range(bounded, ty))?;
+    put_seen(out, "size", size(bounded, ty))?;
+    put_characters(alloc, out, bounded, ty)?;
+    let kept = constraint(alloc, bounded, ty)?;
+    out.push_str(" allows")?;
+    match &kept.allowed {
+        None => out.push_str(" all"),
+        Some(all) => put_ranges(out, all.as_slice()),
+    }
+}
+
+/// Whether a number, or a size of a type that is no INTEGER, may be that of a value.
+fn allows(bounded: &Bounded<'_>, ty: TypeId, number: &str) -> bool
+    requires { ty.index < length bounded.now.types }
+{
+    match (
+        range(bounded, ty),
+        number.parse::<i128>(),
+        number.parse::<usize>(),
+    ) {
+        (Some(_), Ok(number), _) => allows_number(bounded, ty, number),
+        (None, _, Ok(number)) => allows_size(bounded, ty, number),
+        _ => false,
+    }
+}
+
+/// Whether each character of a text may stand in a value.
+fn allows_text(bounded: &Bounded<'_>, ty: TypeId, text: &str) -> bool
+    requires { ty.index < length bounded.now.types }
+{
+    for character in text.chars() {
+        if !allows_character(bounded, ty, u32::from(character)) {
+            return false;
+        }
+    }
+    true
+}
+
+/// What is answered of `M.T`, `M.T=NUMBER` or `M.T:TEXT`.
+pub fn line(alloc: Global, bounded: &Bounded<'_>, word: &str) -> Result<String, AllocError> {
+    let (name, number) = match word.split_once('=') {
+        Some((name, number)) => (name, Some(number)),
+        None => (word, None),
+    };
+    let (name, text) = match name.split_once(':') {
+        Some((name, text)) => (name, Some(text)),
+        None => (name, None),
+    };
+    let Some(ty) = type_at(bounded.linked(), name) else {
+        return format!(in alloc; "{word}: no type");
+    };
+    if !bounded.has(ty) {
+        return format!(in alloc; "{word}: no number of a type");
+    }
+    let is_allowed = match (number, text) {
+        (Some(number), _) => allows(bounded, ty, number),
+        (None, Some(text)) => allows_text(bounded, ty, text),
+        (None, None) => {
+            let mut line = format!(in alloc; "{word}:")?;
+            put_left(alloc, &mut line, bounded, ty)?;
+            return Ok(line);
+        }
+    };
+    let not = if is_allowed { "" } else { "not " };
+    format!(in alloc; "{word}: {not}allowed")
+}

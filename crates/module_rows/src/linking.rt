@@ -1,0 +1,141 @@
+//! The modules of a row, linked, and what is asked of them at each step from there.
+
+ghost use Rattle.std.specs.Prelude.{IfOk};
+ghost use Rattle.type_table.specs.Lists.{AreSound};
+
+use crate::answers::lines;
+use crate::faults::unbound;
+use crate::refusal::{Refusal, told};
+use crate::words::modules_of;
+use crate::{bounds, links, notations, paths};
+use asn_base::schema::TypeId;
+use constraints::{Bounded, bound};
+use resolve::{Linked, Referent, link};
+use row_files::Row;
+use std::alloc::{AllocError, Global};
+use tagging::{Tagged, tag};
+use trees::Module;
+use type_table::Shape;
+
+/// The module of a text.
+fn module(alloc: Global, text: &[u8]) -> Result<Module, Refusal> {
+    let tokens = text::lex(alloc, text).map_err(|fault| told(alloc, &fault))?;
+    syntax::parse(alloc, text, tokens.as_slice()).map_err(|fault| told(alloc, &fault))
+}
+
+/// The modules of texts, linked, or the fault that a text has or that linking tells, in words.
+fn linked(alloc: Global, texts: &[Vec<u8>]) -> Result<Linked, Refusal>
+    ensures { IfOk result (λ l. AreSound l.types) }
+{
+    let mut modules = Vec::new(alloc);
+    for text in texts {
+        modules.push(module(alloc, text.as_slice())?)?;
+    }
+    match link(alloc, modules) {
+        Ok(linked) => Ok(linked),
+        Err(fault) => Err(told(alloc, &fault)),
+    }
+}
+
+/// The type of a list's member.
+fn member_type(linked: &Linked, list: TypeId, name: &str) -> Option<TypeId> {
+    let written = linked.types().get(list.index)?;
+    match &written.shape {
+        Shape::Members(_, _, members) => members
+            .iter()
+            .find(|m| m.name.it.as_str() == name)
+            .map(|m| TypeId { index: m.ty }),
+        _ => None,
+    }
+}
+
+/// The type that is named as `Module.Type`, or its member that is named as `Module.Type.member`; None where there is no
+/// such name.
+pub fn type_at(linked: &Linked, path: &str) -> Option<TypeId> {
+    let (within, rest) = path.split_once('.')?;
+    let (name, member) = match rest.split_once('.') {
+        Some((name, member)) => (name, Some(member)),
+        None => (rest, None),
+    };
+    match (linked.find(within, name), member) {
+        (Some(Referent::TypeNamed(id)), None) => Some(id),
+        (Some(Referent::TypeNamed(id)), Some(member)) => member_type(linked, id, member),
+        _ => None,
+    }
+}
+
+/// What is asked of modules whose constraints have their meanings.
+fn answer_bounded(
+    alloc: Global,
+    row: &Row,
+    texts: &[Vec<u8>],
+    bounded: &Bounded<'_>,
+) -> Result<String, AllocError>
+    requires sound { AreSound bounded.now.types }
+{
+    if row.command() == "bounds" {
+        return lines(
+            alloc,
+            row,
+            "bounded",
+            |word| bounds::line(alloc, bounded, word),
+        );
+    }
+    lines(
+        alloc,
+        row,
+        "typed",
+        |word| notations::line(alloc, texts, bounded, word),
+    )
+}
+
+/// What is asked of modules whose types have tags.
+fn answer_tagged(
+    alloc: Global,
+    row: &Row,
+    texts: &[Vec<u8>],
+    tagged: &Tagged<'_>,
+) -> Result<String, Refusal>
+    requires sound { AreSound tagged.now.types }
+{
+    if row.command() == "tags" {
+        return Ok(lines(
+            alloc,
+            row,
+            "tagged",
+            |word| paths::line(alloc, tagged, word),
+        )?);
+    }
+    match bound(alloc, tagged) {
+        Ok(bounded) => Ok(answer_bounded(alloc, row, texts, &bounded)?),
+        Err(fault) => Ok(unbound(alloc, texts, &fault)?),
+    }
+}
+
+/// What is asked of modules that are linked.
+fn answer_linked(
+    alloc: Global,
+    row: &Row,
+    texts: &[Vec<u8>],
+    linked: &Linked,
+) -> Result<String, Refusal>
+    requires sound { AreSound linked.now.types }
+{
+    if row.command() == "link" {
+        return Ok(links::answer(alloc, row, linked)?);
+    }
+    match tag(alloc, linked) {
+        Ok(tagged) => answer_tagged(alloc, row, texts, &tagged),
+        Err(fault) => Err(told(alloc, &fault)),
+    }
+}
+
+/// `link NAME [WORD ..]`: how many modules, types and values there are, and what each name means.
+/// `tags NAME [WORD ..]`: the tags of each type that is named.
+/// `bounds NAME [WORD ..]`: what the constraints of each type leave.
+/// `typed NAME [WORD ..]`: the value of each notation, or what is wrong with it.
+pub fn answer(alloc: Global, row: &Row) -> Result<String, Refusal> {
+    let texts = modules_of(alloc, row, false)?;
+    let linked = linked(alloc, texts.as_slice())?;
+    answer_linked(alloc, row, texts.as_slice(), &linked)
+}

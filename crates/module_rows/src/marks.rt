@@ -1,0 +1,57 @@
+//! Tags, ends of ranges and kinds of strings in few words.
+
+use asn_base::constraint::Range;
+use asn_base::strings::StringKind;
+use asn_base::tag::{Class, Tag};
+use std::alloc::AllocError;
+
+/// Adds a tag as the notation writes it, its class in words but for context.
+pub fn put_tag(out: &mut String, tag: Tag) -> Result<(), AllocError> {
+    let class = match tag.class {
+        Class::Universal => "UNIVERSAL ",
+        Class::Application => "APPLICATION ",
+        Class::Context => "",
+        Class::Private => "PRIVATE ",
+    };
+    let number = tag.number;
+    write!(out, "[{class}{number}]")
+}
+
+/// Adds an end, or a word where there is none.
+pub fn put_end(out: &mut String, end: Option<i128>, none: &str) -> Result<(), AllocError> {
+    match end {
+        Some(number) => write!(out, "{number}"),
+        None => out.push_str(none),
+    }
+}
+
+/// Adds the ranges of what is allowed.
+pub fn put_ranges(out: &mut String, ranges: &[Range]) -> Result<(), AllocError> {
+    for range in ranges {
+        out.push(' ')?;
+        put_end(out, range.least, "MIN")?;
+        out.push_str("..")?;
+        put_end(out, range.greatest, "MAX")?;
+    }
+    Ok(())
+}
+
+/// Adds a comma, but in front of the first.
+pub fn put_comma(out: &mut String, place: usize) -> Result<(), AllocError> {
+    out.push_str(if place == 0 { "" } else { ", " })
+}
+
+/// Adds what stands before the members of a list, or the items of an enumeration: whether there can be more of them.
+pub fn put_marker(out: &mut String, is_extensible: bool) -> Result<(), AllocError> {
+    out.push_str(if is_extensible { " ... {" } else { " {" })
+}
+
+/// The word of a string type.
+pub fn string_word(kind: StringKind) -> &'static str {
+    match kind {
+        StringKind::Numeric => "NumericString",
+        StringKind::Printable => "PrintableString",
+        StringKind::Ia5 => "IA5String",
+        StringKind::Visible => "VisibleString",
+    }
+}

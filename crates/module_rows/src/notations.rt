@@ -1,0 +1,166 @@
+//! The values that notations stand for, or what is wrong with them.
+
+ghost use Rattle.std.specs.Prelude.{◌<◌, length};
+ghost use Rattle.type_table.specs.Lists.{AreSound};
+
+use crate::linking::type_at;
+use crate::places::place;
+use crate::shown::put;
+use asn_base::schema::TypeId;
+use asn_base::value::Value;
+use constraints::Bounded;
+use names::{Assigned, ValueAt};
+use resolve::Linked;
+use std::alloc::{AllocError, Global};
+use told_values::number;
+use trees::ValueSyntax;
+use typed_values::{Cause, Defaults, ValueFault, typed, typed_with};
+
+/// More levels than a value has.
+const LEVELS: u8 = 80;
+
+/// The name of a value by its number.
+fn value_name(linked: &Linked, number: usize) -> &str {
+    match linked.values().get(number) {
+        Some(value) if value.assignment < linked.assignments().len() => {
+            linked.assigned(value.assignment).name
+        }
+        _ => "?",
+    }
+}
+
+/// What tells more of a fault than a user is told: which value comes back, and the places in lists.
+fn detail(alloc: Global, linked: &Linked, cause: Cause<'_>) -> Result<String, AllocError> {
+    match cause {
+        Cause::Circular(number, _, _) => {
+            let name = value_name(linked, number);
+            format!(in alloc; ", which is {name}")
+        }
+        Cause::UnknownField(field, _, _)
+        | Cause::Repeated(field, _, _)
+        | Cause::Behind(field, _, _) => format!(in alloc; ", which is field {field}"),
+        Cause::Missing(component, _, _) => format!(in alloc; ", which is component {component}"),
+        _ => Ok(String::new(alloc)),
+    }
+}
+
+/// A fault: what a user is told of it, with the place of the name that is wrong, or of the notation, and its class; and
+/// the notation with its type.
+fn refused<'a>(
+    alloc: Global,
+    texts: &[Vec<u8>],
+    bounded: &Bounded<'a>,
+    fault: ValueFault<'a>,
+) -> Result<String, AllocError> {
+    let at = fault.at;
+    let linked = bounded.linked();
+    if at.ty.index >= linked.types().len() {
+        return String::from_str(alloc, "no type");
+    }
+    let words = told_values::told(alloc, bounded, fault)?;
+    let class = number(words.reason);
+    let named = place(alloc, texts, words.spot.module.as_str(), words.spot.at)?;
+    let detail = detail(alloc, linked, fault.cause)?;
+    let home = linked.home(at.ty);
+    let (module, name) = (home.module, home.name);
+    let notation = place(alloc, texts, at.within, at.notation.at)?;
+    format!(in alloc; "{words}{named}{detail}; {class}, notation{notation} under {module}.{name}")
+}
+
+/// A value, or a fault.
+fn told_of<'a>(
+    alloc: Global,
+    texts: &[Vec<u8>],
+    bounded: &Bounded<'a>,
+    answer: Result<Value, ValueFault<'a>>,
+) -> Result<String, AllocError> {
+    match answer {
+        Ok(value) => {
+            let mut text = String::new(alloc);
+            put(&mut text, &value, LEVELS)?;
+            Ok(text)
+        }
+        Err(fault) => refused(alloc, texts, bounded, fault),
+    }
+}
+
+/// A value assignment by its names.
+fn value_at<'a>(linked: &'a Linked, path: &str) -> Option<&'a ValueAt> {
+    let (within, name) = path.split_once('.')?;
+    match linked.meaning(within, name) {
+        Some(Assigned::Value(number)) => linked.values().get(number),
+        _ => None,
+    }
+}
+
+/// What is answered of a notation that is read a second time by one table of DEFAULTs.
+fn twice<'a>(
+    alloc: Global,
+    bounded: &Bounded<'a>,
+    ty: TypeId,
+    within: &'a str,
+    notation: &'a ValueSyntax,
+) -> Result<Result<Value, ValueFault<'a>>, AllocError>
+    requires there { ty.index < length bounded.now.types }
+    requires sound { AreSound bounded.now.types }
+{
+    let mut defaults = Defaults::of(alloc, bounded)?;
+    let first = typed_with(alloc, bounded, &mut defaults, ty, within, notation);
+    drop(first);
+    Ok(typed_with(alloc, bounded, &mut defaults, ty, within, notation))
+}
+
+/// What is answered of a notation, read alone and by a table of DEFAULTs.
+fn answer<'a>(
+    alloc: Global,
+    texts: &[Vec<u8>],
+    bounded: &Bounded<'a>,
+    ty: TypeId,
+    within: &'a str,
+    notation: &'a ValueSyntax,
+) -> Result<String, AllocError>
+    requires there { ty.index < length bounded.now.types }
+    requires sound { AreSound bounded.now.types }
+{
+    let alone = typed(alloc, bounded, ty, within, notation);
+    let alone = told_of(alloc, texts, bounded, alone)?;
+    let shared = twice(alloc, bounded, ty, within, notation)?;
+    let shared = told_of(alloc, texts, bounded, shared)?;
+    if alone == shared {
+        Ok(alone)
+    } else {
+        format!(in alloc; "{alone}, and with a table {shared}")
+    }
+}
+
+/// What is answered of `M.v` or `M.v=M.T`.
+pub fn line(
+    alloc: Global,
+    texts: &[Vec<u8>],
+    bounded: &Bounded<'_>,
+    word: &str,
+) -> Result<String, AllocError>
+    requires sound { AreSound bounded.now.types }
+{
+    let linked = bounded.linked();
+    let (name, under) = match word.split_once('=') {
+        Some((name, under)) => (name, Some(under)),
+        None => (word, None),
+    };
+    let Some(value) = value_at(linked, name) else {
+        return format!(in alloc; "{word}: no value");
+    };
+    let ty = match under {
+        None => TypeId { index: value.ty },
+        Some(path) => match type_at(linked, path) {
+            Some(ty) => ty,
+            None => return format!(in alloc; "{word}: no type"),
+        },
+    };
+    if !bounded.has(ty) || value.assignment >= linked.assignments().len() {
+        return format!(in alloc; "{word}: no number of a type");
+    }
+    let within = linked.assigned(value.assignment).module;
+    let answer = answer(alloc, texts, bounded, ty, within, &value.syntax)?;
+    format!(in alloc; "{word}: {answer}")
+}

@@ -1,0 +1,33 @@
+//! The tags of types.
+
+use crate::linking::type_at;
+use crate::marks::put_tag;
+use std::alloc::{AllocError, Global};
+use tagging::{FormedTag, TagForm, Tagged, tags_of};
+
+/// Adds tags with their forms, the outermost first.
+fn put_path(out: &mut String, path: &[FormedTag]) -> Result<(), AllocError> {
+    for formed in path {
+        out.push(' ')?;
+        put_tag(out, formed.tag)?;
+        out.push_str(match formed.form {
+            TagForm::Implicit => " implicit",
+            TagForm::Explicit => " explicit",
+        })?;
+    }
+    Ok(())
+}
+
+/// The tags of a type that is named.
+pub fn line(alloc: Global, tagged: &Tagged<'_>, name: &str) -> Result<String, AllocError> {
+    let Some(ty) = type_at(tagged.linked(), name) else {
+        return format!(in alloc; "{name}: no type");
+    };
+    if !tagged.has(ty) {
+        return format!(in alloc; "{name}: no number of a type");
+    }
+    let path = tags_of(alloc, tagged, ty)?;
+    let mut text = format!(in alloc; "{name}:")?;
+    put_path(&mut text, path.as_slice())?;
+    Ok(text)
+}

@@ -1,0 +1,47 @@
+//! The schemas of accepted texts.
+
+use crate::answers::lines;
+use crate::faults::refused;
+use crate::linking::type_at;
+use crate::refusal::Refusal;
+use crate::types::put_type;
+use crate::words::modules_of;
+use front_end::{Front, open};
+use row_files::Row;
+use std::alloc::{AllocError, Global};
+
+/// How many levels of types are told.
+const LEVELS: u8 = 3;
+
+/// What is answered of `M.T` or `M.T.member`.
+fn line(alloc: Global, front: &Front, word: &str) -> Result<String, AllocError> {
+    let Some(ty) = type_at(&front.linked, word) else {
+        return format!(in alloc; "{word} no type");
+    };
+    let mut text = format!(in alloc; "{word} ")?;
+    put_type(alloc, &mut text, &front.schema, ty, LEVELS)?;
+    Ok(text)
+}
+
+/// How many types there are, and below that each that is named.
+fn told_types(alloc: Global, row: &Row, front: &Front) -> Result<String, AllocError> {
+    let count = front.schema.types().len();
+    let heading = format!(in alloc; "{count} types")?;
+    lines(
+        alloc,
+        row,
+        heading.as_str(),
+        |word| line(alloc, front, word),
+    )
+}
+
+/// `settled NAME [TYPE ..]`: how many types the schema of the row's modules has, and below that each type that is
+/// named, as `Module.Type` or `Module.Type.member`, with the types that it holds; or the fault that stands in the
+/// modules.
+pub fn answer(alloc: Global, row: &Row) -> Result<String, Refusal> {
+    let texts = modules_of(alloc, row, false)?;
+    match open(alloc, texts.as_slice()) {
+        Ok(front) => Ok(told_types(alloc, row, &front)?),
+        Err(fault) => Ok(refused(alloc, texts.as_slice(), &fault)?),
+    }
+}

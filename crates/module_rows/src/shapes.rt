@@ -1,0 +1,87 @@
+//! Written types in few words.
+
+use crate::marks::{put_comma, put_marker, put_tag, string_word};
+use std::alloc::AllocError;
+use trees::{ElementsKind, Keyword, ListKind, PresenceSyntax, Simple, Standing};
+use type_table::{ListMember, Shape};
+
+fn simple(simple: &Simple) -> &'static str {
+    match simple {
+        Simple::Boolean => "BOOLEAN",
+        Simple::Integer(_) => "INTEGER",
+        Simple::BitString(_) => "BIT STRING",
+        Simple::OctetString => "OCTET STRING",
+        Simple::Null => "NULL",
+        Simple::ObjectIdentifier => "OBJECT IDENTIFIER",
+        Simple::RelativeOid => "RELATIVE-OID",
+        Simple::Enumerated(_) => "ENUMERATED",
+        Simple::Utf8String => "UTF8String",
+        Simple::Restricted(kind) => string_word(*kind),
+    }
+}
+
+fn list(kind: ListKind) -> &'static str {
+    match kind {
+        ListKind::Sequence => "SEQUENCE",
+        ListKind::Set => "SET",
+        ListKind::Choice => "CHOICE",
+    }
+}
+
+fn presence(presence: &PresenceSyntax) -> &'static str {
+    match presence {
+        PresenceSyntax::Mandatory => "",
+        PresenceSyntax::Optional => " OPTIONAL",
+        PresenceSyntax::Default(_) => " DEFAULT",
+    }
+}
+
+fn keyword(keyword: Keyword) -> &'static str {
+    match keyword {
+        Keyword::Absent => "",
+        Keyword::Implicit => "IMPLICIT ",
+        Keyword::Explicit => "EXPLICIT ",
+    }
+}
+
+/// Adds what stands before a member behind the marker: `+`, and the number of its brackets.
+fn put_standing(out: &mut String, standing: Standing) -> Result<(), AllocError> {
+    match standing {
+        Standing::Root => Ok(()),
+        Standing::Addition(None) => out.push_str("+ "),
+        Standing::Addition(Some(brackets)) => write!(out, "+{brackets} "),
+    }
+}
+
+/// Adds the members of a list, each with the number of its type.
+fn put_members(out: &mut String, members: &[ListMember]) -> Result<(), AllocError> {
+    for (place, member) in members.iter().enumerate() {
+        put_comma(out, place)?;
+        put_standing(out, member.standing)?;
+        let name = member.name.it.as_str();
+        let ty = member.ty;
+        let presence = presence(&member.presence);
+        write!(out, "{name} {ty}{presence}")?;
+    }
+    out.push('}')
+}
+
+/// Adds a written type, the types in it by their numbers.
+pub fn put_shape(out: &mut String, shape: &Shape) -> Result<(), AllocError> {
+    match shape {
+        Shape::Simple(plain) => out.push_str(simple(plain)),
+        Shape::Reference(number) => write!(out, "reference to {number}"),
+        Shape::Tagged(label, word, number) => {
+            put_tag(out, *label)?;
+            let word = keyword(*word);
+            write!(out, " {word}{number}")
+        }
+        Shape::Members(kind, is_extensible, members) => {
+            out.push_str(list(*kind))?;
+            put_marker(out, *is_extensible)?;
+            put_members(out, members.as_slice())
+        }
+        Shape::Elements(ElementsKind::SequenceOf, number) => write!(out, "SEQUENCE OF {number}"),
+        Shape::Elements(ElementsKind::SetOf, number) => write!(out, "SET OF {number}"),
+    }
+}

@@ -1,0 +1,100 @@
+//! Values in words: those in braces stand there in order, and `-` stands for one that is absent.
+
+use asn_base::value::{BitString, Value};
+use std::alloc::AllocError;
+
+/// The bits of a string, the last one at most that its octets have.
+fn bits(out: &mut String, bits: &BitString) -> Result<(), AllocError> {
+    out.push('\'')?;
+    let octets = bits.octets.as_slice();
+    for i in 0..octets.len() {
+        let unused = if i + 1 == octets.len() {
+            bits.unused
+        } else {
+            0
+        };
+        for place in unused..8 {
+            let mask = 128_u8 >> (place - unused);
+            out.push(if octets[i] & mask == 0 { '0' } else { '1' })?;
+        }
+    }
+    out.push_str("'B")
+}
+
+/// Octets as hexadecimal digits.
+fn octets(out: &mut String, octets: &[u8]) -> Result<(), AllocError> {
+    out.push('\'')?;
+    for octet in octets {
+        write!(out, "{octet:02X}")?;
+    }
+    out.push_str("'H")
+}
+
+/// Numbers in braces.
+fn arcs(out: &mut String, arcs: &[u64]) -> Result<(), AllocError> {
+    out.push('{')?;
+    for (i, arc) in arcs.iter().enumerate() {
+        if i > 0 {
+            out.push(' ')?;
+        }
+        write!(out, "{arc}")?;
+    }
+    out.push('}')
+}
+
+/// The members of a value that is at least so many levels above the deepest that are told.
+#[cycle(showing)]
+fn fields(out: &mut String, values: &[Option<Value>], levels: u8) -> Result<(), AllocError> {
+    out.push('{')?;
+    for i in 0..values.len() {
+        if i > 0 {
+            out.push_str(", ")?;
+        }
+        match &values[i] {
+            Some(value) => put(out, value, levels)?,
+            None => out.push('-')?,
+        }
+    }
+    out.push('}')
+}
+
+#[cycle(showing)]
+fn list(out: &mut String, values: &[Value], levels: u8) -> Result<(), AllocError> {
+    out.push('[')?;
+    for i in 0..values.len() {
+        if i > 0 {
+            out.push_str(", ")?;
+        }
+        put(out, &values[i], levels)?;
+    }
+    out.push(']')
+}
+
+/// Adds a value in words; `..` stands for those that are more levels below it than are told.
+#[cycle(showing)]
+pub fn put(out: &mut String, value: &Value, levels: u8) -> Result<(), AllocError> {
+    if levels == 0 {
+        return out.push_str("..");
+    }
+    match value {
+        Value::Bool(true) => out.push_str("TRUE"),
+        Value::Bool(false) => out.push_str("FALSE"),
+        Value::Int(number) => write!(out, "{number}"),
+        Value::Enum(number) => write!(out, "item {number}"),
+        Value::Bits(string) => bits(out, string),
+        Value::Octets(string) => octets(out, string.as_slice()),
+        Value::Text(text) => write!(out, "\"{text}\""),
+        Value::Null => out.push_str("NULL"),
+        Value::Oid(numbers) => arcs(out, numbers.as_slice()),
+        Value::RelativeOid(numbers) => {
+            out.push('.')?;
+            arcs(out, numbers.as_slice())
+        }
+        Value::Fields(values) => fields(out, values.as_slice(), levels - 1),
+        Value::List(values) => list(out, values.as_slice(), levels - 1),
+        Value::Alt(number, held) => {
+            write!(out, "{number}: ")?;
+            put(out, held, levels - 1)
+        }
+    }
+}
