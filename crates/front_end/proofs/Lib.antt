@@ -1,5 +1,6 @@
 mod Lists
 mod Texts
 mod Excluding
+mod Order
 mod Standing
 mod Notations

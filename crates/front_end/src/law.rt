@@ -5,6 +5,8 @@ ghost use Rattle.std.specs.List.{AllZip};
 ghost use Rattle.asn_base.specs.Abstract.{AbstractValue};
 ghost use Rattle.asn_base.specs.Typed.{IsValue};
 ghost use Rattle.asn_base.specs.Types.{Resolved};
+ghost use Rattle.text.specs.declared.fault.LexFault.{LexFault};
+ghost use Rattle.notation.specs.declared.fault.SyntaxFault.{SyntaxFault};
 ghost use Rattle.trees.specs.Modules.{ModuleTree};
 ghost use Rattle.trees.specs.Values.{Name, Tree};
 ghost use Rattle.resolve.specs.Links.{Links};
@@ -12,9 +14,10 @@ ghost use Rattle.resolve.specs.Program.{Program};
 ghost use Rattle.extensions.specs.Settles.{IsRead};
 ghost use Rattle.front_end.specs.Accepted.{AreAccepted, HasTypes, IsModule, Keeps};
 ghost use Rattle.front_end.specs.Faults.{Stands};
+ghost use Rattle.front_end.specs.Layers.{layer};
 ghost use Rattle.front_end.specs.Untyped.{StandsFor};
 ghost use Rattle.front_end.specs.declared.fault.FrontFault.{FrontFault as FrontFault'};
-ghost use Rattle.front_end.specs.declared.fault.FrontFault.TheVariants.{Memory};
+ghost use Rattle.front_end.specs.declared.fault.FrontFault.TheVariants.{Memory, Text as of_octets, Tree as of_tokens};
 
 /// Texts in which a fault stands, other than want of memory, are not accepted: so [`crate::open`] succeeds, memory
 /// apart, just where they are.
@@ -34,6 +37,42 @@ pub fn faults_exclude()
     tagging::law::no_other();
     constraints::law::no_other();
     extensions::law::no_other();
+}
+
+/// Faults are told layer by layer, and those of texts text by text: of two that stand in the same texts, other than
+/// want of memory, each is of the same layer; and one at most is of a text, of its octets or else of its tokens.
+pub fn one_layer()
+    ensures layer { (xs : List (List ℕ)) (e f : FrontFault') →
+        (e ≡ Memory → ⊥) →
+        (f ≡ Memory → ⊥) →
+        Stands xs e →
+        Stands xs f →
+        layer e ≡ layer f }
+    ensures octets { (xs : List (List ℕ)) (k j : ℕ) (e f : LexFault) →
+        Stands xs (of_octets k e) →
+        Stands xs (of_octets j f) →
+        (k ≡ j) × (e ≡ f) }
+    ensures tokens { (xs : List (List ℕ)) (k j : ℕ) (e f : SyntaxFault) →
+        Stands xs (of_tokens k e) →
+        Stands xs (of_tokens j f) →
+        (k ≡ j) × (e ≡ f) }
+    ensures either { (xs : List (List ℕ)) (k j : ℕ) (e : LexFault) (f : SyntaxFault) →
+        Stands xs (of_octets k e) →
+        Stands xs (of_tokens j f) →
+        ⊥ }
+{
+    one_list();
+    text::law::one_list_of_tokens();
+    text::law::tokens_or_fault();
+    text::law::one_fault();
+    syntax::one_fault();
+    modules_are_read();
+    resolve::law::link_faults_exclude();
+    resolve::law::one_program();
+    tagging::law::no_other();
+    constraints::law::no_other();
+    extensions::law::no_other();
+    extensions::law::one_kind();
 }
 
 /// Texts are one list of modules at most.

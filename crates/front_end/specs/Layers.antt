@@ -1,0 +1,17 @@
+-- The order in which faults are told: layer behind layer.
+use Rattle.std.specs.Prelude.{ℕ}
+use Rattle.front_end.specs.declared.fault.FrontFault.{FrontFault}
+use Rattle.front_end.specs.declared.fault.FrontFault.TheVariants as faults
+
+-- the place of a fault's layer in that order: texts, names, tags, constraints, what stands behind markers, DEFAULTs and
+-- value assignments; want of memory is of none
+abbrev pub layer : FrontFault → ℕ
+layer faults.Memory = 0
+layer (faults.Text k f) = 1
+layer (faults.Tree k f) = 1
+layer (faults.Name f) = 2
+layer (faults.Tag f) = 3
+layer (faults.Bound f) = 4
+layer (faults.Additions f) = 5
+layer (faults.Default t) = 6
+layer (faults.Assigned t) = 7
