@@ -3,3 +3,6 @@ mod Opening
 mod Weaker
 mod Messages
 mod Paths
+mod Once
+mod Answered
+mod Rows

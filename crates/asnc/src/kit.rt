@@ -8,7 +8,7 @@ ghost use Rattle.front_end.specs.Accepted.{Accepted, AreAccepted, HasTypes, Keep
 ghost use Rattle.front_end.specs.Faults.{Stands};
 ghost use Rattle.front_end.specs.declared.fault.FrontFault.TheVariants.{Memory as no_memory};
 ghost use Rattle.sinks.specs.Sent.{state};
-ghost use Rattle.messages.specs.declared.fault.Fault.TheVariants.{Device, Memory};
+ghost use Rattle.messages.specs.declared.fault.Fault.TheVariants.{Device, Front, Memory};
 ghost use Rattle.asnc.specs.Kits.{IsNotOpened};
 ghost use Rattle.asnc.specs.Reading.{IsNotReadAs, IsReadAs, rules_of};
 ghost use Rattle.asnc.specs.Writing.{IsEncoded, IsMeant, IsNotEncoded, IsNotMeant, IsSent, IsSentInPart};
@@ -59,6 +59,8 @@ impl Model for Kit {
 fn refusal(fault: FrontFault) -> Fault
     ensures stands { (xs : List (List ℕ)) → Stands xs fault → IsNotOpened xs result }
     ensures memory { fault ≡ no_memory → result ≡ Memory }
+    // No fault but want of memory is told as that.
+    ensures told { (fault ≡ no_memory → ⊥) → result ≡ Front fault }
 {
     match fault {
         FrontFault::Memory => Fault::Memory,

@@ -1,21 +1,26 @@
 //! What follows for what a kit answers. A caller calls a law to know it; it takes no memory and no time.
 
-ghost use Rattle.std.specs.Prelude.{◌≡◌, ℕ, List};
+ghost use Rattle.std.specs.Prelude.{◌≡◌, ℕ, List, String};
+ghost use Rattle.std.specs.Global.{Global};
 ghost use Rattle.asn_base.specs.Types.{Resolved};
 ghost use Rattle.encodings.specs.Account.{Account};
 ghost use Rattle.encodings.specs.Rules.{Rules, Basic};
 ghost use Rattle.resolve.specs.Program.{Program};
-ghost use Rattle.front_end.specs.Accepted.{Accepted};
+ghost use Rattle.front_end.specs.Accepted.{Accepted, AreAccepted};
 ghost use Rattle.messages.specs.declared.fault.Fault.{Fault};
-ghost use Rattle.messages.specs.declared.fault.Fault.TheVariants.{Memory};
+ghost use Rattle.messages.specs.declared.fault.Fault.TheVariants.{Memory, NoType, NoValue, Unread, Value};
+ghost use Rattle.messages.specs.declared.fault.Unread.{Unread as Unread'};
+ghost use Rattle.told_values.specs.declared.telling.ValueTold.{ValueTold};
 ghost use Rattle.asn_base.specs.Abstract.{AbstractValue};
 ghost use Rattle.asnc.specs.Headline.{IsAnswer, IsMessageOf, IsRight, IsRightlyRead};
+ghost use Rattle.asnc.specs.Kits.{IsNotOpened};
 ghost use Rattle.asnc.specs.Reading.{IsNotReadAs, IsReadAs, rules_of};
-ghost use Rattle.asnc.specs.Writing.{IsEncoded};
+ghost use Rattle.asnc.specs.Writing.{IsEncoded, IsNotEncoded, IsNotMeant};
 ghost use Rattle.asnc.specs.declared.reading.Rules.{Rules as Rules'};
 
 use asn_base::law::sameness;
 use encodings::{der_laws, level_laws, message_laws};
+use front_end::law::{accepted_keep, faults_exclude, one_value};
 
 /// What [`crate::Kit::der`] answers of texts that [`crate::Kit::open`] took is right, from the texts to the octets.
 pub fn headline()
@@ -62,3 +67,50 @@ pub fn reading()
     message_laws();
     sameness();
 }
+
+/// What is answered is not refused too, want of memory aside.
+pub fn one_answer()
+    // Texts that are accepted are opened.
+    ensures opened { (xs : List (List ℕ)) (p : Program) (e : Fault) →
+        AreAccepted xs p →
+        IsNotOpened xs e →
+        e ≡ Memory }
+    // What is encoded stands for a value of the type, and its encoding is not too long.
+    ensures written { (xs : List (List ℕ)) (p : Program) (s : List Resolved) (first second o : List ℕ) (a : Account)
+        (e : Fault) →
+        Accepted xs p s →
+        IsEncoded p s first second o a →
+        IsNotEncoded p s first second e →
+        e ≡ Memory }
+    // What is read encodes a value by the rules.
+    ensures read { (p : Program) (s : List Resolved) (r : Rules) (name o printed : List ℕ) (k : ℕ) (e : Fault) →
+        IsReadAs p s r name o printed k →
+        IsNotReadAs p s r name o e →
+        e ≡ Memory }
+{
+    faults_exclude();
+    accepted_keep();
+    one_value();
+}
+
+/// Refusals of names are told in one order: that of the type, then that of the value, then what is wrong with the
+/// notation or with the octets. Where one stands, none of another kind does.
+pub fn one_refusal()
+    ensures type_before_value { (p : Program) (first second : List ℕ) (x y : String Global) →
+        IsNotMeant p first second (NoType x) →
+        IsNotMeant p first second (NoValue y) →
+        ⊥ }
+    ensures type_before_notation { (p : Program) (first second : List ℕ) (x : String Global) (t : ValueTold) →
+        IsNotMeant p first second (NoType x) →
+        IsNotMeant p first second (Value t) →
+        ⊥ }
+    ensures value_before_notation { (p : Program) (first second : List ℕ) (x : String Global) (t : ValueTold) →
+        IsNotMeant p first second (NoValue x) →
+        IsNotMeant p first second (Value t) →
+        ⊥ }
+    ensures type_before_octets { (p : Program) (s : List Resolved) (r : Rules) (name o : List ℕ) (x : String Global)
+        (u : Unread') →
+        IsNotReadAs p s r name o (NoType x) →
+        IsNotReadAs p s r name o (Unread u) →
+        ⊥ }
+{}

@@ -1,0 +1,106 @@
+-- Worked rows: what a text names, by which rules octets are read, and the path of what was being read.
+use Rattle.std.proofs.Common.{arith, ◌≡◌, ℕ, zero, suc, ◌<◌, true, List, [], ◌∷◌, length, Some, None, refl, get_or}
+use Rattle.std.specs.Prelude.{codes}
+use Rattle.std.specs.Fmt.{digits}
+use Rattle.asn_base.specs.declared.schema.TypeId.{TypeId}
+use Rattle.asn_base.specs.Types.{any_size, a_boolean, a_sequence, a_sequence_of, a_choice, mandatory, optional, Resolved}
+use Rattle.encodings.specs.Rules.{Basic, Distinguished}
+use Rattle.trees.specs.Values.{Name}
+use Rattle.ber_message.specs.declared.open.Open.{Open}
+use Rattle.ber_message.specs.declared.open.Part.TheVariants.{Component, Alternative, Element}
+use Rattle.asnc.specs.Named.{IsQualified}
+use Rattle.asnc.specs.Places.{path_of, with_name, with_number}
+use Rattle.asnc.specs.Reading.{rules_of}
+use Rattle.asnc.specs.declared.reading.Rules.TheVariants as asked
+
+-- ---- names
+
+-- the name M
+abbrev module_name : Name
+module_name = 77 ∷ []
+
+less_is_other : (n m : ℕ) → m < n → n ≡ m → ⊥
+less_is_other n m l e = omega (arith, l, e)
+
+-- no dot stands in it
+no_dot : (i : ℕ) → i < length module_name → get_or module_name i 0 ≡ 46 → ⊥
+no_dot zero l e = less_is_other 77 46 (omega arith) e
+no_dot (suc i) l e = let k : suc i < 1 = l in absurd (omega (arith, k))
+
+-- M.x is x in the module M
+a_name : IsQualified (codes "M.x") module_name (codes "x")
+a_name = record { spelled = refl; plain = no_dot }
+
+-- M.x.y is x.y in the module M, and not y in a module M.x
+a_dot_behind : IsQualified (codes "M.x.y") module_name (codes "x.y")
+a_dot_behind = record { spelled = refl; plain = no_dot }
+
+no_dot_before : IsQualified (codes "M.x.y") (codes "M.x") (codes "y") → ⊥
+no_dot_before q = q.plain 1 (omega arith) refl
+
+-- ---- rules
+
+basic : rules_of asked.Ber ≡ Basic
+basic = refl
+
+distinguished : rules_of asked.Der ≡ Distinguished
+distinguished = refl
+
+-- ---- paths
+
+first : with_name [] (codes "a") ≡ codes "a"
+first = refl
+
+behind : with_name (codes "a") (codes "b") ≡ codes "a.b"
+behind = refl
+
+-- elements are counted from 0
+first_element : with_number (codes "a") 0 ≡ codes "a[0]"
+unfolding digits
+first_element = refl
+
+tenth_element : with_number [] 9 ≡ codes "[9]"
+unfolding digits
+tenth_element = refl
+
+-- a BOOLEAN, a SEQUENCE {first BOOLEAN, second the CHOICE}, a CHOICE {one BOOLEAN, ..., two the SEQUENCE OF}, and a
+-- SEQUENCE OF the SEQUENCE
+abbrev types : List Resolved
+types =
+    record { tags = []; kind = a_boolean }
+    ∷ record {
+      tags = [];
+      kind = a_sequence true
+          (record { name = codes "first"; type = 0; presence = mandatory }
+          ∷ record { name = codes "second"; type = 2; presence = optional }
+          ∷ []);
+    }
+    ∷ record {
+      tags = [];
+      kind = a_choice (record { name = codes "one"; type = 0 } ∷ []) true (record { name = codes "two"; type = 3 } ∷ []);
+    }
+    ∷ record { tags = []; kind = a_sequence_of any_size 1 }
+    ∷ []
+
+abbrev id : ℕ → TypeId
+id t = record { index = t }
+
+-- in the second component its second alternative, there the element behind two, and nothing of it
+a_path :
+    path_of types
+    (record { ty = id 1; part = Some (Component 1); read = 1 }
+    ∷ record { ty = id 2; part = Some (Alternative 1); read = 0 }
+    ∷ record { ty = id 3; part = Some (Element 2); read = 2 }
+    ∷ record { ty = id 1; part = None; read = 0 }
+    ∷ [])
+    ≡ codes "second.two[2]"
+unfolding digits
+a_path = refl
+
+-- an element of the outermost list, and its first component
+an_element_first :
+    path_of types
+    (record { ty = id 3; part = Some (Element 0); read = 0 } ∷ record { ty = id 1; part = Some (Component 0); read = 0 } ∷ [])
+    ≡ codes "[0].first"
+unfolding digits
+an_element_first = refl
