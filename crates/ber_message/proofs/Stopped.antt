@@ -1,15 +1,28 @@
 -- Where reading of a message stopped.
-use Rattle.std.proofs.Common.{arith, ◌≡◌, ℕ, ◌≤◌, List, [], length, ◌++◌, refl, sym, ap, subst, ◌∙◌, length-append}
+use Rattle.std.proofs.Common.{arith, Bool, ◌≡◌, ℕ, ◌≤◌, List, [], length, ◌++◌, refl, sym, ap, subst, ◌∙◌, length-append}
 use Rattle.std.specs.Prelude.{Result, Ok, Err, IfOk}
-use Rattle.std.specs.Prelude.{Option}
+use Rattle.std.specs.Prelude.{Option, None}
+use Rattle.codec_code.specs.declared.step.Field.{Field}
 use Rattle.codec_code.specs.declared.step.Step.{Step}
 use Rattle.codec_code.specs.Routines.{routine_at}
-use Rattle.codec_source.specs.Events.{Event}
+use Rattle.codec_source.specs.Events.{Event, Question}
 use Rattle.codec_source.specs.Stopping.{Stops, unanswered, answered, StopsThen, stops_on, not_begun, stops_within, not_ended, stops_behind, StopsReading}
 use Rattle.codec_source.specs.declared.fault.ReadFault.{ReadFault}
-use Rattle.codec_source.specs.declared.fault.ReadFault.TheVariants.{Missing, Memory}
+use Rattle.codec_source.specs.declared.fault.ReadFault.TheVariants.{Missing, Memory, MessageLimit, Trailing, OutsideConstraint, NotDer}
 use Rattle.octet_answers.specs.Answers.{Takes}
-use Rattle.octet_answers.specs.Left.{Leaves, stays, behind_addition, at_segment}
+use Rattle.octet_answers.specs.Left.{Leaves, no_room, no_value_open, no_header, too_many_headers, other_header, not_at_end, no_header_open}
+use Rattle.octet_answers.specs.Left.{contents_too_deep, bad_primitive, bad_segment, nothing_to_skip_in, not_skipped, out_of_order}
+use Rattle.octet_answers.specs.Left.{nothing_stands, no_header_stands, another_stands, no_component, stood_before, not_all_read}
+use Rattle.octet_answers.specs.Left.{no_header_to_pick, no_alternative}
+use Rattle.octet_answers.specs.Left.{Blocks, no_encoding, addition_too_deep, no_addition, behind_addition}
+use Rattle.octet_answers.specs.Left.{of_header, of_leaf, of_segments}
+use Rattle.octet_answers.specs.Found.{Passes, at_end_of_contents, at_component, passes}
+use Rattle.octets.specs.declared.fault.HeaderFault.{HeaderFault}
+use Rattle.octets.specs.declared.fault.HeaderFault.TheVariants as headers
+use Rattle.leaf_readings.specs.declared.fault.LeafFault.{LeafFault}
+use Rattle.leaf_readings.specs.declared.fault.LeafFault.TheVariants as leaves
+use Rattle.segmented_strings.specs.declared.fault.Why.{Why}
+use Rattle.segmented_strings.specs.declared.fault.Why.TheVariants as whys
 use Rattle.octet_answers.specs.States.{State, front}
 use Rattle.ber_message.specs.Messages.{EndsTooSoon, room_of}
 use Rattle.reading_law.specs.Shows.{IsSliceAt}
@@ -38,31 +51,95 @@ place_told o z (Ok w) h p = subst (λ q. q ≤ length o) (sym p) (is_within h)
 place_told o z (Err e) h p = p
 
 -- what holds wherever a question leaves a source, holds where a run stops
-module _ {S : Type 0} (r : ℕ → List Step) (takes : S → Event → S → Type 0) (l : S → S → Type 0) (Q : S → Type 0) (holds : (a b : S) → l a b → Q b) where
+module _ {S : Type 0} (r : ℕ → List Step) (takes : S → Event → S → Type 0) (l : S → Question → S → Type 0) (Q : S → Type 0) (holds : (a : S) (q : Question) (b : S) → l a q b → Q b) where
   mutual
     at_stop : {ss : List Step} {x z : S} → Stops r takes l ss x z → Q z
-    at_stop (unanswered n h) = holds _ _ h
+    at_stop (unanswered n h) = holds _ _ _ h
     at_stop (answered q s) = at_stop_then s
 
     at_stop_then : {t : Option TypeId} {ss : List Step} {x z : S} → StopsThen r takes l t ss x z → Q z
     at_stop_then (stops_on s) = at_stop s
-    at_stop_then (not_begun n h) = holds _ _ h
+    at_stop_then (not_begun n h) = holds _ _ _ h
     at_stop_then (stops_within g s) = at_stop s
-    at_stop_then (not_ended g d n h) = holds _ _ h
+    at_stop_then (not_ended g d n h) = holds _ _ _ h
     at_stop_then (stops_behind g d i s) = at_stop s
 
-missing_at_end : {a b : State} {e : ReadFault} → Leaves a b e → e ≡ Missing → b.here.octets ≡ []
-missing_at_end (stays n) m = n m
-missing_at_end (behind_addition u h) m = missing_at_end h m
-missing_at_end (at_segment n k) m = absurd (k m)
+-- the faults that a question may be refused with, and what the state is behind it
+abbrev pub IsAsked : ReadFault → State → Type 0
+IsAsked Memory b = ⊥
+IsAsked MessageLimit b = ⊥
+IsAsked Trailing b = ⊥
+IsAsked OutsideConstraint b = ⊥
+IsAsked NotDer b = ⊥
+IsAsked Missing b = b.here.octets ≡ []
+IsAsked e b = Unit {0}
 
-pub ends_too_soon : (s : List Resolved) (t : TypeId) (o : List ℕ) (e : ReadFault) (z : State) → e ≡ Missing → StopsReading (λ u. routine_at s u) Takes (λ a b. Leaves a b e) t (front s o (room_of (length o))) z → EndsTooSoon s t o
+header_asked : (f : HeaderFault) (b : State) → IsAsked (of_header f) b
+header_asked headers.Truncated b = tt
+header_asked headers.Indefinite b = tt
+header_asked headers.BadLength b = tt
+header_asked headers.BadTag b = tt
+
+leaf_asked : (f : LeafFault) (b : State) → IsAsked (of_leaf f) b
+leaf_asked leaves.BadContents b = tt
+leaf_asked leaves.IntegerLimit b = tt
+leaf_asked leaves.OidLimit b = tt
+
+segments_asked : (f : Why) (b : State) → IsAsked (of_segments f) b
+segments_asked (whys.Header f) b = header_asked f b
+segments_asked whys.UnexpectedTag b = tt
+segments_asked whys.BadContents b = tt
+segments_asked whys.EmptySegments b = tt
+segments_asked whys.TooDeep b = tt
+
+blocks_asked : {s : List Resolved} {ss : List Step} {d : Bool} {a b : State} {e : ReadFault} → Blocks s ss d a b e → IsAsked e b
+blocks_asked {b = b} (no_encoding f n h) = header_asked f b
+blocks_asked (addition_too_deep u n l) = tt
+blocks_asked (no_addition u n l d) = tt
+blocks_asked (behind_addition d u n l h) = blocks_asked h
+
+passed_to_end : {s : List Resolved} {ss : List Step} {d : Bool} {a b : State} {f : Option Field} → Passes s ss d a f b → f ≡ None → b.here.octets ≡ []
+passed_to_end (at_end_of_contents e) n = e
+passed_to_end (at_component u i) n = absurd (cc)
+passed_to_end (passes d u m l h) n = passed_to_end h n
+
+left_asked : {a b : State} {q : Question} {e : ReadFault} → Leaves a q b e → IsAsked e b
+left_asked (no_room n) = tt
+left_asked (no_value_open n) = tt
+left_asked {b = b} (no_header f h) = header_asked f b
+left_asked (too_many_headers u l) = tt
+left_asked (other_header u l o) = tt
+left_asked (not_at_end l) = tt
+left_asked (no_header_open n o) = tt
+left_asked (contents_too_deep l) = tt
+left_asked {b = b} (bad_primitive f l c h) = leaf_asked f b
+left_asked {b = b} (bad_segment f r c h l) = segments_asked f b
+left_asked (nothing_to_skip_in n) = tt
+left_asked (not_skipped t os v h) = blocks_asked h
+left_asked (out_of_order t os v h) = tt
+left_asked (nothing_stands n o) = o
+left_asked {b = b} (no_header_stands f n h) = header_asked f b
+left_asked (another_stands n o) = tt
+left_asked (no_component h) = blocks_asked h
+left_asked (stood_before h m) = tt
+left_asked (not_all_read h n) = passed_to_end h refl
+left_asked {b = b} (no_header_to_pick f h) = header_asked f b
+left_asked (no_alternative u n) = tt
+
+pub stop_asked : {r : ℕ → List Step} {t : TypeId} {x z : State} {e : ReadFault} → StopsReading r Takes (λ a q b. Leaves a q b e) t x z → IsAsked e z
+stop_asked {r = r} {e = e} h = at_stop_then r Takes (λ a q b. Leaves a q b e) (IsAsked e) (λ a q b k. left_asked k) h
+
+-- a fault that no question is refused with
+pub never_stops : {P : Type 0} (f g : ReadFault) {r : ℕ → List Step} {t : TypeId} {x z : State} → f ≡ g → (g ≡ Memory → ⊥) → (IsAsked g z → ⊥) → ((f ≡ Memory → ⊥) → StopsReading r Takes (λ a q b. Leaves a q b f) t x z) → P
+never_stops f g {z = z} e m n h = absurd (n (subst (λ q. IsAsked q z) e (stop_asked (h (λ i. m (sym e ∙ i))))))
+
+pub ends_too_soon : (s : List Resolved) (t : TypeId) (o : List ℕ) (e : ReadFault) (z : State) → e ≡ Missing → StopsReading (λ u. routine_at s u) Takes (λ a q b. Leaves a q b e) t (front s o (room_of (length o))) z → EndsTooSoon s t o
 ends_too_soon s t o e z m h =
-    let h2 = subst (λ q. StopsReading (λ u. routine_at s u) Takes (λ a b. Leaves a b q) t (front s o (room_of (length o))) z) m h in
+    let h2 = subst (λ q. StopsReading (λ u. routine_at s u) Takes (λ a u b. Leaves a u b q) t (front s o (room_of (length o))) z) m h in
     record {
       last = z;
       stops = h2;
-      at_end = at_stop_then (λ u. routine_at s u) Takes (λ a b. Leaves a b Missing) (λ q. q.here.octets ≡ []) (λ a b k. missing_at_end k refl) h2;
+      at_end = stop_asked h2;
     }
 
 abbrev pub fault_or : {A : Type 0} → ReadFault → Result A ReadFault → ReadFault

@@ -1,5 +1,5 @@
 -- What a message says, and what was told of it.
-use Rattle.std.specs.Prelude.{◌≡◌, ℕ, ◌+◌, ◌*◌, ◌≤◌, List, [], ◌++◌, length}
+use Rattle.std.specs.Prelude.{◌≡◌, ℕ, ◌+◌, ◌*◌, ◌<◌, ◌≤◌, List, [], ◌++◌, length}
 use Rattle.asn_base.specs.declared.schema.TypeId.{TypeId}
 use Rattle.asn_base.specs.Abstract.{AbstractValue}
 use Rattle.asn_base.specs.Types.{TypeNumber, Resolved}
@@ -11,7 +11,9 @@ use Rattle.encodings.specs.Levels.{levels}
 use Rattle.codec_code.specs.Routines.{id_of, routine_at}
 use Rattle.codec_source.specs.Reading.{Reads}
 use Rattle.codec_source.specs.Stopping.{StopsReading}
-use Rattle.codec_source.specs.declared.fault.ReadFault.TheVariants.{Missing}
+use Rattle.codec_source.specs.declared.fault.ReadFault.{ReadFault}
+use Rattle.codec_source.specs.declared.fault.ReadFault.TheVariants.{MessageLimit, Missing, Trailing, Truncated, UnexpectedTag}
+use Rattle.octets.specs.Fronts.{EndsEarly}
 use Rattle.octet_answers.specs.Answers.{Takes}
 use Rattle.octet_answers.specs.Left.{Leaves}
 use Rattle.octet_answers.specs.States.{State, Token, front}
@@ -64,7 +66,7 @@ pub record HasMessageFirst (s : List Resolved) (t : TypeNumber) (o : Octets) : T
 pub record EndsTooSoon (s : List Resolved) (t : TypeId) (o : Octets) : Type 0 where
   pub last : State
   pub stops :
-      StopsReading (λ u. routine_at s u) Takes (λ a b. Leaves a b Missing) t (front s o (room_of (length o))) last
+      StopsReading (λ u. routine_at s u) Takes (λ a q b. Leaves a q b Missing) t (front s o (room_of (length o))) last
   pub at_end : last.here.octets ≡ []
 
 -- Octets say something of the type's shape that is no value of it: a constraint isn't met, an ENUMERATED lacks the
@@ -103,3 +105,19 @@ pub record HasEncodingFirst (s : List Resolved) (t : TypeNumber) (o : Octets) : 
   pub whole : o ≡ octets ++ rest
   pub some : 1 ≤ length rest
   pub short : length o ≤ 16777216
+
+-- the type's routine comes to a question without an answer, which is refused with this fault
+pub record StopsWith (s : List Resolved) (t : TypeId) (o : Octets) (e : ReadFault) : Type 0 where
+  pub last : State
+  pub stops :
+      StopsReading (λ u. routine_at s u) Takes (λ a q b. Leaves a q b e) t (front s o (room_of (length o))) last
+
+-- Why octets are refused as a message of the type, constraints apart: there are more than one has; a value ends before
+-- they do; they end within their first header, or before the contents that it tells; or a question has no answer. A
+-- type that the schema lacks has no first tag.
+pub data Refuses (s : List Resolved) (t : TypeId) (o : Octets) : ReadFault → Type 0 where
+  too_long : 16777216 < length o → Refuses s t o MessageLimit
+  more_behind : length o ≤ 16777216 → HasMessageFirst s t.index o → Refuses s t o Trailing
+  cut_off : length o ≤ 16777216 → EndsEarly o → Refuses s t o Truncated
+  stopped : {e : ReadFault} → length o ≤ 16777216 → StopsWith s t o e → Refuses s t o e
+  no_type : length o ≤ 16777216 → (t.index < length s → ⊥) → Refuses s t o UnexpectedTag

@@ -25,7 +25,7 @@ pub record IsAt (o : Octets) (w : Whereabouts) (z : State) : Type 0 where
 -- answer, or reads a value; or there are more octets than a message has, and the first one behind those is told.
 pub data IsStop (s : List Resolved) (t : TypeId) (o : Octets) (most : ℕ) (w : Whereabouts) : Type 0 where
   stops : (z : State) (e : ReadFault)
-      → StopsReading (λ u. routine_at s u) Takes (λ a b. Leaves a b e) t (front s o most) z
+      → StopsReading (λ u. routine_at s u) Takes (λ a q b. Leaves a q b e) t (front s o most) z
       → IsAt o w z
       → IsStop s t o most w
   reads : (z : State) → Reads (λ u. routine_at s u) Takes t (front s o most) z → IsAt o w z → IsStop s t o most w

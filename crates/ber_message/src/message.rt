@@ -2,9 +2,9 @@
 
 ghost use Rattle.asn_base.specs.Abstract.{AbstractValue};
 ghost use Rattle.asn_base.specs.declared.tag.Tag.{Tag as Tag'};
-ghost use Rattle.ber_message.specs.Messages.{BeginsEncoding, EndsTooSoon, HasEncodingFirst, HasMessageFirst, IsEncoding, IsMessage, IsRead};
+ghost use Rattle.ber_message.specs.Messages.{BeginsEncoding, EndsTooSoon, HasEncodingFirst, HasMessageFirst, IsEncoding, IsMessage, IsRead, Refuses};
 ghost use Rattle.ber_source.specs.Seen.{token_of};
-ghost use Rattle.codec_source.specs.declared.fault.ReadFault.TheVariants.{Memory, MessageLimit, Missing, OutsideConstraint, Trailing, Truncated};
+ghost use Rattle.codec_source.specs.declared.fault.ReadFault.TheVariants.{Memory, MessageLimit, Missing, NotDer, OutsideConstraint, Trailing, Truncated};
 ghost use Rattle.encodings.specs.Encoding.{Says};
 ghost use Rattle.encodings.specs.Rules.{Basic};
 ghost use Rattle.octets.specs.Fronts.{EndsEarly, HeaderAt};
@@ -56,6 +56,9 @@ pub fn read_message<'a>(
         → id.index < length code.now
         → IsRead code.now id octets.now
         → ⊥) }
+    // Any refusal but for want of memory stands. None is by the distinguished rules.
+    ensures refused { IfErr result (λ e. (e ≡ Memory → ⊥) → Refuses code.now id octets.now e) }
+    ensures not_der { result ≡ Err NotDer → ⊥ }
 {
     code.accepted();
     schema_laws();
@@ -77,7 +80,7 @@ pub fn read_message<'a>(
     };
     match read(alloc, code, id, &mut cursor) {
         Ok(()) => {}
-        Err(fault) => return Err(within(fault)),
+        Err(fault) => return Err(fault),
     }
     if !cursor.is_at_end() {
         return Err(ReadFault::Trailing);
@@ -105,33 +108,5 @@ pub(crate) fn ends_early(octets: &[u8]) -> bool
             HeaderFault::BadLength => false,
             HeaderFault::BadTag => false,
         },
-    }
-}
-
-/// A fault within a message: none of its length, none behind it, and none of a constraint.
-pub(crate) fn within(fault: ReadFault) -> ReadFault
-    ensures limit { result ≡ MessageLimit → ⊥ }
-    ensures trailing { result ≡ Trailing → ⊥ }
-    ensures memory { fault ≡ Memory → result ≡ Memory }
-    ensures missing { result ≡ Missing → fault ≡ Missing }
-    ensures outside { result ≡ OutsideConstraint → ⊥ }
-{
-    match fault {
-        ReadFault::MessageLimit => ReadFault::TooDeep,
-        ReadFault::Trailing => ReadFault::UnexpectedTag,
-        ReadFault::Memory => ReadFault::Memory,
-        ReadFault::IntegerLimit => ReadFault::IntegerLimit,
-        ReadFault::OidLimit => ReadFault::OidLimit,
-        ReadFault::Truncated => ReadFault::Truncated,
-        ReadFault::Indefinite => ReadFault::Indefinite,
-        ReadFault::BadLength => ReadFault::BadLength,
-        ReadFault::BadTag => ReadFault::BadTag,
-        ReadFault::UnexpectedTag => ReadFault::UnexpectedTag,
-        ReadFault::Missing => ReadFault::Missing,
-        ReadFault::BadContents => ReadFault::BadContents,
-        ReadFault::EmptySegments => ReadFault::EmptySegments,
-        ReadFault::OutsideConstraint => ReadFault::BadContents,
-        ReadFault::TooDeep => ReadFault::TooDeep,
-        ReadFault::NotDer => ReadFault::NotDer,
     }
 }

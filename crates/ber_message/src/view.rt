@@ -1,14 +1,14 @@
 //! Whole messages as views.
 
 ghost use Rattle.asn_base.specs.Abstract.{AbstractValue};
-ghost use Rattle.ber_message.specs.Messages.{BeginsEncoding, EndsTooSoon, HasEncodingFirst, HasMessageFirst, IsEncoding, IsRead, IsViewed};
+ghost use Rattle.ber_message.specs.Messages.{BeginsEncoding, EndsTooSoon, HasEncodingFirst, HasMessageFirst, IsEncoding, IsRead, IsViewed, Refuses};
 ghost use Rattle.ber_views.specs.Telling.{IsBuiltOf};
-ghost use Rattle.codec_source.specs.declared.fault.ReadFault.TheVariants.{Memory, MessageLimit, Missing, OutsideConstraint, Trailing, Truncated};
+ghost use Rattle.codec_source.specs.declared.fault.ReadFault.TheVariants.{Memory, MessageLimit, Missing, NotDer, OutsideConstraint, Trailing, Truncated};
 ghost use Rattle.encodings.specs.Encoding.{Says};
 ghost use Rattle.encodings.specs.Rules.{Basic};
 ghost use Rattle.std.specs.Prelude.{◌≡◌, ◌<◌, ◌⊎◌, Err, IfErr, IfOk, length, ℕ};
 
-use crate::message::{are_octets, ends_early, within};
+use crate::message::{are_octets, ends_early};
 use asn_base::schema::TypeId;
 use ber_views::{Built, Viewer};
 use codec_code::Code;
@@ -53,6 +53,9 @@ pub fn read_view<'a>(
         → id.index < length code.now
         → IsRead code.now id octets.now
         → ⊥) }
+    // Any refusal but for want of memory stands. None is by the distinguished rules.
+    ensures refused { IfErr result (λ e. (e ≡ Memory → ⊥) → Refuses code.now id octets.now e) }
+    ensures not_der { result ≡ Err NotDer → ⊥ }
 {
     code.accepted();
     schema_laws();
@@ -74,7 +77,7 @@ pub fn read_view<'a>(
     };
     match read(alloc, code, id, &mut viewer) {
         Ok(()) => {}
-        Err(fault) => return Err(within(fault)),
+        Err(fault) => return Err(fault),
     }
     if !viewer.is_at_end() {
         return Err(ReadFault::Trailing);

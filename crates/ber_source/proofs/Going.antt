@@ -6,18 +6,10 @@ use Rattle.codec_code.specs.declared.step.Step.{Step}
 use Rattle.asn_base.specs.Types.{Resolved}
 use Rattle.octet_answers.specs.States.{State, Token}
 use Rattle.octet_answers.specs.Found.{Passes}
-use Rattle.octet_answers.specs.Left.{Leaves, stays}
+use Rattle.octet_answers.specs.Left.{Blocks}
 use Rattle.codec_source.specs.declared.fault.ReadFault.{ReadFault}
-use Rattle.codec_source.specs.declared.fault.ReadFault.TheVariants.{Missing}
 use Rattle.ber_source.specs.declared.place.Place.{Place}
 use Rattle.ber_source.specs.Seen.{IsWithin, state_of}
-
--- a question that is refused where it was asked, though not since something is missing
-pub here : (a : State) (x : ReadFault) → (x ≡ Missing → ⊥) → Leaves a a x
-here a x n = stays (λ e. absurd (n e))
-
-pub stays_as : {a b : State} {x : ReadFault} → (x ≡ Missing → ⊥) → a ≡ b → Leaves a b x
-stays_as {a} {b} {x} n e = subst (λ q. Leaves a q x) e (here a x n)
 
 -- by who is told
 module _ {T : Type 0} (suits : T → List Resolved → Type 0) (told : T → List Token) where
@@ -31,7 +23,9 @@ module _ {T : Type 0} (suits : T → List Resolved → Type 0) (told : T → Lis
     pub back : (f : Option Field) (b : State)
         → Passes p.code.now ss e (state_of told p) f b
         → Passes p.code.now ss e (state_of told q) f b
-    pub onward : (b : State) (x : ReadFault) → Leaves (state_of told q) b x → Leaves (state_of told p) b x
+    pub onward : (b : State) (x : ReadFault)
+        → Blocks p.code.now ss e (state_of told q) b x
+        → Blocks p.code.now ss e (state_of told p) b x
 
   pub at_first : (ss : List Step) (e : Bool) (p : Place T) → IsWithin suits p → IsPassing ss e p p
   at_first ss e p w = record { within = w; code = refl; to = λ f b h. h; back = λ f b h. h; onward = λ b x h. h }
@@ -46,14 +40,16 @@ module _ {T : Type 0} (suits : T → List Resolved → Type 0) (told : T → Lis
       → ((f : Option Field) (b : State)
       → Passes q.code.now ss e (state_of told q) f b
       → Passes q.code.now ss e (state_of told r) f b)
-      → ((b : State) (x : ReadFault) → Leaves (state_of told r) b x → Leaves (state_of told q) b x)
+      → ((b : State) (x : ReadFault)
+      → Blocks q.code.now ss e (state_of told r) b x
+      → Blocks q.code.now ss e (state_of told q) b x)
       → IsPassing ss e p r
   one_more ss e p q r i w c to back onward = record {
     within = w;
     code = c ∙ i.code;
     to = λ f b h. i.to f b (subst (λ s. Passes s ss e (state_of told q) f b) i.code (to f b (subst (λ s. Passes s ss e (state_of told r) f b) (sym i.code) h)));
     back = λ f b h. subst (λ s. Passes s ss e (state_of told r) f b) i.code (back f b (subst (λ s. Passes s ss e (state_of told q) f b) (sym i.code) (i.back f b h)));
-    onward = λ b x h. i.onward b x (onward b x h);
+    onward = λ b x h. i.onward b x (subst (λ s. Blocks s ss e (state_of told q) b x) i.code (onward b x (subst (λ s. Blocks s ss e (state_of told r) b x) (sym i.code) h)));
   }
 
   -- the same by the code of the first
@@ -68,3 +64,9 @@ module _ {T : Type 0} (suits : T → List Resolved → Type 0) (told : T → Lis
       → Passes p.code.now ss e a f b
       → Passes q.code.now ss e a f b
   by_last ss e p q a b f i h = subst (λ s. Passes s ss e a f b) (sym i.code) h
+
+  pub blocks_by_first : (ss : List Step) (e : Bool) (p q : Place T) (a b : State) (x : ReadFault)
+      → IsPassing ss e p q
+      → Blocks q.code.now ss e a b x
+      → Blocks p.code.now ss e a b x
+  blocks_by_first ss e p q a b x i h = subst (λ s. Blocks s ss e a b x) i.code h

@@ -3,3 +3,5 @@ pub mod Asked
 pub mod Passed
 pub mod Going
 pub mod Taken
+pub mod Bad
+pub mod Skipping

@@ -4,7 +4,7 @@ use Rattle.std.specs.Prelude.{Result, Ok, Err, OnOk, IfOk}
 use Rattle.codec_source.specs.declared.fault.ReadFault.{ReadFault}
 use Rattle.codec_source.specs.proving.Frames.{IfRefused, IfRefusedWith}
 use Rattle.octet_answers.specs.Left.{Leaves}
-use Rattle.codec_source.specs.Events.{Event}
+use Rattle.codec_source.specs.Events.{Event, Question}
 use Rattle.octet_answers.specs.States.{State}
 use Rattle.octet_answers.specs.Answers.{Answers, Takes}
 
@@ -42,9 +42,9 @@ pub never_one : {A B : Type 0} (r : Result A ReadFault) (s a : State) (e : B →
 never_one (Ok x) s a e i h = h
 never_one (Err f) s a e i h = λ other x b t. h other x b (subst (λ q. Answers q (e x) b) (sym i) t.answer)
 
-pub left_as : {A : Type 0} (r : Result A ReadFault) (s a b : State)
+pub left_as : {A : Type 0} (r : Result A ReadFault) (s a b : State) (q : Question)
     → s ≡ a
-    → IfRefusedWith r (Leaves s b)
-    → IfRefusedWith r (Leaves a b)
-left_as (Ok x) s a b e h = h
-left_as (Err f) s a b e h = λ other. subst (λ q. Leaves q b f) e (h other)
+    → IfRefusedWith r (Leaves s q b)
+    → IfRefusedWith r (Leaves a q b)
+left_as (Ok x) s a b q e h = h
+left_as (Err f) s a b q e h = λ other. subst (λ z. Leaves z q b f) e (h other)

@@ -1,10 +1,15 @@
--- What contents octets of a value that holds no others hold.
+-- What contents octets of a value that holds no others hold, and why they hold nothing.
 use Rattle.std.specs.Prelude.{ℕ, ◌+◌, ◌≤◌, Bool, true, false, length}
 use Rattle.codec_code.specs.declared.step.LeafKind.{LeafKind}
 use Rattle.encodings.specs.Header.{Octets}
 use Rattle.octets.specs.Forms.{is_constructed}
+use Rattle.codec_source.specs.declared.fault.ReadFault.{ReadFault}
 use Rattle.leaf_readings.specs.Leaves.{Reads}
-use Rattle.segmented_strings.specs.Joining.{Reads as Joins, HasFewUnused}
+use Rattle.leaf_readings.specs.Refused.{Stands}
+use Rattle.leaf_readings.specs.declared.fault.LeafFault.{LeafFault}
+use Rattle.octet_answers.specs.Left.{of_leaf, of_segments}
+use Rattle.segmented_strings.specs.Joining.{Reads as Joins, HasFewUnused, Fails}
+use Rattle.segmented_strings.specs.declared.fault.Why.{Why}
 use Rattle.ber_source.specs.declared.token.Held.{Held}
 use Rattle.ber_source.specs.declared.token.Holding.{Holding}
 use Rattle.ber_source.specs.declared.token.Holding.TheVariants.{Whole, Joined}
@@ -19,3 +24,9 @@ AreReadAs c k x h = ⊥
 pub record IsHolding (held : Held) (holding : Holding) : Type 0 where
   pub short : held.at + length held.octets.now ≤ 16777216
   pub read : AreReadAs (is_constructed held.form) held.kind held.octets.now holding
+
+-- Contents octets of this kind, primitive or constructed ones, fail with this fault: primitive ones at the first octet,
+-- segments at the one which fails, within so many levels of headers.
+pub data AreBad (k : LeafKind) (room : ℕ) (o : Octets) : Bool → ReadFault → ℕ → Type 0 where
+  are_bad : (f : LeafFault) → Stands f k o → AreBad k room o false (of_leaf f) 0
+  segment_is_bad : {n : ℕ} (e : Why) → Fails k room e n o → n ≤ length o → AreBad k room o true (of_segments e) n

@@ -2,6 +2,7 @@
 
 ghost use Rattle.asn_base.specs.declared.schema.TypeId.{TypeId as TypeId'};
 ghost use Rattle.ber_source.specs.Seen.{IsWithin, mark_of, state_of};
+ghost use Rattle.codec_source.specs.Events.{to_skip, whether_stands, which_picked, which_stands};
 ghost use Rattle.codec_source.specs.declared.fault.ReadFault.TheVariants.{Memory};
 ghost use Rattle.codec_source.specs.proving.Frames.{IfRefused, IfRefusedWith};
 ghost use Rattle.octet_answers.specs.Answers.{AmongNext, Chooses, MoreNext, Skips, StandsNext};
@@ -52,7 +53,7 @@ pub fn stands_next<'c, 'a, T: Teller<'a>>(
     ensures ok { IfOk result (λ yes. StandsNext (state_of T.tokens place.old) field yes (state_of T.tokens place.new)) }
     ensures err { IfRefused result ((yes : Bool) (b : State)
         → StandsNext (state_of T.tokens place.old) field yes b → ⊥) }
-    ensures left { IfRefusedWith result (Leaves (state_of T.tokens place.old) (state_of T.tokens place.new)) }
+    ensures left { IfRefusedWith result (Leaves (state_of T.tokens place.old) (whether_stands field) (state_of T.tokens place.new)) }
 {
     one_unit();
     if place.here.octets.is_empty() {
@@ -85,7 +86,7 @@ pub fn choose_next<'c, 'a, T: Teller<'a>>(
     ensures ok { IfOk result (λ id. Chooses (state_of T.tokens place.old) calls.now id (state_of T.tokens place.new)) }
     ensures err { IfRefused result ((id : TypeId') (b : State)
         → Chooses (state_of T.tokens place.old) calls.now id b → ⊥) }
-    ensures left { IfRefusedWith result (Leaves (state_of T.tokens place.old) (state_of T.tokens place.new)) }
+    ensures left { IfRefusedWith result (Leaves (state_of T.tokens place.old) (which_picked calls.now) (state_of T.tokens place.new)) }
 {
     one_unit();
     let unit = match next_unit(place.here.octets) {
@@ -107,7 +108,7 @@ pub fn skip<'c, 'a, T: Teller<'a>>(place: &mut Place<'c, 'a, T>) -> Result<(), R
     ensures within { IsWithin T.suits place.new }
     ensures ok { OnOk result (Skips (state_of T.tokens place.old) (state_of T.tokens place.new)) }
     ensures err { IfRefused result ((b : State) → Skips (state_of T.tokens place.old) b → ⊥) }
-    ensures left { IfRefusedWith result (Leaves (state_of T.tokens place.old) (state_of T.tokens place.new)) }
+    ensures left { IfRefusedWith result (Leaves (state_of T.tokens place.old) to_skip (state_of T.tokens place.new)) }
 {
     let id = match innermost(place.values.as_slice()) {
         Some(id) => id,
@@ -156,7 +157,7 @@ pub fn among_next<'c, 'a, T: Teller<'a>>(
         AmongNext (state_of T.tokens place.old) steps.now id (state_of T.tokens place.new)) }
     ensures err { IfRefused result ((id : Option' TypeId') (b : State)
         → AmongNext (state_of T.tokens place.old) steps.now id b → ⊥) }
-    ensures left { IfRefusedWith result (Leaves (state_of T.tokens place.old) (state_of T.tokens place.new)) }
+    ensures left { IfRefusedWith result (Leaves (state_of T.tokens place.old) (which_stands steps.now) (state_of T.tokens place.new)) }
 {
     let found = match pass(place, steps, is_extensible(steps)) {
         Ok(found) => found,

@@ -1,18 +1,19 @@
 //! Answers that lead on: values begin and end, headers open and close, and contents are read.
 
 ghost use Rattle.asn_base.specs.Abstract.{AbstractValue};
-ghost use Rattle.ber_source.specs.Holding.{AreReadAs};
+ghost use Rattle.ber_source.specs.Holding.{AreBad, AreReadAs};
 ghost use Rattle.ber_source.specs.Seen.{IsWithin, state_of};
-ghost use Rattle.codec_source.specs.declared.fault.ReadFault.{ReadFault as ReadFault'};
-ghost use Rattle.codec_source.specs.declared.fault.ReadFault.TheVariants.{Memory, Missing};
+ghost use Rattle.codec_source.specs.Events.{to_begin, to_close, to_end, to_hold, to_open};
+ghost use Rattle.codec_source.specs.declared.fault.ReadFault.TheVariants.{Memory};
 ghost use Rattle.codec_source.specs.proving.Frames.{IfRefused, IfRefusedWith};
 ghost use Rattle.octet_answers.specs.Answers.{AreContents, Begins, Closes, Ends, Holds, Opens};
-ghost use Rattle.octet_answers.specs.Left.{Leaves, standing};
+ghost use Rattle.octet_answers.specs.Left.{Leaves, of_header, of_leaf, of_segments, standing};
 ghost use Rattle.octet_answers.specs.States.{State, held_at, opened_at};
 ghost use Rattle.octet_answers.specs.Units.{UnitAt};
 ghost use Rattle.octets.specs.Forms.{is_constructed};
-ghost use Rattle.segmented_strings.specs.declared.fault.SegmentsFault.TheVariants.{Memory as NoMemory};
-ghost use Rattle.std.specs.Prelude.{◌≡◌, ◌++◌, ◌∷◌, ◌<◌, ◌≤◌, [], IfErr, IfOk, OnErr, OnOk, drop, length};
+ghost use Rattle.segmented_strings.specs.declared.fault.SegmentsFault.TheVariants.{At, Memory as NoMemory};
+ghost use Rattle.segmented_strings.specs.declared.fault.Why.{Why as Why'};
+ghost use Rattle.std.specs.Prelude.{◌≡◌, ◌++◌, ◌∷◌, ◌<◌, ◌≤◌, [], IfErr, IfOk, OnErr, OnOk, drop, length, ℕ};
 
 use crate::place::Place;
 use crate::teller::Teller;
@@ -31,8 +32,7 @@ use std::alloc::Global;
 
 /// The fault of a header, as that of a reader.
 pub(crate) fn told_header(fault: HeaderFault) -> ReadFault
-    ensures memory { result ≡ Memory → ⊥ }
-    ensures missing { result ≡ Missing → ⊥ }
+    ensures { result ≡ of_header fault }
 {
     match fault {
         HeaderFault::Truncated => ReadFault::Truncated,
@@ -44,7 +44,7 @@ pub(crate) fn told_header(fault: HeaderFault) -> ReadFault
 
 /// The fault of primitive contents, as that of a reader.
 fn told_leaf(fault: LeafFault) -> ReadFault
-    ensures { result ≡ Missing → ⊥ }
+    ensures { result ≡ of_leaf fault }
 {
     match fault {
         LeafFault::BadContents => ReadFault::BadContents,
@@ -55,7 +55,7 @@ fn told_leaf(fault: LeafFault) -> ReadFault
 
 /// The fault of segments, as that of a reader.
 fn told_why(why: Why) -> ReadFault
-    ensures { result ≡ Missing → ⊥ }
+    ensures { result ≡ of_segments why }
 {
     match why {
         Why::Header(header) => told_header(header),
@@ -76,7 +76,7 @@ struct Bad {
 /// Segments that are refused.
 fn told_segments(fault: SegmentsFault) -> Bad
     ensures memory { fault ≡ NoMemory → result.fault ≡ Memory }
-    ensures missing { result.fault ≡ Missing → ⊥ }
+    ensures at { (n : ℕ) (e : Why') → fault ≡ At n e → (result.fault ≡ of_segments e) × (result.at ≡ n) }
 {
     match fault {
         SegmentsFault::Memory => Bad {
@@ -116,7 +116,7 @@ pub fn begin<'c, 'a, T: Teller<'a>>(
     ensures within { IsWithin T.suits place.new }
     ensures ok { OnOk result (Begins (state_of T.tokens place.old) id (state_of T.tokens place.new)) }
     ensures err { IfRefused result ((b : State) → Begins (state_of T.tokens place.old) id b → ⊥) }
-    ensures left { IfRefusedWith result (Leaves (state_of T.tokens place.old) (state_of T.tokens place.new)) }
+    ensures left { IfRefusedWith result (Leaves (state_of T.tokens place.old) (to_begin id) (state_of T.tokens place.new)) }
 {
     if place.room == 0 {
         return Err(ReadFault::TooDeep);
@@ -139,7 +139,7 @@ pub fn end<'c, 'a, T: Teller<'a>>(place: &mut Place<'c, 'a, T>) -> Result<(), Re
     ensures within { IsWithin T.suits place.new }
     ensures ok { OnOk result (Ends (state_of T.tokens place.old) (state_of T.tokens place.new)) }
     ensures err { IfRefused result ((b : State) → Ends (state_of T.tokens place.old) b → ⊥) }
-    ensures left { IfRefusedWith result (Leaves (state_of T.tokens place.old) (state_of T.tokens place.new)) }
+    ensures left { IfRefusedWith result (Leaves (state_of T.tokens place.old) to_end (state_of T.tokens place.new)) }
 {
     match place.values.pop() {
         Some(_) => match place.told.tell(Mark::Ended) {
@@ -159,7 +159,7 @@ pub fn open<'c, 'a, T: Teller<'a>>(
     ensures within { IsWithin T.suits place.new }
     ensures ok { OnOk result (Opens (state_of T.tokens place.old) head (state_of T.tokens place.new)) }
     ensures err { IfRefused result ((b : State) → Opens (state_of T.tokens place.old) head b → ⊥) }
-    ensures left { IfRefusedWith result (Leaves (state_of T.tokens place.old) (state_of T.tokens place.new)) }
+    ensures left { IfRefusedWith result (Leaves (state_of T.tokens place.old) (to_open head) (state_of T.tokens place.new)) }
 {
     one_unit();
     let unit = match next_unit(place.here.octets) {
@@ -218,7 +218,7 @@ pub fn close<'c, 'a, T: Teller<'a>>(place: &mut Place<'c, 'a, T>) -> Result<(), 
     ensures within { IsWithin T.suits place.new }
     ensures ok { OnOk result (Closes (state_of T.tokens place.old) (state_of T.tokens place.new)) }
     ensures err { IfRefused result ((b : State) → Closes (state_of T.tokens place.old) b → ⊥) }
-    ensures left { IfRefusedWith result (Leaves (state_of T.tokens place.old) (state_of T.tokens place.new)) }
+    ensures left { IfRefusedWith result (Leaves (state_of T.tokens place.old) to_close (state_of T.tokens place.new)) }
 {
     if !place.here.octets.is_empty() {
         return Err(ReadFault::UnexpectedTag);
@@ -242,7 +242,7 @@ pub fn hold<'c, 'a, T: Teller<'a>>(
     ensures within { IsWithin T.suits place.new }
     ensures ok { OnOk result (Holds (state_of T.tokens place.old) kind (state_of T.tokens place.new)) }
     ensures err { IfRefused result ((b : State) → Holds (state_of T.tokens place.old) kind b → ⊥) }
-    ensures left { IfRefusedWith result (Leaves (state_of T.tokens place.old) (state_of T.tokens place.new)) }
+    ensures left { IfRefusedWith result (Leaves (state_of T.tokens place.old) (to_hold kind) (state_of T.tokens place.new)) }
 {
     if place.outer.len() > MAX_HEADERS {
         return Err(ReadFault::TooDeep);
@@ -272,9 +272,8 @@ fn behind(octets: &[u8], count: usize) -> &[u8]
 fn stand_at<'c, 'a, T: Teller<'a>>(place: &mut Place<'c, 'a, T>, count: usize)
     requires { IsWithin T.suits place.old }
     ensures within { IsWithin T.suits place.new }
-    ensures left { (e : ReadFault')
-        → (e ≡ Missing → ⊥)
-        → Leaves (state_of T.tokens place.old) (state_of T.tokens place.new) e }
+    ensures at { count ≤ length place.old.here.octets.now
+        → state_of T.tokens place.new ≡ standing (state_of T.tokens place.old) count }
 {
     let here = place.here;
     if count <= here.octets.len() {
@@ -303,7 +302,8 @@ fn judge<'a>(
         → (v : AbstractValue)
         → AreContents (is_constructed form) kind v room octets.now
         → ⊥) }
-    ensures missing { IfErr result (λ e. e.fault ≡ Missing → ⊥) }
+    ensures why { IfErr result (λ e. (e.fault ≡ Memory → ⊥)
+        → AreBad kind room octets.now (is_constructed form) e.fault e.at) }
 {
     match form {
         Form::Primitive => match read_leaf(kind, octets) {

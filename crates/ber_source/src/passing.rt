@@ -6,7 +6,7 @@ ghost use Rattle.codec_source.specs.declared.fault.ReadFault.{ReadFault as ReadF
 ghost use Rattle.codec_source.specs.declared.fault.ReadFault.TheVariants.{Memory};
 ghost use Rattle.codec_source.specs.proving.Frames.{IfRefused, IfRefusedWith};
 ghost use Rattle.octet_answers.specs.Found.{Passes};
-ghost use Rattle.octet_answers.specs.Left.{Leaves};
+ghost use Rattle.octet_answers.specs.Left.{Blocks};
 ghost use Rattle.octet_answers.specs.States.{State, passing};
 ghost use Rattle.octet_answers.specs.Units.{UnitAt};
 ghost use Rattle.octets.specs.Forms.{is_constructed};
@@ -40,12 +40,8 @@ pub(crate) fn pass<'c, 'a, T: Teller<'a>>(
     ensures err { IfRefused result ((f : Option' Field') (b : State)
         → Passes place.old.code.now steps.now extensible (state_of T.tokens place.old) f b → ⊥) }
     ensures code { place.new.code.now ≡ place.old.code.now }
-    ensures left { IfRefusedWith result (Leaves (state_of T.tokens place.old) (state_of T.tokens place.new)) }
-    // A question that is refused behind them is refused before them.
-    ensures onward { IfOk result (λ f. (b : State) (e : ReadFault')
-        → Leaves (state_of T.tokens place.new) b e
-        → Leaves (state_of T.tokens place.old) b e) }
-    ensures at_end { IfOk result (λ f. IfNone f (place.new.here.octets.now ≡ [])) }
+    ensures left { IfRefusedWith result
+        (Blocks place.old.code.now steps.now extensible (state_of T.tokens place.old) (state_of T.tokens place.new)) }
 {
     loop {
         match pass_one(place, steps, extensible) {
@@ -82,11 +78,11 @@ fn pass_one<'c, 'a, T: Teller<'a>>(
         (length place.new.here.octets.now < length place.old.here.octets.now)) }
     ensures err { IfRefused result ((f : Option' Field') (b : State)
         → Passes place.old.code.now steps.now extensible (state_of T.tokens place.old) f b → ⊥) }
-    ensures left { IfRefusedWith result (Leaves (state_of T.tokens place.old) (state_of T.tokens place.new)) }
+    ensures left { IfRefusedWith result
+        (Blocks place.old.code.now steps.now extensible (state_of T.tokens place.old) (state_of T.tokens place.new)) }
     ensures onward { IfOk result (λ r. IfNone r ((b : State) (e : ReadFault')
-        → Leaves (state_of T.tokens place.new) b e
-        → Leaves (state_of T.tokens place.old) b e)) }
-    ensures at_end { IfOk result (λ r. IfSome r (λ f. IfNone f (place.new.here.octets.now ≡ []))) }
+        → Blocks place.old.code.now steps.now extensible (state_of T.tokens place.new) b e
+        → Blocks place.old.code.now steps.now extensible (state_of T.tokens place.old) b e)) }
 {
     one_unit();
     if place.here.octets.is_empty() {

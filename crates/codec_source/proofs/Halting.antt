@@ -6,9 +6,9 @@ use Rattle.codec_code.specs.declared.step.Step.{Step}
 use Rattle.codec_source.specs.declared.fault.ReadFault.{ReadFault}
 use Rattle.codec_source.specs.declared.fault.ReadFault.TheVariants.{Memory}
 use Rattle.codec_source.specs.declared.frame.Frame.{Frame}
-use Rattle.codec_source.specs.Events.{Event, begins, ends}
+use Rattle.codec_source.specs.Events.{Event, begins, ends, Question, to_begin, to_end}
 use Rattle.codec_source.specs.Reading.{Asks, Does, finished, goes_on, reads}
-use Rattle.codec_source.specs.Stopping.{AsksNothing, unanswered, answered, stops_on, not_begun, stops_within, not_ended, stops_behind, StopsReading}
+use Rattle.codec_source.specs.Stopping.{AsksNothing, asked, unanswered, answered, stops_on, not_begun, stops_within, not_ended, stops_behind, StopsReading}
 use Rattle.codec_source.specs.proving.Frames.{IfRefusedWith, Rests, Goes, RestsStop, GoesStop, BeforeStops, Then, ThenBeforeStops}
 
 pub no_memory_with : {A : Type 0} (P : ReadFault → Type 0) (q : Result A ReadFault) → IfErr q (λ e. e ≡ Memory) → IfRefusedWith q P
@@ -19,7 +19,7 @@ pub refused_with : {A : Type 0} {P Q : ReadFault → Type 0} (q : Result A ReadF
 refused_with (Ok a) f p = p
 refused_with (Err e) f p = λ other. f e (p other)
 
-module _ {S : Type 0} (r : ℕ → List Step) (takes : S → Event → S → Type 0) (leaves : S → S → Type 0) where
+module _ {S : Type 0} (r : ℕ → List Step) (takes : S → Event → S → Type 0) (leaves : S → Question → S → Type 0) where
   then_does : {ss b : List Step} (t : Option TypeId) {x y w : S} → Asks takes ss x b t y → Then r takes t b y w → Does r takes ss x w
   then_does None a d = goes_on a d
   then_does (Some t) a d = reads a d.3 d.4 d.5 d.6
@@ -35,11 +35,11 @@ module _ {S : Type 0} (r : ℕ → List Step) (takes : S → Event → S → Typ
   before_none b fs y z (inl (inr q)) = inl (inr q)
   before_none b fs y z (inr q) = inr q
 
-  pub nothing_asked : (ss : List Step) (fs : List Frame) (x z : S) → 0 < length ss → AsksNothing takes ss x → leaves x z → BeforeStops r takes leaves ss fs x z
+  pub nothing_asked : (ss : List Step) (fs : List Frame) (x z : S) → 0 < length ss → AsksNothing takes ss x → leaves x (asked ss) z → BeforeStops r takes leaves ss fs x z
   nothing_asked [] fs x z m n l = absurd (omega arith)
   nothing_asked (s ∷ ss) fs x z m n l = inl (inl (unanswered n l))
 
-  pub none_ended : (ss : List Step) (fs : List Frame) (x z : S) → length ss ≡ 0 → ((y : S) → takes x ends y → ⊥) → leaves x z → BeforeStops r takes leaves ss fs x z
+  pub none_ended : (ss : List Step) (fs : List Frame) (x z : S) → length ss ≡ 0 → ((y : S) → takes x ends y → ⊥) → leaves x to_end z → BeforeStops r takes leaves ss fs x z
   none_ended [] fs x z m n l = inl (inr (x, finished, n, l))
   none_ended (s ∷ ss) fs x z m n l = absurd (omega arith)
 
@@ -84,7 +84,7 @@ module _ {S : Type 0} (r : ℕ → List Step) (takes : S → Event → S → Typ
   pub stops_with : (news fs : List Frame) (f : Frame) (x z : S) → news ≡ fs ++ f ∷ [] → BeforeStops r takes leaves f.steps.now fs x z → GoesStop r takes leaves news x z
   stops_with news fs f x z e g = subst (λ q. GoesStop r takes leaves q x z) (sym e) (stops_from fs f x z g)
 
-  pub none_begun_stops : (t : TypeId) (b : List Step) (fs : List Frame) (x z : S) → ((a : S) → takes x (begins t) a → ⊥) → leaves x z → ThenBeforeStops r takes leaves (Some t) b fs x z
+  pub none_begun_stops : (t : TypeId) (b : List Step) (fs : List Frame) (x z : S) → ((a : S) → takes x (begins t) a → ⊥) → leaves x (to_begin t) z → ThenBeforeStops r takes leaves (Some t) b fs x z
   none_begun_stops t b fs x z n l = inl (inl (not_begun n l))
 
   -- a value begins above the steps that go on behind it

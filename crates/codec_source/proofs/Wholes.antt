@@ -6,7 +6,7 @@ use Rattle.codec_code.specs.declared.step.LeafKind.{LeafKind}
 use Rattle.codec_code.specs.declared.step.Step.{Step}
 use Rattle.codec_code.specs.declared.step.Step.TheVariants.{Head, Leaf, End}
 use Rattle.codec_source.specs.declared.frame.Frame.{Frame}
-use Rattle.codec_source.specs.Events.{Event, opens, holds, closes, ends, IsOneAnswer}
+use Rattle.codec_source.specs.Events.{Event, opens, holds, closes, ends, IsOneAnswer, Question, to_open, to_hold, to_close, to_end}
 use Rattle.codec_source.specs.Reading.{head, leaf, ending}
 use Rattle.codec_source.specs.proving.Frames.{Same, Never, Goes, Before, GoesStop, BeforeStops}
 use Rattle.codec_source.proofs.Asking.{no_head, no_leaf, no_end}
@@ -33,14 +33,14 @@ module _ {S : Type 0} (r : ℕ → List Step) (takes : S → Event → S → Typ
   closed : (b c : S) → takes b closes c → Same (Before r takes at_close fs b) (Before r takes [] fs c)
   closed b c e = asked_before r takes one at_close [] None fs b c (ending e)
 
-  to_close : (x a b : S) → takes x (opens h) a → takes a (holds k) b → Same (Before r takes (at_header h k) fs x) (Before r takes at_close fs b)
-  to_close x a b o l = same_then (opened x a o) (held a b l)
+  through_close : (x a b : S) → takes x (opens h) a → takes a (holds k) b → Same (Before r takes (at_header h k) fs x) (Before r takes at_close fs b)
+  through_close x a b o l = same_then (opened x a o) (held a b l)
 
-  to_end : (x a b c : S) → takes x (opens h) a → takes a (holds k) b → takes b closes c → Same (Before r takes (at_header h k) fs x) (Before r takes [] fs c)
-  to_end x a b c o l e = same_then (to_close x a b o l) (closed b c e)
+  through_end : (x a b c : S) → takes x (opens h) a → takes a (holds k) b → takes b closes c → Same (Before r takes (at_header h k) fs x) (Before r takes [] fs c)
+  through_end x a b c o l e = same_then (through_close x a b o l) (closed b c e)
 
   pub at_once : (x a b c z : S) → takes x (opens h) a → takes a (holds k) b → takes b closes c → takes c ends z → Same (Before r takes (at_header h k) fs x) (Goes r takes fs z)
-  at_once x a b c z o l e d = same_then (to_end x a b c o l e) (ended_before r takes one [] fs c z refl d)
+  at_once x a b c z o l e d = same_then (through_end x a b c o l e) (ended_before r takes one [] fs c z refl d)
 
   pub none_opened : (x : S) → ((y : S) → takes x (opens h) y → ⊥) → Never (Before r takes (at_header h k) fs x)
   none_opened x n = never_asked r takes one (at_header h k) fs x (omega arith) (no_head takes h (at_contents k) x n)
@@ -49,12 +49,12 @@ module _ {S : Type 0} (r : ℕ → List Step) (takes : S → Event → S → Typ
   none_held x a o n z p = never_asked r takes one (at_contents k) fs a (omega arith) (no_leaf takes k at_close a n) z ((opened x a o).to z p)
 
   pub none_closed : (x a b : S) → takes x (opens h) a → takes a (holds k) b → ((y : S) → takes b closes y → ⊥) → Never (Before r takes (at_header h k) fs x)
-  none_closed x a b o l n z p = never_asked r takes one at_close fs b (omega arith) (no_end takes [] b n) z ((to_close x a b o l).to z p)
+  none_closed x a b o l n z p = never_asked r takes one at_close fs b (omega arith) (no_end takes [] b n) z ((through_close x a b o l).to z p)
 
   pub none_left : (x a b c : S) → takes x (opens h) a → takes a (holds k) b → takes b closes c → ((y : S) → takes c ends y → ⊥) → Never (Before r takes (at_header h k) fs x)
-  none_left x a b c o l e n z p = never_ended r takes one [] fs c refl n z ((to_end x a b c o l e).to z p)
+  none_left x a b c o l e n z p = never_ended r takes one [] fs c refl n z ((through_end x a b c o l e).to z p)
 
-module _ {S : Type 0} (r : ℕ → List Step) (takes : S → Event → S → Type 0) (leaves : S → S → Type 0) (h : Head') (k : LeafKind) (fs : List Frame) where
+module _ {S : Type 0} (r : ℕ → List Step) (takes : S → Event → S → Type 0) (leaves : S → Question → S → Type 0) (h : Head') (k : LeafKind) (fs : List Frame) where
   behind_header : (x a z : S) → takes x (opens h) a → BeforeStops r takes leaves (at_contents k) fs a z → BeforeStops r takes leaves (at_header h k) fs x z
   behind_header x a z o s = asked_stops r takes leaves (at_header h k) (at_contents k) None fs x a z (head o) (before_none r takes leaves (at_contents k) fs a z s)
 
@@ -70,14 +70,14 @@ module _ {S : Type 0} (r : ℕ → List Step) (takes : S → Event → S → Typ
   pub stops_behind : (x a b c y z : S) → takes x (opens h) a → takes a (holds k) b → takes b closes c → takes c ends y → GoesStop r takes leaves fs y z → BeforeStops r takes leaves (at_header h k) fs x z
   stops_behind x a b c y z o l e d s = behind_all x a b c z o l e (ended_stops r takes leaves [] fs c y z refl d s)
 
-  pub stops_at_header : (x z : S) → ((y : S) → takes x (opens h) y → ⊥) → leaves x z → BeforeStops r takes leaves (at_header h k) fs x z
+  pub stops_at_header : (x z : S) → ((y : S) → takes x (opens h) y → ⊥) → leaves x (to_open h) z → BeforeStops r takes leaves (at_header h k) fs x z
   stops_at_header x z n l = nothing_asked r takes leaves (at_header h k) fs x z (omega arith) (no_head takes h (at_contents k) x n) l
 
-  pub stops_at_contents : (x a z : S) → takes x (opens h) a → ((y : S) → takes a (holds k) y → ⊥) → leaves a z → BeforeStops r takes leaves (at_header h k) fs x z
+  pub stops_at_contents : (x a z : S) → takes x (opens h) a → ((y : S) → takes a (holds k) y → ⊥) → leaves a (to_hold k) z → BeforeStops r takes leaves (at_header h k) fs x z
   stops_at_contents x a z o n l = behind_header x a z o (nothing_asked r takes leaves (at_contents k) fs a z (omega arith) (no_leaf takes k at_close a n) l)
 
-  pub stops_at_close : (x a b z : S) → takes x (opens h) a → takes a (holds k) b → ((y : S) → takes b closes y → ⊥) → leaves b z → BeforeStops r takes leaves (at_header h k) fs x z
+  pub stops_at_close : (x a b z : S) → takes x (opens h) a → takes a (holds k) b → ((y : S) → takes b closes y → ⊥) → leaves b to_close z → BeforeStops r takes leaves (at_header h k) fs x z
   stops_at_close x a b z o i n l = behind_header x a z o (behind_contents a b z i (nothing_asked r takes leaves at_close fs b z (omega arith) (no_end takes [] b n) l))
 
-  pub stops_at_end : (x a b c z : S) → takes x (opens h) a → takes a (holds k) b → takes b closes c → ((y : S) → takes c ends y → ⊥) → leaves c z → BeforeStops r takes leaves (at_header h k) fs x z
+  pub stops_at_end : (x a b c z : S) → takes x (opens h) a → takes a (holds k) b → takes b closes c → ((y : S) → takes c ends y → ⊥) → leaves c to_end z → BeforeStops r takes leaves (at_header h k) fs x z
   stops_at_end x a b c z o i e n l = behind_all x a b c z o i e (none_ended r takes leaves [] fs c z refl n l)

@@ -26,6 +26,21 @@ pub data Event : Type 0 where
   -- of the alternatives that these calls are, one of this type stands next
   picks : List Step → TypeId → Event
 
+-- what a source is asked
+pub data Question : Type 0 where
+  to_begin : TypeId → Question
+  to_end : Question
+  to_open : Head → Question
+  to_close : Question
+  to_hold : LeafKind → Question
+  to_skip : Question
+  -- whether a component of a SEQUENCE stands next, and whether one more element does
+  whether_stands : Field → Question
+  whether_more : TypeId → (sorted : Bool) → Question
+  -- which of the components of a SET stands next, and which of the alternatives
+  which_stands : List Step → Question
+  which_picked : List Step → Question
+
 -- two answers to one question
 pub data Alike : Event → Event → Type 0 where
   both_begin : {t : TypeId} → Alike (begins t) (begins t)

@@ -1,9 +1,26 @@
 -- Where a run stops: the steps lead to a state in which what is asked for next has no answer.
-use Rattle.std.specs.Prelude.{ℕ, List, [], ◌∷◌, Option, Some, None}
+use Rattle.std.specs.Prelude.{ℕ, true, false, List, [], ◌∷◌, take, Option, Some, None}
 use Rattle.asn_base.specs.declared.schema.TypeId.{TypeId}
 use Rattle.codec_code.specs.declared.step.Step.{Step}
-use Rattle.codec_source.specs.Events.{Event, begins, ends}
+use Rattle.codec_code.specs.declared.step.Step.TheVariants.{Head, Leaf, Field, Ranked, Each, EachSorted, Pick}
+use Rattle.codec_code.specs.declared.step.Step.TheVariants.{Call, Rest, End}
+use Rattle.codec_source.specs.Events.{Event, begins, ends, Question, to_begin, to_end, to_open, to_close, to_hold, to_skip}
+use Rattle.codec_source.specs.Events.{whether_stands, whether_more, which_stands, which_picked}
 use Rattle.codec_source.specs.Reading.{Asks, Does}
+
+-- what the first of these steps asks; behind the last one the value is to end
+abbrev pub asked : List Step → Question
+asked [] = to_end
+asked (Head h ∷ ss) = to_open h
+asked (End ∷ ss) = to_close
+asked (Leaf k ∷ ss) = to_hold k
+asked (Rest ∷ ss) = to_skip
+asked (Field f ∷ ss) = whether_stands f
+asked (Ranked f r ∷ ss) = which_stands (Ranked f r ∷ ss)
+asked (Each t ∷ ss) = whether_more t false
+asked (EachSorted t ∷ ss) = whether_more t true
+asked (Pick n ∷ ss) = which_picked (take n ss)
+asked (Call t ∷ ss) = to_begin t
 
 -- the first step asks for nothing that the source has
 abbrev pub AsksNothing : {S : Type 0} → (S → Event → S → Type 0) → List Step → S → Type 0
@@ -12,11 +29,11 @@ AsksNothing {S} takes ss x = (behind : List Step) (t : Option TypeId) (y : S) �
 mutual
   -- These steps, where each type has its routine, come to a question without an answer, which leaves the source in the
   -- last state.
-  pub data Stops {S : Type 0} (routine : ℕ → List Step) (takes : S → Event → S → Type 0) (leaves : S → S → Type 0)
+  pub data Stops {S : Type 0} (routine : ℕ → List Step) (takes : S → Event → S → Type 0) (leaves : S → Question → S → Type 0)
       : List Step → S → S → Type 0 where
     unanswered : {s : Step} {ss : List Step} {x z : S}
         → AsksNothing takes (s ∷ ss) x
-        → leaves x z
+        → leaves x (asked (s ∷ ss)) z
         → Stops routine takes leaves (s ∷ ss) x z
     answered : {ss behind : List Step} {t : Option TypeId} {x y z : S}
         → Asks takes ss x behind t y
@@ -24,14 +41,14 @@ mutual
         → Stops routine takes leaves ss x z
 
   -- a value of the type, if any, and then these steps do
-  pub data StopsThen {S : Type 0} (routine : ℕ → List Step) (takes : S → Event → S → Type 0) (leaves : S → S → Type 0)
+  pub data StopsThen {S : Type 0} (routine : ℕ → List Step) (takes : S → Event → S → Type 0) (leaves : S → Question → S → Type 0)
       : Option TypeId → List Step → S → S → Type 0 where
     stops_on : {ss : List Step} {x z : S}
         → Stops routine takes leaves ss x z
         → StopsThen routine takes leaves None ss x z
     not_begun : {t : TypeId} {ss : List Step} {x z : S}
         → ((a : S) → takes x (begins t) a → ⊥)
-        → leaves x z
+        → leaves x (to_begin t) z
         → StopsThen routine takes leaves (Some t) ss x z
     stops_within : {t : TypeId} {ss : List Step} {x a z : S}
         → takes x (begins t) a
@@ -41,7 +58,7 @@ mutual
         → takes x (begins t) a
         → Does routine takes (routine t.index) a b
         → ((c : S) → takes b ends c → ⊥)
-        → leaves b z
+        → leaves b to_end z
         → StopsThen routine takes leaves (Some t) ss x z
     stops_behind : {t : TypeId} {ss : List Step} {x a b c z : S}
         → takes x (begins t) a
@@ -51,6 +68,6 @@ mutual
         → StopsThen routine takes leaves (Some t) ss x z
 
 -- the type's routine does, where it reads a value
-abbrev pub StopsReading : {S : Type 0} → (ℕ → List Step) → (S → Event → S → Type 0) → (S → S → Type 0)
+abbrev pub StopsReading : {S : Type 0} → (ℕ → List Step) → (S → Event → S → Type 0) → (S → Question → S → Type 0)
     → TypeId → S → S → Type 0
 StopsReading routine takes leaves t x z = StopsThen routine takes leaves (Some t) [] x z

@@ -2,7 +2,7 @@
 
 ghost use Rattle.codec_code.specs.declared.step.Step.TheVariants.{Call, Each, EachSorted, End, Field as Field', Head as Head', Leaf, Pick, Ranked, Rest};
 ghost use Rattle.codec_source.specs.Reading.{Asks, behind_components};
-ghost use Rattle.codec_source.specs.Stopping.{AsksNothing};
+ghost use Rattle.codec_source.specs.Stopping.{AsksNothing, asked};
 ghost use Rattle.codec_source.specs.proving.Frames.{IfRefused, IfRefusedWith, is_ranked};
 ghost use Rattle.std.specs.Prelude.{◌≡◌, ◌∷◌, IfOk, drop, take};
 
@@ -28,7 +28,7 @@ pub(crate) fn ask<'a, S: Source>(
     requires { all.now ≡ step ∷ rest.now }
     ensures ok { IfOk result (λ a. Asks S.takes (step ∷ rest.now) source.old a.behind.now a.value source.new) }
     ensures err { IfRefused result (AsksNothing S.takes (step ∷ rest.now) source.old) }
-    ensures left { IfRefusedWith result (S.leaves source.old source.new) }
+    ensures left { IfRefusedWith result (S.leaves source.old (asked (step ∷ rest.now)) source.new) }
 {
     match step {
         Step::Head(head) => ask_head(head, rest, source),
@@ -54,7 +54,7 @@ fn ask_head<'a, S: Source>(
 ) -> Result<Answer<'a>, ReadFault>
     ensures ok { IfOk result (λ a. Asks S.takes (Head' head ∷ rest.now) source.old a.behind.now a.value source.new) }
     ensures err { IfRefused result (AsksNothing S.takes (Head' head ∷ rest.now) source.old) }
-    ensures left { IfRefusedWith result (S.leaves source.old source.new) }
+    ensures left { IfRefusedWith result (S.leaves source.old (asked (Head' head ∷ rest.now)) source.new) }
 {
     match source.open(head) {
         Ok(()) => Ok(Answer {
@@ -68,7 +68,7 @@ fn ask_head<'a, S: Source>(
 fn ask_end<'a, S: Source>(rest: &'a [Step], source: &mut S) -> Result<Answer<'a>, ReadFault>
     ensures ok { IfOk result (λ a. Asks S.takes (End ∷ rest.now) source.old a.behind.now a.value source.new) }
     ensures err { IfRefused result (AsksNothing S.takes (End ∷ rest.now) source.old) }
-    ensures left { IfRefusedWith result (S.leaves source.old source.new) }
+    ensures left { IfRefusedWith result (S.leaves source.old (asked (End ∷ rest.now)) source.new) }
 {
     match source.close() {
         Ok(()) => Ok(Answer {
@@ -86,7 +86,7 @@ fn ask_leaf<'a, S: Source>(
 ) -> Result<Answer<'a>, ReadFault>
     ensures ok { IfOk result (λ a. Asks S.takes (Leaf kind ∷ rest.now) source.old a.behind.now a.value source.new) }
     ensures err { IfRefused result (AsksNothing S.takes (Leaf kind ∷ rest.now) source.old) }
-    ensures left { IfRefusedWith result (S.leaves source.old source.new) }
+    ensures left { IfRefusedWith result (S.leaves source.old (asked (Leaf kind ∷ rest.now)) source.new) }
 {
     match source.leaf(kind) {
         Ok(()) => Ok(Answer {
@@ -100,7 +100,7 @@ fn ask_leaf<'a, S: Source>(
 fn ask_rest<'a, S: Source>(rest: &'a [Step], source: &mut S) -> Result<Answer<'a>, ReadFault>
     ensures ok { IfOk result (λ a. Asks S.takes (Rest ∷ rest.now) source.old a.behind.now a.value source.new) }
     ensures err { IfRefused result (AsksNothing S.takes (Rest ∷ rest.now) source.old) }
-    ensures left { IfRefusedWith result (S.leaves source.old source.new) }
+    ensures left { IfRefusedWith result (S.leaves source.old (asked (Rest ∷ rest.now)) source.new) }
 {
     match source.skip() {
         Ok(()) => Ok(Answer {
@@ -118,7 +118,7 @@ fn ask_field<'a, S: Source>(
 ) -> Result<Answer<'a>, ReadFault>
     ensures ok { IfOk result (λ a. Asks S.takes (Field' field ∷ rest.now) source.old a.behind.now a.value source.new) }
     ensures err { IfRefused result (AsksNothing S.takes (Field' field ∷ rest.now) source.old) }
-    ensures left { IfRefusedWith result (S.leaves source.old source.new) }
+    ensures left { IfRefusedWith result (S.leaves source.old (asked (Field' field ∷ rest.now)) source.new) }
 {
     match source.has_component(field) {
         Ok(true) => Ok(Answer {
@@ -144,7 +144,7 @@ fn ask_ranked<'a, S: Source>(
     ensures ok { IfOk result (λ a.
         Asks S.takes (Ranked field rank ∷ rest.now) source.old a.behind.now a.value source.new) }
     ensures err { IfRefused result (AsksNothing S.takes (Ranked field rank ∷ rest.now) source.old) }
-    ensures left { IfRefusedWith result (S.leaves source.old source.new) }
+    ensures left { IfRefusedWith result (S.leaves source.old (asked (Ranked field rank ∷ rest.now)) source.new) }
 {
     match source.next_component(all) {
         Ok(Some(id)) => Ok(Answer {
@@ -168,7 +168,7 @@ fn ask_each<'a, S: Source>(
     requires { all.now ≡ Each id ∷ rest.now }
     ensures ok { IfOk result (λ a. Asks S.takes (Each id ∷ rest.now) source.old a.behind.now a.value source.new) }
     ensures err { IfRefused result (AsksNothing S.takes (Each id ∷ rest.now) source.old) }
-    ensures left { IfRefusedWith result (S.leaves source.old source.new) }
+    ensures left { IfRefusedWith result (S.leaves source.old (asked (Each id ∷ rest.now)) source.new) }
 {
     match source.has_element(id, false) {
         Ok(true) => Ok(Answer {
@@ -192,7 +192,7 @@ fn ask_sorted<'a, S: Source>(
     requires { all.now ≡ EachSorted id ∷ rest.now }
     ensures ok { IfOk result (λ a. Asks S.takes (EachSorted id ∷ rest.now) source.old a.behind.now a.value source.new) }
     ensures err { IfRefused result (AsksNothing S.takes (EachSorted id ∷ rest.now) source.old) }
-    ensures left { IfRefusedWith result (S.leaves source.old source.new) }
+    ensures left { IfRefusedWith result (S.leaves source.old (asked (EachSorted id ∷ rest.now)) source.new) }
 {
     match source.has_element(id, true) {
         Ok(true) => Ok(Answer {
@@ -214,7 +214,7 @@ fn ask_pick<'a, S: Source>(
 ) -> Result<Answer<'a>, ReadFault>
     ensures ok { IfOk result (λ a. Asks S.takes (Pick count ∷ rest.now) source.old a.behind.now a.value source.new) }
     ensures err { IfRefused result (AsksNothing S.takes (Pick count ∷ rest.now) source.old) }
-    ensures left { IfRefusedWith result (S.leaves source.old source.new) }
+    ensures left { IfRefusedWith result (S.leaves source.old (asked (Pick count ∷ rest.now)) source.new) }
 {
     let calls = first_steps(count, rest);
     match source.alternative(calls) {

@@ -32,7 +32,7 @@ pub fn read<S: Source>(
     ensures err { IfRefused result ((b : S) → Reads (routine_at code.now) S.takes id source.old b → ⊥) }
     // It came to a question without an answer, and stands there.
     ensures stopped { IfRefusedWith result (λ e.
-        StopsReading (routine_at code.now) S.takes (λ a b. S.leaves a b e) id source.old source.new) }
+        StopsReading (routine_at code.now) S.takes (λ a q b. S.leaves a q b e) id source.old source.new) }
 {
     match source.begin(id) {
         Ok(()) => {}
@@ -86,10 +86,10 @@ fn turn<'a, S: Source>(
     ensures err { IfRefused result
         (Never (Before (routine_at code.now) S.takes frame.entry.steps.now frames.old.items source.old)) }
     ensures on { IfOk result (λ o. (e : ReadFault') (z : S)
-        → GoesStop (routine_at code.now) S.takes (λ a b. S.leaves a b e) (and_next frames.new.items o) source.new z
-        → BeforeStops (routine_at code.now) S.takes (λ a b. S.leaves a b e) frame.entry.steps.now frames.old.items
+        → GoesStop (routine_at code.now) S.takes (λ a q b. S.leaves a q b e) (and_next frames.new.items o) source.new z
+        → BeforeStops (routine_at code.now) S.takes (λ a q b. S.leaves a q b e) frame.entry.steps.now frames.old.items
         source.old z) }
-    ensures stopped { IfRefusedWith result (λ e. BeforeStops (routine_at code.now) S.takes (λ a b. S.leaves a b e)
+    ensures stopped { IfRefusedWith result (λ e. BeforeStops (routine_at code.now) S.takes (λ a q b. S.leaves a q b e)
         frame.entry.steps.now frames.old.items source.old source.new) }
 {
     match frame.steps.split_first() {
@@ -132,10 +132,10 @@ fn call<'a, S: Source>(
     ensures err { IfRefused result
         (Never (ThenBefore (routine_at code.now) S.takes (Some id) behind.now frames.old.items source.old)) }
     ensures on { IfOk result (λ f. (e : ReadFault') (z : S)
-        → GoesStop (routine_at code.now) S.takes (λ a b. S.leaves a b e) (frames.new.items ++ f ∷ []) source.new z
-        → ThenBeforeStops (routine_at code.now) S.takes (λ a b. S.leaves a b e) (Some id) behind.now frames.old.items
+        → GoesStop (routine_at code.now) S.takes (λ a q b. S.leaves a q b e) (frames.new.items ++ f ∷ []) source.new z
+        → ThenBeforeStops (routine_at code.now) S.takes (λ a q b. S.leaves a q b e) (Some id) behind.now frames.old.items
         source.old z) }
-    ensures stopped { IfRefusedWith result (λ e. ThenBeforeStops (routine_at code.now) S.takes (λ a b. S.leaves a b e)
+    ensures stopped { IfRefusedWith result (λ e. ThenBeforeStops (routine_at code.now) S.takes (λ a q b. S.leaves a q b e)
         (Some id) behind.now frames.old.items source.old source.new) }
 {
     match source.begin(id) {

@@ -2,6 +2,7 @@
 
 ghost use Rattle.asn_base.specs.declared.schema.TypeId.{TypeId as TypeId'};
 ghost use Rattle.codec_source.specs.Events.{Alike, Event, among, begins, closes, ends, holds, more, opens, picks, skips, stands};
+ghost use Rattle.codec_source.specs.Events.{Question, to_begin, to_close, to_end, to_hold, to_open, to_skip, whether_more, whether_stands, which_picked, which_stands};
 ghost use Rattle.codec_source.specs.declared.fault.ReadFault.{ReadFault as ReadFault'};
 ghost use Rattle.codec_source.specs.proving.Frames.{IfRefused, IfRefusedWith};
 ghost use Rattle.std.specs.Prelude.{◌≡◌, ◌<◌, ◌≤◌, Bool, IfOk, OnOk, Option as Option', ℕ};
@@ -17,9 +18,9 @@ pub trait Source {
     /// The second state is the first behind the answer.
     ghost takes: { Self → Event → Self → Type 0 };
 
-    /// A question that has no answer in the first state is refused with this fault, and leaves the source in the
+    /// The question, which has no answer in the first state, is refused with this fault, and leaves the source in the
     /// second.
-    ghost leaves: { Self → Self → ReadFault' → Type 0 };
+    ghost leaves: { Self → Question → Self → ReadFault' → Type 0 };
 
     /// How many values may still begin, at most.
     ghost room: { Self → ℕ };
@@ -28,62 +29,62 @@ pub trait Source {
     fn begin(&mut self, id: TypeId) -> Result<(), ReadFault>
         ensures ok { OnOk result (takes self.old (begins id) self.new) }
         ensures err { IfRefused result ((b : Self) → takes self.old (begins id) b → ⊥) }
-        ensures left { IfRefusedWith result (leaves self.old self.new) };
+        ensures left { IfRefusedWith result (leaves self.old (to_begin id) self.new) };
 
     /// The value that began last ends.
     fn end(&mut self) -> Result<(), ReadFault>
         ensures ok { OnOk result (takes self.old ends self.new) }
         ensures err { IfRefused result ((b : Self) → takes self.old ends b → ⊥) }
-        ensures left { IfRefusedWith result (leaves self.old self.new) };
+        ensures left { IfRefusedWith result (leaves self.old to_end self.new) };
 
     /// Opens the header that stands next.
     fn open(&mut self, head: Head) -> Result<(), ReadFault>
         ensures ok { OnOk result (takes self.old (opens head) self.new) }
         ensures err { IfRefused result ((b : Self) → takes self.old (opens head) b → ⊥) }
-        ensures left { IfRefusedWith result (leaves self.old self.new) };
+        ensures left { IfRefusedWith result (leaves self.old (to_open head) self.new) };
 
     /// Closes the nearest open header, whose contents were read.
     fn close(&mut self) -> Result<(), ReadFault>
         ensures ok { OnOk result (takes self.old closes self.new) }
         ensures err { IfRefused result ((b : Self) → takes self.old closes b → ⊥) }
-        ensures left { IfRefusedWith result (leaves self.old self.new) };
+        ensures left { IfRefusedWith result (leaves self.old to_close self.new) };
 
     /// Reads contents.
     fn leaf(&mut self, kind: LeafKind) -> Result<(), ReadFault>
         ensures ok { OnOk result (takes self.old (holds kind) self.new) }
         ensures err { IfRefused result ((b : Self) → takes self.old (holds kind) b → ⊥) }
-        ensures left { IfRefusedWith result (leaves self.old self.new) };
+        ensures left { IfRefusedWith result (leaves self.old (to_hold kind) self.new) };
 
     /// Skips additions that the type lacks.
     fn skip(&mut self) -> Result<(), ReadFault>
         ensures ok { OnOk result (takes self.old skips self.new) }
         ensures err { IfRefused result ((b : Self) → takes self.old skips b → ⊥) }
-        ensures left { IfRefusedWith result (leaves self.old self.new) };
+        ensures left { IfRefusedWith result (leaves self.old to_skip self.new) };
 
     /// Whether the component of a SEQUENCE stands next.
     fn has_component(&mut self, field: Field) -> Result<bool, ReadFault>
         ensures ok { IfOk result (λ yes. takes self.old (stands field yes) self.new) }
         ensures err { IfRefused result ((yes : Bool) (b : Self) → takes self.old (stands field yes) b → ⊥) }
-        ensures left { IfRefusedWith result (leaves self.old self.new) };
+        ensures left { IfRefusedWith result (leaves self.old (whether_stands field) self.new) };
 
     /// Whether one more element of this type stands next; those of a SET OF are `sorted`.
     fn has_element(&mut self, id: TypeId, sorted: bool) -> Result<bool, ReadFault>
         ensures ok { IfOk result (λ yes. takes self.old (more id sorted yes) self.new) }
         ensures err { IfRefused result ((yes : Bool) (b : Self) → takes self.old (more id sorted yes) b → ⊥) }
-        ensures left { IfRefusedWith result (leaves self.old self.new) };
+        ensures left { IfRefusedWith result (leaves self.old (whether_more id sorted) self.new) };
 
     /// The type of the component of a SET that stands next, of those that the steps begin with, or None where none
     /// does.
     fn next_component(&mut self, steps: &[Step]) -> Result<Option<TypeId>, ReadFault>
         ensures ok { IfOk result (λ id. takes self.old (among steps.now id) self.new) }
         ensures err { IfRefused result ((id : Option' TypeId') (b : Self) → takes self.old (among steps.now id) b → ⊥) }
-        ensures left { IfRefusedWith result (leaves self.old self.new) };
+        ensures left { IfRefusedWith result (leaves self.old (which_stands steps.now) self.new) };
 
     /// The type of the alternative that stands next, of those that the steps call.
     fn alternative(&mut self, calls: &[Step]) -> Result<TypeId, ReadFault>
         ensures ok { IfOk result (λ id. takes self.old (picks calls.now id) self.new) }
         ensures err { IfRefused result ((id : TypeId') (b : Self) → takes self.old (picks calls.now id) b → ⊥) }
-        ensures left { IfRefusedWith result (leaves self.old self.new) };
+        ensures left { IfRefusedWith result (leaves self.old (which_picked calls.now) self.new) };
 
     ghost one_answer: { (a b c : Self) (e f : Event) → Alike e f → takes a e b → takes a f c → (e ≡ f) × (b ≡ c) };
 

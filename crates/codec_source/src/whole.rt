@@ -45,10 +45,10 @@ pub(crate) fn read_whole<S: Source>(
     ensures err { IfRefused result ((r : ℕ → List Step') (fs : List Frame')
         → Never (Before r S.takes (Head' head ∷ Leaf kind ∷ End ∷ []) fs source.old)) }
     ensures on { OnOk result ((r : ℕ → List Step') (fs : List Frame') (e : ReadFault') (z : S)
-        → GoesStop r S.takes (λ a b. S.leaves a b e) fs source.new z
-        → BeforeStops r S.takes (λ a b. S.leaves a b e) (Head' head ∷ Leaf kind ∷ End ∷ []) fs source.old z) }
+        → GoesStop r S.takes (λ a q b. S.leaves a q b e) fs source.new z
+        → BeforeStops r S.takes (λ a q b. S.leaves a q b e) (Head' head ∷ Leaf kind ∷ End ∷ []) fs source.old z) }
     ensures stopped { IfRefusedWith result (λ e. (r : ℕ → List Step') (fs : List Frame')
-        → BeforeStops r S.takes (λ a b. S.leaves a b e) (Head' head ∷ Leaf kind ∷ End ∷ []) fs source.old source.new) }
+        → BeforeStops r S.takes (λ a q b. S.leaves a q b e) (Head' head ∷ Leaf kind ∷ End ∷ []) fs source.old source.new) }
 {
     match source.open(head) {
         Ok(()) => {}

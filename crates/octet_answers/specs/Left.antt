@@ -1,11 +1,59 @@
--- Where a question that has no answer leaves a reader of octets, and with which fault.
-use Rattle.std.specs.Prelude.{◌≡◌, ℕ, ◌+◌, ◌≤◌, Bool, [], length, drop}
+-- Where a question that has no answer leaves a reader of octets, and with which fault: one of them for each question
+-- (X.690, 8.1 to 8.14).
+use Rattle.std.specs.Prelude.{◌≡◌, ◌⊎◌, ℕ, ◌+◌, ◌<◌, ◌≤◌, Bool, true, false, List, [], ◌∷◌, ◌++◌, length, drop}
+use Rattle.std.specs.Prelude.{Some, None}
 use Rattle.asn_base.specs.declared.tag.Tag.{Tag}
+use Rattle.asn_base.specs.declared.schema.TypeId.{TypeId}
+use Rattle.asn_base.specs.Names.{IsMember}
+use Rattle.asn_base.specs.Types.{Resolved}
 use Rattle.encodings.specs.Header.{Octets}
+use Rattle.octets.specs.Fronts.{Stands}
+use Rattle.octets.specs.declared.fault.HeaderFault.{HeaderFault}
+use Rattle.octets.specs.declared.fault.HeaderFault.TheVariants as headers
+use Rattle.codec_code.specs.declared.step.Head.{Head}
+use Rattle.codec_code.specs.declared.step.LeafKind.{LeafKind}
+use Rattle.codec_code.specs.declared.step.Field.{Field}
+use Rattle.codec_code.specs.declared.step.Step.{Step}
+use Rattle.codec_code.specs.Steps.{may_be_absent}
+use Rattle.codec_code.specs.Routines.{routine_at}
+use Rattle.codec_source.specs.Events.{Question, to_begin, to_end, to_open, to_close, to_hold, to_skip}
+use Rattle.codec_source.specs.Events.{whether_stands, which_stands, which_picked}
 use Rattle.codec_source.specs.declared.fault.ReadFault.{ReadFault}
-use Rattle.codec_source.specs.declared.fault.ReadFault.TheVariants.{Missing}
+use Rattle.codec_source.specs.declared.fault.ReadFault.TheVariants.{Truncated, Indefinite, BadLength, BadTag}
+use Rattle.codec_source.specs.declared.fault.ReadFault.TheVariants.{UnexpectedTag, Missing, BadContents, EmptySegments}
+use Rattle.codec_source.specs.declared.fault.ReadFault.TheVariants.{IntegerLimit, OidLimit, TooDeep}
+use Rattle.leaf_readings.specs.Refused.{Stands as StandsOf}
+use Rattle.leaf_readings.specs.declared.fault.LeafFault.{LeafFault}
+use Rattle.leaf_readings.specs.declared.fault.LeafFault.TheVariants as leaves
+use Rattle.segmented_strings.specs.Joining.{Fails}
+use Rattle.segmented_strings.specs.declared.fault.Why.{Why}
+use Rattle.segmented_strings.specs.declared.fault.Why.TheVariants as whys
 use Rattle.octet_answers.specs.Units.{UnitAt}
 use Rattle.octet_answers.specs.States.{Window, State, passing}
+use Rattle.octet_answers.specs.Found.{IsFound, IsChosen, is_extensible, last_steps, AreRead, Passes}
+use Rattle.octet_answers.specs.Answers.{IsOther}
+
+-- ---- faults of headers, of contents and of segments, as a reader tells them
+
+abbrev pub of_header : HeaderFault → ReadFault
+of_header headers.Truncated = Truncated
+of_header headers.Indefinite = Indefinite
+of_header headers.BadLength = BadLength
+of_header headers.BadTag = BadTag
+
+abbrev pub of_leaf : LeafFault → ReadFault
+of_leaf leaves.BadContents = BadContents
+of_leaf leaves.IntegerLimit = IntegerLimit
+of_leaf leaves.OidLimit = OidLimit
+
+abbrev pub of_segments : Why → ReadFault
+of_segments (whys.Header f) = of_header f
+of_segments whys.UnexpectedTag = UnexpectedTag
+of_segments whys.BadContents = BadContents
+of_segments whys.EmptySegments = EmptySegments
+of_segments whys.TooDeep = TooDeep
+
+-- ---- places
 
 -- behind so many of the octets
 abbrev pub further : Window → ℕ → Window
@@ -22,15 +70,104 @@ standing a n = record {
   room = a.room;
 }
 
--- Where the question was asked, behind additions that were passed for it, or at one of the segments of contents.
--- Something is missing only where contents are at their end.
-pub data Leaves : State → State → ReadFault → Type 0 where
-  stays : {a : State} {e : ReadFault} → (e ≡ Missing → a.here.octets ≡ []) → Leaves a a e
-  behind_addition : {a b : State} {e : ReadFault} {g : Tag} {c : Bool} {k : ℕ} {x rest : Octets}
+-- ---- questions
+
+-- the header is not the one that is asked for: it has another tag, or is primitive where it must be constructed
+abbrev pub IsOtherHead : Head → Tag → Bool → Type 0
+IsOtherHead h g c = (g ≡ h.tag → ⊥) ⊎ ((h.constructed ≡ true) × (c ≡ false))
+
+-- Additions that the type lacks can't be passed: behind those that are, octets are left that are no header with its
+-- contents; or the tag of the header is none of a component, and 400 headers are open, or the type isn't extensible.
+pub data Blocks (s : List Resolved) (ss : List Step) (extensible : Bool) : State → State → ReadFault → Type 0 where
+  no_encoding : {a : State} (f : HeaderFault)
+      → 1 ≤ length a.here.octets
+      → Stands f a.here.octets
+      → Blocks s ss extensible a a (of_header f)
+  addition_too_deep : {a : State} {g : Tag} {c : Bool} {k : ℕ} {x rest : Octets}
       → UnitAt g c k x rest a.here.octets
-      → Leaves (passing a k x rest) b e
-      → Leaves a b e
-  at_segment : {a : State} {e : ReadFault} {n : ℕ}
+      → ((f : Field) → IsFound s g ss f → ⊥)
+      → 400 ≤ length a.outer
+      → Blocks s ss extensible a a TooDeep
+  no_addition : {a : State} {g : Tag} {c : Bool} {k : ℕ} {x rest : Octets}
+      → UnitAt g c k x rest a.here.octets
+      → ((f : Field) → IsFound s g ss f → ⊥)
+      → length a.outer < 400
+      → extensible ≡ false
+      → Blocks s ss extensible a a UnexpectedTag
+  behind_addition : {a b : State} {e : ReadFault} {g : Tag} {c : Bool} {k : ℕ} {x rest : Octets}
+      → extensible ≡ true
+      → UnitAt g c k x rest a.here.octets
+      → ((f : Field) → IsFound s g ss f → ⊥)
+      → length a.outer < 400
+      → Blocks s ss extensible (passing a k x rest) b e
+      → Blocks s ss extensible a b e
+
+-- The question has no answer in the first state: it is refused with this fault, and leaves the reader in the second.
+pub data Leaves (a : State) : Question → State → ReadFault → Type 0 where
+  -- no more values may begin, or as many are open as may be
+  no_room : {t : TypeId} → (a.room ≡ 0) ⊎ (64 ≤ length a.values) → Leaves a (to_begin t) a TooDeep
+  no_value_open : a.values ≡ [] → Leaves a to_end a UnexpectedTag
+  -- no header stands next; or one too many; or another one
+  no_header : {h : Head} (f : HeaderFault) → Stands f a.here.octets → Leaves a (to_open h) a (of_header f)
+  too_many_headers : {h : Head} {g : Tag} {c : Bool} {k : ℕ} {x rest : Octets}
+      → UnitAt g c k x rest a.here.octets
+      → 400 ≤ length a.outer
+      → Leaves a (to_open h) a TooDeep
+  other_header : {h : Head} {g : Tag} {c : Bool} {k : ℕ} {x rest : Octets}
+      → UnitAt g c k x rest a.here.octets
+      → length a.outer < 400
+      → IsOtherHead h g c
+      → Leaves a (to_open h) a UnexpectedTag
+  -- contents are not at their end, or are no header's
+  not_at_end : 1 ≤ length a.here.octets → Leaves a to_close a UnexpectedTag
+  no_header_open : a.here.octets ≡ [] → a.outer ≡ [] → Leaves a to_close a UnexpectedTag
+  -- contents octets that are none of the kind, and segments, at the one that fails
+  contents_too_deep : {k : LeafKind} → 400 < length a.outer → Leaves a (to_hold k) a TooDeep
+  bad_primitive : {k : LeafKind} (f : LeafFault)
+      → length a.outer ≤ 400
+      → a.here.constructed ≡ false
+      → StandsOf f k a.here.octets
+      → Leaves a (to_hold k) a (of_leaf f)
+  bad_segment : {k : LeafKind} {n room : ℕ} (e : Why)
+      → room + length a.outer ≡ 400
+      → a.here.constructed ≡ true
+      → Fails k room e n a.here.octets
       → n ≤ length a.here.octets
-      → (e ≡ Missing → ⊥)
-      → Leaves a (standing a n) e
+      → Leaves a (to_hold k) (standing a n) (of_segments e)
+  -- behind the last component that must stand something else than additions stands
+  nothing_to_skip_in : a.values ≡ [] → Leaves a to_skip a UnexpectedTag
+  not_skipped : {b : State} {e : ReadFault} (t : TypeId) (others : List TypeId)
+      → a.values ≡ others ++ t ∷ []
+      → Blocks a.schema (last_steps (routine_at a.schema t.index)) true a b e
+      → Leaves a to_skip b e
+  out_of_order : {f : Field} {b : State} (t : TypeId) (others : List TypeId)
+      → a.values ≡ others ++ t ∷ []
+      → Passes a.schema (last_steps (routine_at a.schema t.index)) true a (Some f) b
+      → Leaves a to_skip b UnexpectedTag
+  -- a component that must stand in a SEQUENCE doesn't
+  nothing_stands : {f : Field} → may_be_absent f.need ≡ false → a.here.octets ≡ [] → Leaves a (whether_stands f) a Missing
+  no_header_stands : {f : Field} (e : HeaderFault)
+      → 1 ≤ length a.here.octets
+      → Stands e a.here.octets
+      → Leaves a (whether_stands f) a (of_header e)
+  another_stands : {f : Field} → may_be_absent f.need ≡ false → IsOther a f → Leaves a (whether_stands f) a UnexpectedTag
+  -- of a SET: no component stands next, or one that stood before, or not all that must were read
+  no_component : {ss : List Step} {b : State} {e : ReadFault}
+      → Blocks a.schema ss (is_extensible ss) a b e
+      → Leaves a (which_stands ss) b e
+  stood_before : {ss : List Step} {f : Field} {b : State}
+      → Passes a.schema ss (is_extensible ss) a (Some f) b
+      → IsMember f.place (drop b.here.from b.marks)
+      → Leaves a (which_stands ss) b UnexpectedTag
+  not_all_read : {ss : List Step} {b : State}
+      → Passes a.schema ss (is_extensible ss) a None b
+      → (AreRead (drop b.here.from b.marks) ss → ⊥)
+      → Leaves a (which_stands ss) b Missing
+  -- no header stands next, or one of no alternative
+  no_header_to_pick : {calls : List Step} (f : HeaderFault)
+      → Stands f a.here.octets
+      → Leaves a (which_picked calls) a (of_header f)
+  no_alternative : {calls : List Step} {g : Tag} {c : Bool} {k : ℕ} {x rest : Octets}
+      → UnitAt g c k x rest a.here.octets
+      → ((i : ℕ) (t : TypeId) → IsChosen a.schema g calls i t → ⊥)
+      → Leaves a (which_picked calls) a UnexpectedTag

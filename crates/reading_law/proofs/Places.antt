@@ -78,7 +78,7 @@ behind_lies w {x = x} {r = r} l u = at_place (further x r (further u.header (x +
 pub told_more : {m : List ℕ} {a : State} (t : Token) → Placed m a → StandIn m (t ∷ []) → StandIn m (a.told ++ t ∷ [])
 told_more {m} {a} t p s = stand_both m a.told (t ∷ []) p.told s
 
-passes_placed : {m : List ℕ} {s : List Resolved} {ss : List Step} {e : Bool} {a b : State} {f : Option Field} → Passes s ss e a f b → Placed m a → Placed m b
+pub passes_placed : {m : List ℕ} {s : List Resolved} {ss : List Step} {e : Bool} {a b : State} {f : Option Field} → Passes s ss e a f b → Placed m a → Placed m b
 passes_placed (at_end_of_contents q) p = p
 passes_placed (at_component u i) p = p
 passes_placed {a = a} (passes e u n l q) p = passes_placed q (record { here = behind_lies a.here p.here u; outer = p.outer; told = told_more {a = a} passed p tt })

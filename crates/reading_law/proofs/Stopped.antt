@@ -1,5 +1,5 @@
 -- Where reading stopped, what isn't read stands at its place in the message, and so does what was read.
-use Rattle.std.proofs.Common.{arith, ◌≡◌, ℕ, ◌+◌, ◌≤◌, List, [], ◌∷◌, ◌++◌, length, take, drop, refl, sym, ap}
+use Rattle.std.proofs.Common.{arith, Bool, ◌≡◌, ℕ, ◌+◌, ◌≤◌, List, [], ◌∷◌, ◌++◌, length, take, drop, refl, sym, ap}
 use Rattle.std.proofs.lemmas.List.{append-nil, take-append-drop, length-take-le}
 use Rattle.std.specs.Prelude.{Option}
 use Rattle.asn_base.specs.declared.schema.TypeId.{TypeId}
@@ -7,38 +7,67 @@ use Rattle.asn_base.specs.Types.{Resolved}
 use Rattle.codec_code.specs.declared.step.Step.{Step}
 use Rattle.codec_code.specs.Routines.{routine_at}
 use Rattle.codec_source.specs.declared.fault.ReadFault.{ReadFault}
+use Rattle.codec_source.specs.Events.{Event, Question}
 use Rattle.codec_source.specs.Reading.{Reads}
 use Rattle.codec_source.specs.Stopping.{Stops, unanswered, answered, StopsThen, stops_on, not_begun, stops_within, not_ended, stops_behind, StopsReading}
 use Rattle.octet_answers.specs.States.{State, passed, front}
 use Rattle.octet_answers.specs.Answers.{Takes}
-use Rattle.octet_answers.specs.Left.{Leaves, stays, behind_addition, at_segment}
+use Rattle.octet_answers.specs.Left.{Leaves, no_room, no_value_open, no_header, too_many_headers, other_header, not_at_end, no_header_open}
+use Rattle.octet_answers.specs.Left.{contents_too_deep, bad_primitive, bad_segment, nothing_to_skip_in, not_skipped, out_of_order}
+use Rattle.octet_answers.specs.Left.{nothing_stands, no_header_stands, another_stands, no_component, stood_before, not_all_read}
+use Rattle.octet_answers.specs.Left.{no_header_to_pick, no_alternative}
+use Rattle.octet_answers.specs.Left.{Blocks, no_encoding, addition_too_deep, no_addition, behind_addition}
 use Rattle.reading_law.specs.Shows.{IsSliceAt, StandIn}
-use Rattle.reading_law.proofs.Places.{Placed, further, at_place, behind_lies, told_more, taken, asked, done}
+use Rattle.reading_law.proofs.Places.{Placed, further, at_place, behind_lies, told_more, passes_placed, taken, asked, done}
 
 drop_stands : {m : List ℕ} {at : ℕ} {o : List ℕ} (n : ℕ) → n ≤ length o → IsSliceAt m at o → IsSliceAt m (at + n) (drop n o)
 drop_stands {m} {at} {o} n l s = at_place (further (take n o) (drop n o) s (sym (take-append-drop n o))) (ap (λ q. at + q) (length-take-le n o l))
 
-left_placed : {m : List ℕ} {a b : State} {e : ReadFault} → Leaves a b e → Placed m a → Placed m b
-left_placed (stays n) p = p
-left_placed {a = a} (behind_addition u l) p = left_placed l (record { here = behind_lies a.here p.here u; outer = p.outer; told = told_more {a = a} passed p tt })
-left_placed (at_segment {n = n} l k) p = record { here = drop_stands n l p.here; outer = p.outer; told = p.told }
+blocks_placed : {m : List ℕ} {s : List Resolved} {ss : List Step} {d : Bool} {a b : State} {e : ReadFault} → Blocks s ss d a b e → Placed m a → Placed m b
+blocks_placed (no_encoding f n h) p = p
+blocks_placed (addition_too_deep u n l) p = p
+blocks_placed (no_addition u n l d) p = p
+blocks_placed {a = a} (behind_addition d u n l h) p = blocks_placed h (record { here = behind_lies a.here p.here u; outer = p.outer; told = told_more {a = a} passed p tt })
 
-module _ (m : List ℕ) (r : ℕ → List Step) (l : State → State → Type 0) (keeps : (a b : State) → l a b → Placed m a → Placed m b) where
+left_placed : {m : List ℕ} {a b : State} {q : Question} {e : ReadFault} → Leaves a q b e → Placed m a → Placed m b
+left_placed (no_room n) p = p
+left_placed (no_value_open n) p = p
+left_placed (no_header f h) p = p
+left_placed (too_many_headers u l) p = p
+left_placed (other_header u l o) p = p
+left_placed (not_at_end l) p = p
+left_placed (no_header_open n o) p = p
+left_placed (contents_too_deep l) p = p
+left_placed (bad_primitive f l c h) p = p
+left_placed (bad_segment {n = n} e r c h l) p = record { here = drop_stands n l p.here; outer = p.outer; told = p.told }
+left_placed (nothing_to_skip_in n) p = p
+left_placed (not_skipped t os v h) p = blocks_placed h p
+left_placed (out_of_order t os v h) p = passes_placed h p
+left_placed (nothing_stands n o) p = p
+left_placed (no_header_stands e n h) p = p
+left_placed (another_stands n o) p = p
+left_placed (no_component h) p = blocks_placed h p
+left_placed (stood_before h m) p = passes_placed h p
+left_placed (not_all_read h n) p = passes_placed h p
+left_placed (no_header_to_pick f h) p = p
+left_placed (no_alternative u n) p = p
+
+module _ (m : List ℕ) (r : ℕ → List Step) (l : State → Question → State → Type 0) (keeps : (a : State) (q : Question) (b : State) → l a q b → Placed m a → Placed m b) where
   mutual
     stopped : {ss : List Step} {x z : State} → Stops r Takes l ss x z → Placed m x → Placed m z
-    stopped (unanswered n h) p = keeps _ _ h p
+    stopped (unanswered n h) p = keeps _ _ _ h p
     stopped (answered q s) p = then_stopped s (asked q p)
 
     then_stopped : {t : Option TypeId} {ss : List Step} {x z : State} → StopsThen r Takes l t ss x z → Placed m x → Placed m z
     then_stopped (stops_on s) p = stopped s p
-    then_stopped (not_begun n h) p = keeps _ _ h p
+    then_stopped (not_begun n h) p = keeps _ _ _ h p
     then_stopped (stops_within g s) p = stopped s (taken g p)
-    then_stopped (not_ended g d n h) p = keeps _ _ h (done d (taken g p))
+    then_stopped (not_ended g d n h) p = keeps _ _ _ h (done d (taken g p))
     then_stopped (stops_behind g d i s) p = stopped s (taken i (done d (taken g p)))
 
-pub stands_where_stopped : (s : List Resolved) (t : TypeId) (o : List ℕ) (room : ℕ) (z : State) (e : ReadFault) → StopsReading (λ u. routine_at s u) Takes (λ a b. Leaves a b e) t (front s o room) z → IsSliceAt o z.here.at z.here.octets × StandIn o z.told
+pub stands_where_stopped : (s : List Resolved) (t : TypeId) (o : List ℕ) (room : ℕ) (z : State) (e : ReadFault) → StopsReading (λ u. routine_at s u) Takes (λ a q b. Leaves a q b e) t (front s o room) z → IsSliceAt o z.here.at z.here.octets × StandIn o z.told
 stands_where_stopped s t o room z e h =
-    let p : Placed o z = then_stopped o (λ u. routine_at s u) (λ a b. Leaves a b e) (λ a b. left_placed) h (record {
+    let p : Placed o z = then_stopped o (λ u. routine_at s u) (λ a q b. Leaves a q b e) (λ a q b. left_placed) h (record {
       here = record { before = []; behind = []; whole = sym (append-nil o); place = refl };
       outer = tt;
       told = tt;

@@ -59,7 +59,7 @@ pub fn said_is_read()
 /// and contents octets that were read at theirs.
 pub fn stops_in_place()
     ensures stopped { (s : List Resolved) (t : TypeId) (o : List ℕ) (room : ℕ) (z : State) (e : ReadFault)
-        → StopsReading (λ u. routine_at s u) Takes (λ a b. Leaves a b e) t (front s o room) z
+        → StopsReading (λ u. routine_at s u) Takes (λ a q b. Leaves a q b e) t (front s o room) z
         → IsSliceAt o z.here.at z.here.octets × StandIn o z.told }
     ensures read { (s : List Resolved) (t : TypeId) (o : List ℕ) (room : ℕ) (z : State)
         → Reads (λ u. routine_at s u) Takes t (front s o room) z

@@ -7,7 +7,7 @@ use Rattle.codec_code.specs.declared.step.Step.TheVariants.{Ranked}
 use Rattle.codec_source.specs.declared.fault.ReadFault.{ReadFault}
 use Rattle.codec_source.specs.declared.fault.ReadFault.TheVariants.{Memory}
 use Rattle.codec_source.specs.declared.frame.Frame.{Frame}
-use Rattle.codec_source.specs.Events.{Event, begins, ends}
+use Rattle.codec_source.specs.Events.{Event, begins, ends, Question, to_end}
 use Rattle.codec_source.specs.Reading.{Does}
 use Rattle.codec_source.specs.Stopping.{Stops, StopsThen}
 
@@ -52,12 +52,12 @@ module _ {S : Type 0} (r : ℕ → List Step) (takes : S → Event → S → Typ
   abbrev pub ThenBefore : Option TypeId → List Step → List Frame → S → S → Type 0
   ThenBefore t ss fs x z = (y : S) × ((w : S) × Then t ss x w × takes w ends y) × Goes fs y z
 
-module _ {S : Type 0} (r : ℕ → List Step) (takes : S → Event → S → Type 0) (leaves : S → S → Type 0) where
+module _ {S : Type 0} (r : ℕ → List Step) (takes : S → Event → S → Type 0) (leaves : S → Question → S → Type 0) where
   -- steps to the end of a value come to a question without an answer, or the value does not end
   abbrev pub RestsStop : List Step → S → S → Type 0
   RestsStop ss x z =
       Stops r takes leaves ss x z
-      ⊎ ((y : S) × Does r takes ss x y × ((c : S) → takes y ends c → ⊥) × leaves y z)
+      ⊎ ((y : S) × Does r takes ss x y × ((c : S) → takes y ends c → ⊥) × leaves y to_end z)
 
   -- one of the frames does, the last one first
   abbrev pub GoesStop : List Frame → S → S → Type 0
@@ -72,7 +72,7 @@ module _ {S : Type 0} (r : ℕ → List Step) (takes : S → Event → S → Typ
   abbrev pub ThenStops : Option TypeId → List Step → S → S → Type 0
   ThenStops t ss x z =
       StopsThen r takes leaves t ss x z
-      ⊎ ((w : S) × Then r takes t ss x w × ((c : S) → takes w ends c → ⊥) × leaves w z)
+      ⊎ ((w : S) × Then r takes t ss x w × ((c : S) → takes w ends c → ⊥) × leaves w to_end z)
 
   -- they do, or then one of the frames
   abbrev pub ThenBeforeStops : Option TypeId → List Step → List Frame → S → S → Type 0
@@ -82,11 +82,11 @@ module _ {S : Type 0} (r : ℕ → List Step) (takes : S → Event → S → Typ
 
 -- the frames lead where those at the start lead, and stop where they stop
 pub record IsUnderWay {S : Type 0} (r : ℕ → List Step) (takes : S → Event → S → Type 0)
-    (leaves : S → S → ReadFault → Type 0) (start : List Frame) (x : S) (frames : List Frame) (y : S) : Type 0 where
+    (leaves : S → Question → S → ReadFault → Type 0) (start : List Frame) (x : S) (frames : List Frame) (y : S) : Type 0 where
   pub same : Same (Goes r takes start x) (Goes r takes frames y)
   pub stops : (e : ReadFault) (z : S)
-      → GoesStop r takes (λ a b. leaves a b e) frames y z
-      → GoesStop r takes (λ a b. leaves a b e) start x z
+      → GoesStop r takes (λ a q b. leaves a q b e) frames y z
+      → GoesStop r takes (λ a q b. leaves a q b e) start x z
 
 -- how many steps the frames have, where the source has room for some values, and a routine has at most l steps
 abbrev pub frame_steps : List Frame → ℕ

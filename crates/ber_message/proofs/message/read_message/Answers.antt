@@ -3,12 +3,12 @@ use Rattle.std.specs.Prelude.{Err}
 use Rattle.codec_code.specs.Routines.{routine_at}
 use Rattle.codec_source.specs.Reading.{Reads}
 use Rattle.octet_answers.specs.Answers.{Takes}
-use Rattle.ber_message.specs.Messages.{room_of}
+use Rattle.ber_message.specs.Messages.{room_of, too_long, more_behind, cut_off, stopped, no_type}
 use Rattle.ber_message.proofs.Reading.{whole_message, front_message, fails, holds, headed, ends_before, is_memory, read_of, true_false, none_there}
 use Rattle.codec_source.specs.Stopping.{StopsReading}
 use Rattle.octet_answers.specs.Left.{Leaves}
-use Rattle.ber_message.proofs.Stopped.{ends_too_soon, fault_or, not_memory}
-use Rattle.codec_source.specs.declared.fault.ReadFault.TheVariants.{Missing, OutsideConstraint}
+use Rattle.ber_message.proofs.Stopped.{ends_too_soon, fault_or, never_stops, not_memory}
+use Rattle.codec_source.specs.declared.fault.ReadFault.TheVariants.{Missing, MessageLimit, NotDer, OutsideConstraint, Trailing}
 use Rattle.ber_message.proofs.message.read_message.Goals as goal
 
 pub returns-in-Err-read-clause-missing : goal.returns-in-Err-read-clause-missing
@@ -16,17 +16,17 @@ returns-in-Err-read-clause-missing c e =
     let s = c.args.code.now in
     let o = c.args.octets.now in
     let f = c.in-Err-read.fault in
-    let m = c.within.ensures.missing (ap (fault_or Missing) e) in
+    let m = ap (fault_or Missing) e in
     let h = c.in-Err-read.ensures.stopped (not_memory f m) in
-    ends_too_soon s c.args.id o f c.read.new.source m (subst (λ q. StopsReading (λ u. routine_at s u) Takes (λ a b. Leaves a b f) c.args.id q c.read.new.source) c.in-Ok.ensures.ok h)
+    ends_too_soon s c.args.id o f c.read.new.source m (subst (λ q. StopsReading (λ u. routine_at s u) Takes (λ a q b. Leaves a q b f) c.args.id q c.read.new.source) c.in-Ok.ensures.ok h)
 
 pub returns-in-Err-read-clause-outside : goal.returns-in-Err-read-clause-outside
-returns-in-Err-read-clause-outside c e = c.within.ensures.outside (ap (fault_or OutsideConstraint) e)
+returns-in-Err-read-clause-outside c e = never_stops c.in-Err-read.fault OutsideConstraint (ap (fault_or OutsideConstraint) e) (λ m. cc) (λ n. n) c.in-Err-read.ensures.stopped
 
 pub returns-in-Err-read-clause-err : goal.returns-in-Err-read-clause-err
 returns-in-Err-read-clause-err c memory limit has r =
     let s = c.args.code.now in
-    c.in-Err-read.ensures.err (λ e. memory (c.within.ensures.memory e)) r.last
+    c.in-Err-read.ensures.err memory r.last
     (subst (λ q. Reads (λ u. routine_at s u) Takes c.args.id q r.last) (sym c.in-Ok.ensures.ok) r.reads)
 
 pub returns-then-not-is_at_end-clause-trailing : goal.returns-then-not-is_at_end-clause-trailing
@@ -81,7 +81,7 @@ returns-in-Err-read-clause-read c i =
     let o = c.args.octets.now in
     let r = c.said_is_read.ensures.read s c.args.id i.value i.count o [] (room_of (length o)) i.is_said c.accepted.ensures i.is_value i.few i.short (omega arith) in
     let q = read_of o r (sym (append-nil o)) in
-    c.within.ensures.memory (is_memory c.in-Err-read.fault (subst (λ x. Reads (λ u. routine_at s u) Takes c.args.id x q.last) (sym c.in-Ok.ensures.ok) q.reads) (λ n x. c.in-Err-read.ensures.err n q.last x))
+    (is_memory c.in-Err-read.fault (subst (λ x. Reads (λ u. routine_at s u) Takes c.args.id x q.last) (sym c.in-Ok.ensures.ok) q.reads) (λ n x. c.in-Err-read.ensures.err n q.last x))
 
 pub returns-in-Err-read-clause-more : goal.returns-in-Err-read-clause-more
 returns-in-Err-read-clause-more c m =
@@ -92,7 +92,7 @@ returns-in-Err-read-clause-more c m =
     let b = length-append m.octets m.rest in
     let r = c.said_is_read.ensures.read s c.args.id i.value i.count m.octets m.rest (room_of (length o)) i.is_said c.accepted.ensures i.is_value i.few i.short (omega arith) in
     let q = read_of o r m.whole in
-    inr (ap Err (c.within.ensures.memory (is_memory c.in-Err-read.fault (subst (λ x. Reads (λ u. routine_at s u) Takes c.args.id x q.last) (sym c.in-Ok.ensures.ok) q.reads) (λ n x. c.in-Err-read.ensures.err n q.last x))))
+    inr (ap Err (is_memory c.in-Err-read.fault (subst (λ x. Reads (λ u. routine_at s u) Takes c.args.id x q.last) (sym c.in-Ok.ensures.ok) q.reads) (λ n x. c.in-Err-read.ensures.err n q.last x)))
 
 pub returns-in-Err-read-clause-less : goal.returns-in-Err-read-clause-less
 returns-in-Err-read-clause-less c b =
@@ -132,3 +132,35 @@ returns-clause-less c b =
     let i = b.is in
     let u = c.said_is_read.ensures.unit c.args.code.now c.args.id.index i.count i.value b.octets c.accepted.ensures i.is_said in
     absurd (true_false (c.ends_early.ensures.late (ends_before b u)) c.if-ends_early.false)
+
+pub returns-in-Err-read-clause-long : goal.returns-in-Err-read-clause-long
+returns-in-Err-read-clause-long c e = never_stops c.in-Err-read.fault MessageLimit (ap (fault_or MessageLimit) e) (λ m. cc) (λ n. n) c.in-Err-read.ensures.stopped
+
+pub returns-in-Err-read-clause-trailing : goal.returns-in-Err-read-clause-trailing
+returns-in-Err-read-clause-trailing c e = never_stops c.in-Err-read.fault Trailing (ap (fault_or Trailing) e) (λ m. cc) (λ n. n) c.in-Err-read.ensures.stopped
+
+pub returns-in-Err-read-clause-not_der : goal.returns-in-Err-read-clause-not_der
+returns-in-Err-read-clause-not_der c e = never_stops c.in-Err-read.fault NotDer (ap (fault_or NotDer) e) (λ m. cc) (λ n. n) c.in-Err-read.ensures.stopped
+
+pub returns-then-octets-gt-MAX_MESSAGE-clause-refused : goal.returns-then-octets-gt-MAX_MESSAGE-clause-refused
+returns-then-octets-gt-MAX_MESSAGE-clause-refused c = λ other. too_long (let l = c.if-octets-gt-MAX_MESSAGE.true in omega (arith, l))
+
+pub returns-then-not-has-clause-refused : goal.returns-then-not-has-clause-refused
+returns-then-not-has-clause-refused c = λ other. no_type (let l = c.if-octets-gt-MAX_MESSAGE.false in omega (arith, l)) (fails c.has.result c.if-not-has.true c.has.ensures)
+
+pub returns-then-ends_early-clause-refused : goal.returns-then-ends_early-clause-refused
+returns-then-ends_early-clause-refused c = λ other. cut_off (let l = c.if-octets-gt-MAX_MESSAGE.false in omega (arith, l)) (c.ends_early.ensures.early c.if-ends_early.true)
+
+pub returns-in-Err-read-clause-refused : goal.returns-in-Err-read-clause-refused
+returns-in-Err-read-clause-refused c = λ other.
+    let s = c.args.code.now in
+    let f = c.in-Err-read.fault in
+    let h = c.in-Err-read.ensures.stopped other in
+    stopped c.in-Ok.ensures.few (record { last = c.read.new.source; stops = subst (λ q. StopsReading (λ u. routine_at s u) Takes (λ a q b. Leaves a q b f) c.args.id q c.read.new.source) c.in-Ok.ensures.ok h })
+
+pub returns-then-not-is_at_end-clause-refused : goal.returns-then-not-is_at_end-clause-refused
+returns-then-not-is_at_end-clause-refused c = λ other.
+    let s = c.args.code.now in
+    let r = subst (λ q. Reads (λ u. routine_at s u) Takes c.args.id q c.read.new.source) c.in-Ok.ensures.ok c.in-Ok-read.ensures.ok in
+    more_behind c.in-Ok.ensures.few (front_message (c.read_is_said.ensures s c.args.id c.args.octets.now (room_of (length c.args.octets.now)) c.read.new.source c.accepted.ensures (holds c.has.result c.if-not-has.false c.has.ensures) c.are_octets.ensures r)
+    (fails c.is_at_end.result c.if-not-is_at_end.true c.is_at_end.ensures))

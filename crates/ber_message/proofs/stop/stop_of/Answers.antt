@@ -35,7 +35,7 @@ returns-clause-is c =
     let m = c.args.most in
     let e = c.in-Err-read.fault in
     let z = c.read.new.source in
-    let r = subst (λ q. StopsReading (λ u. routine_at s u) Takes (λ a b. Leaves a b e) t q z) c.in-Ok.ensures.ok (c.in-Err-read.ensures.stopped (c.is_memory.ensures c.if-is_memory.false)) in
+    let r = subst (λ q. StopsReading (λ u. routine_at s u) Takes (λ a q b. Leaves a q b e) t q z) c.in-Ok.ensures.ok (c.in-Err-read.ensures.stopped (c.is_memory.ensures c.if-is_memory.false)) in
     stop_told s t o m z c.told-in-Err-read.result (λ w a. stops z e r a) (c.stops_in_place.ensures.stopped s t o m z e r).0 c.told-in-Err-read.ensures.place c.told-in-Err-read.ensures.values
 
 pub returns-clause-place : goal.returns-clause-place
@@ -45,5 +45,5 @@ returns-clause-place c =
     let o = c.args.octets.now in
     let e = c.in-Err-read.fault in
     let z = c.read.new.source in
-    let r = subst (λ q. StopsReading (λ u. routine_at s u) Takes (λ a b. Leaves a b e) t q z) c.in-Ok.ensures.ok (c.in-Err-read.ensures.stopped (c.is_memory.ensures c.if-is_memory.false)) in
+    let r = subst (λ q. StopsReading (λ u. routine_at s u) Takes (λ a q b. Leaves a q b e) t q z) c.in-Ok.ensures.ok (c.in-Err-read.ensures.stopped (c.is_memory.ensures c.if-is_memory.false)) in
     place_told o z c.told-in-Err-read.result (c.stops_in_place.ensures.stopped s t o c.args.most z e r).0 c.told-in-Err-read.ensures.place

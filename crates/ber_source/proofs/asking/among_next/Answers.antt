@@ -1,12 +1,17 @@
-use Rattle.octet_answers.specs.Left.{stays}
-use Rattle.codec_source.specs.declared.fault.ReadFault.TheVariants.{Missing, UnexpectedTag}
 use Rattle.ber_source.specs.Seen.{state_of}
-use Rattle.ber_source.proofs.Going.{here}
-use Rattle.ber_source.proofs.Windows.{none_of}
+use Rattle.ber_source.proofs.Skipping.{left_among, left_again, left_unread}
 use Rattle.ber_source.proofs.asking.among_next.Goals as goal
 
+pub returns-in-Err-clause-left : goal.returns-in-Err-clause-left
+returns-in-Err-clause-left g c = λ other.
+    left_among (state_of g.T.Teller.tokens c.args.place.now) (state_of g.T.Teller.tokens c.pass.new.place) c.args.steps.now c.is_extensible.result c.in-Err.fault c.is_extensible.ensures (c.in-Err.ensures.left other)
+
 pub returns-then-is_in-clause-left : goal.returns-then-is_in-clause-left
-returns-then-is_in-clause-left g c = λ other. c.in-Ok.ensures.onward (state_of g.T.Teller.tokens c.pass.new.place) UnexpectedTag (here (state_of g.T.Teller.tokens c.pass.new.place) UnexpectedTag (λ e. absurd (cc)))
+returns-then-is_in-clause-left g c = λ other.
+    left_again (state_of g.T.Teller.tokens c.args.place.now) (state_of g.T.Teller.tokens c.pass.new.place) c.args.steps.now c.is_extensible.result c.in-Ok.found c.in-Some.field c.marks_from.result.now c.is_in.result
+    c.is_extensible.ensures c.in-Some.is c.in-Ok.ensures.ok c.marks_from.ensures c.if-is_in.true c.is_in.ensures
 
 pub returns-then-not-are_read-clause-left : goal.returns-then-not-are_read-clause-left
-returns-then-not-are_read-clause-left g c = λ other. c.in-Ok.ensures.onward (state_of g.T.Teller.tokens c.pass.new.place) Missing (stays (λ e. none_of _ _ c.in-None.is c.in-Ok.ensures.at_end))
+returns-then-not-are_read-clause-left g c = λ other.
+    left_unread (state_of g.T.Teller.tokens c.args.place.now) (state_of g.T.Teller.tokens c.pass.new.place) c.args.steps.now c.is_extensible.result c.in-Ok.found c.marks_from-2.result.now c.are_read.result
+    c.is_extensible.ensures c.in-None.is c.in-Ok.ensures.ok c.marks_from-2.ensures c.if-not-are_read.true c.are_read.ensures

@@ -1,7 +1,8 @@
-use Rattle.std.proofs.Common.{inr, refl, sym, ◌∙◌}
+use Rattle.std.proofs.Common.{arith, inr, refl, sym, subst, ◌∙◌}
 use Rattle.octets.specs.Forms.{is_constructed}
+use Rattle.codec_source.specs.Events.{whether_stands}
 use Rattle.ber_source.specs.Seen.{state_of}
-use Rattle.octet_answers.specs.Left.{stays}
+use Rattle.octet_answers.specs.Left.{Leaves, nothing_stands, no_header_stands, another_stands}
 use Rattle.ber_source.proofs.Windows.{fails, some_octets, no_octets}
 use Rattle.ber_source.proofs.Asked.{stands_never, other_never}
 use Rattle.ber_source.proofs.asking.stands_next.Goals as goal
@@ -46,10 +47,25 @@ returns-clause-err g c other there b d =
     (sym c.may_be_absent-2.ensures ∙ c.if-may_be_absent-2.false) d
 
 pub returns-then-is_empty-clause-left : goal.returns-then-is_empty-clause-left
-returns-then-is_empty-clause-left g c = λ other. stays (λ e. no_octets c.args.place.now.here.octets.now c.is_empty.result c.is_empty.ensures c.if-is_empty.true)
+returns-then-is_empty-clause-left g c = λ other.
+    nothing_stands (sym c.may_be_absent.ensures ∙ c.if-may_be_absent.false)
+    (no_octets c.args.place.now.here.octets.now c.is_empty.result c.is_empty.ensures c.if-is_empty.true)
 
 pub returns-in-Err-clause-left : goal.returns-in-Err-clause-left
-returns-in-Err-clause-left g c = λ other. stays (λ e. absurd (c.told_header.ensures.missing e))
+returns-in-Err-clause-left g c = λ other.
+    let a = state_of g.T.Teller.tokens c.args.place.now in
+    let some = some_octets c.args.place.now.here.octets.now c.is_empty.result c.is_empty.ensures c.if-is_empty.false in
+    subst (λ q. Leaves a (whether_stands c.args.field) a q) (sym c.told_header.ensures) (no_header_stands c.in-Err.fault (omega (arith, some)) c.in-Err.ensures.err)
 
 pub returns-clause-left : goal.returns-clause-left
-returns-clause-left g c = λ other. stays (λ e. absurd (cc))
+returns-clause-left g c = λ other.
+    another_stands (sym c.may_be_absent-2.ensures ∙ c.if-may_be_absent-2.false)
+    (record {
+      tag = c.in-Ok.unit.tag;
+      constructed = is_constructed c.in-Ok.unit.form;
+      count = c.in-Ok.unit.count;
+      contents = c.in-Ok.unit.contents.now;
+      rest = c.in-Ok.unit.rest.now;
+      unit = c.in-Ok.ensures.ok;
+      not_first = fails c.can_begin.result c.if-can_begin.false c.can_begin.ensures;
+    })

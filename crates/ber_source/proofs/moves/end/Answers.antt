@@ -1,14 +1,17 @@
-use Rattle.std.proofs.Common.{rules, ◌≡◌, ap, map}
+use Rattle.std.proofs.Common.{rules, ◌≡◌, ap, map, subst, []}
 use Rattle.octet_answers.specs.States.{State}
+use Rattle.octet_answers.specs.Left.{Leaves, no_value_open}
 use Rattle.asn_base.specs.declared.schema.TypeId.{TypeId}
+use Rattle.codec_source.specs.Events.{to_end}
+use Rattle.codec_source.specs.declared.fault.ReadFault.TheVariants.{UnexpectedTag}
 use Rattle.std.specs.Prelude.{List}
 use Rattle.ber_source.specs.Seen.{window_of}
-use Rattle.ber_source.proofs.Going.{stays_as}
 use Rattle.ber_source.proofs.moves.end.Goals as goal
 
 pub returns-in-None-clause-left : goal.returns-in-None-clause-left
 returns-in-None-clause-left g c = λ other.
     let p = c.args.place.now in
     let k : p.values.items ≡ c.pop.new.self.items = (let i = c.in-None.ensures.items in search rules) in
+    let none : p.values.items ≡ [] = (let i = c.in-None.ensures.items in search rules) in
     let state : List TypeId → State = λ q. record { schema = p.code.now; here = window_of p.here; outer = map window_of p.outer.items; values = q; marks = p.marks.items; told = g.T.Teller.tokens p.told; room = p.room } in
-    stays_as (λ e. absurd (cc)) (ap state k)
+    subst (λ q. Leaves (state p.values.items) to_end q UnexpectedTag) (ap state k) (no_value_open none)

@@ -1,8 +1,10 @@
-use Rattle.std.proofs.Common.{rules, ◌≡◌, sym, ap, ◌∙◌}
+use Rattle.std.proofs.Common.{rules, arith, inl, inr, ◌≡◌, sym, ap, subst, ◌∙◌}
 use Rattle.octets.specs.declared.form.Form.TheVariants.{Primitive}
-use Rattle.octet_answers.specs.Left.{stays}
+use Rattle.octet_answers.specs.Left.{Leaves, no_header, too_many_headers, other_header}
 use Rattle.octets.specs.Forms.{is_constructed}
-use Rattle.ber_source.proofs.Windows.{fails, false_true}
+use Rattle.codec_source.specs.Events.{to_open}
+use Rattle.ber_source.specs.Seen.{state_of}
+use Rattle.ber_source.proofs.Windows.{as_many, fails, false_true}
 use Rattle.ber_source.proofs.moves.open.Goals as goal
 
 pub returns-in-Err-clause-err : goal.returns-in-Err-clause-err
@@ -20,13 +22,24 @@ returns-then-eq-clause-err g c other b d =
     false_true (sym (ap is_constructed p) ∙ u.1 ∙ d.form c.if-head.true)
 
 pub returns-in-Err-clause-left : goal.returns-in-Err-clause-left
-returns-in-Err-clause-left g c = λ other. stays (λ e. absurd (c.told_header.ensures.missing e))
+returns-in-Err-clause-left g c = λ other.
+    let a = state_of g.T.Teller.tokens c.args.place.now in
+    subst (λ q. Leaves a (to_open c.args.head) a q) (sym c.told_header.ensures) (no_header c.in-Err.fault c.in-Err.ensures.err)
 
 pub returns-then-len-ge-MAX_HEADERS-clause-left : goal.returns-then-len-ge-MAX_HEADERS-clause-left
-returns-then-len-ge-MAX_HEADERS-clause-left g c = λ other. stays (λ e. absurd (cc))
+returns-then-len-ge-MAX_HEADERS-clause-left g c = λ other.
+    let m = as_many c.args.place.now.outer.items in
+    too_many_headers c.in-Ok.ensures.ok (omega (arith, m, c.len.ensures, c.args.place.now.outer.ok.0, c.if-len-ge-MAX_HEADERS.true))
 
 pub returns-then-not-same_tag-clause-left : goal.returns-then-not-same_tag-clause-left
-returns-then-not-same_tag-clause-left g c = λ other. stays (λ e. absurd (cc))
+returns-then-not-same_tag-clause-left g c = λ other.
+    let m = as_many c.args.place.now.outer.items in
+    other_header c.in-Ok.ensures.ok (omega (arith, m, c.len.ensures, c.args.place.now.outer.ok.0, c.if-len-ge-MAX_HEADERS.false))
+    (inl (λ e. fails c.same_tag.result c.if-not-same_tag.true c.same_tag.ensures e))
 
 pub returns-then-eq-clause-left : goal.returns-then-eq-clause-left
-returns-then-eq-clause-left g c = λ other. stays (λ e. absurd (cc))
+returns-then-eq-clause-left g c = λ other.
+    let m = as_many c.args.place.now.outer.items in
+    let p : c.in-Ok.unit.form ≡ Primitive = search rules in
+    other_header c.in-Ok.ensures.ok (omega (arith, m, c.len.ensures, c.args.place.now.outer.ok.0, c.if-len-ge-MAX_HEADERS.false))
+    (inr (c.if-head.true, ap is_constructed p))

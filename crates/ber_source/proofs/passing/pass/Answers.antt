@@ -1,9 +1,8 @@
 use Rattle.std.proofs.Common.{sym, subst, ◌∙◌}
 use Rattle.octet_answers.specs.Found.{Passes}
-use Rattle.octet_answers.specs.Left.{Leaves}
 use Rattle.ber_source.specs.Seen.{state_of}
 use Rattle.ber_source.proofs.Windows.{some_of, none_of}
-use Rattle.ber_source.proofs.Going.{at_first, one_more, by_first, by_last}
+use Rattle.ber_source.proofs.Going.{at_first, one_more, by_first, by_last, blocks_by_first}
 use Rattle.ber_source.proofs.passing.pass.Goals as goal
 
 pub loop-found-init : goal.loop-found-init
@@ -54,12 +53,11 @@ pub returns-in-Err-clause-code : goal.returns-in-Err-clause-code
 returns-in-Err-clause-code g c = c.in-Err.ensures.code ∙ c.loop-found.invariant.code
 
 pub returns-in-Err-clause-left : goal.returns-in-Err-clause-left
-returns-in-Err-clause-left g c = λ other. c.loop-found.invariant.onward (state_of g.T.Teller.tokens c.pass_one.new.place) c.in-Err.fault (c.in-Err.ensures.left other)
-
-pub returns-in-Ok-Some-clause-onward : goal.returns-in-Ok-Some-clause-onward
-returns-in-Ok-Some-clause-onward g c = λ b e h.
-    let k = some_of _ _ _ c.in-Ok-Some.field-0-is c.in-Ok-Some.ensures.ended in
-    c.loop-found.invariant.onward b e (subst (λ z. Leaves z b e) k.0 h)
-
-pub returns-in-Ok-Some-clause-at_end : goal.returns-in-Ok-Some-clause-at_end
-returns-in-Ok-Some-clause-at_end g c = some_of _ _ _ c.in-Ok-Some.field-0-is c.in-Ok-Some.ensures.at_end
+returns-in-Err-clause-left g c = λ other.
+    let ss = c.args.steps.now in
+    let e = c.args.extensible in
+    let p = c.args.place.now in
+    let q = c.loop-found.place in
+    let b = state_of g.T.Teller.tokens c.pass_one.new.place in
+    c.loop-found.invariant.onward b c.in-Err.fault
+    (blocks_by_first g.T.Teller.suits g.T.Teller.tokens ss e p q (state_of g.T.Teller.tokens q) b c.in-Err.fault c.loop-found.invariant (c.in-Err.ensures.left other))

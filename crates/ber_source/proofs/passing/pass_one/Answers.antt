@@ -1,6 +1,7 @@
 use Rattle.std.proofs.Common.{arith, refl, sym, subst, ◌∙◌}
-use Rattle.octet_answers.specs.Left.{Leaves, stays, behind_addition}
+use Rattle.octet_answers.specs.Left.{Blocks, no_encoding, addition_too_deep, no_addition, behind_addition}
 use Rattle.octet_answers.specs.Found.{Passes, at_end_of_contents, at_component, passes}
+use Rattle.ber_source.specs.Seen.{state_of}
 use Rattle.ber_source.proofs.Windows.{as_many, false_true, no_octets, some_octets}
 use Rattle.ber_source.proofs.Passed.{at_end_alone, component_alone, no_unit_none, must_pass}
 use Rattle.ber_source.proofs.passing.pass_one.Goals as goal
@@ -49,17 +50,25 @@ returns-clause-back g c f b p =
     let z = must_pass c.one_unit.ensures.some c.one_unit.ensures.once c.in-Ok.ensures.ok c.in-None.ensures.none p in
     subst (λ q. Passes c.args.place.now.code.now c.args.steps.now c.args.extensible q f b) (sym c.in_ok-step_over.ensures.ok) z.behind
 
-pub returns-then-is_empty-clause-at_end : goal.returns-then-is_empty-clause-at_end
-returns-then-is_empty-clause-at_end g c = no_octets c.args.place.now.here.octets.now c.is_empty.result c.is_empty.ensures c.if-is_empty.true
-
 pub returns-in-Err-clause-left : goal.returns-in-Err-clause-left
-returns-in-Err-clause-left g c = λ other. stays (λ e. absurd (c.told_header.ensures.missing e))
+returns-in-Err-clause-left g c = λ other.
+    let a = state_of g.T.Teller.tokens c.args.place.now in
+    let some = some_octets c.args.place.now.here.octets.now c.is_empty.result c.is_empty.ensures c.if-is_empty.false in
+    subst (λ q. Blocks c.args.place.now.code.now c.args.steps.now c.args.extensible a a q) (sym c.told_header.ensures) (no_encoding c.in-Err.fault (omega (arith, some)) c.in-Err.ensures.err)
 
 pub returns-then-len-ge-MAX_HEADERS-clause-left : goal.returns-then-len-ge-MAX_HEADERS-clause-left
-returns-then-len-ge-MAX_HEADERS-clause-left g c = λ other. stays (λ e. absurd (cc))
+returns-then-len-ge-MAX_HEADERS-clause-left g c = λ other.
+    let m = as_many c.args.place.now.outer.items in
+    addition_too_deep c.in-Ok.ensures.ok c.in-None.ensures.none (omega (arith, m, c.len.ensures, c.args.place.now.outer.ok.0, c.if-len-ge-MAX_HEADERS.true))
 
 pub returns-then-not-extensible-clause-left : goal.returns-then-not-extensible-clause-left
-returns-then-not-extensible-clause-left g c = λ other. stays (λ e. absurd (cc))
+returns-then-not-extensible-clause-left g c = λ other.
+    let m = as_many c.args.place.now.outer.items in
+    no_addition c.in-Ok.ensures.ok c.in-None.ensures.none (omega (arith, m, c.len.ensures, c.args.place.now.outer.ok.0, c.if-len-ge-MAX_HEADERS.false)) c.if-not-extensible.true
 
 pub returns-clause-onward : goal.returns-clause-onward
-returns-clause-onward g c = λ b e h. behind_addition c.in-Ok.ensures.ok (subst (λ q. Leaves q b e) c.in_ok-step_over.ensures.ok h)
+returns-clause-onward g c = λ b e h.
+    let m = as_many c.args.place.now.outer.items in
+    behind_addition c.if-not-extensible.false c.in-Ok.ensures.ok c.in-None.ensures.none
+    (omega (arith, m, c.len.ensures, c.args.place.now.outer.ok.0, c.if-len-ge-MAX_HEADERS.false))
+    (subst (λ q. Blocks c.args.place.now.code.now c.args.steps.now c.args.extensible q b e) c.in_ok-step_over.ensures.ok h)

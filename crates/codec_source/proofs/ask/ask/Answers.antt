@@ -2,8 +2,8 @@ use Rattle.std.proofs.Common.{◌∷◌, ap, sym, subst, ◌∙◌}
 use Rattle.std.specs.Prelude.{IfOk, Some}
 use Rattle.codec_source.specs.declared.ask.Answer.{Answer}
 use Rattle.codec_source.specs.Reading.{Asks, call}
-use Rattle.codec_source.specs.Stopping.{AsksNothing}
-use Rattle.codec_source.specs.proving.Frames.{IfRefused}
+use Rattle.codec_source.specs.Stopping.{AsksNothing, asked}
+use Rattle.codec_source.specs.proving.Frames.{IfRefused, IfRefusedWith}
 use Rattle.codec_source.proofs.ask.ask.Goals as goal
 
 pub ask_ranked-requires : goal.ask_ranked-requires
@@ -71,3 +71,30 @@ returns-in-Pick-clause-err g c = subst (λ q. IfRefused c.ask_pick.result (AsksN
 
 pub returns-in-Call-clause-ok : goal.returns-in-Call-clause-ok
 returns-in-Call-clause-ok g c = subst (λ q. Asks g.S.Source.takes (q ∷ c.args.rest.now) c.args.source.now c.args.rest.now (Some c.in-Call.id) c.args.source.now) (sym c.in-Call.is) call
+
+pub returns-in-Head-clause-left : goal.returns-in-Head-clause-left
+returns-in-Head-clause-left g c = subst (λ q. IfRefusedWith c.ask_head.result (g.S.Source.leaves c.args.source.now (asked (q ∷ c.args.rest.now)) c.ask_head.new.source)) (sym c.in-Head.is) c.ask_head.ensures.left
+
+pub returns-in-End-clause-left : goal.returns-in-End-clause-left
+returns-in-End-clause-left g c = subst (λ q. IfRefusedWith c.ask_end.result (g.S.Source.leaves c.args.source.now (asked (q ∷ c.args.rest.now)) c.ask_end.new.source)) (sym c.in-End.is) c.ask_end.ensures.left
+
+pub returns-in-Leaf-clause-left : goal.returns-in-Leaf-clause-left
+returns-in-Leaf-clause-left g c = subst (λ q. IfRefusedWith c.ask_leaf.result (g.S.Source.leaves c.args.source.now (asked (q ∷ c.args.rest.now)) c.ask_leaf.new.source)) (sym c.in-Leaf.is) c.ask_leaf.ensures.left
+
+pub returns-in-Rest-clause-left : goal.returns-in-Rest-clause-left
+returns-in-Rest-clause-left g c = subst (λ q. IfRefusedWith c.ask_rest.result (g.S.Source.leaves c.args.source.now (asked (q ∷ c.args.rest.now)) c.ask_rest.new.source)) (sym c.in-Rest.is) c.ask_rest.ensures.left
+
+pub returns-in-Field-clause-left : goal.returns-in-Field-clause-left
+returns-in-Field-clause-left g c = subst (λ q. IfRefusedWith c.ask_field.result (g.S.Source.leaves c.args.source.now (asked (q ∷ c.args.rest.now)) c.ask_field.new.source)) (sym c.in-Field.is) c.ask_field.ensures.left
+
+pub returns-in-Ranked-clause-left : goal.returns-in-Ranked-clause-left
+returns-in-Ranked-clause-left g c = subst (λ q. IfRefusedWith c.ask_ranked.result (g.S.Source.leaves c.args.source.now (asked (q ∷ c.args.rest.now)) c.ask_ranked.new.source)) (sym c.in-Ranked.is) c.ask_ranked.ensures.left
+
+pub returns-in-Each-clause-left : goal.returns-in-Each-clause-left
+returns-in-Each-clause-left g c = subst (λ q. IfRefusedWith c.ask_each.result (g.S.Source.leaves c.args.source.now (asked (q ∷ c.args.rest.now)) c.ask_each.new.source)) (sym c.in-Each.is) c.ask_each.ensures.left
+
+pub returns-in-EachSorted-clause-left : goal.returns-in-EachSorted-clause-left
+returns-in-EachSorted-clause-left g c = subst (λ q. IfRefusedWith c.ask_sorted.result (g.S.Source.leaves c.args.source.now (asked (q ∷ c.args.rest.now)) c.ask_sorted.new.source)) (sym c.in-EachSorted.is) c.ask_sorted.ensures.left
+
+pub returns-in-Pick-clause-left : goal.returns-in-Pick-clause-left
+returns-in-Pick-clause-left g c = subst (λ q. IfRefusedWith c.ask_pick.result (g.S.Source.leaves c.args.source.now (asked (q ∷ c.args.rest.now)) c.ask_pick.new.source)) (sym c.in-Pick.is) c.ask_pick.ensures.left

@@ -27,7 +27,7 @@ loop-next-preserved g c =
     let news = and_next c.turn.new.frames.items c.in-Ok-turn.after in
     let on : IsUnderWay r g.S.Source.takes g.S.Source.leaves start c.begin.new.self news c.turn.new.source = record {
       same = turned_same r g.S.Source.takes g.met.S.Source.one_answer start fs news c.loop-next.frames.items c.in-Some.frame c.begin.new.self c.loop-next.source c.turn.new.source c.loop-next.invariant.0.same e c.in-Ok-turn.ensures.ok;
-      stops = λ f z s. c.loop-next.invariant.0.stops f z (stops_with r g.S.Source.takes (λ a b. g.S.Source.leaves a b f) fs c.loop-next.frames.items c.in-Some.frame c.loop-next.source z e (c.in-Ok-turn.ensures.on f z s));
+      stops = λ f z s. c.loop-next.invariant.0.stops f z (stops_with r g.S.Source.takes (λ a q b. g.S.Source.leaves a q b f) fs c.loop-next.frames.items c.in-Some.frame c.loop-next.source z e (c.in-Ok-turn.ensures.on f z s));
     } in (
       subst (λ q. IsUnderWay r g.S.Source.takes g.S.Source.leaves start c.begin.new.self q c.turn.new.source) (sym c.next_of-next.ensures.same) on,
       c.next_of-next.ensures.last,
@@ -40,8 +40,8 @@ returns-in-Err-turn-clause-stopped g c = λ other.
     let f = c.in-Err-turn.fault in
     let fs = and_next c.loop-next.frames.items c.loop-next.next in
     let e : fs ≡ c.loop-next.frames.items ++ c.in-Some.frame ∷ [] = ap (and_next c.loop-next.frames.items) c.in-Some.is in
-    let s = stops_with r g.S.Source.takes (λ a b. g.S.Source.leaves a b f) fs c.loop-next.frames.items c.in-Some.frame c.loop-next.source c.turn.new.source e (c.in-Err-turn.ensures.stopped other) in
-    started_stops r g.S.Source.takes (λ a b. g.S.Source.leaves a b f) c.args.id first c.new-frames.result.items (c.new-frames.result.items ++ first ∷ []) c.args.source.now c.begin.new.self c.turn.new.source c.new-frames.ensures.items refl c.steps-steps.ensures c.in-Ok.ensures.ok (c.loop-next.invariant.0.stops f c.turn.new.source s)
+    let s = stops_with r g.S.Source.takes (λ a q b. g.S.Source.leaves a q b f) fs c.loop-next.frames.items c.in-Some.frame c.loop-next.source c.turn.new.source e (c.in-Err-turn.ensures.stopped other) in
+    started_stops r g.S.Source.takes (λ a q b. g.S.Source.leaves a q b f) c.args.id first c.new-frames.result.items (c.new-frames.result.items ++ first ∷ []) c.args.source.now c.begin.new.self c.turn.new.source c.new-frames.ensures.items refl c.steps-steps.ensures c.in-Ok.ensures.ok (c.loop-next.invariant.0.stops f c.turn.new.source s)
 
 pub returns-in-Err-turn-clause-err : goal.returns-in-Err-turn-clause-err
 returns-in-Err-turn-clause-err g c = λ other.

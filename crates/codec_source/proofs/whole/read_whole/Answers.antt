@@ -15,28 +15,28 @@ returns-in-Ok-end-clause-room g c =
     omega (arith, a, b, d, e)
 
 pub returns-in-Ok-end-clause-on : goal.returns-in-Ok-end-clause-on
-returns-in-Ok-end-clause-on g c = λ r fs e z s. stops_behind r g.S.Source.takes (λ a b. g.S.Source.leaves a b e) c.args.head c.args.kind fs c.args.source.now c.open.new.self c.leaf.new.self c.close.new.self c.end.new.self z c.in-Ok.ensures.ok c.in-Ok-leaf.ensures.ok c.in-Ok-close.ensures.ok c.in-Ok-end.ensures.ok s
+returns-in-Ok-end-clause-on g c = λ r fs e z s. stops_behind r g.S.Source.takes (λ a q b. g.S.Source.leaves a q b e) c.args.head c.args.kind fs c.args.source.now c.open.new.self c.leaf.new.self c.close.new.self c.end.new.self z c.in-Ok.ensures.ok c.in-Ok-leaf.ensures.ok c.in-Ok-close.ensures.ok c.in-Ok-end.ensures.ok s
 
 pub returns-in-Err-clause-err : goal.returns-in-Err-clause-err
 returns-in-Err-clause-err g c = λ other r fs. none_opened r g.S.Source.takes g.met.S.Source.one_answer c.args.head c.args.kind fs c.args.source.now (c.in-Err.ensures.err other)
 
 pub returns-in-Err-clause-stopped : goal.returns-in-Err-clause-stopped
-returns-in-Err-clause-stopped g c = λ other r fs. stops_at_header r g.S.Source.takes (λ a b. g.S.Source.leaves a b c.in-Err.fault) c.args.head c.args.kind fs c.args.source.now c.open.new.self (c.in-Err.ensures.err other) (c.in-Err.ensures.left other)
+returns-in-Err-clause-stopped g c = λ other r fs. stops_at_header r g.S.Source.takes (λ a q b. g.S.Source.leaves a q b c.in-Err.fault) c.args.head c.args.kind fs c.args.source.now c.open.new.self (c.in-Err.ensures.err other) (c.in-Err.ensures.left other)
 
 pub returns-in-Err-leaf-clause-err : goal.returns-in-Err-leaf-clause-err
 returns-in-Err-leaf-clause-err g c = λ other r fs. none_held r g.S.Source.takes g.met.S.Source.one_answer c.args.head c.args.kind fs c.args.source.now c.open.new.self c.in-Ok.ensures.ok (c.in-Err-leaf.ensures.err other)
 
 pub returns-in-Err-leaf-clause-stopped : goal.returns-in-Err-leaf-clause-stopped
-returns-in-Err-leaf-clause-stopped g c = λ other r fs. stops_at_contents r g.S.Source.takes (λ a b. g.S.Source.leaves a b c.in-Err-leaf.fault) c.args.head c.args.kind fs c.args.source.now c.open.new.self c.leaf.new.self c.in-Ok.ensures.ok (c.in-Err-leaf.ensures.err other) (c.in-Err-leaf.ensures.left other)
+returns-in-Err-leaf-clause-stopped g c = λ other r fs. stops_at_contents r g.S.Source.takes (λ a q b. g.S.Source.leaves a q b c.in-Err-leaf.fault) c.args.head c.args.kind fs c.args.source.now c.open.new.self c.leaf.new.self c.in-Ok.ensures.ok (c.in-Err-leaf.ensures.err other) (c.in-Err-leaf.ensures.left other)
 
 pub returns-in-Err-close-clause-err : goal.returns-in-Err-close-clause-err
 returns-in-Err-close-clause-err g c = λ other r fs. none_closed r g.S.Source.takes g.met.S.Source.one_answer c.args.head c.args.kind fs c.args.source.now c.open.new.self c.leaf.new.self c.in-Ok.ensures.ok c.in-Ok-leaf.ensures.ok (c.in-Err-close.ensures.err other)
 
 pub returns-in-Err-close-clause-stopped : goal.returns-in-Err-close-clause-stopped
-returns-in-Err-close-clause-stopped g c = λ other r fs. stops_at_close r g.S.Source.takes (λ a b. g.S.Source.leaves a b c.in-Err-close.fault) c.args.head c.args.kind fs c.args.source.now c.open.new.self c.leaf.new.self c.close.new.self c.in-Ok.ensures.ok c.in-Ok-leaf.ensures.ok (c.in-Err-close.ensures.err other) (c.in-Err-close.ensures.left other)
+returns-in-Err-close-clause-stopped g c = λ other r fs. stops_at_close r g.S.Source.takes (λ a q b. g.S.Source.leaves a q b c.in-Err-close.fault) c.args.head c.args.kind fs c.args.source.now c.open.new.self c.leaf.new.self c.close.new.self c.in-Ok.ensures.ok c.in-Ok-leaf.ensures.ok (c.in-Err-close.ensures.err other) (c.in-Err-close.ensures.left other)
 
 pub returns-in-Err-end-clause-err : goal.returns-in-Err-end-clause-err
 returns-in-Err-end-clause-err g c = λ other r fs. none_left r g.S.Source.takes g.met.S.Source.one_answer c.args.head c.args.kind fs c.args.source.now c.open.new.self c.leaf.new.self c.close.new.self c.in-Ok.ensures.ok c.in-Ok-leaf.ensures.ok c.in-Ok-close.ensures.ok (c.in-Err-end.ensures.err other)
 
 pub returns-in-Err-end-clause-stopped : goal.returns-in-Err-end-clause-stopped
-returns-in-Err-end-clause-stopped g c = λ other r fs. stops_at_end r g.S.Source.takes (λ a b. g.S.Source.leaves a b c.in-Err-end.fault) c.args.head c.args.kind fs c.args.source.now c.open.new.self c.leaf.new.self c.close.new.self c.end.new.self c.in-Ok.ensures.ok c.in-Ok-leaf.ensures.ok c.in-Ok-close.ensures.ok (c.in-Err-end.ensures.err other) (c.in-Err-end.ensures.left other)
+returns-in-Err-end-clause-stopped g c = λ other r fs. stops_at_end r g.S.Source.takes (λ a q b. g.S.Source.leaves a q b c.in-Err-end.fault) c.args.head c.args.kind fs c.args.source.now c.open.new.self c.leaf.new.self c.close.new.self c.end.new.self c.in-Ok.ensures.ok c.in-Ok-leaf.ensures.ok c.in-Ok-close.ensures.ok (c.in-Err-end.ensures.err other) (c.in-Err-end.ensures.left other)

@@ -1,4 +1,4 @@
-use Rattle.codec_source.specs.Events.{picks}
+use Rattle.codec_source.specs.Events.{picks, which_picked}
 use Rattle.ber_source.specs.Seen.{listed, state_of}
 use Rattle.ber_source.proofs.Taken.{takes_one, never_one, left_as}
 use Rattle.ber_source.proofs.cursor.CursorSource.alternative.Goals as goal
@@ -11,4 +11,4 @@ pub returns-clause-err : goal.returns-clause-err
 returns-clause-err c = never_one c.choose_next.result (state_of listed c.self.inside.place) c.args.self.now (λ q. picks c.args.calls.now q) c.self.view_is c.choose_next.ensures.err
 
 pub returns-clause-left : goal.returns-clause-left
-returns-clause-left c = left_as c.choose_next.result (state_of listed c.self.inside.place) c.args.self.now (state_of listed c.choose_next.new.place) c.self.view_is c.choose_next.ensures.left
+returns-clause-left c = left_as c.choose_next.result (state_of listed c.self.inside.place) c.args.self.now (state_of listed c.choose_next.new.place) (which_picked c.args.calls.now) c.self.view_is c.choose_next.ensures.left

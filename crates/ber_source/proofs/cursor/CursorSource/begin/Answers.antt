@@ -1,4 +1,4 @@
-use Rattle.codec_source.specs.Events.{begins}
+use Rattle.codec_source.specs.Events.{begins, to_begin}
 use Rattle.ber_source.specs.Seen.{listed, state_of}
 use Rattle.ber_source.proofs.Taken.{takes, never, left_as}
 use Rattle.ber_source.proofs.cursor.CursorSource.begin.Goals as goal
@@ -11,4 +11,4 @@ pub returns-clause-err : goal.returns-clause-err
 returns-clause-err c = never c.begin.result (state_of listed c.self.inside.place) c.args.self.now (begins c.args.id) c.self.view_is c.begin.ensures.err
 
 pub returns-clause-left : goal.returns-clause-left
-returns-clause-left c = left_as c.begin.result (state_of listed c.self.inside.place) c.args.self.now (state_of listed c.begin.new.place) c.self.view_is c.begin.ensures.left
+returns-clause-left c = left_as c.begin.result (state_of listed c.self.inside.place) c.args.self.now (state_of listed c.begin.new.place) (to_begin c.args.id) c.self.view_is c.begin.ensures.left

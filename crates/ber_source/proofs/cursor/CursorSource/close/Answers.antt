@@ -1,4 +1,4 @@
-use Rattle.codec_source.specs.Events.{closes}
+use Rattle.codec_source.specs.Events.{closes, to_close}
 use Rattle.ber_source.specs.Seen.{listed, state_of}
 use Rattle.ber_source.proofs.Taken.{takes, never, left_as}
 use Rattle.ber_source.proofs.cursor.CursorSource.close.Goals as goal
@@ -11,4 +11,4 @@ pub returns-clause-err : goal.returns-clause-err
 returns-clause-err c = never c.close.result (state_of listed c.self.inside.place) c.args.self.now (closes) c.self.view_is c.close.ensures.err
 
 pub returns-clause-left : goal.returns-clause-left
-returns-clause-left c = left_as c.close.result (state_of listed c.self.inside.place) c.args.self.now (state_of listed c.close.new.place) c.self.view_is c.close.ensures.left
+returns-clause-left c = left_as c.close.result (state_of listed c.self.inside.place) c.args.self.now (state_of listed c.close.new.place) to_close c.self.view_is c.close.ensures.left

@@ -1,4 +1,4 @@
-use Rattle.codec_source.specs.Events.{ends}
+use Rattle.codec_source.specs.Events.{ends, to_end}
 use Rattle.ber_source.specs.Seen.{listed, state_of}
 use Rattle.ber_source.proofs.Taken.{takes, never, left_as}
 use Rattle.ber_source.proofs.cursor.CursorSource.end.Goals as goal
@@ -11,4 +11,4 @@ pub returns-clause-err : goal.returns-clause-err
 returns-clause-err c = never c.end.result (state_of listed c.self.inside.place) c.args.self.now (ends) c.self.view_is c.end.ensures.err
 
 pub returns-clause-left : goal.returns-clause-left
-returns-clause-left c = left_as c.end.result (state_of listed c.self.inside.place) c.args.self.now (state_of listed c.end.new.place) c.self.view_is c.end.ensures.left
+returns-clause-left c = left_as c.end.result (state_of listed c.self.inside.place) c.args.self.now (state_of listed c.end.new.place) to_end c.self.view_is c.end.ensures.left

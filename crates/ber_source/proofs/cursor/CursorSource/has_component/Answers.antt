@@ -1,4 +1,4 @@
-use Rattle.codec_source.specs.Events.{stands}
+use Rattle.codec_source.specs.Events.{stands, whether_stands}
 use Rattle.ber_source.specs.Seen.{listed, state_of}
 use Rattle.ber_source.proofs.Taken.{takes_one, never_one, left_as}
 use Rattle.ber_source.proofs.cursor.CursorSource.has_component.Goals as goal
@@ -11,4 +11,4 @@ pub returns-clause-err : goal.returns-clause-err
 returns-clause-err c = never_one c.stands_next.result (state_of listed c.self.inside.place) c.args.self.now (λ q. stands c.args.field q) c.self.view_is c.stands_next.ensures.err
 
 pub returns-clause-left : goal.returns-clause-left
-returns-clause-left c = left_as c.stands_next.result (state_of listed c.self.inside.place) c.args.self.now (state_of listed c.stands_next.new.place) c.self.view_is c.stands_next.ensures.left
+returns-clause-left c = left_as c.stands_next.result (state_of listed c.self.inside.place) c.args.self.now (state_of listed c.stands_next.new.place) (whether_stands c.args.field) c.self.view_is c.stands_next.ensures.left

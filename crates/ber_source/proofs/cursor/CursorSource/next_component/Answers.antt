@@ -1,4 +1,4 @@
-use Rattle.codec_source.specs.Events.{among}
+use Rattle.codec_source.specs.Events.{among, which_stands}
 use Rattle.ber_source.specs.Seen.{listed, state_of}
 use Rattle.ber_source.proofs.Taken.{takes_one, never_one, left_as}
 use Rattle.ber_source.proofs.cursor.CursorSource.next_component.Goals as goal
@@ -11,4 +11,4 @@ pub returns-clause-err : goal.returns-clause-err
 returns-clause-err c = never_one c.among_next.result (state_of listed c.self.inside.place) c.args.self.now (λ q. among c.args.steps.now q) c.self.view_is c.among_next.ensures.err
 
 pub returns-clause-left : goal.returns-clause-left
-returns-clause-left c = left_as c.among_next.result (state_of listed c.self.inside.place) c.args.self.now (state_of listed c.among_next.new.place) c.self.view_is c.among_next.ensures.left
+returns-clause-left c = left_as c.among_next.result (state_of listed c.self.inside.place) c.args.self.now (state_of listed c.among_next.new.place) (which_stands c.args.steps.now) c.self.view_is c.among_next.ensures.left

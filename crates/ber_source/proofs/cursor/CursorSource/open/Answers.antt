@@ -1,4 +1,4 @@
-use Rattle.codec_source.specs.Events.{opens}
+use Rattle.codec_source.specs.Events.{opens, to_open}
 use Rattle.ber_source.specs.Seen.{listed, state_of}
 use Rattle.ber_source.proofs.Taken.{takes, never, left_as}
 use Rattle.ber_source.proofs.cursor.CursorSource.open.Goals as goal
@@ -11,4 +11,4 @@ pub returns-clause-err : goal.returns-clause-err
 returns-clause-err c = never c.open.result (state_of listed c.self.inside.place) c.args.self.now (opens c.args.head) c.self.view_is c.open.ensures.err
 
 pub returns-clause-left : goal.returns-clause-left
-returns-clause-left c = left_as c.open.result (state_of listed c.self.inside.place) c.args.self.now (state_of listed c.open.new.place) c.self.view_is c.open.ensures.left
+returns-clause-left c = left_as c.open.result (state_of listed c.self.inside.place) c.args.self.now (state_of listed c.open.new.place) (to_open c.args.head) c.self.view_is c.open.ensures.left

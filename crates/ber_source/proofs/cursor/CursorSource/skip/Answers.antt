@@ -1,4 +1,4 @@
-use Rattle.codec_source.specs.Events.{skips}
+use Rattle.codec_source.specs.Events.{skips, to_skip}
 use Rattle.ber_source.specs.Seen.{listed, state_of}
 use Rattle.ber_source.proofs.Taken.{takes, never, left_as}
 use Rattle.ber_source.proofs.cursor.CursorSource.skip.Goals as goal
@@ -11,4 +11,4 @@ pub returns-clause-err : goal.returns-clause-err
 returns-clause-err c = never c.skip.result (state_of listed c.self.inside.place) c.args.self.now (skips) c.self.view_is c.skip.ensures.err
 
 pub returns-clause-left : goal.returns-clause-left
-returns-clause-left c = left_as c.skip.result (state_of listed c.self.inside.place) c.args.self.now (state_of listed c.skip.new.place) c.self.view_is c.skip.ensures.left
+returns-clause-left c = left_as c.skip.result (state_of listed c.self.inside.place) c.args.self.now (state_of listed c.skip.new.place) to_skip c.self.view_is c.skip.ensures.left

@@ -1,4 +1,4 @@
-use Rattle.codec_source.specs.Events.{begins}
+use Rattle.codec_source.specs.Events.{begins, to_begin}
 use Rattle.ber_source.specs.Seen.{state_of}
 use Rattle.ber_views.specs.Log.{logged}
 use Rattle.ber_views.proofs.Taken.{takes, never, left_as}
@@ -12,4 +12,4 @@ pub returns-clause-err : goal.returns-clause-err
 returns-clause-err c = never c.begin.result (state_of (λ t. logged t.log) c.self.inside.place) c.args.self.now (begins c.args.id) c.self.view_is c.begin.ensures.err
 
 pub returns-clause-left : goal.returns-clause-left
-returns-clause-left c = left_as c.begin.result (state_of (λ t. logged t.log) c.self.inside.place) c.args.self.now (state_of (λ t. logged t.log) c.begin.new.place) c.self.view_is c.begin.ensures.left
+returns-clause-left c = left_as c.begin.result (state_of (λ t. logged t.log) c.self.inside.place) c.args.self.now (state_of (λ t. logged t.log) c.begin.new.place) (to_begin c.args.id) c.self.view_is c.begin.ensures.left

@@ -1,4 +1,4 @@
-use Rattle.codec_source.specs.Events.{closes}
+use Rattle.codec_source.specs.Events.{closes, to_close}
 use Rattle.ber_source.specs.Seen.{state_of}
 use Rattle.ber_views.specs.Log.{logged}
 use Rattle.ber_views.proofs.Taken.{takes, never, left_as}
@@ -12,4 +12,4 @@ pub returns-clause-err : goal.returns-clause-err
 returns-clause-err c = never c.close.result (state_of (λ t. logged t.log) c.self.inside.place) c.args.self.now (closes) c.self.view_is c.close.ensures.err
 
 pub returns-clause-left : goal.returns-clause-left
-returns-clause-left c = left_as c.close.result (state_of (λ t. logged t.log) c.self.inside.place) c.args.self.now (state_of (λ t. logged t.log) c.close.new.place) c.self.view_is c.close.ensures.left
+returns-clause-left c = left_as c.close.result (state_of (λ t. logged t.log) c.self.inside.place) c.args.self.now (state_of (λ t. logged t.log) c.close.new.place) to_close c.self.view_is c.close.ensures.left

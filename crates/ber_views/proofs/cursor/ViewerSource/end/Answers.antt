@@ -1,4 +1,4 @@
-use Rattle.codec_source.specs.Events.{ends}
+use Rattle.codec_source.specs.Events.{ends, to_end}
 use Rattle.ber_source.specs.Seen.{state_of}
 use Rattle.ber_views.specs.Log.{logged}
 use Rattle.ber_views.proofs.Taken.{takes, never, left_as}
@@ -12,4 +12,4 @@ pub returns-clause-err : goal.returns-clause-err
 returns-clause-err c = never c.end.result (state_of (λ t. logged t.log) c.self.inside.place) c.args.self.now (ends) c.self.view_is c.end.ensures.err
 
 pub returns-clause-left : goal.returns-clause-left
-returns-clause-left c = left_as c.end.result (state_of (λ t. logged t.log) c.self.inside.place) c.args.self.now (state_of (λ t. logged t.log) c.end.new.place) c.self.view_is c.end.ensures.left
+returns-clause-left c = left_as c.end.result (state_of (λ t. logged t.log) c.self.inside.place) c.args.self.now (state_of (λ t. logged t.log) c.end.new.place) to_end c.self.view_is c.end.ensures.left

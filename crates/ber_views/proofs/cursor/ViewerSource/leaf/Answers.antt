@@ -1,4 +1,4 @@
-use Rattle.codec_source.specs.Events.{holds}
+use Rattle.codec_source.specs.Events.{holds, to_hold}
 use Rattle.ber_source.specs.Seen.{state_of}
 use Rattle.ber_views.specs.Log.{logged}
 use Rattle.ber_views.proofs.Taken.{takes, never, left_as}
@@ -12,4 +12,4 @@ pub returns-clause-err : goal.returns-clause-err
 returns-clause-err c = never c.hold.result (state_of (λ t. logged t.log) c.self.inside.place) c.args.self.now (holds c.args.kind) c.self.view_is c.hold.ensures.err
 
 pub returns-clause-left : goal.returns-clause-left
-returns-clause-left c = left_as c.hold.result (state_of (λ t. logged t.log) c.self.inside.place) c.args.self.now (state_of (λ t. logged t.log) c.hold.new.place) c.self.view_is c.hold.ensures.left
+returns-clause-left c = left_as c.hold.result (state_of (λ t. logged t.log) c.self.inside.place) c.args.self.now (state_of (λ t. logged t.log) c.hold.new.place) (to_hold c.args.kind) c.self.view_is c.hold.ensures.left

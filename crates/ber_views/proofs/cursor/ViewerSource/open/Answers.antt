@@ -1,4 +1,4 @@
-use Rattle.codec_source.specs.Events.{opens}
+use Rattle.codec_source.specs.Events.{opens, to_open}
 use Rattle.ber_source.specs.Seen.{state_of}
 use Rattle.ber_views.specs.Log.{logged}
 use Rattle.ber_views.proofs.Taken.{takes, never, left_as}
@@ -12,4 +12,4 @@ pub returns-clause-err : goal.returns-clause-err
 returns-clause-err c = never c.open.result (state_of (λ t. logged t.log) c.self.inside.place) c.args.self.now (opens c.args.head) c.self.view_is c.open.ensures.err
 
 pub returns-clause-left : goal.returns-clause-left
-returns-clause-left c = left_as c.open.result (state_of (λ t. logged t.log) c.self.inside.place) c.args.self.now (state_of (λ t. logged t.log) c.open.new.place) c.self.view_is c.open.ensures.left
+returns-clause-left c = left_as c.open.result (state_of (λ t. logged t.log) c.self.inside.place) c.args.self.now (state_of (λ t. logged t.log) c.open.new.place) (to_open c.args.head) c.self.view_is c.open.ensures.left

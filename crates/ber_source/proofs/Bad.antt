@@ -1,0 +1,49 @@
+-- Contents octets that fail, and where a reader stands then.
+use Rattle.std.proofs.Common.{arith, ◌≡◌, ℕ, ◌+◌, ◌≤◌, Bool, true, false, List, length, drop, refl, sym, ap, subst, ◌∙◌}
+use Rattle.std.specs.Prelude.{Result, Ok, Err, IfErr}
+use Rattle.codec_code.specs.declared.step.LeafKind.{LeafKind}
+use Rattle.codec_source.specs.Events.{to_hold}
+use Rattle.codec_source.specs.declared.fault.ReadFault.{ReadFault}
+use Rattle.codec_source.specs.declared.fault.ReadFault.TheVariants.{Memory}
+use Rattle.leaf_readings.specs.Refused.{Stands}
+use Rattle.leaf_readings.specs.declared.fault.LeafFault.{LeafFault}
+use Rattle.segmented_strings.specs.Joining.{Fails}
+use Rattle.segmented_strings.specs.Refusing.{IsRefused, for_memory, at_place}
+use Rattle.segmented_strings.specs.declared.fault.SegmentsFault.{SegmentsFault}
+use Rattle.segmented_strings.specs.declared.fault.SegmentsFault.TheVariants.{At, Memory as NoMemory}
+use Rattle.segmented_strings.specs.declared.fault.Why.{Why}
+use Rattle.octet_answers.specs.States.{State}
+use Rattle.octet_answers.specs.Left.{Leaves, of_leaf, of_segments, standing, bad_primitive, bad_segment}
+use Rattle.ber_source.specs.Holding.{AreBad, are_bad, segment_is_bad}
+
+pub primitive_is_bad : (k : LeafKind) (room : ℕ) (o : List ℕ) (f : LeafFault) (x : ReadFault) → Stands f k o → x ≡ of_leaf f → AreBad k room o false x 0
+primitive_is_bad k room o f x h e = subst (λ q. AreBad k room o false q 0) (sym e) (are_bad f h)
+
+pub segments_are_bad : (k : LeafKind) (room : ℕ) (o : List ℕ) (f : SegmentsFault) (x : ReadFault) (n : ℕ)
+    → IsRefused (Fails k room) f o
+    → (f ≡ NoMemory → x ≡ Memory)
+    → ((m : ℕ) (e : Why) → f ≡ At m e → (x ≡ of_segments e) × (n ≡ m))
+    → (x ≡ Memory → ⊥)
+    → AreBad k room o true x n
+segments_are_bad k room o f x n for_memory m a other = absurd (other (m refl))
+segments_are_bad k room o f x n (at_place {i = i} {e = e} h l) m a other =
+    let r = a i e refl in
+    subst (λ q. AreBad k room o true x q) (sym r.1) (subst (λ q. AreBad k room o true q i) (sym r.0) (segment_is_bad e h l))
+
+-- at the first of the octets
+stands_here : (a : State) → standing a 0 ≡ a
+stands_here a = ap at_place' (let e : a.here.at + 0 ≡ a.here.at = omega arith in e)
+  where
+    at_place' : ℕ → State
+    at_place' n = record { schema = a.schema; here = record { constructed = a.here.constructed; octets = a.here.octets; at = n; from = a.here.from }; outer = a.outer; values = a.values; marks = a.marks; told = a.told; room = a.room }
+
+pub left_at : (a b : State) (k : LeafKind) (room : ℕ) (c : Bool) (x : ReadFault) (n : ℕ)
+    → room + length a.outer ≡ 400
+    → a.here.constructed ≡ c
+    → AreBad k room a.here.octets c x n
+    → (n ≤ length a.here.octets → b ≡ standing a n)
+    → Leaves a (to_hold k) b x
+left_at a b k room c x n few form (are_bad f h) at =
+    subst (λ q. Leaves a (to_hold k) q x) (sym (at (omega arith) ∙ stands_here a)) (bad_primitive f (omega (arith, few)) form h)
+left_at a b k room c x n few form (segment_is_bad e h l) at =
+    subst (λ q. Leaves a (to_hold k) q x) (sym (at l)) (bad_segment e few form h l)

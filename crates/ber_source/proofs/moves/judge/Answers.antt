@@ -1,0 +1,10 @@
+use Rattle.octets.specs.Forms.{is_constructed}
+use Rattle.std.proofs.Common.{sym, subst, ap}
+use Rattle.ber_source.specs.Holding.{AreBad}
+use Rattle.ber_source.proofs.Bad.{primitive_is_bad, segments_are_bad}
+use Rattle.ber_source.proofs.moves.judge.Goals as goal
+
+pub returns-in-Primitive-in-Err-clause-why : goal.returns-in-Primitive-in-Err-clause-why
+returns-in-Primitive-in-Err-clause-why g c = λ other.
+    subst (λ q. AreBad c.args.kind c.args.room c.args.octets.now (is_constructed q) c.told_leaf.result 0) (sym c.in-Primitive.is)
+    (primitive_is_bad c.args.kind c.args.room c.args.octets.now c.in-Err.fault c.told_leaf.result c.in-Err.ensures.err c.told_leaf.ensures)
