@@ -1,4 +1,4 @@
-use Rattle.std.proofs.Common.{rules, arith, ◌≡◌, ◌≤◌, [], List, length, ap, map, subst}
+use Rattle.std.proofs.Common.{rules, arith, ◌≡◌, [], List, ap, map, subst}
 use Rattle.octet_answers.specs.States.{State}
 use Rattle.octet_answers.specs.Left.{Leaves, not_at_end, no_header_open}
 use Rattle.codec_source.specs.Events.{to_close}

@@ -1,4 +1,4 @@
-use Rattle.std.proofs.Common.{arith, ◌≡◌, ◌≤◌, ◌+◌, List, ℕ, length, ap, map}
+use Rattle.std.proofs.Common.{arith, ◌+◌, List, ℕ, ap, map}
 use Rattle.octet_answers.specs.States.{State}
 use Rattle.octets.specs.Forms.{is_constructed}
 use Rattle.ber_source.specs.Seen.{window_of}
