@@ -13,7 +13,7 @@ use Rattle.encodings.specs.Levels.{levels}
 use Rattle.octet_answers.specs.States.{Token}
 use Rattle.std.specs.Prelude.{Result, Ok, Err, IfOk}
 use Rattle.asn_base.specs.declared.schema.TypeId.{TypeId}
-use Rattle.ber_message.specs.Messages.{IsMessage, SaysNoValue}
+use Rattle.ber_message.specs.Messages.{IsMessage, IsRead, SaysNoValue}
 use Rattle.ber_message.specs.Stops.{IsStop, IsStopBefore}
 use Rattle.ber_message.specs.declared.stop.Whereabouts.{Whereabouts}
 use Rattle.views.specs.Tree.{Tree, value_of, IsBorrowed}
@@ -21,7 +21,7 @@ use Rattle.views.specs.Seen.{IsView}
 use Rattle.ber_reader.specs.declared.read.Read.{Read}
 use Rattle.ber_reader.specs.Judged.{IsJudged}
 use Rattle.ber_reader.proofs.Rows.{found_below}
-use Rattle.ber_reader.specs.Readings.{IsShown, IsReading, IsPlace, unread}
+use Rattle.ber_reader.specs.Readings.{IsShown, IsReading, IsPlace, unread, IsRefused, no_value}
 
 record SaidWithin (s : List Resolved) (t : ℕ) (w : AbstractValue) (k : ℕ) (o : List ℕ) : Type 0 where
   is_said : Says s Basic t w k o
@@ -52,6 +52,11 @@ never_holds false e h p = absurd (let f : false ≡ true = h.1 p in cc)
 pub says_none : {s : List Resolved} {t : ℕ} {o : List ℕ} {ts : List Token} (m : IsMessage s t o ts) → (IsValueWithoutNodes s t m.value → ⊥) → SaysNoValue s t o
 says_none m n = record { value = m.value; count = m.count; is_said = m.is_said; few = m.few; short = m.short; is_none = n }
 
+-- and why that is told
+pub refused_as_none : {s : List Resolved} {t : TypeId} {o : List ℕ} {ts : List Token} {e : ReadFault} (m : IsMessage s t.index o ts) → IsRead s t o → (IsValueWithoutNodes s t.index m.value → ⊥) → IsJudged s t.index m.value e → IsRefused s t o e
+unfolding says_none
+refused_as_none m r n j = no_value r (says_none m n) j
+
 pub stop_some : {E : Type 0} (s : List Resolved) (t : TypeId) (o : List ℕ) (m : ℕ) (r : Result Whereabouts E) → IfOk r (λ w. IsStop s t o m w) → IfOk r (λ w. IsPlace s t o w)
 stop_some s t o m (Ok w) h = unread m h
 stop_some s t o m (Err e) h = h
@@ -80,6 +85,12 @@ outside_memory f e m = outside_no_memory (sym e ∙ m)
 
 pub missing_memory : (f : ReadFault) → f ≡ faults.Missing → f ≡ faults.Memory → ⊥
 missing_memory f e m = missing_no_memory (sym e ∙ m)
+
+not_der_no_memory : faults.NotDer ≡ faults.Memory → ⊥
+not_der_no_memory e = cc
+
+pub not_der_memory : (f : ReadFault) → f ≡ faults.NotDer → f ≡ faults.Memory → ⊥
+not_der_memory f e m = not_der_no_memory (sym e ∙ m)
 
 -- a fault is want of memory, or another one
 memory_or_not : (f : ReadFault) → (f ≡ faults.Memory) ⊎ (f ≡ faults.Memory → ⊥)

@@ -1,18 +1,14 @@
 -- What is answered of a message by the distinguished rules.
-use Rattle.std.proofs.Common.{◌≡◌, ℕ, ◌⊎◌, inl, inr, ⊎_elim, List, refl, sym, subst, ◌∙◌}
+use Rattle.std.proofs.Common.{◌≡◌, ℕ, List, sym, subst}
 use Rattle.asn_base.specs.Abstract.{AbstractValue}
 use Rattle.asn_base.specs.Types.{Resolved}
 use Rattle.encodings.specs.Rules.{Basic, Distinguished}
 use Rattle.encodings.specs.Encoding.{Says}
 use Rattle.encodings.specs.Reading.{Encodes}
-use Rattle.codec_source.specs.declared.fault.ReadFault.{ReadFault}
-use Rattle.codec_source.specs.declared.fault.ReadFault.TheVariants as faults
 use Rattle.ber_message.specs.Messages.{IsEncoding}
 use Rattle.views.specs.Tree.{value_of}
 use Rattle.ber_reader.specs.declared.read.Read.{Read}
 use Rattle.ber_reader.specs.Readings.{IsReading, IsStrictReading}
-use Rattle.ber_reader.specs.Judged.{IsJudged}
-use Rattle.ber_reader.proofs.Judging.{never_not_der}
 
 -- an octet string that is read is an encoding of the value
 pub encoding_of : {s : List Resolved} {t : ℕ} {o : List ℕ} {r : Read} → IsReading s t o r → IsEncoding s t o
@@ -38,40 +34,3 @@ said_same {s} {t} {o} {r} i d e h = subst (λ q. Says s Distinguished t q d.coun
 pub never_strict : {s : List Resolved} {t : ℕ} {o : List ℕ} {r : Read} {w : AbstractValue} (i : IsReading s t o r) → w ≡ value_of i.tree → ((k : ℕ) → Encodes s Basic t w k o → Says s Distinguished t w k o → ⊥) → (d : IsEncoding s t o) → (d.value ≡ value_of i.tree) × (d.count ≡ r.skipped) → Says s Distinguished t d.value d.count o → ⊥
 never_strict {s} {t} {o} {r} {w} i e f d q h =
     f r.skipped (subst (λ z. Encodes s Basic t z r.skipped o) (sym e) i.encodes) (subst (λ z. Says s Distinguished t z r.skipped o) (sym e) (same_said i d q h))
-
--- ---- faults
-
-not_der_or : (f : ReadFault) → (f ≡ faults.NotDer) ⊎ (f ≡ faults.NotDer → ⊥)
-not_der_or faults.NotDer = inl refl
-not_der_or faults.Memory = inr (λ e. cc)
-not_der_or faults.MessageLimit = inr (λ e. cc)
-not_der_or faults.IntegerLimit = inr (λ e. cc)
-not_der_or faults.OidLimit = inr (λ e. cc)
-not_der_or faults.Truncated = inr (λ e. cc)
-not_der_or faults.Indefinite = inr (λ e. cc)
-not_der_or faults.BadLength = inr (λ e. cc)
-not_der_or faults.BadTag = inr (λ e. cc)
-not_der_or faults.UnexpectedTag = inr (λ e. cc)
-not_der_or faults.Missing = inr (λ e. cc)
-not_der_or faults.BadContents = inr (λ e. cc)
-not_der_or faults.EmptySegments = inr (λ e. cc)
-not_der_or faults.OutsideConstraint = inr (λ e. cc)
-not_der_or faults.Trailing = inr (λ e. cc)
-not_der_or faults.TooDeep = inr (λ e. cc)
-
--- a fault that is another one stays
-pub stays : {f g h : ReadFault} → (h ≡ faults.NotDer → ⊥) → ((f ≡ faults.NotDer → ⊥) → g ≡ f) → f ≡ h → g ≡ h
-stays n same e = same (λ z. n (sym e ∙ z)) ∙ e
-
--- and came from itself
-pub came : {f g h : ReadFault} → (h ≡ faults.UnexpectedTag → ⊥) → ((f ≡ faults.NotDer → ⊥) → g ≡ f) → (f ≡ faults.NotDer → g ≡ faults.UnexpectedTag) → g ≡ h → f ≡ h
-came {f} n same to e = ⊎_elim (λ z. absurd (n (sym e ∙ to z))) (λ z. sym (same z) ∙ e) (not_der_or f)
-
-no_memory : faults.Memory ≡ faults.NotDer → ⊥
-no_memory e = cc
-
--- the fault of what is no value of its type stays
-pub same_judged : {s : List Resolved} {t : ℕ} {v : AbstractValue} (f g : ReadFault) → ((f ≡ faults.NotDer → ⊥) → g ≡ f) → (f ≡ faults.Memory) ⊎ IsJudged s t v f → (g ≡ faults.Memory) ⊎ IsJudged s t v g
-same_judged {s} {t} {v} f g same j =
-    ⊎_elim (λ m. inl (same (λ z. no_memory (sym m ∙ z)) ∙ m))
-    (λ d. inr (subst (IsJudged s t v) (sym (same (λ z. never_not_der (subst (IsJudged s t v) z d)))) d)) j

@@ -1,4 +1,4 @@
--- What readers answer, and where they refuse a message.
+-- What readers answer, where they refuse a message, and why.
 use Rattle.std.specs.Prelude.{◌≡◌, ℕ, ◌≤◌, List, length}
 use Rattle.asn_base.specs.declared.schema.TypeId.{TypeId}
 use Rattle.asn_base.specs.Types.{TypeNumber, Resolved}
@@ -8,12 +8,14 @@ use Rattle.encodings.specs.Encoding.{Says}
 use Rattle.encodings.specs.Levels.{levels}
 use Rattle.encodings.specs.Reading.{Encodes}
 use Rattle.codec_code.specs.Routines.{id_of}
+use Rattle.codec_source.specs.declared.fault.ReadFault.{ReadFault}
 use Rattle.ber_views.specs.Shown.{leaves_of, AreShown}
-use Rattle.ber_message.specs.Messages.{IsRead}
+use Rattle.ber_message.specs.Messages.{IsRead, Refuses, SaysNoValue}
 use Rattle.ber_message.specs.Stops.{IsStop, IsStopBefore}
 use Rattle.ber_message.specs.declared.stop.Whereabouts.{Whereabouts}
 use Rattle.views.specs.Tree.{Tree, value_of, IsBorrowed}
 use Rattle.views.specs.Seen.{IsView}
+use Rattle.ber_reader.specs.Judged.{IsJudged}
 use Rattle.ber_reader.specs.declared.read.Read.{Read}
 
 -- The type's routine reads the octets to their end, in one way alone. For each value that holds no others, of whose contents octets it
@@ -47,3 +49,13 @@ pub record IsStrictReading (s : List Resolved) (t : TypeNumber) (o : Octets) (r 
 pub data IsPlace (s : List Resolved) (t : TypeId) (o : Octets) (w : Whereabouts) : Type 0 where
   unread : (most : ℕ) → IsStop s t o most w → IsPlace s t o w
   judged : IsStopBefore s t o w → IsPlace s t o w
+
+-- Why a message is refused by the basic rules: it isn't read; or it is, and what it says is no value of the type, with
+-- the fault of the innermost value in it that is none of its own.
+pub data IsRefused (s : List Resolved) (t : TypeId) (o : Octets) : ReadFault → Type 0 where
+  not_read : {e : ReadFault} → Refuses s t o e → IsRefused s t o e
+  no_value : {e : ReadFault}
+      → IsRead s t o
+      → (n : SaysNoValue s t.index o)
+      → IsJudged s t.index n.value e
+      → IsRefused s t o e

@@ -3,8 +3,8 @@
 ghost use Rattle.asn_base.specs.Abstract.{AbstractValue};
 ghost use Rattle.ber_message.specs.Messages.{BeginsEncoding, HasEncodingFirst, HasMessageFirst, IsEncoding, IsRead, SaysNoValue};
 ghost use Rattle.ber_reader.specs.Judged.{IsJudged};
-ghost use Rattle.ber_reader.specs.Readings.{IsStrictReading};
-ghost use Rattle.codec_source.specs.declared.fault.ReadFault.TheVariants.{Memory, MessageLimit, NotDer, Trailing, Truncated, UnexpectedTag};
+ghost use Rattle.ber_reader.specs.Readings.{IsRefused, IsStrictReading};
+ghost use Rattle.codec_source.specs.declared.fault.ReadFault.TheVariants.{Memory, MessageLimit, NotDer, Trailing, Truncated};
 ghost use Rattle.encodings.specs.Encoding.{Says};
 ghost use Rattle.encodings.specs.Reading.{Encodes};
 ghost use Rattle.encodings.specs.Rules.{Basic, Distinguished};
@@ -58,12 +58,16 @@ pub fn read_der<'a>(
     ensures judged { IsRead code.now id octets.now
         → (n : SaysNoValue code.now id.index octets.now)
         → MatchResult result (λ r. ⊥) (λ e. (e ≡ Memory) ⊎ IsJudged code.now id.index n.value e) }
+    // Any other refusal stands by the basic rules.
+    ensures refused { IfErr result (λ e. (e ≡ Memory → ⊥)
+        → (e ≡ NotDer → ⊥)
+        → IsRefused code.now id octets.now e) }
 {
     code.accepted();
     schema_laws();
     let read = match read_ber(alloc, code, id, octets) {
         Ok(read) => read,
-        Err(fault) => return Err(of_basic(fault)),
+        Err(fault) => return Err(fault),
     };
     let value = match read.view.to_value(alloc) {
         Ok(value) => value,
@@ -73,30 +77,4 @@ pub fn read_der<'a>(
         return Err(ReadFault::NotDer);
     }
     Ok(read)
-}
-
-/// A fault by the basic rules, none of which is `NotDer`.
-fn of_basic(fault: ReadFault) -> ReadFault
-    ensures never { result ≡ NotDer → ⊥ }
-    ensures same { (fault ≡ NotDer → ⊥) → result ≡ fault }
-    ensures other { fault ≡ NotDer → result ≡ UnexpectedTag }
-{
-    match fault {
-        ReadFault::NotDer => ReadFault::UnexpectedTag,
-        ReadFault::Memory => ReadFault::Memory,
-        ReadFault::MessageLimit => ReadFault::MessageLimit,
-        ReadFault::IntegerLimit => ReadFault::IntegerLimit,
-        ReadFault::OidLimit => ReadFault::OidLimit,
-        ReadFault::Truncated => ReadFault::Truncated,
-        ReadFault::Indefinite => ReadFault::Indefinite,
-        ReadFault::BadLength => ReadFault::BadLength,
-        ReadFault::BadTag => ReadFault::BadTag,
-        ReadFault::UnexpectedTag => ReadFault::UnexpectedTag,
-        ReadFault::Missing => ReadFault::Missing,
-        ReadFault::BadContents => ReadFault::BadContents,
-        ReadFault::EmptySegments => ReadFault::EmptySegments,
-        ReadFault::OutsideConstraint => ReadFault::OutsideConstraint,
-        ReadFault::Trailing => ReadFault::Trailing,
-        ReadFault::TooDeep => ReadFault::TooDeep,
-    }
 }

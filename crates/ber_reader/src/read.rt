@@ -4,8 +4,8 @@ ghost use Rattle.asn_base.specs.Abstract.{AbstractValue};
 ghost use Rattle.asn_base.specs.Typed.{IsValue, IsValueWithoutNodes};
 ghost use Rattle.ber_message.specs.Messages.{BeginsEncoding, EndsTooSoon, HasEncodingFirst, HasMessageFirst, IsEncoding, IsRead, SaysNoValue};
 ghost use Rattle.ber_reader.specs.Judged.{IsJudged};
-ghost use Rattle.ber_reader.specs.Readings.{IsReading};
-ghost use Rattle.codec_source.specs.declared.fault.ReadFault.TheVariants.{Memory, MessageLimit, Missing, OutsideConstraint, Trailing, Truncated};
+ghost use Rattle.ber_reader.specs.Readings.{IsReading, IsRefused};
+ghost use Rattle.codec_source.specs.declared.fault.ReadFault.TheVariants.{Memory, MessageLimit, Missing, NotDer, OutsideConstraint, Trailing, Truncated};
 ghost use Rattle.encodings.specs.Reading.{Encodes};
 ghost use Rattle.encodings.specs.Rules.{Basic};
 ghost use Rattle.std.specs.Prelude.{◌≡◌, ◌<◌, ◌⊎◌, Err, IfErr, IfOk, length, MatchResult, OnOk, ℕ};
@@ -66,6 +66,9 @@ pub fn read_ber<'a>(
     ensures judged { IsRead code.now id octets.now
         → (n : SaysNoValue code.now id.index octets.now)
         → MatchResult result (λ r. ⊥) (λ e. (e ≡ Memory) ⊎ IsJudged code.now id.index n.value e) }
+    // Any refusal but for want of memory stands. None is by the distinguished rules.
+    ensures refused { IfErr result (λ e. (e ≡ Memory → ⊥) → IsRefused code.now id octets.now e) }
+    ensures not_der { result ≡ Err NotDer → ⊥ }
 {
     code.accepted();
     message_laws();

@@ -1,4 +1,4 @@
-use Rattle.ber_reader.proofs.Strictly.{strict_reading, not_strict, never_strict, said_same, same_judged}
+use Rattle.ber_reader.proofs.Strictly.{strict_reading, not_strict, never_strict, said_same}
 use Rattle.ber_reader.proofs.der.read_der.Goals as goal
 
 pub returns-then-not-is_strict-clause-not_der : goal.returns-then-not-is_strict-clause-not_der
@@ -24,11 +24,11 @@ returns-clause-basic c = λ d n.
     let q = c.in-Ok.ensures.only s.reading.tree d.value d.count s.reading.view (record { value = d.is_value; says_it = d.is_said }) in
     absurd (n (said_same s.reading d q s.strict))
 
-pub returns-in-Err-clause-judged : goal.returns-in-Err-clause-judged
-returns-in-Err-clause-judged c = λ read n. same_judged c.in-Err.fault c.of_basic.result c.of_basic.ensures.same (c.in-Err.ensures.judged read n)
-
 pub returns-then-not-is_strict-clause-judged : goal.returns-then-not-is_strict-clause-judged
 returns-then-not-is_strict-clause-judged c = λ read n. absurd (c.in-Ok.ensures.judged read n)
 
 pub returns-clause-judged : goal.returns-clause-judged
 returns-clause-judged c = λ read n. c.in-Ok.ensures.judged read n
+
+pub returns-in-Err-clause-refused : goal.returns-in-Err-clause-refused
+returns-in-Err-clause-refused c = λ other strict. c.in-Err.ensures.refused other

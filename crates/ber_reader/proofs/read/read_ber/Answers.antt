@@ -1,10 +1,14 @@
 use Rattle.std.proofs.Common.{arith, inl, inr, Err, sym, ap, subst, ◌∙◌}
 use Rattle.encodings.specs.Rules.{Basic}
 use Rattle.asn_base.specs.Typed.{IsValue, IsValueWithoutNodes}
-use Rattle.codec_source.specs.declared.fault.ReadFault.TheVariants.{Missing, OutsideConstraint}
+use Rattle.codec_source.specs.declared.fault.ReadFault.TheVariants.{Missing, NotDer, OutsideConstraint}
+use Rattle.ber_reader.specs.Judged.{IsJudged}
+use Rattle.ber_reader.specs.Readings.{not_read}
 use Rattle.ber_reader.proofs.Built.{skipped_of, tree_of}
+use Rattle.views.specs.Tree.{value_of}
+use Rattle.ber_reader.proofs.Judging.{never_not_der}
 use Rattle.ber_reader.proofs.OneTree.{one_tree}
-use Rattle.ber_reader.proofs.Reading.{fault_in, fault_memory, outside_memory, missing_memory, reading_of, says_none, says_type, told_or}
+use Rattle.ber_reader.proofs.Reading.{fault_in, fault_memory, outside_memory, missing_memory, reading_of, says_none, says_type, told_or, not_der_memory, refused_as_none}
 use Rattle.ber_reader.proofs.read.read_ber.Goals as goal
 
 pub judge-requires : goal.judge-requires
@@ -80,3 +84,28 @@ returns-clause-judged c = λ read n.
     let q = tree_of s c.accepted.ensures t c.args.octets.now c.in-Ok.built v in
     let r = c.in-Ok.ensures.only v n.value n.count n.is_said in
     n.is_none (subst (IsValueWithoutNodes s t) (q.2 ∙ sym r.0) (c.in-Ok-judge.ensures.ok q.0 q.1))
+
+pub returns-in-Err-clause-refused : goal.returns-in-Err-clause-refused
+returns-in-Err-clause-refused c = λ other. not_read (c.in-Err.ensures.refused other)
+
+pub returns-in-Err-clause-not_der : goal.returns-in-Err-clause-not_der
+returns-in-Err-clause-not_der c e = c.in-Err.ensures.not_der (ap Err (ap (fault_in NotDer) e))
+
+pub returns-in-Err-judge-clause-refused : goal.returns-in-Err-judge-clause-refused
+returns-in-Err-judge-clause-refused c = λ other.
+    let n = c.in-Ok.ensures.ok in
+    let m = n.message in
+    let s = c.args.code.now in
+    let t = c.args.id.index in
+    let o = c.args.octets.now in
+    let q = tree_of s c.accepted.ensures t o c.in-Ok.built n in
+    refused_as_none m n.read
+    (λ v. c.in-Err-judge.ensures.err other q.0 q.1 (subst (IsValue s t) (sym q.2) (c.message_laws.ensures.value s Basic t m.count m.value o c.accepted.ensures v m.is_said m.short)))
+    (subst (λ w. IsJudged s t w c.in-Err-judge.why) q.2 (c.in-Err-judge.ensures.judged other q.0 q.1))
+
+pub returns-in-Err-judge-clause-not_der : goal.returns-in-Err-judge-clause-not_der
+returns-in-Err-judge-clause-not_der c e =
+    let n = c.in-Ok.ensures.ok in
+    let q = tree_of c.args.code.now c.accepted.ensures c.args.id.index c.args.octets.now c.in-Ok.built n in
+    let f = ap (fault_in NotDer) e in
+    never_not_der (subst (IsJudged c.args.code.now c.args.id.index (value_of q.0)) f (c.in-Err-judge.ensures.judged (not_der_memory c.in-Err-judge.why f) q.0 q.1))
