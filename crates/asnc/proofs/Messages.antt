@@ -1,5 +1,5 @@
 -- What is read of octets, why nothing is, and what follows for the encodings of values.
-use Rattle.std.proofs.Common.{◌≡◌, ◌⊎◌, inl, inr, ◌↔◌, refl, sym, ◌∙◌, subst, ap, ℕ, ◌<◌, ◌≤◌, List, length, Option, Some, Result, Err}
+use Rattle.std.proofs.Common.{◌≡◌, ◌⊎◌, inl, inr, ◌↔◌, refl, sym, ◌∙◌, subst, ap, ℕ, ◌<◌, ◌≤◌, List, length, Option, Some, Result, Ok, Err}
 use Rattle.std.specs.Prelude.{IfErr, slice_get}
 use Rattle.std.proofs.lemmas.Option.{slice_get_within}
 use Rattle.asn_base.specs.Abstract.{AbstractValue}
@@ -18,6 +18,8 @@ use Rattle.names.specs.declared.scope.Assigned.TheVariants as assigned
 use Rattle.resolve.specs.Program.{Program}
 use Rattle.messages.specs.declared.fault.Fault.{Fault}
 use Rattle.messages.specs.declared.fault.Fault.TheVariants as faults
+use Rattle.codec_code.specs.Routines.{id_of}
+use Rattle.ber_reader.specs.Readings.{IsRefused}
 use Rattle.asnc.specs.Headline.{IsAnswer, IsMessageOf}
 use Rattle.asnc.specs.Named.{IsNamed, TypeNamed}
 use Rattle.asnc.specs.Reading.{IsNotDer, IsNotReadAs, IsRead, IsUnread, Names, rules_of}
@@ -63,8 +65,9 @@ pub unread_by : {Z : Type 0} (s : List Resolved) (l : Rules) (t : ℕ) (o : List
     → (HasEncodingFirst s t o → (r ≡ Err reading.Trailing) ⊎ (r ≡ Err reading.Memory))
     → (r ≡ Err reading.Trailing → HasMessageFirst s t o)
     → (BeginsEncoding s t o → r ≡ Err reading.Truncated)
+    → IfErr r (λ f. (f ≡ reading.Memory → ⊥) → (f ≡ reading.NotDer → ⊥) → IsRefused s (id_of t) o f)
     → IsUnread s l t o e
-unread_by s l t o r e q n read basic not_der limit long more trailing less = record {
+unread_by s l t o r e q n read basic not_der limit long more trailing less why = record {
   none = λ i a. n (subst (λ x. IfErr x (λ f. f ≡ reading.Memory)) q (read i a));
   basic = λ i a. only_not_der r e q n (basic i a);
   not_der = λ m. not_der (q ∙ ap Err m);
@@ -73,40 +76,15 @@ unread_by s l t o r e q n read basic not_der limit long more trailing less = rec
   more = λ h. only_trailing r e q n (more h);
   trailing = λ m. trailing (q ∙ ap Err m);
   less = λ b. (let g = sym q ∙ less b in cc);
+  why = subst (λ x. IfErr x (λ f. (f ≡ reading.Memory → ⊥) → (f ≡ reading.NotDer → ⊥) → IsRefused s (id_of t) o f)) q why n;
 }
 
-only_of : {Z : Type 0} (r : Result Z ReadFault) (e : ReadFault) → r ≡ Err e → (r ≡ Err reading.Trailing) ⊎ (r ≡ Err reading.Memory)
-    → (e ≡ reading.NotDer) → ⊥
-only_of r e q (inl f) m = let g = sym q ∙ f in cc
-only_of r e q (inr f) m = let g = sym q ∙ f in cc
-
--- By the basic rules a refusal is another one than that of the distinguished rules.
-pub unread_basic : {Z : Type 0} (s : List Resolved) (t : ℕ) (o : List ℕ) (r : Result Z ReadFault) (e f : ReadFault)
-    → r ≡ Err e
-    → ((e ≡ reading.NotDer → ⊥) × (f ≡ e)) ⊎ ((e ≡ reading.NotDer) × (f ≡ reading.UnexpectedTag))
-    → (f ≡ reading.Memory → ⊥)
-    → (IsEncoding s t o → IfErr r (λ f. f ≡ reading.Memory))
-    → (16777216 < length o → r ≡ Err reading.MessageLimit)
-    → (r ≡ Err reading.MessageLimit → 16777216 < length o)
-    → (HasEncodingFirst s t o → (r ≡ Err reading.Trailing) ⊎ (r ≡ Err reading.Memory))
-    → (r ≡ Err reading.Trailing → HasMessageFirst s t o)
-    → (BeginsEncoding s t o → r ≡ Err reading.Truncated)
-    → IsUnread s Basic t o f
-unread_basic s t o r e f q (inl (never, same)) n read limit long more trailing less =
-    subst (IsUnread s Basic t o) (sym same)
-    (unread_by s Basic t o r e q (λ m. n (same ∙ m)) (λ i a. read i) (λ i a. absurd (a i.is_said)) (λ d. absurd (never (let g = sym q ∙ d in cc)))
-    limit long more trailing less)
-unread_basic s t o r e f q (inr (is, other)) n read limit long more trailing less =
-    subst (IsUnread s Basic t o) (sym other) (record {
-      none = λ i a. (let g : reading.NotDer ≡ reading.Memory = subst (λ x. IfErr x (λ z. z ≡ reading.Memory)) (q ∙ ap Err is) (read i) in cc);
-      basic = λ i a. absurd (a i.is_said);
-      not_der = λ m. cc;
-      limit = λ l. (let g = sym q ∙ limit l in cc);
-      long = λ m. cc;
-      more = λ h. absurd (only_of r e q (more h) is);
-      trailing = λ m. cc;
-      less = λ b. (let g = sym q ∙ less b in cc);
-    })
+-- what holds of any refusal
+pub of_any : {Z : Type 0} (P : ReadFault → Type 0) (r : Result Z ReadFault)
+    → IfErr r (λ f. (f ≡ reading.Memory → ⊥) → P f)
+    → IfErr r (λ f. (f ≡ reading.Memory → ⊥) → (f ≡ reading.NotDer → ⊥) → P f)
+of_any P (Ok z) h = h
+of_any P (Err e) h = λ n m. h n
 
 -- what was read of an encoding of a value is that value
 pub answer_of : {p : Program} {s : List Resolved} {l : Rules} {name o printed : List ℕ} {k t : ℕ} {v : AbstractValue}

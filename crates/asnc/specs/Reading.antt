@@ -9,7 +9,8 @@ use Rattle.encodings.specs.Encoding.{Says}
 use Rattle.encodings.specs.Rules.{Rules, Basic, Distinguished}
 use Rattle.codec_source.specs.declared.fault.ReadFault.{ReadFault}
 use Rattle.codec_source.specs.declared.fault.ReadFault.TheVariants as reading
-use Rattle.ber_reader.specs.Readings.{IsReading}
+use Rattle.codec_code.specs.Routines.{id_of}
+use Rattle.ber_reader.specs.Readings.{IsReading, IsRefused}
 use Rattle.ber_reader.specs.declared.read.Read.{Read}
 use Rattle.views.specs.Tree.{value_of}
 use Rattle.ber_message.specs.Messages.{IsEncoding, BeginsEncoding, HasEncodingFirst, HasMessageFirst}
@@ -76,6 +77,8 @@ pub record IsUnread (s : List Resolved) (r : Rules) (t : ℕ) (o : List ℕ) (e 
   pub trailing : e ≡ reading.Trailing → HasMessageFirst s t o
   -- and 80 where they are a proper front of one
   pub less : BeginsEncoding s t o → e ≡ reading.Truncated
+  -- whatever is told but 96 has its reason
+  pub why : (e ≡ reading.NotDer → ⊥) → IsRefused s (id_of t) o e
 
 -- and it tells where reading them stops
 pub record IsUnreadAt (s : List Resolved) (r : Rules) (t : ℕ) (o : List ℕ) (u : Unread) : Type 0 where

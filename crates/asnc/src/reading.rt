@@ -4,7 +4,7 @@ ghost use Rattle.std.specs.Prelude.{◌≡◌, ◌⊎◌, ℕ, List, IfOk, IfErr
 ghost use Rattle.asn_base.specs.Abstract.{AbstractValue};
 ghost use Rattle.asn_base.specs.Types.{Resolved};
 ghost use Rattle.ber_reader.specs.Readings.{IsReading};
-ghost use Rattle.codec_source.specs.declared.fault.ReadFault.TheVariants.{Memory as no_memory, NotDer, UnexpectedTag};
+ghost use Rattle.codec_source.specs.declared.fault.ReadFault.TheVariants.{Memory as no_memory};
 ghost use Rattle.encodings.specs.Encoding.{Says};
 ghost use Rattle.encodings.specs.Reading.{Encodes};
 ghost use Rattle.encodings.specs.Rules.{Rules as Rules', Basic, Distinguished};
@@ -55,16 +55,6 @@ fn refusal(
     }
 }
 
-/// A fault by the basic rules, none of which is that of the distinguished ones.
-fn of_basic(fault: ReadFault) -> ReadFault
-    ensures { ((fault ≡ NotDer → ⊥) × (result ≡ fault)) ⊎ ((fault ≡ NotDer) × (result ≡ UnexpectedTag)) }
-{
-    match fault {
-        ReadFault::NotDer => ReadFault::UnexpectedTag,
-        fault => fault,
-    }
-}
-
 /// The value of a type that octets encode by the basic rules.
 fn read_basic<'a>(
     alloc: Global,
@@ -77,7 +67,7 @@ fn read_basic<'a>(
 {
     match read_ber(alloc, code, id, octets) {
         Ok(read) => Ok(read),
-        Err(fault) => Err(of_basic(fault)),
+        Err(fault) => Err(fault),
     }
 }
 
