@@ -1,5 +1,5 @@
 -- What is answered is not refused, want of memory aside.
-use Rattle.std.proofs.Common.{◌≡◌, ◌⊎◌, inl, inr, ℕ, List, refl, sym, arith, subst}
+use Rattle.std.proofs.Common.{◌≡◌, inl, inr, ℕ, List, refl, arith, subst}
 use Rattle.asn_base.specs.Abstract.{AbstractValue}
 use Rattle.asn_base.specs.Types.{Resolved}
 use Rattle.encodings.specs.Account.{Account}
@@ -14,12 +14,11 @@ use Rattle.front_end.specs.Untyped.{StandsFor}
 use Rattle.front_end.specs.declared.fault.FrontFault.{FrontFault}
 use Rattle.front_end.specs.declared.fault.FrontFault.TheVariants as texts
 use Rattle.codec_source.specs.declared.fault.ReadFault.{ReadFault}
-use Rattle.ber_message.specs.Messages.{IsEncoding}
 use Rattle.messages.specs.declared.fault.Fault.{Fault}
 use Rattle.messages.specs.declared.fault.Fault.TheVariants as faults
 use Rattle.told_values.specs.declared.telling.ValueTold.{ValueTold}
 use Rattle.asnc.specs.Kits.{IsNotOpened}
-use Rattle.asnc.specs.Reading.{IsNotReadAs, IsRead, IsReadAs, IsUnread}
+use Rattle.asnc.specs.Reading.{IsNotReadAs, IsReadAs, IsUnread}
 use Rattle.asnc.specs.Writing.{IsEncoded, IsNotEncoded, IsNotMeant, StandsForLong, StandsForNone}
 use Rattle.asnc.proofs.Once.{AreSame, one_pair}
 

@@ -1,6 +1,6 @@
 -- What is read of octets, why nothing is, and what follows for the encodings of values.
 use Rattle.std.proofs.Common.{◌≡◌, ◌⊎◌, inl, inr, ◌↔◌, refl, sym, ◌∙◌, subst, ap, ℕ, ◌<◌, ◌≤◌, List, length, Option, Some, Result, Ok, Err}
-use Rattle.std.specs.Prelude.{IfErr, slice_get}
+use Rattle.std.specs.Prelude.{IfErr}
 use Rattle.std.proofs.lemmas.Option.{slice_get_within}
 use Rattle.asn_base.specs.Abstract.{AbstractValue}
 use Rattle.asn_base.specs.Same.{Same}

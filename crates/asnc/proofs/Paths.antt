@@ -1,5 +1,5 @@
 -- The path of what was being read, open value by open value.
-use Rattle.std.proofs.Common.{arith, ◌≡◌, ℕ, zero, suc, ◌+◌, List, [], ◌∷◌, Some, None, refl, sym, ap, ◌∙◌, subst}
+use Rattle.std.proofs.Common.{arith, ◌≡◌, ℕ, zero, suc, ◌+◌, List, [], ◌∷◌, Some, sym, ap, ◌∙◌}
 use Rattle.std.specs.Prelude.{drop, slice_get}
 use Rattle.asn_base.specs.Types.{Resolved}
 use Rattle.ber_message.specs.declared.open.Open.{Open}

@@ -6,7 +6,6 @@ use Rattle.asn_base.specs.declared.schema.TypeId.{TypeId}
 use Rattle.asn_base.specs.Types.{any_size, a_boolean, a_sequence, a_sequence_of, a_choice, mandatory, optional, Resolved}
 use Rattle.encodings.specs.Rules.{Basic, Distinguished}
 use Rattle.trees.specs.Values.{Name}
-use Rattle.ber_message.specs.declared.open.Open.{Open}
 use Rattle.ber_message.specs.declared.open.Part.TheVariants.{Component, Alternative, Element}
 use Rattle.asnc.specs.Named.{IsQualified}
 use Rattle.asnc.specs.Places.{path_of, with_name, with_number}

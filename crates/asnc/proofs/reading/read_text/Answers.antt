@@ -1,5 +1,4 @@
 use Rattle.std.proofs.Common.{◌<◌, length, sym, ap, ◌∙◌, subst}
-use Rattle.asn_base.specs.Types.{Resolved}
 use Rattle.value_text.specs.Print.{print}
 use Rattle.views.specs.Tree.{value_of}
 use Rattle.asnc.specs.Reading.{rules_of}
