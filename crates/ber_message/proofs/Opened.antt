@@ -52,7 +52,7 @@ few_both : (n : ℕ) (os ps : List Open) → Few n os → Few n ps → Few n (os
 few_both n [] ps h k = k
 few_both n (o ∷ os) ps h k = (h.0, few_both n os ps h.1 k)
 
-few_after : (n : ℕ) (os : List Open) (t : Token) → Few n os → Few (suc n) (opens_after os t)
+pub few_after : (n : ℕ) (os : List Open) (t : Token) → Few n os → Few (suc n) (opens_after os t)
 few_after n os (component i) h = few_last _ n os (λ o l. omega arith) h
 few_after n os (chosen i) h = few_last _ n os (λ o l. omega arith) h
 few_after n os (begun t) h = few_both (suc n) (on_last entered os) (opened t ∷ []) (few_last entered n os (λ o l. omega arith) h) (omega arith, tt)
@@ -60,7 +60,7 @@ few_after n os ended h = few_last behind_part n (but_last os) (λ o l. omega ari
 few_after n os (held k c x at) h = few_more n os h
 few_after n os passed h = few_more n os h
 
-below_all : (n m : ℕ) (os : List Open) → n < m → Few n os → AllByRecursion (λ o. o.read < m) os
+pub below_all : (n m : ℕ) (os : List Open) → n < m → Few n os → AllByRecursion (λ o. o.read < m) os
 below_all n m [] l h = tt
 below_all n m (o ∷ os) l h = (let a = h.0 in omega arith, below_all n m os l h.1)
 
@@ -86,7 +86,7 @@ one_more tokens i os ps d l t e = record {
 pub all_below : (tokens : List Token') (i m : ℕ) (os : List Open) → i < m → Taken tokens i os → AllByRecursion (λ o. o.read < m) os
 all_below tokens i m os l t = below_all i m os l t.few
 
-none_left : {A : Type 0} (xs : List A) (i : ℕ) → length xs ≤ i → drop i xs ≡ []
+pub none_left : {A : Type 0} (xs : List A) (i : ℕ) → length xs ≤ i → drop i xs ≡ []
 none_left [] zero l = refl
 none_left [] (suc i) l = refl
 none_left (x ∷ xs) zero l = absurd (omega arith)

@@ -1,15 +1,15 @@
 -- Where reading of a message stopped.
-use Rattle.std.proofs.Common.{arith, Bool, ◌≡◌, ℕ, ◌≤◌, List, [], length, ◌++◌, refl, sym, ap, subst, ◌∙◌, length-append}
+use Rattle.std.proofs.Common.{arith, Bool, ◌≡◌, ℕ, ◌<◌, ◌≤◌, List, [], length, ◌++◌, refl, sym, ap, subst, ◌∙◌, length-append}
 use Rattle.std.specs.Prelude.{Result, Ok, Err, IfOk}
 use Rattle.std.specs.Prelude.{Option, None}
 use Rattle.codec_code.specs.declared.step.Field.{Field}
 use Rattle.codec_code.specs.declared.step.Step.{Step}
 use Rattle.codec_code.specs.Routines.{routine_at}
-use Rattle.codec_source.specs.Events.{Event, Question}
+use Rattle.codec_source.specs.Events.{Event, Question, to_begin}
 use Rattle.codec_source.specs.Stopping.{Stops, unanswered, answered, StopsThen, stops_on, not_begun, stops_within, not_ended, stops_behind, StopsReading}
 use Rattle.codec_source.specs.declared.fault.ReadFault.{ReadFault}
 use Rattle.codec_source.specs.declared.fault.ReadFault.TheVariants.{Missing, Memory, MessageLimit, Trailing, OutsideConstraint, NotDer}
-use Rattle.octet_answers.specs.Answers.{Takes}
+use Rattle.octet_answers.specs.Answers.{Answers, Takes}
 use Rattle.octet_answers.specs.Left.{Leaves, no_room, no_value_open, no_header, too_many_headers, other_header, not_at_end, no_header_open}
 use Rattle.octet_answers.specs.Left.{contents_too_deep, bad_primitive, bad_segment, nothing_to_skip_in, not_skipped, out_of_order}
 use Rattle.octet_answers.specs.Left.{nothing_stands, no_header_stands, another_stands, no_component, stood_before, not_all_read}
@@ -24,12 +24,14 @@ use Rattle.leaf_readings.specs.declared.fault.LeafFault.TheVariants as leaves
 use Rattle.segmented_strings.specs.declared.fault.Why.{Why}
 use Rattle.segmented_strings.specs.declared.fault.Why.TheVariants as whys
 use Rattle.octet_answers.specs.States.{State, front}
-use Rattle.ber_message.specs.Messages.{EndsTooSoon, room_of}
+use Rattle.ber_message.specs.Messages.{EndsTooSoon, IsRead, room_of}
 use Rattle.reading_law.specs.Shows.{IsSliceAt}
 use Rattle.ber_message.specs.Opened.{opens}
+use Rattle.ber_message.specs.Ways.{AreOpenBefore, begun_in}
+use Rattle.ber_message.proofs.Rooms.{as_many_may, cut_reading}
 use Rattle.asn_base.specs.Types.{Resolved}
 use Rattle.asn_base.specs.declared.schema.TypeId.{TypeId}
-use Rattle.ber_message.specs.Stops.{IsAt, IsStop}
+use Rattle.ber_message.specs.Stops.{IsAt, IsStop, stops, reads, is_long}
 use Rattle.ber_message.specs.declared.stop.Whereabouts.{Whereabouts}
 
 pub is_at : {o : List ℕ} {w : Whereabouts} (z : State) → w.place ≡ z.here.at → w.values.items ≡ opens z.told → IsSliceAt o z.here.at z.here.octets → IsAt o w z
@@ -151,3 +153,43 @@ not_memory f m e = missing_memory (sym m ∙ e)
   where
     missing_memory : Missing ≡ Memory → ⊥
     missing_memory h = cc
+
+-- ---- where one more would begin than may
+
+-- no value begins or ends where none may begin
+left_open : {a b : State} {t : TypeId} {e : ReadFault} → Leaves a (to_begin t) b e → opens b.told ≡ opens a.told
+left_open (no_room n) = refl
+
+none_before : {a b : ℕ} → a < b → b ≤ a → ⊥
+none_before l m = omega arith
+
+-- of what is read to its end
+pub stops_before : {s : List Resolved} {t : TypeId} {o : List ℕ} {most : ℕ} {w : Whereabouts}
+    → ((a b : State) (e : Event) → Answers a e b → Takes a e b)
+    → (r : IsRead s t o)
+    → length o ≤ 16777216
+    → most < begun_in r.last.told
+    → IsStop s t o most w
+    → AreOpenBefore r.last.told most w.values.items
+stops_before {s} {t} {o} {most} takes r few l (stops z e h a) =
+    let c = cut_reading takes (λ u. routine_at s u) (λ x q y. Leaves x q y e) most r.reads h in
+    record {
+      before = c.at.told;
+      value = c.type;
+      behind = c.behind;
+      whole = c.whole;
+      as_many = ap begun_in c.told ∙ c.count;
+      opened = a.values ∙ left_open c.left;
+    }
+stops_before {s} {t} {o} {most} takes r few l (reads z h a) = absurd (none_before l (as_many_may takes (λ u. routine_at s u) most r.reads h refl))
+stops_before takes r few l (is_long m p v) = absurd (none_before m few)
+
+pub stopped_before : {E : Type 0} {s : List Resolved} {t : TypeId} {o : List ℕ} {most : ℕ} (q : Result Whereabouts E)
+    → ((a b : State) (e : Event) → Answers a e b → Takes a e b)
+    → IfOk q (λ w. IsStop s t o most w)
+    → (r : IsRead s t o)
+    → length o ≤ 16777216
+    → most < begun_in r.last.told
+    → IfOk q (λ w. AreOpenBefore r.last.told most w.values.items)
+stopped_before (Ok w) takes h r few l = stops_before takes r few l h
+stopped_before (Err e) takes h r few l = h

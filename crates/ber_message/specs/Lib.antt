@@ -1,5 +1,6 @@
 -- What a message says, and what was told of it (`Messages`); which values are open behind what was read (`Opened`);
--- where reading stops (`Stops`).
+-- ways to a value that begins (`Ways`); where reading stops (`Stops`).
 pub mod Messages
 pub mod Opened
+pub mod Ways
 pub mod Stops

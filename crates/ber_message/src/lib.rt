@@ -7,9 +7,11 @@ mod message;
 mod open;
 mod stop;
 mod view;
+mod way;
 
 pub use ber_views::Built;
 pub use message::read_message;
 pub use open::{Open, Part};
 pub use stop::{Whereabouts, most_values, stop_of};
 pub use view::read_view;
+pub use way::begun_before;

@@ -34,6 +34,8 @@ pub fn read_message<'a>(
     octets: &'a [u8],
 ) -> Result<Vec<Token<'a>>, ReadFault>
     ensures ok { IfOk result (λ ts. IsMessage code.now id.index octets.now (map token_of ts.items)) }
+    // The type's routine reads these, and no others.
+    ensures told { IfOk result (λ ts. (r : IsRead code.now id octets.now) → r.last.told ≡ map token_of ts.items) }
     // It is the only value that they say, with the only number of additions.
     ensures only { IfOk result (λ ts. (m : IsMessage code.now id.index octets.now (map token_of ts.items))
         → (w : AbstractValue) (k : ℕ)

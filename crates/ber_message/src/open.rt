@@ -1,6 +1,6 @@
 //! Which values are open behind what was read, and which of their parts are being read.
 
-ghost use Rattle.ber_message.specs.Opened.{behind_part, but_last, entered, on_last, opened, opens, opens_after, part_or, with_part};
+ghost use Rattle.ber_message.specs.Opened.{behind_part, but_last, entered as entered', on_last, opened, opens, opens_after, part_or, with_part};
 ghost use Rattle.ber_source.specs.Seen.{token_of};
 ghost use Rattle.std.specs.List.{AllByRecursion};
 ghost use Rattle.std.specs.Prelude.{◌≡◌, ◌++◌, ◌∷◌, ◌<◌, ◌≤◌, [], IfOk, map, OnOk, Some, suc, ℕ};
@@ -45,6 +45,17 @@ fn part_of(value: Open) -> Option<Part>
     }
 }
 
+/// The value, with the part of it that begins.
+pub(crate) fn entered(value: Open) -> Open
+    ensures { result ≡ entered' value }
+{
+    Open {
+        ty: value.ty,
+        part: part_of(value),
+        read: value.read,
+    }
+}
+
 /// A part of the innermost open value is told.
 fn tell(list: &mut Vec<Open>, part: Part) -> Result<(), AllocError>
     ensures { OnOk result (list.new.items ≡ on_last (with_part (Some part)) list.old.items) }
@@ -64,17 +75,10 @@ fn tell(list: &mut Vec<Open>, part: Part) -> Result<(), AllocError>
 
 /// A part of the innermost open value begins: the one that was told, or else its next element.
 pub(crate) fn enter(list: &mut Vec<Open>) -> Result<(), AllocError>
-    ensures { OnOk result (list.new.items ≡ on_last entered list.old.items) }
+    ensures { OnOk result (list.new.items ≡ on_last entered' list.old.items) }
 {
     match list.pop() {
-        Some(last) => push_open(
-            list,
-            Open {
-                ty: last.ty,
-                part: part_of(last),
-                read: last.read,
-            },
-        ),
+        Some(last) => push_open(list, entered(last)),
         None => Ok(()),
     }
 }
@@ -110,7 +114,7 @@ fn leave(list: &mut Vec<Open>) -> Result<(), AllocError>
 
 /// A value of the type begins.
 fn begin(list: &mut Vec<Open>, id: TypeId) -> Result<(), AllocError>
-    ensures { OnOk result (list.new.items ≡ on_last entered list.old.items ++ opened id ∷ []) }
+    ensures { OnOk result (list.new.items ≡ on_last entered' list.old.items ++ opened id ∷ []) }
 {
     enter(list)?;
     push_open(
@@ -124,7 +128,7 @@ fn begin(list: &mut Vec<Open>, id: TypeId) -> Result<(), AllocError>
 }
 
 /// One token more.
-fn take(list: &mut Vec<Open>, token: Token<'_>) -> Result<(), AllocError>
+pub(crate) fn take(list: &mut Vec<Open>, token: Token<'_>) -> Result<(), AllocError>
     requires { AllByRecursion (λ o. o.read < 18446744073709551615) list.old.items }
     ensures { OnOk result (list.new.items ≡ opens_after list.old.items (token_of token.entry)) }
 {

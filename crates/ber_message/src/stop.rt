@@ -1,10 +1,11 @@
 //! Where reading of a message stops.
 
-ghost use Rattle.ber_message.specs.Messages.{room_of};
+ghost use Rattle.ber_message.specs.Messages.{IsRead, room_of};
 ghost use Rattle.ber_message.specs.Opened.{opens};
 ghost use Rattle.ber_message.specs.Stops.{IsEntered, IsStop};
+ghost use Rattle.ber_message.specs.Ways.{AreOpenBefore, begun_in};
 ghost use Rattle.codec_source.specs.declared.fault.ReadFault.TheVariants.{Memory};
-ghost use Rattle.std.specs.Prelude.{◌≡◌, ◌≤◌, false, IfOk, length, OnOk};
+ghost use Rattle.std.specs.Prelude.{◌≡◌, ◌<◌, ◌≤◌, false, IfOk, length, OnOk};
 
 use crate::open::{Open, enter, open_behind};
 use asn_base::schema::TypeId;
@@ -12,6 +13,7 @@ use ber_source::Cursor;
 use codec_code::Code;
 use codec_source::{ReadFault, read};
 use limits::{MAX_MESSAGE, MAX_OPEN};
+use octet_answers::law::one_answer;
 use reading_law::law::stops_in_place;
 use std::alloc::{AllocError, Global};
 
@@ -52,7 +54,13 @@ pub fn stop_of(
 ) -> Result<Whereabouts, AllocError>
     ensures is { IfOk result (λ w. IsStop code.now id octets.now most w) }
     ensures place { IfOk result (λ w. w.place ≤ length octets.now) }
+    // Of what is read to its end if as many begin as do, it stops before the one that may not.
+    ensures before { (r : IsRead code.now id octets.now)
+        → length octets.now ≤ 16777216
+        → most < begun_in r.last.told
+        → IfOk result (λ w. AreOpenBefore r.last.told most w.values.items) }
 {
+    one_answer();
     stops_in_place();
     let mut cursor = match Cursor::new(alloc, code, octets, most) {
         Ok(cursor) => cursor,

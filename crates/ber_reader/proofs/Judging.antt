@@ -1,7 +1,7 @@
 -- The first part that is no value of its type, and the innermost value that is none of its.
-use Rattle.std.proofs.Common.{arith, ◌≡◌, ℕ, zero, suc, ◌+◌, ◌≤◌, ◌<◌, Bool, true, false, List, [], ◌∷◌, ◌++◌, length, map, drop, get_or, refl, sym, ap, subst, ◌∙◌, IsTrue, ◌↔◌}
-use Rattle.std.proofs.lemmas.List.{map-append}
-use Rattle.std.specs.Prelude.{Option, Some, None, option_map, slice_get, if◌then◌else◌}
+use Rattle.std.proofs.Common.{arith, ◌≡◌, ℕ, zero, suc, ◌+◌, ◌≤◌, ◌<◌, Bool, true, false, List, [], ◌∷◌, ◌++◌, length, map, drop, get_or, refl, sym, ap, subst, ◌∙◌, IsTrue, ◌↔◌, append_assoc}
+use Rattle.std.proofs.lemmas.List.{append-nil, map-append}
+use Rattle.std.specs.Prelude.{Option, Some, None, Result, Ok, Err, OnOk, option_map, slice_get, if◌then◌else◌}
 use Rattle.asn_base.specs.declared.schema.TypeId.{TypeId}
 use Rattle.asn_base.specs.Abstract.{AbstractValue, boolean, integer, enumerated, bits, octets, text, null, oid, relative_oid, fields, list, alternative, Row, end, absent, present, row_of_options, row_of_list}
 use Rattle.asn_base.specs.Schemas.{components, is_addition}
@@ -10,7 +10,10 @@ use Rattle.asn_base.specs.Types.{TypeNumber, Component, Alternative, Kind, Resol
 use Rattle.codec_source.specs.declared.fault.ReadFault.{ReadFault}
 use Rattle.codec_source.specs.declared.fault.ReadFault.TheVariants as faults
 use Rattle.codec_code.specs.Routines.{id_of}
-use Rattle.ber_reader.specs.Judged.{Piece, piece, kind_at, element_of, alternatives, FirstWrong, none_wrong, wrong_here, right_here, component_piece, component_pieces, element_pieces, parts, IsWrong, Innermost, is_itself, is_within, IsOwn, lacks_number, half_a_group, deep_component, deep_alternative, outside, IsJudged, is_addition_in, in_root, without_additions}
+use Rattle.ber_message.specs.declared.open.Open.{Open}
+use Rattle.ber_message.specs.declared.open.Part.{Part}
+use Rattle.ber_message.specs.declared.open.Part.TheVariants as a_part
+use Rattle.ber_reader.specs.Judged.{Piece, piece, Placed, placed, kind_at, element_of, alternatives, FirstWrong, none_wrong, wrong_here, right_here, component_piece, component_pieces, element_pieces, parts, IsWrong, Innermost, is_itself, is_within, LeadOn, IsOwn, lacks_number, half_a_group, deep_component, deep_alternative, outside, IsJudged, is_addition_in, in_root, without_additions}
 
 -- ---- lists that are left
 
@@ -34,157 +37,162 @@ drop_none (suc i) = refl
 -- ---- pieces
 
 -- behind pieces that are values of their types
-pub behind : {s : List Resolved} {ps qs : List Piece} {o : Option Piece} → FirstWrong s ps None → FirstWrong s qs o → FirstWrong s (ps ++ qs) o
+pub behind : {s : List Resolved} {ps qs : List Placed} {o : Option Placed} → FirstWrong s ps None → FirstWrong s qs o → FirstWrong s (ps ++ qs) o
 behind none_wrong g = g
 behind (right_here r h) g = right_here r (behind h g)
 
 -- one that is none stays the first
-pub before : {s : List Resolved} {ps : List Piece} {p : Piece} (qs : List Piece) → FirstWrong s ps (Some p) → FirstWrong s (ps ++ qs) (Some p)
+pub before : {s : List Resolved} {ps : List Placed} {p : Placed} (qs : List Placed) → FirstWrong s ps (Some p) → FirstWrong s (ps ++ qs) (Some p)
 before qs (wrong_here n) = wrong_here n
 before qs (right_here r h) = right_here r (before qs h)
 
 -- the first that is none is none
-pub is_wrong : {s : List Resolved} {ps : List Piece} {p : Piece} → FirstWrong s ps (Some p) → IsWrong s p
+pub is_wrong : {s : List Resolved} {ps : List Placed} {p : Placed} → FirstWrong s ps (Some p) → IsWrong s p.piece
 is_wrong (wrong_here n) = n
 is_wrong (right_here r h) = is_wrong h
 
 -- a piece that was asked
-pub one_right : {s : List Resolved} (b : Bool) (p : Piece) → b ≡ true → IsTrue b ↔ IsValue s p.type p.value → FirstWrong s (p ∷ []) None
+pub one_right : {s : List Resolved} (b : Bool) (p : Placed) → b ≡ true → IsTrue b ↔ IsValue s p.piece.type p.piece.value → FirstWrong s (p ∷ []) None
 one_right b p e h = right_here (h.0 e) none_wrong
 
-pub one_wrong : {s : List Resolved} (b : Bool) (p : Piece) → b ≡ false → IsTrue b ↔ IsValue s p.type p.value → FirstWrong s (p ∷ []) (Some p)
+pub one_wrong : {s : List Resolved} (b : Bool) (p : Placed) → b ≡ false → IsTrue b ↔ IsValue s p.piece.type p.piece.value → FirstWrong s (p ∷ []) (Some p)
 one_wrong b p e h = wrong_here (λ v. let t = h.1 v in cc)
 
 -- ---- elements
 
-pub element_next : {A : Type 0} {s : List Resolved} {o : Option Piece} (u : TypeNumber) (f : A → AbstractValue) (xs : List A) (i : ℕ) (d : A)
+pub element_next : {A : Type 0} {s : List Resolved} {o : Option Placed} (u : TypeNumber) (f : A → AbstractValue) (xs : List A) (i : ℕ) (d : A)
     → i < length xs
     → d ≡ get_or xs i d
-    → FirstWrong s (piece u (f d) ∷ element_pieces u (row_of_list (drop (i + 1) (map f xs)))) o
-    → FirstWrong s (element_pieces u (row_of_list (drop i (map f xs)))) o
-element_next {s = s} {o = o} u f xs i d l e h = subst (λ q. FirstWrong s (element_pieces u (row_of_list q)) o) (sym (drop_is f xs i d l e)) h
+    → FirstWrong s (placed (a_part.Element i) u (f d) ∷ element_pieces (i + 1) u (row_of_list (drop (i + 1) (map f xs)))) o
+    → FirstWrong s (element_pieces i u (row_of_list (drop i (map f xs)))) o
+element_next {s = s} {o = o} u f xs i d l e h =
+    let z : i + 1 ≡ suc i = omega arith in
+    subst (λ q. FirstWrong s (element_pieces i u (row_of_list q)) o) (sym (drop_is f xs i d l e))
+    (subst (λ k. FirstWrong s (placed (a_part.Element i) u (f d) ∷ element_pieces k u (row_of_list (drop (i + 1) (map f xs)))) o) z h)
 
-pub no_more_elements : {A : Type 0} {s : List Resolved} (u : TypeNumber) (f : A → AbstractValue) (xs : List A) (i : ℕ) → length xs ≤ i → FirstWrong s (element_pieces u (row_of_list (drop i (map f xs)))) None
-no_more_elements {s = s} u f xs i l = subst (λ q. FirstWrong s (element_pieces u (row_of_list q)) None) (sym (drop_end f xs i l)) none_wrong
+pub no_more_elements : {A : Type 0} {s : List Resolved} (u : TypeNumber) (f : A → AbstractValue) (xs : List A) (i : ℕ) → length xs ≤ i → FirstWrong s (element_pieces i u (row_of_list (drop i (map f xs)))) None
+no_more_elements {s = s} u f xs i l = subst (λ q. FirstWrong s (element_pieces i u (row_of_list q)) None) (sym (drop_end f xs i l)) none_wrong
 
 -- ---- components
 
-no_pieces : (cs : List Component) → component_pieces cs end ≡ []
-no_pieces [] = refl
-no_pieces (c ∷ cs) = refl
+no_pieces : (k : ℕ) (cs : List Component) → component_pieces k cs end ≡ []
+no_pieces k [] = refl
+no_pieces k (c ∷ cs) = refl
 
-pieces_split : (cs : List Component) (i : ℕ) (o : Option AbstractValue) (os : List (Option AbstractValue))
-    → component_pieces (drop i cs) (row_of_options (o ∷ os)) ≡ component_piece (slice_get cs i) o ++ component_pieces (drop (i + 1) cs) (row_of_options os)
-pieces_split [] i o os =
-    ap (λ q. component_pieces q (row_of_options (o ∷ os))) (drop_none i) ∙ sym (ap (λ q. component_pieces q (row_of_options os)) (drop_none (i + 1)))
-pieces_split (c ∷ cs) zero None os = refl
-pieces_split (c ∷ cs) zero (Some v) os = refl
-pieces_split (c ∷ cs) (suc i) o os =
+pieces_split : (k : ℕ) (cs : List Component) (i : ℕ) (o : Option AbstractValue) (os : List (Option AbstractValue))
+    → component_pieces k (drop i cs) (row_of_options (o ∷ os)) ≡ component_piece k (slice_get cs i) o ++ component_pieces (suc k) (drop (i + 1) cs) (row_of_options os)
+pieces_split k [] i o os =
+    ap (λ q. component_pieces k q (row_of_options (o ∷ os))) (drop_none i) ∙ sym (ap (λ q. component_pieces (suc k) q (row_of_options os)) (drop_none (i + 1)))
+pieces_split k (c ∷ cs) zero None os = refl
+pieces_split k (c ∷ cs) zero (Some v) os = refl
+pieces_split k (c ∷ cs) (suc i) o os =
     let z : suc (i + 1) ≡ suc i + 1 = omega arith in
-    pieces_split cs i o os ∙ ap (λ k. component_piece (slice_get cs i) o ++ component_pieces (drop k (c ∷ cs)) (row_of_options os)) z
+    pieces_split k cs i o os ∙ ap (λ n. component_piece k (slice_get cs i) o ++ component_pieces (suc k) (drop n (c ∷ cs)) (row_of_options os)) z
 
-pub component_next : {A : Type 0} {s : List Resolved} {r : Option Piece} (cs : List Component) (f : A → Option AbstractValue) (xs : List A) (i : ℕ) (d : A)
+pub component_next : {A : Type 0} {s : List Resolved} {r : Option Placed} (cs : List Component) (f : A → Option AbstractValue) (xs : List A) (i : ℕ) (d : A)
     → i < length xs
     → d ≡ get_or xs i d
-    → FirstWrong s (component_piece (slice_get cs i) (f d) ++ component_pieces (drop (i + 1) cs) (row_of_options (drop (i + 1) (map f xs)))) r
-    → FirstWrong s (component_pieces (drop i cs) (row_of_options (drop i (map f xs)))) r
+    → FirstWrong s (component_piece i (slice_get cs i) (f d) ++ component_pieces (i + 1) (drop (i + 1) cs) (row_of_options (drop (i + 1) (map f xs)))) r
+    → FirstWrong s (component_pieces i (drop i cs) (row_of_options (drop i (map f xs)))) r
 component_next {s = s} {r = r} cs f xs i d l e h =
-    subst (λ q. FirstWrong s (component_pieces (drop i cs) (row_of_options q)) r) (sym (drop_is f xs i d l e))
-    (subst (λ q. FirstWrong s q r) (sym (pieces_split cs i (f d) (drop (i + 1) (map f xs)))) h)
+    let z : i + 1 ≡ suc i = omega arith in
+    subst (λ q. FirstWrong s (component_pieces i (drop i cs) (row_of_options q)) r) (sym (drop_is f xs i d l e))
+    (subst (λ q. FirstWrong s q r) (sym (pieces_split i cs i (f d) (drop (i + 1) (map f xs))))
+    (subst (λ k. FirstWrong s (component_piece i (slice_get cs i) (f d) ++ component_pieces k (drop (i + 1) cs) (row_of_options (drop (i + 1) (map f xs)))) r) z h))
 
-pub no_more_components : {A : Type 0} {s : List Resolved} (cs : List Component) (f : A → Option AbstractValue) (xs : List A) (i : ℕ) → length xs ≤ i → FirstWrong s (component_pieces (drop i cs) (row_of_options (drop i (map f xs)))) None
+pub no_more_components : {A : Type 0} {s : List Resolved} (cs : List Component) (f : A → Option AbstractValue) (xs : List A) (i : ℕ) → length xs ≤ i → FirstWrong s (component_pieces i (drop i cs) (row_of_options (drop i (map f xs)))) None
 no_more_components {s = s} cs f xs i l =
-    subst (λ q. FirstWrong s (component_pieces (drop i cs) (row_of_options q)) None) (sym (drop_end f xs i l))
-    (subst (λ q. FirstWrong s q None) (sym (no_pieces (drop i cs))) none_wrong)
+    subst (λ q. FirstWrong s (component_pieces i (drop i cs) (row_of_options q)) None) (sym (drop_end f xs i l))
+    (subst (λ q. FirstWrong s q None) (sym (no_pieces i (drop i cs))) none_wrong)
 
 -- a component that is present, of a type that was looked up
-pub component_is : {s : List Resolved} {r : Option Piece} (u : TypeId) (v : AbstractValue) (o : Option Component) (m : Option AbstractValue)
+pub component_is : {s : List Resolved} {r : Option Placed} (i : ℕ) (u : TypeId) (v : AbstractValue) (o : Option Component) (m : Option AbstractValue)
     → Some u ≡ option_map (λ c. id_of c.type) o
     → m ≡ Some v
-    → FirstWrong s (piece u.index v ∷ []) r
-    → FirstWrong s (component_piece o m) r
-component_is {s} {r} u v None m e g h = cc
-component_is {s} {r} u v (Some c) m e g h =
-    subst (λ q. FirstWrong s (component_piece (Some c) q) r) (sym g)
-    (let w : u ≡ id_of c.type = (let a = e in cc) in subst (λ (q : TypeId). FirstWrong s (piece q.index v ∷ []) r) w h)
+    → FirstWrong s (placed (a_part.Component i) u.index v ∷ []) r
+    → FirstWrong s (component_piece i o m) r
+component_is {s} {r} i u v None m e g h = cc
+component_is {s} {r} i u v (Some c) m e g h =
+    subst (λ q. FirstWrong s (component_piece i (Some c) q) r) (sym g)
+    (let w : u ≡ id_of c.type = (let a = e in cc) in subst (λ (q : TypeId). FirstWrong s (placed (a_part.Component i) q.index v ∷ []) r) w h)
 
-pub component_lacks : {s : List Resolved} (o : Option Component) (m : Option AbstractValue)
+pub component_lacks : {s : List Resolved} (i : ℕ) (o : Option Component) (m : Option AbstractValue)
     → None ≡ option_map (λ c. id_of c.type) o
-    → FirstWrong s (component_piece o m) None
-component_lacks None m e = none_wrong
-component_lacks (Some c) m e = cc
+    → FirstWrong s (component_piece i o m) None
+component_lacks i None m e = none_wrong
+component_lacks i (Some c) m e = cc
 
-pub component_absent : {s : List Resolved} (o : Option Component) (m : Option AbstractValue) → m ≡ None → FirstWrong s (component_piece o m) None
-component_absent {s} None m e = none_wrong
-component_absent {s} (Some c) m e = subst (λ q. FirstWrong s (component_piece (Some c) q) None) (sym e) none_wrong
+pub component_absent : {s : List Resolved} (i : ℕ) (o : Option Component) (m : Option AbstractValue) → m ≡ None → FirstWrong s (component_piece i o m) None
+component_absent {s} i None m e = none_wrong
+component_absent {s} i (Some c) m e = subst (λ q. FirstWrong s (component_piece i (Some c) q) None) (sym e) none_wrong
 
 -- ---- the parts of a value
 
-pub list_is : {s : List Resolved} {r : Option Piece} (u : TypeId) (vs : Row) (k : Kind)
+pub list_is : {s : List Resolved} {r : Option Placed} (u : TypeId) (vs : Row) (k : Kind)
     → Some u ≡ option_map id_of (element_of k)
-    → FirstWrong s (element_pieces u.index vs) r
+    → FirstWrong s (element_pieces 0 u.index vs) r
     → FirstWrong s (parts k (list vs)) r
 list_is {s} {r} u vs k e h = by (element_of k) e
   where
-    by : (o : Option TypeNumber) → Some u ≡ option_map id_of o → FirstWrong s (elim o [ None ↦ [] | Some t ↦ element_pieces t vs ]) r
+    by : (o : Option TypeNumber) → Some u ≡ option_map id_of o → FirstWrong s (elim o [ None ↦ [] | Some t ↦ element_pieces 0 t vs ]) r
     by None d = cc
-    by (Some t) d = let w : u ≡ id_of t = (let a = d in cc) in subst (λ (q : TypeId). FirstWrong s (element_pieces q.index vs) r) w h
+    by (Some t) d = let w : u ≡ id_of t = (let a = d in cc) in subst (λ (q : TypeId). FirstWrong s (element_pieces 0 q.index vs) r) w h
 
 pub list_lacks : {s : List Resolved} (vs : Row) (k : Kind) → None ≡ option_map id_of (element_of k) → FirstWrong s (parts k (list vs)) None
 list_lacks {s} vs k e = by (element_of k) e
   where
-    by : (o : Option TypeNumber) → None ≡ option_map id_of o → FirstWrong s (elim o [ None ↦ [] | Some t ↦ element_pieces t vs ]) None
+    by : (o : Option TypeNumber) → None ≡ option_map id_of o → FirstWrong s (elim o [ None ↦ [] | Some t ↦ element_pieces 0 t vs ]) None
     by None d = none_wrong
     by (Some t) d = cc
 
-pub choice_is : {s : List Resolved} {r : Option Piece} (u : TypeId) (i : ℕ) (v : AbstractValue) (k : Kind)
+pub choice_is : {s : List Resolved} {r : Option Placed} (u : TypeId) (i : ℕ) (v : AbstractValue) (k : Kind)
     → Some u ≡ option_map (λ a. id_of a.type) (slice_get (alternatives k) i)
-    → FirstWrong s (piece u.index v ∷ []) r
+    → FirstWrong s (placed (a_part.Alternative i) u.index v ∷ []) r
     → FirstWrong s (parts k (alternative i v)) r
 choice_is {s} {r} u i v k e h = by (slice_get (alternatives k) i) e
   where
-    by : (o : Option Alternative) → Some u ≡ option_map (λ a. id_of a.type) o → FirstWrong s (elim o [ None ↦ [] | Some a ↦ piece a.type v ∷ [] ]) r
+    by : (o : Option Alternative) → Some u ≡ option_map (λ a. id_of a.type) o → FirstWrong s (elim o [ None ↦ [] | Some a ↦ placed (a_part.Alternative i) a.type v ∷ [] ]) r
     by None d = cc
-    by (Some a) d = let w : u ≡ id_of a.type = (let b = d in cc) in subst (λ (q : TypeId). FirstWrong s (piece q.index v ∷ []) r) w h
+    by (Some a) d = let w : u ≡ id_of a.type = (let b = d in cc) in subst (λ (q : TypeId). FirstWrong s (placed (a_part.Alternative i) q.index v ∷ []) r) w h
 
 pub choice_lacks : {s : List Resolved} (i : ℕ) (v : AbstractValue) (k : Kind)
     → None ≡ option_map (λ a. id_of a.type) (slice_get (alternatives k) i)
     → FirstWrong s (parts k (alternative i v)) None
 choice_lacks {s} i v k e = by (slice_get (alternatives k) i) e
   where
-    by : (o : Option Alternative) → None ≡ option_map (λ a. id_of a.type) o → FirstWrong s (elim o [ None ↦ [] | Some a ↦ piece a.type v ∷ [] ]) None
+    by : (o : Option Alternative) → None ≡ option_map (λ a. id_of a.type) o → FirstWrong s (elim o [ None ↦ [] | Some a ↦ placed (a_part.Alternative i) a.type v ∷ [] ]) None
     by None d = none_wrong
     by (Some a) d = cc
 
 -- the parts of what is the same value
-pub parts_as : {s : List Resolved} {v w : AbstractValue} {r : Option Piece} (k : Kind) → v ≡ w → FirstWrong s (parts k w) r → FirstWrong s (parts k v) r
+pub parts_as : {s : List Resolved} {v w : AbstractValue} {r : Option Placed} (k : Kind) → v ≡ w → FirstWrong s (parts k w) r → FirstWrong s (parts k v) r
 parts_as {s} {r = r} k e h = subst (λ q. FirstWrong s (parts k q) r) (sym e) h
 
 -- ---- parts are smaller
 
-component_less : {s : List Resolved} {p : Piece} (cs : List Component) (vs : Row) → FirstWrong s (component_pieces cs vs) (Some p) → nodes p.value ≤ row_nodes vs
-component_less [] vs f = elim f [ ]
-component_less (c ∷ cs) end f = elim f [ ]
-component_less (c ∷ cs) (absent vs) f = component_less cs vs f
-component_less (c ∷ cs) (present v vs) (wrong_here n) = omega arith
-component_less (c ∷ cs) (present v vs) (right_here r h) = let q = component_less cs vs h in omega arith
+component_less : {s : List Resolved} {p : Placed} (i : ℕ) (cs : List Component) (vs : Row) → FirstWrong s (component_pieces i cs vs) (Some p) → nodes p.piece.value ≤ row_nodes vs
+component_less i [] vs f = elim f [ ]
+component_less i (c ∷ cs) end f = elim f [ ]
+component_less i (c ∷ cs) (absent vs) f = component_less (suc i) cs vs f
+component_less i (c ∷ cs) (present v vs) (wrong_here n) = omega arith
+component_less i (c ∷ cs) (present v vs) (right_here r h) = let q = component_less (suc i) cs vs h in omega arith
 
-element_less : {s : List Resolved} {p : Piece} (u : TypeNumber) (vs : Row) → FirstWrong s (element_pieces u vs) (Some p) → nodes p.value ≤ row_nodes vs
-element_less u end f = elim f [ ]
-element_less u (absent vs) f = element_less u vs f
-element_less u (present v vs) (wrong_here n) = omega arith
-element_less u (present v vs) (right_here r h) = let q = element_less u vs h in omega arith
+element_less : {s : List Resolved} {p : Placed} (i : ℕ) (u : TypeNumber) (vs : Row) → FirstWrong s (element_pieces i u vs) (Some p) → nodes p.piece.value ≤ row_nodes vs
+element_less i u end f = elim f [ ]
+element_less i u (absent vs) f = element_less i u vs f
+element_less i u (present v vs) (wrong_here n) = omega arith
+element_less i u (present v vs) (right_here r h) = let q = element_less (suc i) u vs h in omega arith
 
-list_less : {s : List Resolved} {p : Piece} (o : Option TypeNumber) (vs : Row) → FirstWrong s (elim o [ None ↦ [] | Some u ↦ element_pieces u vs ]) (Some p) → nodes p.value ≤ row_nodes vs
+list_less : {s : List Resolved} {p : Placed} (o : Option TypeNumber) (vs : Row) → FirstWrong s (elim o [ None ↦ [] | Some u ↦ element_pieces 0 u vs ]) (Some p) → nodes p.piece.value ≤ row_nodes vs
 list_less None vs f = elim f [ ]
-list_less (Some u) vs f = element_less u vs f
+list_less (Some u) vs f = element_less 0 u vs f
 
-choice_less : {s : List Resolved} {p : Piece} (o : Option Alternative) (v : AbstractValue) → FirstWrong s (elim o [ None ↦ [] | Some a ↦ piece a.type v ∷ [] ]) (Some p) → nodes p.value ≤ nodes v
-choice_less None v f = elim f [ ]
-choice_less (Some a) v (wrong_here n) = omega arith
-choice_less (Some a) v (right_here r h) = elim h [ ]
+choice_less : {s : List Resolved} {p : Placed} (i : ℕ) (o : Option Alternative) (v : AbstractValue) → FirstWrong s (elim o [ None ↦ [] | Some a ↦ placed (a_part.Alternative i) a.type v ∷ [] ]) (Some p) → nodes p.piece.value ≤ nodes v
+choice_less i None v f = elim f [ ]
+choice_less i (Some a) v (wrong_here n) = omega arith
+choice_less i (Some a) v (right_here r h) = elim h [ ]
 
-pub part_less : {s : List Resolved} {p : Piece} (k : Kind) (v : AbstractValue) → FirstWrong s (parts k v) (Some p) → nodes p.value < nodes v
+pub part_less : {s : List Resolved} {p : Placed} (k : Kind) (v : AbstractValue) → FirstWrong s (parts k v) (Some p) → nodes p.piece.value < nodes v
 part_less k (boolean b) f = elim f [ ]
 part_less k (integer z) f = elim f [ ]
 part_less k (enumerated z) f = elim f [ ]
@@ -194,9 +202,9 @@ part_less k (text o) f = elim f [ ]
 part_less k null f = elim f [ ]
 part_less k (oid o) f = elim f [ ]
 part_less k (relative_oid o) f = elim f [ ]
-part_less k (fields vs) f = let q = component_less (components k) vs f in omega arith
+part_less k (fields vs) f = let q = component_less 0 (components k) vs f in omega arith
 part_less k (list vs) f = let q = list_less (element_of k) vs f in omega arith
-part_less k (alternative i v) f = let q = choice_less (slice_get (alternatives k) i) v f in omega arith
+part_less k (alternative i v) f = let q = choice_less i (slice_get (alternatives k) i) v f in omega arith
 
 -- ---- what is judged
 
@@ -206,18 +214,46 @@ pub judged_itself : {s : List Resolved} {t : TypeNumber} {v : AbstractValue} {f 
     → FirstWrong s (parts (kind_at s t) v) None
     → IsOwn s t v f
     → IsJudged s t v f
-judged_itself {s} {t} {v} n w o = record { inner = piece t v; is_innermost = is_itself n w; own = o }
+judged_itself {s} {t} {v} n w o = record { inner = piece t v; way = []; is_innermost = is_itself n w; own = o }
+
+-- the value round a part
+abbrev pub round : TypeNumber → Part → Open
+round t p = record { ty = id_of t; part = Some p; read = 0 }
 
 -- a value within
-pub judged_within : {s : List Resolved} {t u : TypeNumber} {v w : AbstractValue} {f : ReadFault}
-    → FirstWrong s (parts (kind_at s t) v) (Some (piece u w))
+pub judged_within : {s : List Resolved} {t u : TypeNumber} {v w : AbstractValue} {p : Part} {f : ReadFault}
+    → FirstWrong s (parts (kind_at s t) v) (Some (placed p u w))
     → IsJudged s u w f
     → IsJudged s t v f
-judged_within w j = record { inner = j.inner; is_innermost = is_within w j.is_innermost; own = j.own }
+judged_within {t = t} {p = p} w j = record { inner = j.inner; way = round t p ∷ j.way; is_innermost = is_within w (record { of_type = refl; at_part = refl }) j.is_innermost; own = j.own }
 
--- one of each
+-- ---- the way to it
 
-first_once : {s : List Resolved} {ps : List Piece} {o q : Option Piece} → FirstWrong s ps o → FirstWrong s ps q → o ≡ q
+pub on_ok : {A E : Type 0} {P Q : Type 0} (q : Result A E) → (P → Q) → OnOk q P → OnOk q Q
+on_ok (Ok a) f p = f p
+on_ok (Err e) f p = p
+
+-- none to the value itself
+pub lead_itself : {s : List Resolved} {t : TypeNumber} {v : AbstractValue} (os : List Open) → (IsValue s t v → ⊥) → FirstWrong s (parts (kind_at s t) v) None → LeadOn s (piece t v) os os
+lead_itself {t = t} {v = v} os n w = record { way = []; whole = sym (append-nil os); lead = record { inner = piece t v; is_innermost = is_itself n w } }
+
+-- through the part in which it stands
+pub lead_within : {s : List Resolved} {t u : TypeNumber} {v w : AbstractValue} {p : Part} {os ps all : List Open} (o : Open)
+    → o.ty.index ≡ t
+    → o.part ≡ Some p
+    → ps ≡ os ++ o ∷ []
+    → FirstWrong s (parts (kind_at s t) v) (Some (placed p u w))
+    → LeadOn s (piece u w) ps all
+    → LeadOn s (piece t v) os all
+lead_within {os = os} o e f g w l = record {
+  way = o ∷ l.way;
+  whole = l.whole ∙ ap (λ q. q ++ l.way) g ∙ append_assoc os (o ∷ []) l.way;
+  lead = record { inner = l.lead.inner; is_innermost = is_within w (record { of_type = e; at_part = f }) l.lead.is_innermost };
+}
+
+-- ---- one of each
+
+pub first_once : {s : List Resolved} {ps : List Placed} {o q : Option Placed} → FirstWrong s ps o → FirstWrong s ps q → o ≡ q
 first_once none_wrong none_wrong = refl
 first_once (wrong_here n) (wrong_here m) = refl
 first_once (wrong_here n) (right_here r h) = absurd (n r)
@@ -230,11 +266,11 @@ none_some e = cc
 some_same : {A : Type 0} {x y : A} → Some x ≡ Some y → x ≡ y
 some_same e = cc
 
-inner_once : {s : List Resolved} {p q r : Piece} → Innermost s p q → Innermost s p r → q ≡ r
+inner_once : {s : List Resolved} {p q r : Piece} {os ps : List Open} → Innermost s p os q → Innermost s p ps r → q ≡ r
 inner_once (is_itself n w) (is_itself m z) = refl
-inner_once (is_itself n w) (is_within x j) = absurd (none_some (first_once w x))
-inner_once (is_within x i) (is_itself m z) = absurd (none_some (first_once z x))
-inner_once {s} {r = r} (is_within x i) (is_within y j) = inner_once i (subst (λ z. Innermost s z r) (sym (some_same (first_once x y))) j)
+inner_once (is_itself n w) (is_within x a j) = absurd (none_some (first_once w x))
+inner_once (is_within x a i) (is_itself m z) = absurd (none_some (first_once z x))
+inner_once {s} {r = r} (is_within x a i) (is_within {os = os} y b j) = inner_once i (subst (λ z. Innermost s z.piece os r) (sym (some_same (first_once x y))) j)
 
 own_once : {s : List Resolved} {t : TypeNumber} {v : AbstractValue} {e f : ReadFault} → IsOwn s t v e → IsOwn s t v f → e ≡ f
 own_once lacks_number lacks_number = refl

@@ -6,4 +6,5 @@ pub mod Strictly
 pub mod OneTree
 pub mod Stepping
 pub mod Judging
+pub mod Leading
 pub mod Owing

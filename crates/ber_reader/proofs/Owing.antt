@@ -34,7 +34,7 @@ within : {s : List Resolved} {n t : ℕ} {ws : Row} → ValueIn s (suc n) t (fie
 within (value_in {tags = tags} {k = k} i v) = record { tags = tags; kind = k; is = i; opens = opened v }
 
 AreShallow : List Resolved → List Component → Row → Type 0
-AreShallow s cs vs = AllByRecursion (λ p. ValueIn s 63 p.type p.value) (component_pieces cs vs)
+AreShallow s cs vs = AllByRecursion (λ p. ValueIn s 63 p.piece.type p.piece.value) (component_pieces 0 cs vs)
 
 -- ---- 85
 
@@ -43,17 +43,17 @@ rest_of v r true (component_absent m q) = q
 rest_of v r false (component_present w q) = q
 
 -- additions that were left out are put back
-refilled : {s : List Resolved} {n : ℕ} (cs : List Component) (vs : Row) → AreComponents s n cs (without_additions cs vs) → AllByRecursion (λ p. ValueIn s n p.type p.value) (component_pieces cs vs) → AreComponents s n cs vs
-refilled [] vs a b = a
-refilled (c ∷ cs) end a b = a
-refilled (c ∷ cs) (absent vs) (component_absent m r) b = component_absent m (refilled cs vs r b)
-refilled {s} {n} (c ∷ cs) (present v vs) a b = component_present b.0 (refilled cs vs (rest_of v (without_additions cs vs) (is_addition c) a) b.1)
+refilled : {s : List Resolved} {n : ℕ} (i : ℕ) (cs : List Component) (vs : Row) → AreComponents s n cs (without_additions cs vs) → AllByRecursion (λ p. ValueIn s n p.piece.type p.piece.value) (component_pieces i cs vs) → AreComponents s n cs vs
+refilled i [] vs a b = a
+refilled i (c ∷ cs) end a b = a
+refilled i (c ∷ cs) (absent vs) (component_absent m r) b = component_absent m (refilled (suc i) cs vs r b)
+refilled {s} {n} i (c ∷ cs) (present v vs) a b = component_present b.0 (refilled (suc i) cs vs (rest_of v (without_additions cs vs) (is_addition c) a) b.1)
 
 pub half_group : (s : List Resolved) (t : TypeNumber) (vs : Row)
     → IsOwn s t (fields vs) Missing
     → (IsValue s t (fields vs) → ⊥)
     → nodes (fields vs) ≤ 16777216
-    → AllByRecursion (λ p. ValueIn s 63 p.type p.value) (component_pieces (components (kind_at s t)) vs)
+    → AllByRecursion (λ p. ValueIn s 63 p.piece.type p.piece.value) (component_pieces 0 (components (kind_at s t)) vs)
     → GroupsAreWhole (components (kind_at s t)) vs
     → ⊥
 half_group s t vs (half_a_group r) n few sh whole =
@@ -61,7 +61,7 @@ half_group s t vs (half_a_group r) n few sh whole =
     let e = kind_is w.is in
     let cs = components (kind_at s t) in
     let a = subst (λ k. AreComponents s 63 (components k) (without_additions cs vs)) (sym e) w.opens.parts in
-    let b = refilled cs vs a sh in
+    let b = refilled 0 cs vs a sh in
     n (record {
       shaped = value_in w.is (w.opens.back vs (subst (λ k. AreComponents s 63 (components k) vs) e b) (subst (λ k. GroupsAreWhole (components k) vs) e whole));
       few_nodes = few;

@@ -1,12 +1,18 @@
--- Which fault is told of a value that was read whole and is none of its type.
-use Rattle.std.specs.Prelude.{ℕ, ℤ, Bool, true, false, if◌then◌else◌, List, [], ◌∷◌, ◌++◌, Option, Some, None, slice_get}
+-- Which fault is told of a value that was read whole and is none of its type, and where.
+use Rattle.std.specs.Prelude.{◌≡◌, ℕ, suc, ℤ, Bool, true, false, if◌then◌else◌, List, [], ◌∷◌, ◌++◌, Option, Some, None, slice_get}
 use Rattle.asn_base.specs.Abstract.{AbstractValue, enumerated, fields, list, alternative, Row, end, absent, present}
 use Rattle.asn_base.specs.Schemas.{components, is_addition}
 use Rattle.asn_base.specs.Typed.{IsValue}
 use Rattle.asn_base.specs.Types.{TypeNumber, Alternative, Component, Kind, a_null, a_sequence_of, a_set_of, a_choice}
 use Rattle.asn_base.specs.Types.{Resolved}
+use Rattle.ber_message.specs.declared.open.Open.{Open}
+use Rattle.ber_message.specs.declared.open.Part.{Part}
+use Rattle.ber_message.specs.declared.open.Part.TheVariants as a_part
+use Rattle.ber_message.specs.Opened.{entered, on_last}
+use Rattle.ber_message.specs.Ways.{AreOpenBefore}
 use Rattle.codec_source.specs.declared.fault.ReadFault.{ReadFault}
 use Rattle.codec_source.specs.declared.fault.ReadFault.TheVariants.{BadContents, Missing, OutsideConstraint, TooDeep}
+use Rattle.octet_answers.specs.States.{Token}
 
 -- ---- the parts of a value
 
@@ -17,6 +23,14 @@ pub record Piece : Type 0 where
 
 abbrev pub piece : TypeNumber → AbstractValue → Piece
 piece t v = record { type = t; value = v }
+
+-- which part it is of the value round it, and what stands there
+pub record Placed : Type 0 where
+  pub part : Part
+  pub piece : Piece
+
+abbrev pub placed : Part → TypeNumber → AbstractValue → Placed
+placed p t v = record { part = p; piece = piece t v }
 
 -- the kind of a type; what the schema lacks has no parts, as a NULL
 abbrev pub kind_at : List Resolved → TypeNumber → Kind
@@ -33,33 +47,37 @@ abbrev pub alternatives : Kind → List Alternative
 alternatives (a_choice root e more) = root ++ more
 alternatives k = []
 
--- a component, where it is present
-abbrev pub component_piece : Option Component → Option AbstractValue → List Piece
-component_piece (Some c) (Some v) = piece c.type v ∷ []
-component_piece (Some c) None = []
-component_piece None o = []
+-- component i, where it is present
+abbrev pub component_piece : ℕ → Option Component → Option AbstractValue → List Placed
+component_piece i (Some c) (Some v) = placed (a_part.Component i) c.type v ∷ []
+component_piece i (Some c) None = []
+component_piece i None o = []
 
--- the components that are present, in order of definition
-abbrev pub component_pieces : List Component → Row → List Piece
-component_pieces [] vs = []
-component_pieces (c ∷ cs) end = []
-component_pieces (c ∷ cs) (absent vs) = component_pieces cs vs
-component_pieces (c ∷ cs) (present v vs) = piece c.type v ∷ component_pieces cs vs
+-- the components that are present, in order of definition, from component i on
+abbrev pub component_pieces : ℕ → List Component → Row → List Placed
+component_pieces i [] vs = []
+component_pieces i (c ∷ cs) end = []
+component_pieces i (c ∷ cs) (absent vs) = component_pieces (suc i) cs vs
+component_pieces i (c ∷ cs) (present v vs) =
+    placed (a_part.Component i) c.type v ∷ component_pieces (suc i) cs vs
 
--- the elements, the first one first
-abbrev pub element_pieces : TypeNumber → Row → List Piece
-element_pieces u end = []
-element_pieces u (absent vs) = element_pieces u vs
-element_pieces u (present v vs) = piece u v ∷ element_pieces u vs
+-- the elements, from element i on
+abbrev pub element_pieces : ℕ → TypeNumber → Row → List Placed
+element_pieces i u end = []
+element_pieces i u (absent vs) = element_pieces i u vs
+element_pieces i u (present v vs) = placed (a_part.Element i) u v ∷ element_pieces (suc i) u vs
 
 -- the components, elements or alternative of a value of this kind
-abbrev pub parts : Kind → AbstractValue → List Piece
-parts k (fields vs) = component_pieces (components k) vs
-parts k (list vs) = elim (element_of k) [ None ↦ [] | Some u ↦ element_pieces u vs ]
-parts k (alternative i v) = elim (slice_get (alternatives k) i) [ None ↦ [] | Some a ↦ piece a.type v ∷ [] ]
+abbrev pub parts : Kind → AbstractValue → List Placed
+parts k (fields vs) = component_pieces 0 (components k) vs
+parts k (list vs) = elim (element_of k) [ None ↦ [] | Some u ↦ element_pieces 0 u vs ]
+parts k (alternative i v) = elim (slice_get (alternatives k) i) [
+  | None ↦ []
+  | Some a ↦ placed (a_part.Alternative i) a.type v ∷ []
+]
 parts k v = []
 
-abbrev pub parts_of : List Resolved → Piece → List Piece
+abbrev pub parts_of : List Resolved → Piece → List Placed
 parts_of s p = parts (kind_at s p.type) p.value
 
 -- ---- the innermost value that is none of its type
@@ -68,20 +86,48 @@ parts_of s p = parts (kind_at s p.type) p.value
 abbrev pub IsWrong : List Resolved → Piece → Type 0
 IsWrong s p = IsValue s p.type p.value → ⊥
 
--- the first piece that is no value of its type; None where each of them is one
-pub data FirstWrong (s : List Resolved) : List Piece → Option Piece → Type 0 where
+-- the first part that is no value of its type; None where each of them is one
+pub data FirstWrong (s : List Resolved) : List Placed → Option Placed → Type 0 where
   none_wrong : FirstWrong s [] None
-  wrong_here : {p : Piece} {ps : List Piece} → IsWrong s p → FirstWrong s (p ∷ ps) (Some p)
-  right_here : {p : Piece} {ps : List Piece} {o : Option Piece}
-      → IsValue s p.type p.value
+  wrong_here : {p : Placed} {ps : List Placed} → IsWrong s p.piece → FirstWrong s (p ∷ ps) (Some p)
+  right_here : {p : Placed} {ps : List Placed} {o : Option Placed}
+      → IsValue s p.piece.type p.piece.value
       → FirstWrong s ps o
       → FirstWrong s (p ∷ ps) o
 
--- the innermost value that is none of its type, in one that is none of its: where each part of that is a value of its
--- type it is that one itself, or else it stands in the first part that is none
-pub data Innermost (s : List Resolved) : Piece → Piece → Type 0 where
-  is_itself : {p : Piece} → IsWrong s p → FirstWrong s (parts_of s p) None → Innermost s p p
-  is_within : {p q r : Piece} → FirstWrong s (parts_of s p) (Some q) → Innermost s q r → Innermost s p r
+-- an open value is of the type, and this part of it is being read
+pub record IsOpenAt (o : Open) (t : TypeNumber) (p : Part) : Type 0 where
+  pub of_type : o.ty.index ≡ t
+  pub at_part : o.part ≡ Some p
+
+-- The innermost value that is none of its type, in one that is none of its, and the way there: where each part of that
+-- is a value of its type it is that one itself, without a way, or else it stands in the first part that is none, and
+-- the way leads through this part.
+pub data Innermost (s : List Resolved) : Piece → List Open → Piece → Type 0 where
+  is_itself : {p : Piece} → IsWrong s p → FirstWrong s (parts_of s p) None → Innermost s p [] p
+  is_within : {p r : Piece} {q : Placed} {o : Open} {os : List Open}
+      → FirstWrong s (parts_of s p) (Some q)
+      → IsOpenAt o p.type q.part
+      → Innermost s q.piece os r
+      → Innermost s p (o ∷ os) r
+
+-- the open values are the way to the innermost one that is none of its type
+pub record LeadToWrong (s : List Resolved) (p : Piece) (os : List Open) : Type 0 where
+  pub inner : Piece
+  pub is_innermost : Innermost s p os inner
+
+-- and they do behind others
+pub record LeadOn (s : List Resolved) (p : Piece) (others all : List Open) : Type 0 where
+  pub way : List Open
+  pub whole : all ≡ others ++ way
+  pub lead : LeadToWrong s p way
+
+-- so many values begin among the tokens before one round which open values are the way to the innermost that is none of
+-- its type
+pub record IsBeforeWrong (s : List Resolved) (p : Piece) (told : List Token) (most : ℕ) : Type 0 where
+  pub values : List Open
+  pub before : AreOpenBefore told most values
+  pub lead : LeadToWrong s p (on_last entered values)
 
 -- ---- its fault
 
@@ -127,5 +173,6 @@ pub data IsOwn (s : List Resolved) (t : TypeNumber) : AbstractValue → ReadFaul
 -- the fault is the own one of the innermost value that is none of its type
 pub record IsJudged (s : List Resolved) (t : TypeNumber) (v : AbstractValue) (f : ReadFault) : Type 0 where
   pub inner : Piece
-  pub is_innermost : Innermost s (piece t v) inner
+  pub way : List Open
+  pub is_innermost : Innermost s (piece t v) way inner
   pub own : IsOwn s inner.type inner.value f

@@ -7,7 +7,6 @@ pub mod law;
 mod parts;
 mod place;
 mod read;
-mod seek;
 mod wrong;
 
 pub use ber_message::{Open, Part, Whereabouts};

@@ -1,16 +1,17 @@
 //! Where a message is refused.
 
-ghost use Rattle.ber_message.specs.Messages.{IsMessage, IsRead, room_of};
+ghost use Rattle.ber_message.specs.Messages.{IsMessage, IsRead, SaysNoValue, room_of};
 ghost use Rattle.ber_message.specs.Stops.{IsStop, IsStopBefore};
+ghost use Rattle.ber_reader.specs.Judged.{IsBeforeWrong, LeadToWrong, piece};
 ghost use Rattle.ber_reader.specs.Readings.{IsPlace};
+ghost use Rattle.ber_source.specs.Seen.{token_of};
 ghost use Rattle.octet_answers.specs.States.{Token as Token'};
 ghost use Rattle.codec_source.specs.declared.fault.ReadFault.TheVariants.{Memory};
-ghost use Rattle.std.specs.Prelude.{◌≡◌, ◌<◌, ◌≤◌, false, IfOk, length, List};
+ghost use Rattle.std.specs.Prelude.{◌≡◌, ◌<◌, ◌≤◌, false, IfOk, length, List, map};
 
-use crate::seek::begun_before;
-use crate::wrong::wrong_from;
+use crate::wrong::lead;
 use asn_base::schema::TypeId;
-use ber_message::{Whereabouts, most_values, read_message, read_view, stop_of};
+use ber_message::{Whereabouts, begun_before, most_values, read_message, read_view, stop_of};
 use ber_source::Token;
 use codec_code::Code;
 use codec_source::ReadFault;
@@ -40,6 +41,11 @@ pub fn whereabouts(
         → length octets.now ≤ 16777216
         → IfOk result (λ w. IsStop code.now id octets.now (room_of (length octets.now)) w) }
     ensures place { IfOk result (λ w. w.place ≤ length octets.now) }
+    // Where all of it says what is no value of the type, the values round the innermost one that is none of its own are
+    // open, each with the part that leads there.
+    ensures innermost { IsRead code.now id octets.now
+        → (n : SaysNoValue code.now id.index octets.now)
+        → IfOk result (λ w. LeadToWrong code.now (piece id.index n.value) w.values.items) }
 {
     match read_message(alloc, code, id, octets) {
         Ok(tokens) => {
@@ -70,16 +76,27 @@ fn before_wrong(
     id: TypeId,
     octets: &[u8],
     tokens: &[Token<'_>],
-) -> Result<usize, AllocError> {
+) -> Result<usize, AllocError>
+    ensures { IsRead code.now id octets.now
+        → (n : SaysNoValue code.now id.index octets.now)
+        → IsMessage code.now id.index octets.now (map token_of tokens.now)
+        → IfOk result (IsBeforeWrong code.now (piece id.index n.value) (map token_of tokens.now)) }
+{
     code.accepted();
     let built = match read_view(alloc, code, id, octets) {
         Ok(built) => built,
-        Err(ReadFault::Memory) => return Err(AllocError),
-        Err(_) => return Ok(most_values(octets)),
+        Err(fault) => {
+            if is_memory(fault) {
+                return Err(AllocError);
+            }
+            return Ok(most_values(octets));
+        }
     };
     let value = built.view.to_value(alloc)?;
     if code.is_value(id, &value) {
         return Ok(most_values(octets));
     }
-    Ok(begun_before(tokens, wrong_from(code, id, &value, tokens)))
+    let mut way = Vec::new(alloc);
+    lead(code, id, &value, &mut way)?;
+    begun_before(alloc, tokens, way.as_slice())
 }

@@ -3,22 +3,19 @@
 ghost use Rattle.asn_base.specs.Abstract.{abstract, fields, row_of_list, row_of_options};
 ghost use Rattle.asn_base.specs.Schemas.{components};
 ghost use Rattle.asn_base.specs.Typed.{IsValue};
-ghost use Rattle.ber_reader.specs.Judged.{FirstWrong, IsJudged, IsOwn, in_root, kind_at, parts, piece};
+ghost use Rattle.ber_reader.specs.Judged.{FirstWrong, IsJudged, IsOwn, LeadOn, in_root, kind_at, parts, piece, placed};
 ghost use Rattle.ber_reader.specs.Judged.{component_piece, component_pieces, element_pieces};
 ghost use Rattle.ber_reader.specs.Judged.{without_additions as without_additions'};
 ghost use Rattle.codec_source.specs.declared.fault.ReadFault.TheVariants.{Memory, MessageLimit, Trailing};
 ghost use Rattle.std.specs.Prelude.{◌≡◌, ◌++◌, ◌∷◌, [], IfOk, map, OnOk, option_map, slice_get};
 
 use crate::parts::{alternative_at, component_type, element_at, is_addition};
-use crate::seek::part_from;
 use asn_base::law::abstract_values;
 use asn_base::schema::TypeId;
 use asn_base::value::Value;
-use ber_message::Part;
-use ber_source::Token;
+use ber_message::{Open, Part};
 use codec_code::Code;
 use codec_source::ReadFault;
-use limits::MAX_OPEN;
 use std::alloc::{AllocError, Global};
 
 /// A value that is none of its type, and which part it is of the value round it.
@@ -31,8 +28,8 @@ pub(crate) struct Wrong<'v> {
 
 /// The value as a part, where it is none of the type.
 fn if_wrong<'v>(code: &Code, part: Part, ty: TypeId, value: &'v Value) -> Option<Wrong<'v>>
-    ensures { FirstWrong code.now (piece ty.index (abstract value.now) ∷ [])
-        (option_map (λ w. piece w.ty.index (abstract w.value.now)) result) }
+    ensures { FirstWrong code.now (placed part ty.index (abstract value.now) ∷ [])
+        (option_map (λ w. placed w.part w.ty.index (abstract w.value.now)) result) }
 {
     if code.is_value(ty, value) {
         return None;
@@ -48,8 +45,8 @@ fn wrong_at<'v>(
     member: &'v Option<Value>,
 ) -> Option<Wrong<'v>>
     ensures { FirstWrong code.now
-        (component_piece (slice_get (components (kind_at code.now id.index)) place) (option_map abstract member.now))
-        (option_map (λ w. piece w.ty.index (abstract w.value.now)) result) }
+        (component_piece place (slice_get (components (kind_at code.now id.index)) place) (option_map abstract member.now))
+        (option_map (λ w. placed w.part w.ty.index (abstract w.value.now)) result) }
 {
     match member {
         Some(value) => match component_type(code, id, place) {
@@ -63,9 +60,9 @@ fn wrong_at<'v>(
 /// The first component that is no value of its type.
 fn wrong_field<'v>(code: &Code, id: TypeId, members: &'v [Option<Value>]) -> Option<Wrong<'v>>
     ensures { FirstWrong code.now
-        (component_pieces (components (kind_at code.now id.index))
+        (component_pieces 0 (components (kind_at code.now id.index))
         (row_of_options (map (option_map abstract) members.now)))
-        (option_map (λ w. piece w.ty.index (abstract w.value.now)) result) }
+        (option_map (λ w. placed w.part w.ty.index (abstract w.value.now)) result) }
 {
     for i in 0..members.len() {
         match wrong_at(code, id, i, &members[i]) {
@@ -78,8 +75,8 @@ fn wrong_field<'v>(code: &Code, id: TypeId, members: &'v [Option<Value>]) -> Opt
 
 /// The first element that is no value of the type.
 fn wrong_element<'v>(code: &Code, ty: TypeId, members: &'v [Value]) -> Option<Wrong<'v>>
-    ensures { FirstWrong code.now (element_pieces ty.index (row_of_list (map abstract members.now)))
-        (option_map (λ w. piece w.ty.index (abstract w.value.now)) result) }
+    ensures { FirstWrong code.now (element_pieces 0 ty.index (row_of_list (map abstract members.now)))
+        (option_map (λ w. placed w.part w.ty.index (abstract w.value.now)) result) }
 {
     for i in 0..members.len() {
         match if_wrong(code, Part::Element(i), ty, &members[i]) {
@@ -93,7 +90,7 @@ fn wrong_element<'v>(code: &Code, ty: TypeId, members: &'v [Value]) -> Option<Wr
 /// The first part that is no value of its type, of a value of this one.
 pub(crate) fn wrong_member<'v>(code: &Code, id: TypeId, value: &'v Value) -> Option<Wrong<'v>>
     ensures { FirstWrong code.now (parts (kind_at code.now id.index) (abstract value.now))
-        (option_map (λ w. piece w.ty.index (abstract w.value.now)) result) }
+        (option_map (λ w. placed w.part w.ty.index (abstract w.value.now)) result) }
 {
     abstract_values();
     match value {
@@ -230,21 +227,26 @@ pub(crate) fn fault_of(alloc: Global, code: &Code, id: TypeId, value: &Value) ->
     }
 }
 
-/// At which token the innermost value begins that is none of its type, in one that is none of its, which the tokens
-/// show.
-pub(crate) fn wrong_from(code: &Code, id: TypeId, value: &Value, tokens: &[Token<'_>]) -> usize {
-    let mut at = 0;
-    let mut ty = id;
-    let mut inner = value;
-    for _ in 0..MAX_OPEN {
-        match wrong_member(code, ty, inner) {
-            Some(wrong) => {
-                at = part_from(tokens, at, wrong.part);
-                ty = wrong.ty;
-                inner = wrong.value;
-            }
-            None => return at,
+/// Adds the way to the innermost value that is none of its type, in one that is none of its: of each value round it the
+/// part that leads on, the outermost first. It calls itself once for each level of the value.
+pub(crate) fn lead(
+    code: &Code,
+    id: TypeId,
+    value: &Value,
+    way: &mut Vec<Open>,
+) -> Result<(), AllocError>
+    ensures { (IsValue code.now id.index (abstract value.now) → ⊥)
+        → OnOk result (LeadOn code.now (piece id.index (abstract value.now)) way.old.items way.new.items) }
+{
+    match wrong_member(code, id, value) {
+        Some(wrong) => {
+            way.push(Open {
+                ty: id,
+                part: Some(wrong.part),
+                read: 0,
+            })?;
+            lead(code, wrong.ty, wrong.value, way)
         }
+        None => Ok(()),
     }
-    at
 }

@@ -49,6 +49,12 @@ returns-clause-ok c =
     whole_message _ (c.read_is_said.ensures s c.args.id c.args.octets.now (room_of (length c.args.octets.now)) c.read.new.source c.accepted.ensures (holds c.has.result c.if-not-has.false c.has.ensures) c.are_octets.ensures r)
     (holds c.is_at_end.result c.if-not-is_at_end.false c.is_at_end.ensures) c.in-Ok.ensures.few c.into_tokens.ensures
 
+pub returns-clause-told : goal.returns-clause-told
+returns-clause-told c r =
+    let s = c.args.code.now in
+    let e = c.in-Ok-read.ensures.only r.last (subst (λ q. Reads (λ u. routine_at s u) Takes c.args.id q r.last) (sym c.in-Ok.ensures.ok) r.reads) in
+    ap (λ q. q.told) e ∙ sym c.into_tokens.ensures
+
 pub returns-then-ends_early-clause-read : goal.returns-then-ends_early-clause-read
 returns-then-ends_early-clause-read c i =
     let s = c.args.code.now in

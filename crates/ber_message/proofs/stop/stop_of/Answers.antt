@@ -5,7 +5,7 @@ use Rattle.codec_source.specs.Stopping.{StopsReading}
 use Rattle.octet_answers.specs.Answers.{Takes}
 use Rattle.octet_answers.specs.Left.{Leaves}
 use Rattle.ber_message.specs.Stops.{stops, reads}
-use Rattle.ber_message.proofs.Stopped.{stop_told, place_told}
+use Rattle.ber_message.proofs.Stopped.{stop_told, place_told, stopped_before}
 use Rattle.ber_message.proofs.stop.stop_of.Goals as goal
 
 pub returns-in-Ok-read-clause-is : goal.returns-in-Ok-read-clause-is
@@ -47,3 +47,9 @@ returns-clause-place c =
     let z = c.read.new.source in
     let r = subst (λ q. StopsReading (λ u. routine_at s u) Takes (λ a q b. Leaves a q b e) t q z) c.in-Ok.ensures.ok (c.in-Err-read.ensures.stopped (c.is_memory.ensures c.if-is_memory.false)) in
     place_told o z c.told-in-Err-read.result (c.stops_in_place.ensures.stopped s t o c.args.most z e r).0 c.told-in-Err-read.ensures.place
+
+pub returns-in-Ok-read-clause-before : goal.returns-in-Ok-read-clause-before
+returns-in-Ok-read-clause-before c r few l = stopped_before c.told.result c.one_answer.ensures.takes (returns-in-Ok-read-clause-is c) r few l
+
+pub returns-clause-before : goal.returns-clause-before
+returns-clause-before c r few l = stopped_before c.told-in-Err-read.result c.one_answer.ensures.takes (returns-clause-is c) r few l

@@ -8,13 +8,13 @@ use Rattle.ber_reader.proofs.wrong.wrong_at.Goals as goal
 
 pub returns-in-Some-component_type : goal.returns-in-Some-component_type
 returns-in-Some-component_type c =
-    component_is c.in-Some-component_type.ty (abstract c.in-Some.value) (slice_get (components (kind_at c.args.code.now c.args.id.index)) c.args.place) (option_map abstract c.args.member.now)
+    component_is c.args.place c.in-Some-component_type.ty (abstract c.in-Some.value) (slice_get (components (kind_at c.args.code.now c.args.id.index)) c.args.place) (option_map abstract c.args.member.now)
     c.in-Some-component_type.ensures (ap (option_map abstract) c.in-Some.is) c.if_wrong.ensures
 
 pub returns-in-None-component_type : goal.returns-in-None-component_type
 returns-in-None-component_type c =
-    component_lacks (slice_get (components (kind_at c.args.code.now c.args.id.index)) c.args.place) (option_map abstract c.args.member.now) c.in-None-component_type.ensures
+    component_lacks c.args.place (slice_get (components (kind_at c.args.code.now c.args.id.index)) c.args.place) (option_map abstract c.args.member.now) c.in-None-component_type.ensures
 
 pub returns-in-None : goal.returns-in-None
 returns-in-None c =
-    component_absent (slice_get (components (kind_at c.args.code.now c.args.id.index)) c.args.place) (option_map abstract c.args.member.now) (ap (option_map abstract) c.in-None.is)
+    component_absent c.args.place (slice_get (components (kind_at c.args.code.now c.args.id.index)) c.args.place) (option_map abstract c.args.member.now) (ap (option_map abstract) c.in-None.is)

@@ -10,7 +10,7 @@ loop-i-init c = λ r h. h
 pub returns-in-Some : goal.returns-in-Some
 returns-in-Some c =
     c.loop-i.invariant _ (element_next c.args.ty.index abstract c.args.members.now c.loop-i.i c.index-members-i.result c.loop-i-test.true c.index-members-i.is
-    (before (element_pieces c.args.ty.index (row_of_list (drop (c.loop-i.i + 1) (map abstract c.args.members.now)))) c.in-Some.ensures))
+    (before (element_pieces (c.loop-i.i + 1) c.args.ty.index (row_of_list (drop (c.loop-i.i + 1) (map abstract c.args.members.now)))) c.in-Some.ensures))
 
 pub loop-i-preserved : goal.loop-i-preserved
 loop-i-preserved c = λ r h.

@@ -13,7 +13,7 @@ pub returns-in-Some : goal.returns-in-Some
 returns-in-Some c =
     let cs = components (kind_at c.args.code.now c.args.id.index) in
     c.loop-i.invariant _ (component_next cs (option_map abstract) c.args.members.now c.loop-i.i c.index-members-i.result c.loop-i-test.true c.index-members-i.is
-    (before (component_pieces (drop (c.loop-i.i + 1) cs) (row_of_options (drop (c.loop-i.i + 1) (map (option_map abstract) c.args.members.now)))) c.in-Some.ensures))
+    (before (component_pieces (c.loop-i.i + 1) (drop (c.loop-i.i + 1) cs) (row_of_options (drop (c.loop-i.i + 1) (map (option_map abstract) c.args.members.now)))) c.in-Some.ensures))
 
 pub loop-i-preserved : goal.loop-i-preserved
 loop-i-preserved c = λ r h.

@@ -1,0 +1,171 @@
+-- Ways to a value that begins, token by token.
+use Rattle.std.proofs.Common.{arith, ◌≡◌, ℕ, suc, ◌+◌, ◌<◌, ◌≤◌, ◌↔◌, IsTrue, Bool, true, false, List, [], ◌∷◌, ◌++◌, length, map, refl, sym, ap, subst, ◌∙◌, slice_index_or}
+use Rattle.std.proofs.lemmas.List.{map-append}
+use Rattle.std.specs.Prelude.{drop}
+use Rattle.ber_source.specs.declared.token.Token.{Token as Token'}
+use Rattle.ber_source.specs.Seen.{token_of}
+use Rattle.octet_answers.specs.States.{Token, component, chosen, begun, ended, held, passed}
+use Rattle.ber_message.specs.declared.open.Open.{Open}
+use Rattle.ber_message.specs.Opened.{on_last, entered, opens_after}
+use Rattle.ber_message.specs.Ways.{begun_in, on_way, Leads, BeginsBefore, no_token, leads_here, leads_on, none_begins}
+use Rattle.ber_message.proofs.Opened.{Few, few_after, on_last_one, drop_at, none_left}
+
+-- ---- the same open values
+
+abbrev pub AreSame : List Open → List Open → Type 0
+AreSame os ps = map on_way os ≡ map on_way ps
+
+nil_length : {A : Type 0} (xs : List A) → length xs ≡ 0 → xs ≡ []
+nil_length [] e = refl
+nil_length (x ∷ xs) e = absurd (omega arith)
+
+cons_nil : {A : Type 0} {x : A} {xs : List A} → x ∷ xs ≡ [] → ⊥
+cons_nil e = cc
+
+abbrev front_or : {A : Type 0} → A → List A → A
+front_or d [] = d
+front_or d (x ∷ xs) = x
+
+abbrev rest_of : {A : Type 0} → List A → List A
+rest_of [] = []
+rest_of (x ∷ xs) = xs
+
+no_last : {A : Type 0} (xs : List A) (x : A) → xs ++ x ∷ [] ≡ [] → ⊥
+no_last [] x e = cons_nil e
+no_last (y ∷ xs) x e = cons_nil e
+
+last_same : {A : Type 0} (xs ys : List A) (x y : A) → xs ++ x ∷ [] ≡ ys ++ y ∷ [] → (xs ≡ ys) × (x ≡ y)
+last_same [] [] x y e = (refl, ap (front_or x) e)
+last_same [] (b ∷ ys) x y e = absurd (no_last ys y (sym (ap rest_of e)))
+last_same (a ∷ xs) [] x y e = absurd (no_last xs x (ap rest_of e))
+last_same (a ∷ xs) (b ∷ ys) x y e =
+    let r = last_same xs ys x y (ap rest_of e) in
+    let h : a ≡ b = ap (front_or a) e in
+    (ap (λ q. q ∷ xs) h ∙ ap (λ q. b ∷ q) r.0, r.1)
+
+map_last : (xs : List Open) (x : Open) → map on_way (xs ++ x ∷ []) ≡ map on_way xs ++ on_way x ∷ []
+map_last xs x = map-append on_way xs (x ∷ [])
+
+pub false_true : {A : Type 0} → false ≡ true → A
+false_true e = absurd (cc)
+
+-- none are none
+pub none_same : (b : Bool) (os ps : List Open) → length os ≡ 0 → (IsTrue b ↔ (ps ≡ [])) → IsTrue b ↔ AreSame os ps
+none_same b os ps e h =
+    (λ t. ap (map on_way) (nil_length os e ∙ sym (h.0 t)), λ a. h.1 (map_none ps (sym a ∙ ap (map on_way) (nil_length os e))))
+  where
+    map_none : (qs : List Open) → map on_way qs ≡ [] → qs ≡ []
+    map_none [] f = refl
+    map_none (q ∷ qs) f = absurd (cons_nil f)
+
+-- lists of other lengths are others
+pub other_lengths : (b : Bool) (os ps : List Open) → b ≡ false → (length os ≡ length ps → ⊥) → IsTrue b ↔ AreSame os ps
+other_lengths b os ps e n = (λ t. false_true (sym e ∙ t), λ a. absurd (n (lengths os ps a)))
+  where
+    lengths : (xs ys : List Open) → map on_way xs ≡ map on_way ys → length xs ≡ length ys
+    lengths [] [] a = refl
+    lengths [] (y ∷ ys) a = absurd (cons_nil (sym a))
+    lengths (x ∷ xs) [] a = absurd (cons_nil a)
+    lengths (x ∷ xs) (y ∷ ys) a = ap suc (lengths xs ys (ap rest_of a))
+
+-- the last ones are others
+pub other_last : (b : Bool) (all way os ps : List Open) (o p : Open) → all ≡ os ++ o ∷ [] → way ≡ ps ++ p ∷ [] → b ≡ false → (on_way o ≡ on_way p → ⊥) → IsTrue b ↔ AreSame all way
+other_last b all way os ps o p e f g n =
+    (λ t. false_true (sym g ∙ t), λ a. absurd (n (last_same (map on_way os) (map on_way ps) (on_way o) (on_way p) (sym (map_last os o) ∙ ap (map on_way) (sym e) ∙ a ∙ ap (map on_way) f ∙ map_last ps p)).1))
+
+-- the last ones are the same
+pub same_last : (b : Bool) (all way os ps : List Open) (o p : Open) → all ≡ os ++ o ∷ [] → way ≡ ps ++ p ∷ [] → on_way o ≡ on_way p → (IsTrue b ↔ AreSame os ps) → IsTrue b ↔ AreSame all way
+same_last b all way os ps o p e f g h = (
+  λ t. ap (map on_way) e ∙ map_last os o ∙ ap (λ q. q ++ on_way o ∷ []) (h.0 t) ∙ ap (λ q. map on_way ps ++ q ∷ []) g ∙ sym (map_last ps p) ∙ ap (map on_way) (sym f),
+  λ a. h.1 (last_same (map on_way os) (map on_way ps) (on_way o) (on_way p) (sym (map_last os o) ∙ ap (map on_way) (sym e) ∙ a ∙ ap (map on_way) f ∙ map_last ps p)).0,
+)
+
+-- ---- where a way leads
+
+pub entered_last : (all os : List Open) (o : Open) → all ≡ os ++ o ∷ [] → on_last entered all ≡ os ++ entered o ∷ []
+entered_last all os o e = ap (on_last entered) e ∙ on_last_one entered os o
+
+on_last_length : (f : Open → Open) (os : List Open) → length (on_last f os) ≡ length os
+on_last_length f [] = refl
+on_last_length f (o ∷ []) = refl
+on_last_length f (o ∷ p ∷ os) = ap suc (on_last_length f (p ∷ os))
+
+pub no_way : (b : Bool) (way os : List Open) → b ≡ false → (length os ≡ length way → ⊥) → IsTrue b ↔ Leads way os
+no_way b way os e n = other_lengths b (on_last entered os) way e (λ f. n (sym (on_last_length entered os) ∙ f))
+
+pub way_of_none : (b : Bool) (way os : List Open) → b ≡ true → length os ≡ 0 → length os ≡ length way → IsTrue b ↔ Leads way os
+way_of_none b way os t e f = (λ u. ap (λ q. map on_way (on_last entered q)) (nil_length os e) ∙ ap (map on_way) (sym (nil_length way (sym f ∙ e))), λ a. t)
+
+-- ---- token by token
+
+abbrev pub IsReached : List Open → Token → List Open → Type 0
+IsReached os t way = (begun_in (t ∷ []) ≡ 1) × Leads way os
+
+-- of the same open values
+pub reached_of : {os ps : List Open} (t : Token) (way : List Open) → ps ≡ os → IsReached ps t way → IsReached os t way
+reached_of t way e r = subst (λ q. IsReached q t way) e r
+
+zero_one : {A : Type 0} → ◌≡◌ {A = ℕ} 0 1 → A
+zero_one e = absurd (omega arith)
+
+reached : {way os : List Open} {ts : List Token} (t : Token) → IsReached os t way → BeginsBefore way os (t ∷ ts) 0
+reached (begun u) r = leads_here r.1
+reached (component i) r = zero_one r.0
+reached (chosen i) r = zero_one r.0
+reached ended r = zero_one r.0
+reached (held k c x at) r = zero_one r.0
+reached passed r = zero_one r.0
+
+stepped : {way os : List Open} {ts : List Token} {n : ℕ} (t : Token) → (IsReached os t way → ⊥) → BeginsBefore way (opens_after os t) ts n → BeginsBefore way os (t ∷ ts) (begun_in (t ∷ []) + n)
+stepped {way} {os} {ts} {n} (begun u) r h = let e : suc n ≡ suc 0 + n = omega arith in subst (BeginsBefore way os (begun u ∷ ts)) e (leads_on (λ l. r (refl, l)) h)
+stepped {way} {os} {ts} {n} (component i) r h = let e : n ≡ 0 + n = omega arith in subst (BeginsBefore way os (component i ∷ ts)) e (none_begins refl h)
+stepped {way} {os} {ts} {n} (chosen i) r h = let e : n ≡ 0 + n = omega arith in subst (BeginsBefore way os (chosen i ∷ ts)) e (none_begins refl h)
+stepped {way} {os} {ts} {n} ended r h = let e : n ≡ 0 + n = omega arith in subst (BeginsBefore way os (ended ∷ ts)) e (none_begins refl h)
+stepped {way} {os} {ts} {n} (held k c x at) r h = let e : n ≡ 0 + n = omega arith in subst (BeginsBefore way os (held k c x at ∷ ts)) e (none_begins refl h)
+stepped {way} {os} {ts} {n} passed r h = let e : n ≡ 0 + n = omega arith in subst (BeginsBefore way os (passed ∷ ts)) e (none_begins refl h)
+
+pub one_at_most : (t : Token) → begun_in (t ∷ []) ≤ 1
+one_at_most (begun u) = omega arith
+one_at_most (component i) = omega arith
+one_at_most (chosen i) = omega arith
+one_at_most ended = omega arith
+one_at_most (held k c x at) = omega arith
+one_at_most passed = omega arith
+
+-- so many tokens were taken, none of which begins a value where the way leads
+pub record Passed (way : List Open) (tokens : List Token') (i : ℕ) (os : List Open) (begun : ℕ) : Type 0 where
+  pub all : (n : ℕ) → BeginsBefore way os (map token_of (drop i tokens)) n → BeginsBefore way [] (map token_of tokens) (begun + n)
+  pub few : Few i os
+  pub count : begun ≤ i
+
+pub none_passed : (way : List Open) (tokens : List Token') (os : List Open) → os ≡ [] → Passed way tokens 0 os 0
+none_passed way tokens os e = subst (λ q. Passed way tokens 0 q 0) (sym e) (record { all = λ n h. (let f : n ≡ 0 + n = omega arith in subst (BeginsBefore way [] (map token_of tokens)) f h); few = tt; count = omega arith })
+
+pub one_passed : (way : List Open) (tokens : List Token') (i : ℕ) (os ps : List Open) (begun one : ℕ) (d : Token') → i < length tokens → Passed way tokens i os begun
+    → (IsReached os (token_of (slice_index_or tokens i d)) way → ⊥)
+    → ps ≡ opens_after os (token_of (slice_index_or tokens i d))
+    → one ≡ begun_in (token_of (slice_index_or tokens i d) ∷ [])
+    → Passed way tokens (suc i) ps (begun + one)
+one_passed way tokens i os ps b one d l p r e f =
+    let t = token_of (slice_index_or tokens i d) in
+    record {
+      all = λ n h.
+          let g = subst (λ q. BeginsBefore way q (map token_of (drop (suc i) tokens)) n) e h in
+          let k = subst (λ q. BeginsBefore way os (map token_of q) (begun_in (t ∷ []) + n)) (sym (drop_at tokens i d l)) (stepped t r g) in
+          let z : b + (begun_in (t ∷ []) + n) ≡ b + one + n = (let m = f in omega arith) in
+          subst (BeginsBefore way [] (map token_of tokens)) z (p.all (begun_in (t ∷ []) + n) k);
+      few = subst (Few (suc i)) (sym e) (few_after i os t p.few);
+      count = (let m = one_at_most t in let c = p.count in omega arith);
+    }
+
+pub way_found : (way : List Open) (tokens : List Token') (i : ℕ) (os : List Open) (begun : ℕ) (d : Token') → i < length tokens → Passed way tokens i os begun
+    → IsReached os (token_of (slice_index_or tokens i d)) way
+    → BeginsBefore way [] (map token_of tokens) begun
+way_found way tokens i os b d l p r =
+    let z : b + 0 ≡ b = omega arith in
+    subst (BeginsBefore way [] (map token_of tokens)) z (p.all 0 (subst (λ q. BeginsBefore way os (map token_of q) 0) (sym (drop_at tokens i d l)) (reached (token_of (slice_index_or tokens i d)) r)))
+
+pub all_passed : (way : List Open) (tokens : List Token') (i : ℕ) (os : List Open) (begun : ℕ) → length tokens ≤ i → Passed way tokens i os begun → BeginsBefore way [] (map token_of tokens) begun
+all_passed way tokens i os b l p =
+    let z : b + 0 ≡ b = omega arith in
+    subst (BeginsBefore way [] (map token_of tokens)) z (p.all 0 (subst (λ q. BeginsBefore way os (map token_of q) 0) (sym (none_left tokens i l)) no_token))

@@ -1,0 +1,97 @@
+//! Ways to a value that begins.
+
+ghost use Rattle.ber_message.specs.Opened.{entered as entered'};
+ghost use Rattle.ber_message.specs.Ways.{BeginsBefore, begun_in, Leads, on_way};
+ghost use Rattle.ber_source.specs.Seen.{token_of};
+ghost use Rattle.std.specs.Prelude.{◌≡◌, ◌↔◌, ◌∷◌, [], IfOk, IsTrue, map};
+
+use crate::open::{Open, entered, take};
+use ber_source::Token;
+use std::alloc::{AllocError, Global};
+
+/// How many values begin with the token.
+fn begun_by(token: Token<'_>) -> usize
+    ensures { result ≡ begun_in (token_of token.entry ∷ []) }
+{
+    match token {
+        Token::Begun(_) => 1,
+        Token::Component(_) => 0,
+        Token::Chosen(_) => 0,
+        Token::Ended => 0,
+        Token::Held {
+            kind: _,
+            form: _,
+            octets: _,
+            at: _,
+        } => 0,
+        Token::Passed => 0,
+    }
+}
+
+/// Whether both are of one type, and the same part of them is being read.
+fn is_same(one: Open, other: Open) -> bool
+    ensures { IsTrue result ↔ (on_way one ≡ on_way other) }
+{
+    one.ty == other.ty && one.part == other.part
+}
+
+/// Whether these are the same, each as the one in its place.
+fn are_same(values: &[Open], way: &[Open]) -> bool
+    ensures { IsTrue result ↔ (map on_way values.now ≡ map on_way way.now) }
+{
+    let Some((last, others)) = values.split_last() else {
+        return way.is_empty();
+    };
+    let Some((end, before)) = way.split_last() else {
+        return false;
+    };
+    if !is_same(*last, *end) {
+        return false;
+    }
+    are_same(others, before)
+}
+
+/// Whether a value that begins in the innermost of the open values stands where the way leads.
+fn leads(values: &[Open], way: &[Open]) -> bool
+    ensures { IsTrue result ↔ Leads way.now values.now }
+{
+    if values.len() != way.len() {
+        return false;
+    }
+    let Some((last, others)) = values.split_last() else {
+        return true;
+    };
+    let Some((end, before)) = way.split_last() else {
+        return false;
+    };
+    if !is_same(entered(*last), *end) {
+        return false;
+    }
+    are_same(others, before)
+}
+
+/// Whether the token begins a value that stands where the way leads.
+fn is_reached(values: &[Open], token: Token<'_>, way: &[Open]) -> bool
+    ensures { IsTrue result ↔ ((begun_in (token_of token.entry ∷ []) ≡ 1) × Leads way.now values.now) }
+{
+    if begun_by(token) != 1 {
+        return false;
+    }
+    leads(values, way)
+}
+
+/// How many values begin before the first one to which the way leads; all that begin, where it leads to none of them.
+pub fn begun_before(alloc: Global, tokens: &[Token<'_>], way: &[Open]) -> Result<usize, AllocError>
+    ensures { IfOk result (λ n. BeginsBefore way.now [] (map token_of tokens.now) n) }
+{
+    let mut values = Vec::new(alloc);
+    let mut begun: usize = 0;
+    for i in 0..tokens.len() {
+        if is_reached(values.as_slice(), tokens[i], way) {
+            return Ok(begun);
+        }
+        take(&mut values, tokens[i])?;
+        begun += begun_by(tokens[i]);
+    }
+    Ok(begun)
+}

@@ -1,0 +1,521 @@
+-- The way to the innermost value that is none of its type, among the tokens that show the value.
+use Rattle.std.proofs.Common.{arith, ◌≡◌, ◌⊎◌, inl, inr, ℕ, zero, suc, ◌+◌, ◌<◌, true, false, List, [], ◌∷◌, ◌++◌, map, refl, sym, ap, subst, ◌∙◌, append_assoc}
+use Rattle.std.proofs.lemmas.List.{append-nil, map-append}
+use Rattle.std.specs.Prelude.{Some, None, Result, Ok, Err, IfOk, replicate, slice_get}
+use Rattle.asn_base.specs.declared.schema.TypeId.{TypeId}
+use Rattle.asn_base.specs.Abstract.{AbstractValue, boolean, integer, enumerated, bits, octets, text, null, oid, relative_oid, fields, list, alternative, Row, end, absent, present}
+use Rattle.asn_base.specs.Schemas.{components}
+use Rattle.asn_base.specs.Types.{TypeNumber, Kind, a_null, a_boolean, an_integer, an_enumerated, a_bit_string, a_named_bit_string, an_octet_string, an_object_identifier, a_relative_oid, a_utf8_string, a_restricted_string, a_sequence, a_set, a_sequence_of, a_set_of, a_choice, Alternative, Component, Resolved, Is}
+use Rattle.asn_base.specs.declared.tag.Tag.{Tag}
+use Rattle.codec_code.specs.declared.step.LeafKind.{LeafKind}
+use Rattle.codec_code.specs.declared.step.Step.TheVariants.{Leaf}
+use Rattle.codec_code.specs.Routines.{id_of, body}
+use Rattle.octet_answers.specs.States.{Token, component, chosen, begun, ended, held, passed}
+use Rattle.reading_law.specs.Shows.{Shows, shows, ShowsOf, shows_leaf, shows_sequence, shows_set, shows_sequence_of, shows_set_of, shows_choice, ShowsFields, no_field, absent_field, present_field, ShowsMixed, nothing_mixed, passed_mixed, component_mixed, ShowsElements, no_element_shown, element_shown, with_at}
+use Rattle.ber_message.specs.declared.open.Open.{Open}
+use Rattle.ber_message.specs.declared.open.Part.{Part}
+use Rattle.ber_message.specs.declared.open.Part.TheVariants as a_part
+use Rattle.ber_message.specs.Opened.{opened, with_part, part_or, entered, behind_part, on_last, but_last, opens, opens_after, opens_from}
+use Rattle.ber_message.specs.Ways.{begun_in, on_way, Leads, BeginsBefore, no_token, leads_here, leads_on, none_begins, AreOpenBefore}
+use Rattle.ber_message.specs.Stops.{IsEntered}
+use Rattle.ber_message.specs.declared.stop.Whereabouts.{Whereabouts}
+use Rattle.ber_reader.specs.Judged.{Piece, piece, Placed, placed, kind_at, element_of, alternatives, component_pieces, element_pieces, parts, FirstWrong, wrong_here, right_here, IsOpenAt, Innermost, is_itself, is_within, LeadToWrong, LeadOn, IsBeforeWrong}
+use Rattle.ber_reader.proofs.Rows.{at_row, blank_none}
+
+-- ---- the last of the open values
+
+last_is : (f : Open → Open) (os : List Open) (o : Open) → on_last f (os ++ o ∷ []) ≡ os ++ f o ∷ []
+last_is f [] o = refl
+last_is f (p ∷ []) o = refl
+last_is f (p ∷ q ∷ os) o = ap (λ z. p ∷ z) (last_is f (q ∷ os) o)
+
+all_but : (os : List Open) (o : Open) → but_last (os ++ o ∷ []) ≡ os
+all_but [] o = refl
+all_but (p ∷ []) o = refl
+all_but (p ∷ q ∷ os) o = ap (λ z. p ∷ z) (all_but (q ∷ os) o)
+
+opens_more : (os : List Open) (xs ys : List Token) → opens_from os (xs ++ ys) ≡ opens_from (opens_from os xs) ys
+opens_more os [] ys = refl
+opens_more os (x ∷ xs) ys = opens_more (opens_after os x) xs ys
+
+-- ---- tokens of whole values
+
+-- the innermost open value stays so
+record Stays (os : List Open) (o : Open) (ts : List Token) : Type 0 where
+  last : Open
+  same : last.ty ≡ o.ty
+  stays : opens_from (os ++ o ∷ []) ts ≡ os ++ last ∷ []
+
+stays_on : {os : List Open} {o : Open} {xs : List Token} (ys : List Token) → (a : Stays os o xs) → Stays os a.last ys → Stays os o (xs ++ ys)
+stays_on {os} {o} {xs} ys a b = record {
+  last = b.last;
+  same = b.same ∙ a.same;
+  stays = opens_more (os ++ o ∷ []) xs ys ∙ ap (λ q. opens_from q ys) a.stays ∙ b.stays;
+}
+
+stays_as : {os : List Open} {o : Open} {xs ys : List Token} → ys ≡ xs → Stays os o xs → Stays os o ys
+stays_as {os} {o} e a = subst (Stays os o) (sym e) a
+
+abbrev told_part : (os : List Open) (o : Open) (i : ℕ) → Stays os o (component i ∷ [])
+told_part os o i = record { last = with_part (Some (a_part.Component i)) o; same = refl; stays = last_is (with_part (Some (a_part.Component i))) os o }
+
+passed_over : (os : List Open) (o : Open) (n : ℕ) → opens_from (os ++ o ∷ []) (replicate n passed) ≡ os ++ o ∷ []
+passed_over os o zero = refl
+passed_over os o (suc n) = passed_over os o n
+
+mutual
+  -- behind a whole value the part that it is was read
+  through : {s : List Resolved} {t : TypeNumber} {w : AbstractValue} {xs : List Token} → Shows s t w xs → (os : List Open) (o : Open) → opens_from (os ++ o ∷ []) xs ≡ os ++ behind_part o ∷ []
+  through {t = t} (shows {ts = ts} i h e) os o =
+      let inner = within h (os ++ entered o ∷ []) (opened (id_of t)) in
+      ap (opens_from (os ++ o ∷ [])) e
+      ∙ ap (λ q. opens_from (q ++ opened (id_of t) ∷ []) (ts ++ ended ∷ [])) (last_is entered os o)
+      ∙ opens_more ((os ++ entered o ∷ []) ++ opened (id_of t) ∷ []) ts (ended ∷ [])
+      ∙ ap (λ q. on_last behind_part (but_last q)) inner.stays
+      ∙ ap (on_last behind_part) (all_but (os ++ entered o ∷ []) inner.last)
+      ∙ last_is behind_part os (entered o)
+
+  within : {s : List Resolved} {k : Kind} {w : AbstractValue} {ts : List Token} → ShowsOf s k w ts → (os : List Open) (o : Open) → Stays os o ts
+  within (shows_leaf levels l b c) os o = record { last = o; same = refl; stays = refl }
+  within (shows_sequence {ts = ts} n f e) os o =
+      let a = within_fields f os o in
+      stays_as e (stays_on (replicate n passed) a (record { last = a.last; same = refl; stays = passed_over os a.last n }))
+  within (shows_set m) os o = within_mixed m os o
+  within (shows_sequence_of m) os o = within_elements m os o
+  within (shows_set_of m) os o = within_elements m os o
+  within (shows_choice {i = i} {ts = ts} f h) os o =
+      let told = with_part (Some (a_part.Alternative i)) o in
+      record { last = behind_part told; same = refl; stays = ap (λ q. opens_from q ts) (last_is (with_part (Some (a_part.Alternative i))) os o) ∙ through h os told }
+
+  within_fields : {s : List Resolved} {i : ℕ} {cs : List Component} {ws : Row} {ts : List Token} → ShowsFields s i cs ws ts → (os : List Open) (o : Open) → Stays os o ts
+  within_fields no_field os o = record { last = o; same = refl; stays = refl }
+  within_fields (absent_field f) os o = within_fields f os o
+  within_fields (present_field {i = i} {xs = xs} {ts = ts} x f e) os o =
+      let a = told_part os o i in
+      let b : Stays os a.last xs = record { last = behind_part a.last; same = refl; stays = through x os a.last } in
+      stays_as e (stays_on (xs ++ ts) a (stays_on ts b (within_fields f os b.last)))
+
+  within_mixed : {s : List Resolved} {cs : List Component} {ws : Row} {ts : List Token} → ShowsMixed s cs ws ts → (os : List Open) (o : Open) → Stays os o ts
+  within_mixed nothing_mixed os o = record { last = o; same = refl; stays = refl }
+  within_mixed (passed_mixed m) os o = let a = within_mixed m os o in record { last = a.last; same = a.same; stays = a.stays }
+  within_mixed (component_mixed {i = i} {xs = xs} {ts = ts} f g x m v e) os o =
+      let a = told_part os o i in
+      let b : Stays os a.last xs = record { last = behind_part a.last; same = refl; stays = through x os a.last } in
+      stays_as e (stays_on (xs ++ ts) a (stays_on ts b (within_mixed m os b.last)))
+
+  within_elements : {s : List Resolved} {u : TypeNumber} {ws : Row} {ts : List Token} → ShowsElements s u ws ts → (os : List Open) (o : Open) → Stays os o ts
+  within_elements no_element_shown os o = record { last = o; same = refl; stays = refl }
+  within_elements (element_shown {xs = xs} {ts = ts} x m e) os o =
+      let b : Stays os o xs = record { last = behind_part o; same = refl; stays = through x os o } in
+      stays_as e (stays_on ts b (within_elements m os b.last))
+
+-- ---- a part among them
+
+-- tokens that show a part, and what is open before them
+record HasPart (s : List Resolved) (q : Placed) (os : List Open) (o : Open) (ts : List Token) : Type 0 where
+  before : List Token
+  inner : List Token
+  behind : List Token
+  whole : ts ≡ before ++ (inner ++ behind)
+  shown : Shows s q.piece.type q.piece.value inner
+  round : Open
+  same : round.ty ≡ o.ty
+  is_part : part_or round.part round.read ≡ Some q.part
+  opens_round : opens_from (os ++ o ∷ []) before ≡ os ++ round ∷ []
+
+part_behind : {s : List Resolved} {q : Placed} {os : List Open} {o : Open} {xs ts : List Token} (ys : List Token) → ts ≡ xs ++ ys → (a : Stays os o xs) → HasPart s q os a.last ys → HasPart s q os o ts
+part_behind {os = os} {o = o} {xs = xs} ys e a p = record {
+  before = xs ++ p.before;
+  inner = p.inner;
+  behind = p.behind;
+  whole = e ∙ ap (λ z. xs ++ z) p.whole ∙ sym (append_assoc xs p.before (p.inner ++ p.behind));
+  shown = p.shown;
+  round = p.round;
+  same = p.same ∙ a.same;
+  is_part = p.is_part;
+  opens_round = opens_more (os ++ o ∷ []) xs p.before ∙ ap (λ z. opens_from z p.before) a.stays ∙ p.opens_round;
+}
+
+part_before : {s : List Resolved} {q : Placed} {os : List Open} {o : Open} {xs ts : List Token} (ys : List Token) → ts ≡ xs ++ ys → HasPart s q os o xs → HasPart s q os o ts
+part_before {xs = xs} ys e p = record {
+  before = p.before;
+  inner = p.inner;
+  behind = p.behind ++ ys;
+  whole = e ∙ ap (λ z. z ++ ys) p.whole ∙ append_assoc p.before (p.inner ++ p.behind) ys ∙ ap (λ z. p.before ++ z) (append_assoc p.inner p.behind ys);
+  shown = p.shown;
+  round = p.round;
+  same = p.same;
+  is_part = p.is_part;
+  opens_round = p.opens_round;
+}
+
+-- the part that begins, of which is told before it, if so
+part_here : {s : List Resolved} {os : List Open} {o : Open} {p : Part} {t : TypeNumber} {w : AbstractValue} {xs ts : List Token} (ys : List Token) → ts ≡ xs ++ ys → part_or o.part o.read ≡ Some p → Shows s t w xs → HasPart s (placed p t w) os o ts
+part_here {o = o} {xs = xs} ys e f x = record { before = []; inner = xs; behind = ys; whole = e; shown = x; round = o; same = refl; is_part = f; opens_round = refl }
+
+none_first : {A : Type 0} {s : List Resolved} {q : Placed} {ps : List Placed} → ps ≡ [] → FirstWrong s ps (Some q) → A
+none_first {A} {s} {q} e f = by (subst (λ z. FirstWrong s z (Some q)) e f)
+  where
+    by : FirstWrong s [] (Some q) → A
+    by g = elim g [ ]
+
+field_part : {s : List Resolved} {i : ℕ} {cs : List Component} {ws : Row} {ts : List Token} {q : Placed} → ShowsFields s i cs ws ts → FirstWrong s (component_pieces i cs ws) (Some q) → (os : List Open) (o : Open) → HasPart s q os o ts
+field_part no_field f os o = elim f [ ]
+field_part (absent_field g) f os o = field_part g f os o
+field_part (present_field {i = i} {xs = xs} {ts = ts} x g e) (wrong_here n) os o =
+    part_behind (xs ++ ts) e (told_part os o i) (part_here ts refl refl x)
+field_part (present_field {i = i} {xs = xs} {ts = ts} x g e) (right_here v f) os o =
+    let a = told_part os o i in
+    let b : Stays os a.last xs = record { last = behind_part a.last; same = refl; stays = through x os a.last } in
+    part_behind (xs ++ ts) e a (part_behind ts refl b (field_part g f os b.last))
+
+element_part : {s : List Resolved} {i : ℕ} {u : TypeNumber} {ws : Row} {ts : List Token} {q : Placed} → ShowsElements s u ws ts → FirstWrong s (element_pieces i u ws) (Some q) → (os : List Open) (o : Open) → o.part ≡ None → o.read ≡ i → HasPart s q os o ts
+element_part no_element_shown f os o n m = elim f [ ]
+element_part (element_shown {xs = xs} {ts = ts} x g e) (wrong_here w) os o n m = part_here ts e (ap (λ z. part_or z o.read) n ∙ ap (λ z. Some (a_part.Element z)) m) x
+element_part (element_shown {xs = xs} {ts = ts} x g e) (right_here v f) os o n m =
+    let b : Stays os o xs = record { last = behind_part o; same = refl; stays = through x os o } in
+    part_behind ts e b (element_part g f os b.last refl (ap suc m))
+
+-- the component at a place
+record AtPlace (i : ℕ) (cs : List Component) (ws : Row) (q : Placed) : Type 0 where
+  place : ℕ
+  component : Component
+  value : AbstractValue
+  has : slice_get cs place ≡ Some component
+  stands : at_row ws place ≡ Some value
+  is : q ≡ placed (a_part.Component (i + place)) component.type value
+
+placed_later : {i : ℕ} {cs : List Component} {c : Component} {vs ws : Row} {q : Placed} → ((j : ℕ) → at_row vs (suc j) ≡ at_row ws j) → AtPlace (suc i) cs ws q → AtPlace i (c ∷ cs) vs q
+placed_later {i} h a = record {
+  place = suc a.place;
+  component = a.component;
+  value = a.value;
+  has = a.has;
+  stands = h a.place ∙ a.stands;
+  is = a.is ∙ (let e : suc i + a.place ≡ i + suc a.place = omega arith in ap (λ z. placed (a_part.Component z) a.component.type a.value) e);
+}
+
+at_place : {s : List Resolved} {q : Placed} (i : ℕ) (cs : List Component) (ws : Row) → FirstWrong s (component_pieces i cs ws) (Some q) → AtPlace i cs ws q
+at_place i [] ws f = elim f [ ]
+at_place i (c ∷ cs) end f = elim f [ ]
+at_place i (c ∷ cs) (absent ws) f = placed_later (λ j. refl) (at_place (suc i) cs ws f)
+at_place i (c ∷ cs) (present w ws) (wrong_here n) = record {
+  place = 0;
+  component = c;
+  value = w;
+  has = refl;
+  stands = refl;
+  is = (let e : i ≡ i + 0 = omega arith in ap (λ z. placed (a_part.Component z) c.type w) e);
+}
+at_place i (c ∷ cs) (present w ws) (right_here v f) = placed_later (λ j. refl) (at_place (suc i) cs ws f)
+
+none_some : {A B : Type 0} {x : A} → None ≡ Some x → B
+none_some e = absurd (cc)
+
+some_same : {A : Type 0} {x y : A} → Some x ≡ Some y → x ≡ y
+some_same e = cc
+
+-- what stands in a row is what was put there, or stood there
+at_with : {v : AbstractValue} (ws : Row) (i j : ℕ) (w : AbstractValue) → at_row (with_at ws i w) j ≡ Some v → ((i ≡ j) × (w ≡ v)) ⊎ (at_row ws j ≡ Some v)
+at_with end i j w e = none_some e
+at_with (absent ws) zero zero w e = inl (refl, some_same e)
+at_with (absent ws) zero (suc j) w e = inr e
+at_with (present x ws) zero zero w e = inr e
+at_with (present x ws) zero (suc j) w e = inr e
+at_with (absent ws) (suc i) zero w e = none_some e
+at_with (present x ws) (suc i) zero w e = inr e
+at_with {v = v} (absent ws) (suc i) (suc j) w e = later (at_with ws i j w e)
+  where
+    later : ((i ≡ j) × (w ≡ v)) ⊎ (at_row ws j ≡ Some v) → ((suc i ≡ suc j) × (w ≡ v)) ⊎ (at_row ws j ≡ Some v)
+    later (inl p) = inl (ap suc p.0, p.1)
+    later (inr p) = inr p
+at_with {v = v} (present x ws) (suc i) (suc j) w e = later (at_with ws i j w e)
+  where
+    later : ((i ≡ j) × (w ≡ v)) ⊎ (at_row ws j ≡ Some v) → ((suc i ≡ suc j) × (w ≡ v)) ⊎ (at_row ws j ≡ Some v)
+    later (inl p) = inl (ap suc p.0, p.1)
+    later (inr p) = inr p
+
+mixed_part : {s : List Resolved} {cs : List Component} {ws : Row} {ts : List Token} (j : ℕ) (c : Component) (v : AbstractValue) → slice_get cs j ≡ Some c → at_row ws j ≡ Some v → ShowsMixed s cs ws ts → (os : List Open) (o : Open) → HasPart s (placed (a_part.Component j) c.type v) os o ts
+mixed_part {cs = cs} j c v h r nothing_mixed os o = none_some (sym (blank_none cs j) ∙ r)
+mixed_part j c v h r (passed_mixed {ts = ts} m) os o =
+    part_behind {xs = passed ∷ []} ts refl (record { last = o; same = refl; stays = refl }) (mixed_part j c v h r m os o)
+mixed_part {s} {cs} {ts = all} j c v h r (component_mixed {i = i} {c = d} {w = w} {ws = ws} {xs = xs} {ts = ts} f g x m z e) os o =
+    by (λ p q. mixed_part j c v h p m os q) (at_with ws i j w (ap (λ q. at_row q j) (sym z) ∙ r))
+  where
+    here : (i ≡ j) → (w ≡ v) → HasPart s (placed (a_part.Component j) c.type v) os o all
+    here p q =
+        let same : d ≡ c = some_same (sym f ∙ ap (slice_get cs) p ∙ h) in
+        let y : Shows s c.type v xs = subst (λ k. Shows s k.type v xs) same (subst (λ k. Shows s d.type k xs) q x) in
+        part_behind (xs ++ ts) e (told_part os o i) (part_here ts refl (ap (λ k. Some (a_part.Component k)) p) y)
+
+    by : (at_row ws j ≡ Some v → (q : Open) → HasPart s (placed (a_part.Component j) c.type v) os q ts) → ((i ≡ j) × (w ≡ v)) ⊎ (at_row ws j ≡ Some v) → HasPart s (placed (a_part.Component j) c.type v) os o all
+    by rest (inl p) = here p.0 p.1
+    by rest (inr p) =
+        let a = told_part os o i in
+        let b : Stays os a.last xs = record { last = behind_part a.last; same = refl; stays = through x os a.last } in
+        part_behind (xs ++ ts) e a (part_behind ts refl b (rest p b.last))
+
+-- a kind whose values hold no others
+record IsBare (k : Kind) : Type 0 where
+  no_components : components k ≡ []
+  no_elements : element_of k ≡ None
+  no_alternatives : alternatives k ≡ []
+
+leaf_bare : (s : List Resolved) (k : Kind) (l : LeafKind) → body s k ≡ Leaf l ∷ [] → IsBare k
+leaf_bare s a_boolean l e = record { no_components = refl; no_elements = refl; no_alternatives = refl }
+leaf_bare s (an_integer c) l e = record { no_components = refl; no_elements = refl; no_alternatives = refl }
+leaf_bare s (an_enumerated r x m) l e = record { no_components = refl; no_elements = refl; no_alternatives = refl }
+leaf_bare s (a_bit_string c) l e = record { no_components = refl; no_elements = refl; no_alternatives = refl }
+leaf_bare s (a_named_bit_string bs) l e = record { no_components = refl; no_elements = refl; no_alternatives = refl }
+leaf_bare s (an_octet_string c) l e = record { no_components = refl; no_elements = refl; no_alternatives = refl }
+leaf_bare s a_null l e = record { no_components = refl; no_elements = refl; no_alternatives = refl }
+leaf_bare s an_object_identifier l e = record { no_components = refl; no_elements = refl; no_alternatives = refl }
+leaf_bare s a_relative_oid l e = record { no_components = refl; no_elements = refl; no_alternatives = refl }
+leaf_bare s (a_utf8_string c) l e = record { no_components = refl; no_elements = refl; no_alternatives = refl }
+leaf_bare s (a_restricted_string k codes c) l e = record { no_components = refl; no_elements = refl; no_alternatives = refl }
+leaf_bare s (a_sequence true []) l e = absurd (cc)
+leaf_bare s (a_sequence false []) l e = absurd (cc)
+leaf_bare s (a_sequence x (c ∷ cs)) l e = absurd (cc)
+leaf_bare s (a_set true []) l e = absurd (cc)
+leaf_bare s (a_set false []) l e = absurd (cc)
+leaf_bare s (a_set x (c ∷ cs)) l e = absurd (cc)
+leaf_bare s (a_sequence_of c u) l e = absurd (cc)
+leaf_bare s (a_set_of c u) l e = absurd (cc)
+leaf_bare s (a_choice root x more) l e = absurd (cc)
+
+no_components_pieces : (i : ℕ) (cs : List Component) (vs : Row) → cs ≡ [] → component_pieces i cs vs ≡ []
+no_components_pieces i cs vs e = ap (λ q. component_pieces i q vs) e
+
+no_parts : (k : Kind) (w : AbstractValue) → IsBare k → parts k w ≡ []
+no_parts k (boolean b) a = refl
+no_parts k (integer z) a = refl
+no_parts k (enumerated z) a = refl
+no_parts k (bits b) a = refl
+no_parts k (octets o) a = refl
+no_parts k (text o) a = refl
+no_parts k null a = refl
+no_parts k (oid o) a = refl
+no_parts k (relative_oid o) a = refl
+no_parts k (fields vs) a = no_components_pieces 0 (components k) vs a.no_components
+no_parts k (list vs) a = ap (λ q. elim q [ None ↦ [] | Some u ↦ element_pieces 0 u vs ]) a.no_elements
+no_parts k (alternative i v) a = ap (λ q. elim (slice_get q i) [ None ↦ [] | Some b ↦ placed (a_part.Alternative i) b.type v ∷ [] ]) a.no_alternatives
+
+choice_part : {s : List Resolved} {q : Placed} {v : AbstractValue} {ts : List Token} (i : ℕ) (b : Alternative) → FirstWrong s (placed (a_part.Alternative i) b.type v ∷ []) (Some q) → Shows s b.type v ts → (os : List Open) (o : Open) → HasPart s q os o (chosen i ∷ ts)
+choice_part {ts = ts} i b (wrong_here n) x os o =
+    part_behind {xs = chosen i ∷ []} ts refl (record { last = with_part (Some (a_part.Alternative i)) o; same = refl; stays = last_is (with_part (Some (a_part.Alternative i))) os o }) (part_here [] (sym (append-nil ts)) refl x)
+choice_part i b (right_here v f) x os o = elim f [ ]
+
+part_in : {s : List Resolved} {k : Kind} {w : AbstractValue} {ts : List Token} {q : Placed} → ShowsOf s k w ts → FirstWrong s (parts k w) (Some q) → (os : List Open) (o : Open) → o.part ≡ None → o.read ≡ 0 → HasPart s q os o ts
+part_in {s} {k} {w} (shows_leaf {lk = l} levels few b c) f os o n m = none_first (no_parts k w (leaf_bare s k l b)) f
+part_in (shows_sequence {ts = ts} count g e) f os o n m = part_before (replicate count passed) e (field_part g f os o)
+part_in {s} {ts = ts} {q = q} (shows_set {cs = cs} {ws = ws} g) f os o n m =
+    let a = at_place 0 cs ws f in
+    let z : 0 + a.place ≡ a.place = omega arith in
+    subst (λ p. HasPart s p os o ts) (sym (a.is ∙ ap (λ i. placed (a_part.Component i) a.component.type a.value) z))
+    (mixed_part a.place a.component a.value a.has a.stands g os o)
+part_in (shows_sequence_of g) f os o n m = element_part g f os o n m
+part_in (shows_set_of g) f os o n m = element_part g f os o n m
+part_in {s} {q = q} (shows_choice {i = i} {a = b} {w = v} has x) f os o n m =
+    choice_part i b (subst (λ z. FirstWrong s (elim z [ None ↦ [] | Some c ↦ placed (a_part.Alternative i) c.type v ∷ [] ]) (Some q)) has f) x os o
+
+-- ---- the way
+
+-- a value begins among the tokens, and round it are open, in these, those of the way
+record Reached (way os : List Open) (ts : List Token) : Type 0 where
+  before : List Token
+  value : TypeId
+  behind : List Token
+  whole : ts ≡ before ++ begun value ∷ behind
+  leads : map on_way (on_last entered (opens_from os before)) ≡ map on_way (on_last entered os) ++ map on_way way
+
+kind_is : {s : List Resolved} {t : TypeNumber} {tags : List Tag} {k : Kind} → Is s t tags k → kind_at s t ≡ k
+kind_is i = ap (λ o. elim o [ None ↦ a_null | Some r ↦ r.kind ]) i.found
+
+-- an open value that is at the part
+on_way_is : {o : Open} {t : TypeNumber} {p : Part} (r : Open) → IsOpenAt o t p → r.ty ≡ id_of t → part_or r.part r.read ≡ Some p → on_way (entered r) ≡ on_way o
+on_way_is {o} {t} {p} r i e f =
+    let a : r.ty ≡ o.ty = e ∙ sym (ap id_of i.of_type) in
+    ap (λ z. record { ty = z; part = part_or r.part r.read; read = 0 }) a ∙ ap (λ z. record { ty = o.ty; part = z; read = 0 }) (f ∙ sym i.at_part)
+
+reach : {s : List Resolved} {p r : Piece} {way : List Open} {xs : List Token} → Innermost s p way r → Shows s p.type p.value xs → (os : List Open) → Reached way os xs
+reach (is_itself n f) (shows {t = t} {ts = ts} i h e) os = record { before = []; value = id_of t; behind = ts ++ ended ∷ []; whole = e; leads = sym (append-nil (map on_way (on_last entered os))) }
+reach {s} {p} {way = way} (is_within {q = q} {o = o} {os = rest} f a j) (shows {t = t} {k = k} {w = w} {ts = ts} i h e) os =
+    let outer = on_last entered os in
+    let part = part_in h (subst (λ z. FirstWrong s (parts z w) (Some q)) (kind_is i) f) outer (opened (id_of t)) refl refl in
+    let inner = reach j part.shown (outer ++ part.round ∷ []) in
+    record {
+      before = begun (id_of t) ∷ (part.before ++ inner.before);
+      value = inner.value;
+      behind = inner.behind ++ (part.behind ++ ended ∷ []);
+      whole = e
+          ∙ ap (λ z. begun (id_of t) ∷ (z ++ ended ∷ [])) part.whole
+          ∙ ap (λ z. begun (id_of t) ∷ ((part.before ++ (z ++ part.behind)) ++ ended ∷ [])) inner.whole
+          ∙ ap (λ z. begun (id_of t) ∷ z) (regroup part.before inner.before (begun inner.value ∷ inner.behind) part.behind (ended ∷ []));
+      leads = ap (λ z. map on_way (on_last entered z)) (opens_more (outer ++ opened (id_of t) ∷ []) part.before inner.before ∙ ap (λ z. opens_from z inner.before) part.opens_round)
+          ∙ inner.leads
+          ∙ ap (λ z. map on_way z ++ map on_way rest) (last_is entered outer part.round)
+          ∙ ap (λ z. z ++ map on_way rest) (map-append on_way outer (entered part.round ∷ []))
+          ∙ append_assoc (map on_way outer) (on_way (entered part.round) ∷ []) (map on_way rest)
+          ∙ ap (λ z. map on_way outer ++ (z ∷ map on_way rest)) (on_way_is part.round a part.same part.is_part);
+    }
+  where
+    regroup : (a b c d e : List Token) → (a ++ ((b ++ c) ++ d)) ++ e ≡ (a ++ b) ++ (c ++ (d ++ e))
+    regroup a b c d e =
+        ap (λ z. (a ++ z) ++ e) (append_assoc b c d)
+        ∙ ap (λ z. z ++ e) (sym (append_assoc a b (c ++ d)))
+        ∙ append_assoc (a ++ b) (c ++ d) e
+        ∙ ap (λ z. (a ++ b) ++ z) (append_assoc c d e)
+
+-- ---- the first value to which it leads
+
+-- so many values begin before one to which the way leads
+record Found (way os : List Open) (ts : List Token) (n : ℕ) : Type 0 where
+  before : List Token
+  value : TypeId
+  behind : List Token
+  whole : ts ≡ before ++ begun value ∷ behind
+  as_many : begun_in before ≡ n
+  leads : Leads way (opens_from os before)
+
+found_more : {way os : List Open} {ts : List Token} {n : ℕ} (t : Token) (m : ℕ) → begun_in (t ∷ []) + n ≡ m → Found way (opens_after os t) ts n → Found way os (t ∷ ts) m
+found_more {n = n} t m e f = record {
+  before = t ∷ f.before;
+  value = f.value;
+  behind = f.behind;
+  whole = ap (λ z. t ∷ z) f.whole;
+  as_many = begun_first t f.before ∙ ap (λ z. begun_in (t ∷ []) + z) f.as_many ∙ e;
+  leads = f.leads;
+}
+  where
+    begun_first : (t : Token) (ts : List Token) → begun_in (t ∷ ts) ≡ begun_in (t ∷ []) + begun_in ts
+    begun_first (begun u) ts = omega arith
+    begun_first (component i) ts = omega arith
+    begun_first (chosen i) ts = omega arith
+    begun_first ended ts = omega arith
+    begun_first (held k c x at) ts = omega arith
+    begun_first passed ts = omega arith
+
+no_front : {A : Type 0} (x : Token) (xs ys : List Token) → [] ≡ xs ++ x ∷ ys → A
+no_front x [] ys e = absurd (cc)
+no_front x (z ∷ xs) ys e = absurd (cc)
+
+abbrev first_or : Token → List Token → Token
+first_or d [] = d
+first_or d (x ∷ xs) = x
+
+abbrev others_of : List Token → List Token
+others_of [] = []
+others_of (x ∷ xs) = xs
+
+find : {way os : List Open} {ts : List Token} {n : ℕ} (before : List Token) (u : TypeId) (behind : List Token) → BeginsBefore way os ts n → ts ≡ before ++ begun u ∷ behind → Leads way (opens_from os before) → Found way os ts n
+find xs u ys no_token e l = no_front (begun u) xs ys e
+find xs u ys (leads_here {t = t} {ts = ts} h) e l = record { before = []; value = t; behind = ts; whole = refl; as_many = refl; leads = h }
+find [] u ys (leads_on h b) e l = absurd (h l)
+find {way} {os} (x ∷ xs) u ys (leads_on {t = t} {n = n} h b) e l =
+    found_more (begun t) (suc n) (omega arith) (find xs u ys b (ap others_of e) (subst (λ z. Leads way (opens_from (opens_after os z) xs)) (sym (ap (first_or x) e)) l))
+find {way} {os} [] u ys (none_begins {t = t} {ts = ts} h b) e l = absurd (let f = ap (λ z. begun_in (first_or t z ∷ [])) e in omega arith)
+find {way} {os} (x ∷ xs) u ys (none_begins {t = t} {n = n} h b) e l =
+    found_more t n (omega arith) (find xs u ys b (ap others_of e) (subst (λ z. Leads way (opens_from (opens_after os z) xs)) (sym (ap (first_or x) e)) l))
+
+-- ---- the values that are open there
+
+cons_nil : {A B : Type 0} {x : A} {xs : List A} → x ∷ xs ≡ [] → B
+cons_nil e = absurd (cc)
+
+abbrev front_open : Open → List Open → Open
+front_open d [] = d
+front_open d (x ∷ xs) = x
+
+abbrev other_opens : List Open → List Open
+other_opens [] = []
+other_opens (x ∷ xs) = xs
+
+-- a way as long, through the same parts, leads there as well
+same_way : {s : List Resolved} {p r : Piece} {way : List Open} (os : List Open) → Innermost s p way r → map on_way os ≡ map on_way way → Innermost s p os r
+same_way [] (is_itself n f) e = is_itself n f
+same_way (x ∷ xs) (is_itself n f) e = cons_nil e
+same_way [] (is_within f a j) e = cons_nil (sym e)
+same_way (x ∷ xs) (is_within {o = o} f a j) e =
+    let h : on_way x ≡ on_way o = ap (front_open (on_way x)) e in
+    is_within f (record { of_type = ap (λ z. z.ty.index) h ∙ a.of_type; at_part = ap (λ z. z.part) h ∙ a.at_part }) (same_way xs j (ap other_opens e))
+
+pub before_wrong : {s : List Resolved} {p : Piece} {way : List Open} {told : List Token} {n : ℕ} → LeadToWrong s p way → Shows s p.type p.value told → BeginsBefore way [] told n → IsBeforeWrong s p told n
+before_wrong {way = way} l h b =
+    let r = reach l.is_innermost h [] in
+    let f = find r.before r.value r.behind b r.whole r.leads in
+    record {
+      values = opens f.before;
+      before = record { before = f.before; value = f.value; behind = f.behind; whole = f.whole; as_many = f.as_many; opened = refl };
+      lead = record { inner = l.inner; is_innermost = same_way (on_last entered (opens f.before)) l.is_innermost f.leads };
+    }
+
+-- a way behind no others
+pub way_alone : {s : List Resolved} {p q : Piece} {os all : List Open} → os ≡ [] → p ≡ q → LeadOn s p os all → LeadToWrong s q all
+way_alone {s} {p} {q} {os} {all} e f l =
+    let g : all ≡ l.way = l.whole ∙ ap (λ z. z ++ l.way) e in
+    subst (λ z. LeadToWrong s z all) f (subst (LeadToWrong s p) (sym g) l.lead)
+
+pub if_ok : {A E : Type 0} {P Q : A → Type 0} (r : Result A E) → ((a : A) → P a → Q a) → IfOk r P → IfOk r Q
+if_ok (Ok a) f p = f a p
+if_ok (Err e) f p = p
+
+-- ---- one front before so many
+
+-- one more begins than do before it
+pub fewer_begin : {told : List Token} {n : ℕ} {os : List Open} → AreOpenBefore told n os → n < begun_in told
+fewer_begin a =
+    let e = ap begun_in a.whole in
+    let f = begun_both a.before (begun a.value ∷ a.behind) in
+    let g = a.as_many in
+    omega arith
+  where
+    begun_both : (xs ys : List Token) → begun_in (xs ++ ys) ≡ begun_in xs + begun_in ys
+    begun_both [] ys = omega arith
+    begun_both (begun t ∷ xs) ys = let r = begun_both xs ys in omega arith
+    begun_both (component i ∷ xs) ys = begun_both xs ys
+    begun_both (chosen i ∷ xs) ys = begun_both xs ys
+    begun_both (ended ∷ xs) ys = begun_both xs ys
+    begun_both (held k c x at ∷ xs) ys = begun_both xs ys
+    begun_both (passed ∷ xs) ys = begun_both xs ys
+
+one_more : (xs : List Token) (t : TypeId) → begun_in (begun t ∷ xs) ≡ 0 → ⊥
+one_more xs t e = omega arith
+
+fronts_once : (xs ys vs ws : List Token) (t u : TypeId) → xs ++ begun t ∷ vs ≡ ys ++ begun u ∷ ws → begun_in xs ≡ begun_in ys → xs ≡ ys
+fronts_once [] [] vs ws t u e n = refl
+fronts_once [] (y ∷ ys) vs ws t u e n = absurd (one_more ys t (sym (n ∙ ap (λ z. begun_in (z ∷ ys)) (sym (ap (first_or y) e)))))
+fronts_once (x ∷ xs) [] vs ws t u e n = absurd (one_more xs u (sym (sym n ∙ ap (λ z. begun_in (z ∷ xs)) (ap (first_or x) e))))
+fronts_once (x ∷ xs) (y ∷ ys) vs ws t u e n =
+    let h : x ≡ y = ap (first_or x) e in
+    ap (λ z. z ∷ xs) h ∙ ap (λ z. y ∷ z) (fronts_once xs ys vs ws t u (ap others_of e) (same_rest y (ap (λ z. begun_in (z ∷ xs)) (sym h) ∙ n)))
+  where
+    same_rest : (y : Token) → begun_in (y ∷ xs) ≡ begun_in (y ∷ ys) → begun_in xs ≡ begun_in ys
+    same_rest (begun v) k = omega arith
+    same_rest (component i) k = k
+    same_rest (chosen i) k = k
+    same_rest ended k = k
+    same_rest (held l c o at) k = k
+    same_rest passed k = k
+
+-- what is open before so many values is the same
+pub open_once : {told : List Token} {n : ℕ} {os ps : List Open} → AreOpenBefore told n os → AreOpenBefore told n ps → os ≡ ps
+open_once a b =
+    a.opened
+    ∙ ap opens (fronts_once a.before b.before a.behind b.behind a.value b.value (sym a.whole ∙ b.whole) (a.as_many ∙ sym b.as_many))
+    ∙ sym b.opened
+
+-- where reading stops before so many values, and what isn't read is entered
+pub leads_there : {s : List Resolved} {p : Piece} {told all : List Token} {n : ℕ} {w : Whereabouts}
+    → told ≡ all
+    → IsBeforeWrong s p told n
+    → (v : Whereabouts)
+    → (n < begun_in all → AreOpenBefore all n v.values.items)
+    → IsEntered v w
+    → LeadToWrong s p w.values.items
+leads_there {s} {p} {n = n} {w = w} e b v h i =
+    let c = subst (λ q. IsBeforeWrong s p q n) e b in
+    let same = open_once (h (fewer_begin c.before)) c.before in
+    subst (LeadToWrong s p) (sym (i.values ∙ ap (on_last entered) same)) c.lead
+
+pub never_leads : {E : Type 0} (s : List Resolved) (t : TypeNumber) (v : AbstractValue) (r : Result Whereabouts E) → ⊥ → IfOk r (λ w. LeadToWrong s (piece t v) w.values.items)
+never_leads s t v r e = absurd e
