@@ -1,1 +1,2 @@
 pub mod OneAnswer
+pub mod OneRefusal

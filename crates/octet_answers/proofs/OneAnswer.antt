@@ -57,11 +57,11 @@ pub record SameUnit (g f : Tag) (c d : Bool) (k j : ℕ) (x y r s : List ℕ) : 
   pub contents : x ≡ y
   pub rests : r ≡ s
 
-abbrev or_field : Field' → Option Field' → Field'
+abbrev pub or_field : Field' → Option Field' → Field'
 or_field d None = d
 or_field d (Some f) = f
 
-none_some : {A : Type 0} {x : A} → None ≡ Some x → ⊥
+pub none_some : {A : Type 0} {x : A} → None ≡ Some x → ⊥
 none_some e = cc
 
 pub found_once : {s : List Resolved} {g : Tag} {ss : List Step} {f e : Field'} → IsFound s g ss f → IsFound s g ss e → f ≡ e
@@ -96,7 +96,7 @@ unit_some {g = g} {c = c} {x = x} {r = r} u =
 pub never_empty : {g : Tag} {c : Bool} {k : ℕ} {x r o : List ℕ} → UnitAt g c k x r o → o ≡ [] → ⊥
 never_empty u e = let l = unit_some u in let m = ap length e in omega arith
 
-passing_same : (a : State) {k j : ℕ} {x y r s : List ℕ} → k ≡ j → x ≡ y → r ≡ s → passing a k x r ≡ passing a j y s
+pub passing_same : (a : State) {k j : ℕ} {x y r s : List ℕ} → k ≡ j → x ≡ y → r ≡ s → passing a k x r ≡ passing a j y s
 passing_same a {k} {j} {x} {y} {r} {s} e f g = ap (λ q. passing a q x r) e ∙ ap (λ q. passing a j q r) f ∙ ap (λ q. passing a j y q) g
 
 opened_same : (a : State) {c d : Bool} {k j : ℕ} {x y r s : List ℕ} → c ≡ d → k ≡ j → x ≡ y → r ≡ s → opened_at a c k x r ≡ opened_at a d j y s

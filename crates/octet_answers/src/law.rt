@@ -2,12 +2,18 @@
 
 ghost use Rattle.asn_base.specs.declared.tag.Tag.{Tag};
 ghost use Rattle.octet_answers.specs.Answers.{Answers, Takes};
+ghost use Rattle.octet_answers.specs.Asked.{question_of};
+ghost use Rattle.octet_answers.specs.Left.{Leaves};
 ghost use Rattle.octet_answers.specs.States.{State};
 ghost use Rattle.octet_answers.specs.Units.{UnitAt};
-ghost use Rattle.codec_source.specs.Events.{Alike, Event};
-ghost use Rattle.std.specs.Prelude.{◌≡◌, Bool, List, [], ℕ};
+ghost use Rattle.codec_source.specs.Events.{Alike, Event, Question};
+ghost use Rattle.codec_source.specs.declared.fault.ReadFault.{ReadFault};
+ghost use Rattle.std.specs.Prelude.{◌≡◌, ◌≤◌, Bool, List, [], length, ℕ};
 
 use encodings::header_laws;
+use leaf_readings::law::one_reading;
+use octets::law::one_front;
+use segmented_strings::law::one_joining;
 
 /// Octets answer a question in one way at most, behind which they are read as far.
 pub fn one_answer()
@@ -30,4 +36,25 @@ pub fn one_unit()
     ensures some { (g : Tag) (c : Bool) (k : ℕ) (x r : List ℕ) → UnitAt g c k x r [] → ⊥ }
 {
     header_laws();
+}
+
+/// A question is refused with one fault at most, which leaves a reader at one place, and never where it has an answer.
+/// No more octets are left than a message has.
+pub fn one_refusal()
+    ensures once { (a b c : State) (q : Question) (e f : ReadFault)
+        → length a.here.octets ≤ 16777216
+        → Leaves a q b e
+        → Leaves a q c f
+        → (e ≡ f) × (b ≡ c) }
+    ensures either { (a b c : State) (q : Question) (e : ReadFault) (v : Event)
+        → length a.here.octets ≤ 16777216
+        → Leaves a q b e
+        → question_of v ≡ q
+        → Answers a v c
+        → ⊥ }
+{
+    header_laws();
+    one_front();
+    one_reading();
+    one_joining();
 }
