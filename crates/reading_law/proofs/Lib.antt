@@ -12,3 +12,4 @@ pub mod Bodies
 pub mod Drawn
 pub mod Completes
 pub mod Stopped
+pub mod StopsOnce

@@ -18,10 +18,10 @@ ghost use Rattle.octet_answers.specs.States.{State, front};
 ghost use Rattle.reading_law.specs.Saying.{AreUnit, IsReadTo, IsSaid};
 ghost use Rattle.reading_law.specs.Shows.{StandIn, IsSliceAt};
 ghost use Rattle.std.specs.Int.Digits.{AllBelowBase};
-ghost use Rattle.std.specs.Prelude.{◌<◌, ◌≤◌, List, length, ℕ};
+ghost use Rattle.std.specs.Prelude.{◌≡◌, ◌<◌, ◌≤◌, List, length, ℕ};
 
 use encodings::message_laws;
-use octet_answers::law::one_answer;
+use octet_answers::law::{one_answer, one_refusal};
 
 /// Whatever the routine of a type reads from the front of octets is what they say by the basic rules: a value as it
 /// stands, with so many unknown additions, within 400 levels of headers. What isn't read stands behind it.
@@ -65,3 +65,19 @@ pub fn stops_in_place()
         → Reads (λ u. routine_at s u) Takes t (front s o room) z
         → IsSliceAt o z.here.at z.here.octets }
 {}
+
+/// From the front of a message the routine of a type stops with one fault at most, at one place; and where it stops, it
+/// reads no value.
+pub fn stops_once()
+    ensures once { (s : List Resolved) (t : TypeId) (o : List ℕ) (room : ℕ) (y z : State) (e f : ReadFault)
+        → length o ≤ 16777216
+        → StopsReading (λ u. routine_at s u) Takes (λ a q b. Leaves a q b e) t (front s o room) y
+        → StopsReading (λ u. routine_at s u) Takes (λ a q b. Leaves a q b f) t (front s o room) z
+        → (e ≡ f) × (y ≡ z) }
+    ensures either { (s : List Resolved) (t : TypeId) (x y z : State) (e : ReadFault)
+        → StopsReading (λ u. routine_at s u) Takes (λ a q b. Leaves a q b e) t x y
+        → Reads (λ u. routine_at s u) Takes t x z
+        → ⊥ }
+{
+    one_refusal();
+}

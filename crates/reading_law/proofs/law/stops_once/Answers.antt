@@ -1,0 +1,8 @@
+use Rattle.reading_law.proofs.StopsOnce.{stopped_once, stopped_or_read}
+use Rattle.reading_law.proofs.law.stops_once.Goals as goal
+
+pub returns-clause-once : goal.returns-clause-once
+returns-clause-once c = stopped_once c.one_refusal.ensures.once
+
+pub returns-clause-either : goal.returns-clause-either
+returns-clause-either c = stopped_or_read
