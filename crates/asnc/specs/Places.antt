@@ -9,9 +9,9 @@ use Rattle.ber_message.specs.declared.open.Open.{Open}
 use Rattle.ber_message.specs.declared.open.Part.{Part}
 use Rattle.ber_message.specs.declared.open.Part.TheVariants.{Component, Alternative, Element}
 use Rattle.ber_message.specs.declared.stop.Whereabouts.{Whereabouts}
-use Rattle.ber_message.specs.Messages.{IsMessage, IsRead, room_of}
+use Rattle.ber_message.specs.Messages.{IsMessage, IsRead, SaysNoValue, room_of}
 use Rattle.ber_message.specs.Stops.{IsStop, IsStopBefore}
-use Rattle.ber_reader.specs.Readings.{IsPlace}
+use Rattle.ber_reader.specs.Readings.{IsBeforeInnermost, IsPlace}
 
 -- the identifier of component i of type t
 abbrev pub component_name : List Resolved → ℕ → ℕ → List ℕ
@@ -58,7 +58,8 @@ abbrev pub path_of : List Resolved → List Open → List ℕ
 path_of s os = path_behind s [] os
 
 -- Reading the octets as a value of type t comes to a question without an answer at this octet. Octets that say
--- something of the type are read as far as the part that is judged wrong. These parts were being read there.
+-- something of the type are read as far as the part that is judged wrong; where they say what is no value of the type,
+-- as far as the innermost value that is none of its own. These parts were being read there.
 pub record IsStopped (s : List Resolved) (t : ℕ) (o : List ℕ) (octet : ℕ) (path : List ℕ) : Type 0 where
   pub id : TypeId
   pub numbered : id.index ≡ t
@@ -66,5 +67,6 @@ pub record IsStopped (s : List Resolved) (t : ℕ) (o : List ℕ) (octet : ℕ) 
   pub is : IsPlace s id o found
   pub first : ((ts : List Token) → IsMessage s t o ts → ⊥) → length o ≤ 16777216 → IsStop s id o (room_of (length o)) found
   pub judged : IsRead s id o → t < length s → length o ≤ 16777216 → IsStopBefore s id o found
+  pub innermost : (r : IsRead s id o) → (n : SaysNoValue s t o) → IsBeforeInnermost s id o r.last.told n.value found
   pub at : octet ≡ found.place
   pub parts : path ≡ path_of s found.values.items

@@ -10,6 +10,7 @@ use Rattle.asn_base.specs.Types.{TypeNumber, Component, Alternative, Kind, Resol
 use Rattle.codec_source.specs.declared.fault.ReadFault.{ReadFault}
 use Rattle.codec_source.specs.declared.fault.ReadFault.TheVariants as faults
 use Rattle.codec_code.specs.Routines.{id_of}
+use Rattle.ber_message.specs.Ways.{on_way}
 use Rattle.ber_message.specs.declared.open.Open.{Open}
 use Rattle.ber_message.specs.declared.open.Part.{Part}
 use Rattle.ber_message.specs.declared.open.Part.TheVariants as a_part
@@ -271,6 +272,21 @@ inner_once (is_itself n w) (is_itself m z) = refl
 inner_once (is_itself n w) (is_within x a j) = absurd (none_some (first_once w x))
 inner_once (is_within x a i) (is_itself m z) = absurd (none_some (first_once z x))
 inner_once {s} {r = r} (is_within x a i) (is_within {os = os} y b j) = inner_once i (subst (λ z. Innermost s z.piece os r) (sym (some_same (first_once x y))) j)
+
+-- the parts of it are one list: another way has the same type, and the same part, at each place
+ways_once : {s : List Resolved} {p q r : Piece} {os ps : List Open} → Innermost s p os q → Innermost s p ps r → map on_way os ≡ map on_way ps
+ways_once (is_itself n w) (is_itself m z) = refl
+ways_once (is_itself n w) (is_within x a j) = absurd (none_some (first_once w x))
+ways_once (is_within x a i) (is_itself m z) = absurd (none_some (first_once z x))
+ways_once {s} {r = r} (is_within {o = o} {os = ns} x a i) (is_within {o = u} {os = os} y b j) =
+    let e = some_same (first_once x y) in
+    let t : o.ty ≡ u.ty = ap id_of (a.of_type ∙ sym b.of_type) in
+    let p : o.part ≡ u.part = a.at_part ∙ ap (λ z. Some z.part) e ∙ sym b.at_part in
+    let h : on_way o ≡ on_way u = ap (λ z. record { ty = z; part = o.part; read = 0 }) t ∙ ap (λ z. record { ty = u.ty; part = z; read = 0 }) p in
+    ap (λ z. z ∷ map on_way ns) h ∙ ap (λ z. on_way u ∷ z) (ways_once i (subst (λ z. Innermost s z.piece os r) (sym e) j))
+
+pub one_way : (s : List Resolved) (p q r : Piece) (os ps : List Open) → Innermost s p os q → Innermost s p ps r → (q ≡ r) × (map on_way os ≡ map on_way ps)
+one_way s p q r os ps a b = (inner_once a b, ways_once a b)
 
 own_once : {s : List Resolved} {t : TypeNumber} {v : AbstractValue} {e f : ReadFault} → IsOwn s t v e → IsOwn s t v f → e ≡ f
 own_once lacks_number lacks_number = refl

@@ -17,9 +17,10 @@ use Rattle.ber_message.specs.declared.open.Part.{Part}
 use Rattle.ber_message.specs.declared.open.Part.TheVariants as a_part
 use Rattle.ber_message.specs.Opened.{opened, with_part, part_or, entered, behind_part, on_last, but_last, opens, opens_after, opens_from}
 use Rattle.ber_message.specs.Ways.{begun_in, on_way, Leads, BeginsBefore, no_token, leads_here, leads_on, none_begins, AreOpenBefore}
-use Rattle.ber_message.specs.Stops.{IsEntered}
+use Rattle.ber_message.specs.Stops.{IsEntered, IsStop}
 use Rattle.ber_message.specs.declared.stop.Whereabouts.{Whereabouts}
 use Rattle.ber_reader.specs.Judged.{Piece, piece, Placed, placed, kind_at, element_of, alternatives, component_pieces, element_pieces, parts, FirstWrong, wrong_here, right_here, IsOpenAt, Innermost, is_itself, is_within, LeadToWrong, LeadOn, IsBeforeWrong}
+use Rattle.ber_reader.specs.Readings.{IsBeforeInnermost}
 use Rattle.ber_reader.proofs.Rows.{at_row, blank_none}
 
 -- ---- the last of the open values
@@ -505,17 +506,26 @@ open_once a b =
     ∙ sym b.opened
 
 -- where reading stops before so many values, and what isn't read is entered
-pub leads_there : {s : List Resolved} {p : Piece} {told all : List Token} {n : ℕ} {w : Whereabouts}
+pub leads_there : {s : List Resolved} {t : TypeId} {o : List ℕ} {v : AbstractValue} {told all : List Token} {n : ℕ} {w : Whereabouts}
     → told ≡ all
-    → IsBeforeWrong s p told n
-    → (v : Whereabouts)
-    → (n < begun_in all → AreOpenBefore all n v.values.items)
-    → IsEntered v w
-    → LeadToWrong s p w.values.items
-leads_there {s} {p} {n = n} {w = w} e b v h i =
-    let c = subst (λ q. IsBeforeWrong s p q n) e b in
-    let same = open_once (h (fewer_begin c.before)) c.before in
-    subst (LeadToWrong s p) (sym (i.values ∙ ap (on_last entered) same)) c.lead
+    → IsBeforeWrong s (piece t.index v) told n
+    → (u : Whereabouts)
+    → IsStop s t o n u
+    → (n < begun_in all → AreOpenBefore all n u.values.items)
+    → IsEntered u w
+    → IsBeforeInnermost s t o all v w
+leads_there {s} {t} {v = v} {n = n} {w = w} e b u stop h i =
+    let c = subst (λ q. IsBeforeWrong s (piece t.index v) q n) e b in
+    let few = fewer_begin c.before in
+    let same = open_once (h few) c.before in
+    record {
+      most = n;
+      fewer = few;
+      stopped = u;
+      stop = stop;
+      part = i;
+      lead = subst (LeadToWrong s (piece t.index v)) (sym (i.values ∙ ap (on_last entered) same)) c.lead;
+    }
 
-pub never_leads : {E : Type 0} (s : List Resolved) (t : TypeNumber) (v : AbstractValue) (r : Result Whereabouts E) → ⊥ → IfOk r (λ w. LeadToWrong s (piece t v) w.values.items)
-never_leads s t v r e = absurd e
+pub never_leads : {E : Type 0} (s : List Resolved) (t : TypeId) (o : List ℕ) (told : List Token) (v : AbstractValue) (r : Result Whereabouts E) → ⊥ → IfOk r (IsBeforeInnermost s t o told v)
+never_leads s t o told v r e = absurd e

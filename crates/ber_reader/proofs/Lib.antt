@@ -8,3 +8,4 @@ pub mod Stepping
 pub mod Judging
 pub mod Leading
 pub mod Owing
+pub mod Worked

@@ -1,6 +1,7 @@
 -- What readers answer, where they refuse a message, and why.
-use Rattle.std.specs.Prelude.{◌≡◌, ℕ, ◌≤◌, List, length}
+use Rattle.std.specs.Prelude.{◌≡◌, ℕ, ◌<◌, ◌≤◌, List, length}
 use Rattle.asn_base.specs.declared.schema.TypeId.{TypeId}
+use Rattle.asn_base.specs.Abstract.{AbstractValue}
 use Rattle.asn_base.specs.Types.{TypeNumber, Resolved}
 use Rattle.encodings.specs.Header.{Octets}
 use Rattle.encodings.specs.Rules.{Basic, Distinguished}
@@ -11,11 +12,13 @@ use Rattle.codec_code.specs.Routines.{id_of}
 use Rattle.codec_source.specs.declared.fault.ReadFault.{ReadFault}
 use Rattle.ber_views.specs.Shown.{leaves_of, AreShown}
 use Rattle.ber_message.specs.Messages.{IsRead, Refuses, SaysNoValue}
-use Rattle.ber_message.specs.Stops.{IsStop, IsStopBefore}
+use Rattle.ber_message.specs.Stops.{IsEntered, IsStop, IsStopBefore}
+use Rattle.ber_message.specs.Ways.{begun_in}
 use Rattle.ber_message.specs.declared.stop.Whereabouts.{Whereabouts}
+use Rattle.octet_answers.specs.States.{Token}
 use Rattle.views.specs.Tree.{Tree, value_of, IsBorrowed}
 use Rattle.views.specs.Seen.{IsView}
-use Rattle.ber_reader.specs.Judged.{IsJudged}
+use Rattle.ber_reader.specs.Judged.{IsJudged, LeadToWrong, piece}
 use Rattle.ber_reader.specs.declared.read.Read.{Read}
 
 -- The type's routine reads the octets to their end, in one way alone. For each value that holds no others, of whose contents octets it
@@ -49,6 +52,18 @@ pub record IsStrictReading (s : List Resolved) (t : TypeNumber) (o : Octets) (r 
 pub data IsPlace (s : List Resolved) (t : TypeId) (o : Octets) (w : Whereabouts) : Type 0 where
   unread : (most : ℕ) → IsStop s t o most w → IsPlace s t o w
   judged : IsStopBefore s t o w → IsPlace s t o w
+
+-- Where the tokens were read of a message to its end, and the value that it says is none of the type: reading stops
+-- before the innermost value in it that is none of its own, since fewer values may begin than do; the values round that
+-- one are open, each with the part of it that leads there.
+pub record IsBeforeInnermost (s : List Resolved) (t : TypeId) (o : Octets) (told : List Token) (v : AbstractValue)
+    (w : Whereabouts) : Type 0 where
+  pub most : ℕ
+  pub fewer : most < begun_in told
+  pub stopped : Whereabouts
+  pub stop : IsStop s t o most stopped
+  pub part : IsEntered stopped w
+  pub lead : LeadToWrong s (piece t.index v) w.values.items
 
 -- Why a message is refused by the basic rules: it isn't read; or it is, and what it says is no value of the type, with
 -- the fault of the innermost value in it that is none of its own.

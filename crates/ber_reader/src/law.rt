@@ -7,14 +7,16 @@ ghost use Rattle.asn_base.specs.Schemas.{IsSchema, components};
 ghost use Rattle.asn_base.specs.Typed.{AreComponents, GroupsAreWhole, IsValue, ValueIn, nodes};
 ghost use Rattle.asn_base.specs.Types.{Component, Is, Resolved, a_sequence, a_set};
 ghost use Rattle.ber_message.specs.Messages.{IsEncoding};
-ghost use Rattle.ber_reader.specs.Judged.{IsJudged, IsOwn, component_pieces, kind_at};
+ghost use Rattle.ber_message.specs.Ways.{on_way};
+ghost use Rattle.ber_message.specs.declared.open.Open.{Open};
+ghost use Rattle.ber_reader.specs.Judged.{Innermost, IsJudged, IsOwn, Piece, component_pieces, kind_at};
 ghost use Rattle.codec_source.specs.declared.fault.ReadFault.TheVariants.{Missing, TooDeep};
 ghost use Rattle.codec_source.specs.declared.fault.ReadFault.{ReadFault};
 ghost use Rattle.encodings.specs.Encoding.{Der};
 ghost use Rattle.encodings.specs.Reading.{Encodes};
 ghost use Rattle.encodings.specs.Rules.{Basic};
 ghost use Rattle.std.specs.List.{AllByRecursion};
-ghost use Rattle.std.specs.Prelude.{◌≡◌, ◌≤◌, Bool, length, List, ℕ};
+ghost use Rattle.std.specs.Prelude.{◌≡◌, ◌≤◌, Bool, length, List, map, ℕ};
 
 use encodings::{der_laws, level_laws, message_laws, reading_laws};
 
@@ -45,6 +47,15 @@ pub fn judged_once()
         → IsJudged s t v e
         → IsJudged s t v f
         → e ≡ f }
+{}
+
+/// One value is the innermost that is none of its type, and one way leads there: through values of the same types, by
+/// the same parts.
+pub fn one_way()
+    ensures { (s : List Resolved) (p q r : Piece) (os ps : List Open)
+        → Innermost s p os q
+        → Innermost s p ps r
+        → (q ≡ r) × (map on_way os ≡ map on_way ps) }
 {}
 
 /// What the faults of components say that are no value of their type, of at most 16,777,216 nodes. 85: a group is not

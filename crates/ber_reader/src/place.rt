@@ -2,8 +2,8 @@
 
 ghost use Rattle.ber_message.specs.Messages.{IsMessage, IsRead, SaysNoValue, room_of};
 ghost use Rattle.ber_message.specs.Stops.{IsStop, IsStopBefore};
-ghost use Rattle.ber_reader.specs.Judged.{IsBeforeWrong, LeadToWrong, piece};
-ghost use Rattle.ber_reader.specs.Readings.{IsPlace};
+ghost use Rattle.ber_reader.specs.Judged.{IsBeforeWrong, piece};
+ghost use Rattle.ber_reader.specs.Readings.{IsBeforeInnermost, IsPlace};
 ghost use Rattle.ber_source.specs.Seen.{token_of};
 ghost use Rattle.octet_answers.specs.States.{Token as Token'};
 ghost use Rattle.codec_source.specs.declared.fault.ReadFault.TheVariants.{Memory};
@@ -41,11 +41,10 @@ pub fn whereabouts(
         → length octets.now ≤ 16777216
         → IfOk result (λ w. IsStop code.now id octets.now (room_of (length octets.now)) w) }
     ensures place { IfOk result (λ w. w.place ≤ length octets.now) }
-    // Where all of it says what is no value of the type, the values round the innermost one that is none of its own are
-    // open, each with the part that leads there.
-    ensures innermost { IsRead code.now id octets.now
+    // Where all of it says what is no value of the type, it is the innermost value that is none of its own.
+    ensures innermost { (r : IsRead code.now id octets.now)
         → (n : SaysNoValue code.now id.index octets.now)
-        → IfOk result (λ w. LeadToWrong code.now (piece id.index n.value) w.values.items) }
+        → IfOk result (IsBeforeInnermost code.now id octets.now r.last.told n.value) }
 {
     match read_message(alloc, code, id, octets) {
         Ok(tokens) => {

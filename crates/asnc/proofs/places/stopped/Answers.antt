@@ -12,6 +12,7 @@ returns c =
       is = found.is;
       first = found.first;
       judged = found.judged;
+      innermost = found.innermost;
       at = refl;
       parts = c.in_ok-path.ensures ∙ ap (path_of c.args.schema.now) c.as_slice.ensures.value
           ∙ ap (λ s. path_of s c.in_ok-found.found.values.items) c.requires.same;

@@ -23,7 +23,7 @@ returns-in_ok-enter-in-Ok-clause-innermost c = λ r n.
     let e = c.as_slice.ensures.value in
     let b = c.in_ok-most-in-Ok.ensures r n (subst (λ q. IsMessage s t.index o (map token_of q)) (sym e) c.in-Ok.ensures.ok) in
     let told = ap (map token_of) e ∙ sym (c.in-Ok.ensures.told r) in
-    leads_there told b c.in_ok-stop-in-Ok.stop (c.in_ok-stop-in-Ok.ensures.before r n.short) c.in_ok-enter-in-Ok.ensures
+    leads_there told b c.in_ok-stop-in-Ok.stop c.in_ok-stop-in-Ok.ensures.is (c.in_ok-stop-in-Ok.ensures.before r n.short) c.in_ok-enter-in-Ok.ensures
 
 pub returns-else-is_memory : goal.returns-else-is_memory
 returns-else-is_memory c =
@@ -36,7 +36,7 @@ returns-else-is_memory c =
           (λ e. let f = c.in-Err.ensures.long (ap Err e) in omega (arith, f, few)) has r);
       first = λ none few. stop_most s c.args.id o _ (room_of (length o)) c.stop_of-in-Err.result (c.most_values.ensures few) c.stop_of-in-Err.ensures.is;
       place = c.stop_of-in-Err.ensures.place;
-      innermost = λ r n. let few = n.short in never_leads s c.args.id.index n.value c.stop_of-in-Err.result
+      innermost = λ r n. let few = n.short in never_leads s c.args.id o r.last.told n.value c.stop_of-in-Err.result
           (c.in-Err.ensures.err (λ e. c.is_memory.ensures c.if-is_memory.false e)
           (λ e. let f = c.in-Err.ensures.long (ap Err e) in omega (arith, f, few)) (says_type n.is_said) r);
     }
