@@ -112,12 +112,25 @@ pub record StopsWith (s : List Resolved) (t : TypeId) (o : Octets) (e : ReadFaul
   pub stops :
       StopsReading (λ u. routine_at s u) Takes (λ a q b. Leaves a q b e) t (front s o (room_of (length o))) last
 
--- Why octets are refused as a message of the type, constraints apart: there are more than one has; a value ends before
--- they do; they end within their first header, or before the contents that it tells; or a question has no answer. A
--- type that the schema lacks has no first tag.
+-- a value is read, and octets are left behind it
+pub record IsReadBefore (s : List Resolved) (t : TypeId) (o : Octets) : Type 0 where
+  pub last : State
+  pub reads : Reads (λ u. routine_at s u) Takes t (front s o (room_of (length o))) last
+  pub left : last.here.octets ≡ [] → ⊥
+
+-- octets that are read as a message of the type: no more than one has, of a type that stands, with a whole first header
+-- and the contents that it tells
+pub record AreTried (s : List Resolved) (t : TypeId) (o : Octets) : Type 0 where
+  pub short : length o ≤ 16777216
+  pub type : t.index < length s
+  pub header : EndsEarly o → ⊥
+
+-- Why octets are refused as a message of the type, constraints apart: there are more than one has; the schema lacks the
+-- type, so that no tag is the first one of it; they end within their first header, or before the contents that it
+-- tells; else a value ends before they do, or a question has no answer.
 pub data Refuses (s : List Resolved) (t : TypeId) (o : Octets) : ReadFault → Type 0 where
   too_long : 16777216 < length o → Refuses s t o MessageLimit
-  more_behind : length o ≤ 16777216 → HasMessageFirst s t.index o → Refuses s t o Trailing
-  cut_off : length o ≤ 16777216 → EndsEarly o → Refuses s t o Truncated
-  stopped : {e : ReadFault} → length o ≤ 16777216 → StopsWith s t o e → Refuses s t o e
   no_type : length o ≤ 16777216 → (t.index < length s → ⊥) → Refuses s t o UnexpectedTag
+  cut_off : length o ≤ 16777216 → t.index < length s → EndsEarly o → Refuses s t o Truncated
+  more_behind : AreTried s t o → IsReadBefore s t o → Refuses s t o Trailing
+  stopped : {e : ReadFault} → AreTried s t o → StopsWith s t o e → Refuses s t o e

@@ -3,6 +3,7 @@
 //! 8.14); and where reading stops.
 #![tactic(auto)]
 
+pub mod law;
 mod message;
 mod open;
 mod stop;

@@ -9,3 +9,4 @@ pub mod Judging
 pub mod Leading
 pub mod Owing
 pub mod Worked
+pub mod Refused

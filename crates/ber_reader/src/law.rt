@@ -15,10 +15,15 @@ ghost use Rattle.codec_source.specs.declared.fault.ReadFault.{ReadFault};
 ghost use Rattle.encodings.specs.Encoding.{Der};
 ghost use Rattle.encodings.specs.Reading.{Encodes};
 ghost use Rattle.encodings.specs.Rules.{Basic};
+ghost use Rattle.asn_base.specs.declared.schema.TypeId.{TypeId};
+ghost use Rattle.ber_reader.specs.Readings.{IsReading, IsRefused};
+ghost use Rattle.ber_reader.specs.declared.read.Read.{Read};
+ghost use Rattle.std.specs.Int.Digits.{AllBelowBase};
 ghost use Rattle.std.specs.List.{AllByRecursion};
 ghost use Rattle.std.specs.Prelude.{◌≡◌, ◌≤◌, Bool, length, List, map, ℕ};
 
-use encodings::{der_laws, level_laws, message_laws, reading_laws};
+use ber_message::law::one_refusal;
+use encodings::{der_laws, level_laws, message_laws, reading_laws, schema_laws};
 
 /// An encoding of a value by the distinguished rules, of at most 16,777,216 octets, is one that `read_ber` refuses for
 /// want of memory alone; and whatever value it encodes by the basic rules is the same, with no unknown additions. So
@@ -82,3 +87,22 @@ pub fn faults_of_components()
         → AreComponents s 63 cs vs
         → ⊥ }
 {}
+
+/// One fault at most refuses a message, want of memory aside, and none refuses one that is read.
+pub fn refused_once()
+    ensures once { (s : List Resolved) (t : TypeId) (o : List ℕ) (e f : ReadFault)
+        → IsSchema s
+        → AllBelowBase 256 o
+        → IsRefused s t o e
+        → IsRefused s t o f
+        → e ≡ f }
+    ensures either { (s : List Resolved) (t : TypeId) (o : List ℕ) (e : ReadFault) (r : Read)
+        → IsSchema s
+        → AllBelowBase 256 o
+        → IsRefused s t o e
+        → IsReading s t.index o r
+        → ⊥ }
+{
+    one_refusal();
+    schema_laws();
+}

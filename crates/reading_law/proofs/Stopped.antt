@@ -1,5 +1,5 @@
 -- Where reading stopped, what isn't read stands at its place in the message, and so does what was read.
-use Rattle.std.proofs.Common.{arith, Bool, ◌≡◌, ℕ, ◌+◌, ◌≤◌, List, [], ◌∷◌, ◌++◌, length, take, drop, refl, sym, ap}
+use Rattle.std.proofs.Common.{Bool, ℕ, ◌+◌, ◌≤◌, List, [], length, take, drop, refl, sym, ap}
 use Rattle.std.proofs.lemmas.List.{append-nil, take-append-drop, length-take-le}
 use Rattle.std.specs.Prelude.{Option}
 use Rattle.asn_base.specs.declared.schema.TypeId.{TypeId}
@@ -7,7 +7,7 @@ use Rattle.asn_base.specs.Types.{Resolved}
 use Rattle.codec_code.specs.declared.step.Step.{Step}
 use Rattle.codec_code.specs.Routines.{routine_at}
 use Rattle.codec_source.specs.declared.fault.ReadFault.{ReadFault}
-use Rattle.codec_source.specs.Events.{Event, Question}
+use Rattle.codec_source.specs.Events.{Question}
 use Rattle.codec_source.specs.Reading.{Reads}
 use Rattle.codec_source.specs.Stopping.{Stops, unanswered, answered, StopsThen, stops_on, not_begun, stops_within, not_ended, stops_behind, StopsReading}
 use Rattle.octet_answers.specs.States.{State, passed, front}

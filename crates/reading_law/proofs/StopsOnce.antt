@@ -207,3 +207,11 @@ stopped_once once s t o room y z e f l h k =
 pub stopped_or_read : (s : List Resolved) (t : TypeId) (x y z : State) (e : ReadFault) → StopsReading (λ u. routine_at s u) Takes (λ a q b. Leaves a q b e) t x y → Reads (λ u. routine_at s u) Takes t x z → ⊥
 stopped_or_read s t x y z e h d =
     then_or_done (λ u. routine_at s u) Takes one_taken (λ a q b. Leaves a q b e) z h (d.first, d.last, z, d.begun, d.done, d.ended, finished)
+
+-- a value is read in one way
+pub read_once : (s : List Resolved) (t : TypeId) (x y z : State) → Reads (λ u. routine_at s u) Takes t x y → Reads (λ u. routine_at s u) Takes t x z → y ≡ z
+read_once s t x y z d e =
+    let r = λ (u : ℕ). routine_at s u in
+    let g = same_begin Takes one_taken d.begun e.begun in
+    let l = done_once r Takes one_taken d.done (moved r Takes one_taken refl g e.done) in
+    same_end Takes one_taken d.ended (subst (λ q. Takes q ends z) (sym l) e.ended)

@@ -67,7 +67,7 @@ pub fn stops_in_place()
 {}
 
 /// From the front of a message the routine of a type stops with one fault at most, at one place; and where it stops, it
-/// reads no value.
+/// reads no value. Where it reads one, it does in one way.
 pub fn stops_once()
     ensures once { (s : List Resolved) (t : TypeId) (o : List ℕ) (room : ℕ) (y z : State) (e f : ReadFault)
         → length o ≤ 16777216
@@ -78,6 +78,10 @@ pub fn stops_once()
         → StopsReading (λ u. routine_at s u) Takes (λ a q b. Leaves a q b e) t x y
         → Reads (λ u. routine_at s u) Takes t x z
         → ⊥ }
+    ensures reading { (s : List Resolved) (t : TypeId) (x y z : State)
+        → Reads (λ u. routine_at s u) Takes t x y
+        → Reads (λ u. routine_at s u) Takes t x z
+        → y ≡ z }
 {
     one_refusal();
 }

@@ -176,21 +176,22 @@ pub returns-then-not-has-clause-refused : goal.returns-then-not-has-clause-refus
 returns-then-not-has-clause-refused c = λ other. no_type (let l = c.if-octets-gt-MAX_MESSAGE.false in omega (arith, l)) (fails c.has.result c.if-not-has.true c.has.ensures)
 
 pub returns-then-ends_early-clause-refused : goal.returns-then-ends_early-clause-refused
-returns-then-ends_early-clause-refused c = λ other. cut_off (let l = c.if-octets-gt-MAX_MESSAGE.false in omega (arith, l)) (c.ends_early.ensures.early c.if-ends_early.true)
+returns-then-ends_early-clause-refused c = λ other. cut_off (let l = c.if-octets-gt-MAX_MESSAGE.false in omega (arith, l)) (holds c.has.result c.if-not-has.false c.has.ensures) (c.ends_early.ensures.early c.if-ends_early.true)
 
 pub returns-in-Err-read-clause-refused : goal.returns-in-Err-read-clause-refused
 returns-in-Err-read-clause-refused c = λ other.
     let s = c.args.code.now in
     let f = c.in-Err-read.fault in
     let h = c.in-Err-read.ensures.stopped other in
-    stopped c.in-Ok.ensures.few (record { last = c.read.new.source; stops = subst (λ q. StopsReading (λ u. routine_at s u) Takes (λ a q b. Leaves a q b f) c.args.id q c.read.new.source) c.in-Ok.ensures.ok h })
+    stopped (record { short = c.in-Ok.ensures.few; type = holds c.has.result c.if-not-has.false c.has.ensures; header = λ q. true_false (c.ends_early.ensures.late q) c.if-ends_early.false })
+    (record { last = c.read.new.source; stops = subst (λ q. StopsReading (λ u. routine_at s u) Takes (λ a q b. Leaves a q b f) c.args.id q c.read.new.source) c.in-Ok.ensures.ok h })
 
 pub returns-then-not-is_at_end-clause-refused : goal.returns-then-not-is_at_end-clause-refused
 returns-then-not-is_at_end-clause-refused c = λ other.
     let s = c.args.code.now in
     let r = subst (λ q. Reads (λ u. routine_at s u) Takes c.args.id q c.read.new.source) c.in-Ok.ensures.ok c.in-Ok-read.ensures.ok in
-    more_behind c.in-Ok.ensures.few (front_message (c.read_is_said.ensures s c.args.id c.args.octets.now (room_of (length c.args.octets.now)) c.read.new.source c.accepted.ensures (holds c.has.result c.if-not-has.false c.has.ensures) c.are_octets.ensures r)
-    (fails c.is_at_end.result c.if-not-is_at_end.true c.is_at_end.ensures))
+    more_behind (record { short = c.in-Ok.ensures.few; type = holds c.has.result c.if-not-has.false c.has.ensures; header = λ q. true_false (c.ends_early.ensures.late q) c.if-ends_early.false })
+    (record { last = c.read.new.source; reads = r; left = fails c.is_at_end.result c.if-not-is_at_end.true c.is_at_end.ensures })
 
 pub returns-clause-refused : goal.returns-clause-refused
 returns-clause-refused c = refused_memory _ c.finished.result c.finished.ensures.err

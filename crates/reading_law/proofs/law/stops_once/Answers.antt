@@ -1,4 +1,4 @@
-use Rattle.reading_law.proofs.StopsOnce.{stopped_once, stopped_or_read}
+use Rattle.reading_law.proofs.StopsOnce.{stopped_once, stopped_or_read, read_once}
 use Rattle.reading_law.proofs.law.stops_once.Goals as goal
 
 pub returns-clause-once : goal.returns-clause-once
@@ -6,3 +6,6 @@ returns-clause-once c = stopped_once c.one_refusal.ensures.once
 
 pub returns-clause-either : goal.returns-clause-either
 returns-clause-either c = stopped_or_read
+
+pub returns-clause-reading : goal.returns-clause-reading
+returns-clause-reading c = read_once

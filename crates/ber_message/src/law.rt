@@ -1,0 +1,34 @@
+//! Octets are refused for one reason, or they are read.
+
+ghost use Rattle.asn_base.specs.Schemas.{IsSchema};
+ghost use Rattle.asn_base.specs.Types.{Resolved};
+ghost use Rattle.asn_base.specs.declared.schema.TypeId.{TypeId};
+ghost use Rattle.ber_message.specs.Messages.{IsRead, Refuses};
+ghost use Rattle.codec_source.specs.declared.fault.ReadFault.{ReadFault};
+ghost use Rattle.std.specs.Int.Digits.{AllBelowBase};
+ghost use Rattle.std.specs.Prelude.{◌≡◌, ◌<◌, ◌≤◌, List, length, ℕ};
+
+use octets::law::one_front;
+use reading_law::law::{read_is_said, said_is_read, stops_once};
+
+/// One fault at most refuses octets as a message of a type, constraints apart, and none refuses what the type's routine
+/// reads to its end.
+pub fn one_refusal()
+    ensures once { (s : List Resolved) (t : TypeId) (o : List ℕ) (e f : ReadFault)
+        → Refuses s t o e
+        → Refuses s t o f
+        → e ≡ f }
+    ensures either { (s : List Resolved) (t : TypeId) (o : List ℕ) (e : ReadFault)
+        → IsSchema s
+        → AllBelowBase 256 o
+        → length o ≤ 16777216
+        → t.index < length s
+        → Refuses s t o e
+        → IsRead s t o
+        → ⊥ }
+{
+    one_front();
+    read_is_said();
+    said_is_read();
+    stops_once();
+}
