@@ -65,7 +65,9 @@ pub record IsStopped (s : List Resolved) (t : ℕ) (o : List ℕ) (octet : ℕ) 
   pub numbered : id.index ≡ t
   pub found : Whereabouts
   pub is : IsPlace s id o found
-  pub first : ((ts : List Token) → IsMessage s t o ts → ⊥) → length o ≤ 16777216 → IsStop s id o (room_of (length o)) found
+  pub first : ((ts : List Token) → IsMessage s t o ts → ⊥)
+      → length o ≤ 16777216
+      → IsStop s id o (room_of (length o)) found
   pub judged : IsRead s id o → t < length s → length o ≤ 16777216 → IsStopBefore s id o found
   pub innermost : (r : IsRead s id o) → (n : SaysNoValue s t o) → IsBeforeInnermost s id o r.last.told n.value found
   pub at : octet ≡ found.place

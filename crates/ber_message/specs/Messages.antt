@@ -44,8 +44,8 @@ pub record IsRead (s : List Resolved) (t : TypeId) (o : Octets) : Type 0 where
   pub reads : Reads (λ u. routine_at s u) Takes t (front s o (room_of (length o))) last
   pub at_end : last.here.octets ≡ []
 
--- The view of such a value, built of the tokens that the type's routine reads of a message to its end, which it reads in
--- one way alone, with the number of additions that were skipped.
+-- The view of such a value, built of the tokens that the type's routine reads of a message to its end, which it reads
+-- in one way alone, with the number of additions that were skipped.
 pub record IsViewed (s : List Resolved) (t : TypeNumber) (o : Octets) (b : Built) : Type 0 where
   pub read : IsRead s (id_of t) o
   pub one : (other : IsRead s (id_of t) o) → other.last ≡ read.last

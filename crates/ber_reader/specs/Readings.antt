@@ -21,10 +21,10 @@ use Rattle.views.specs.Seen.{IsView}
 use Rattle.ber_reader.specs.Judged.{IsJudged, LeadToWrong, piece}
 use Rattle.ber_reader.specs.declared.read.Read.{Read}
 
--- The type's routine reads the octets to their end, in one way alone. For each value that holds no others, of whose contents octets it
--- tells, the tree has a leaf, in the order of the message: a string is shown with the place of its contents octets in the
--- message just where its header is primitive, a BIT STRING's from the second one on, and as a copy where its header is
--- constructed.
+-- The type's routine reads the octets to their end, in one way alone. For each value that holds no others, of whose
+-- contents octets it tells, the tree has a leaf, in the order of the message: a string is shown with the place of its
+-- contents octets in the message just where its header is primitive, a BIT STRING's from the second one on, and as a
+-- copy where its header is constructed.
 pub record IsShown (s : List Resolved) (t : TypeNumber) (o : Octets) (tree : Tree) : Type 0 where
   pub read : IsRead s (id_of t) o
   pub one : (other : IsRead s (id_of t) o) → other.last ≡ read.last

@@ -29,7 +29,8 @@ AsksNothing {S} takes ss x = (behind : List Step) (t : Option TypeId) (y : S) �
 mutual
   -- These steps, where each type has its routine, come to a question without an answer, which leaves the source in the
   -- last state.
-  pub data Stops {S : Type 0} (routine : ℕ → List Step) (takes : S → Event → S → Type 0) (leaves : S → Question → S → Type 0)
+  pub data Stops {S : Type 0} (routine : ℕ → List Step) (takes : S → Event → S → Type 0)
+      (leaves : S → Question → S → Type 0)
       : List Step → S → S → Type 0 where
     unanswered : {s : Step} {ss : List Step} {x z : S}
         → AsksNothing takes (s ∷ ss) x
@@ -41,7 +42,8 @@ mutual
         → Stops routine takes leaves ss x z
 
   -- a value of the type, if any, and then these steps do
-  pub data StopsThen {S : Type 0} (routine : ℕ → List Step) (takes : S → Event → S → Type 0) (leaves : S → Question → S → Type 0)
+  pub data StopsThen {S : Type 0} (routine : ℕ → List Step) (takes : S → Event → S → Type 0)
+      (leaves : S → Question → S → Type 0)
       : Option TypeId → List Step → S → S → Type 0 where
     stops_on : {ss : List Step} {x z : S}
         → Stops routine takes leaves ss x z

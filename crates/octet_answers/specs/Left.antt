@@ -145,12 +145,18 @@ pub data Leaves (a : State) : Question → State → ReadFault → Type 0 where
       → Passes a.schema (last_steps (routine_at a.schema t.index)) true a (Some f) b
       → Leaves a to_skip b UnexpectedTag
   -- a component that must stand in a SEQUENCE doesn't
-  nothing_stands : {f : Field} → may_be_absent f.need ≡ false → a.here.octets ≡ [] → Leaves a (whether_stands f) a Missing
+  nothing_stands : {f : Field}
+      → may_be_absent f.need ≡ false
+      → a.here.octets ≡ []
+      → Leaves a (whether_stands f) a Missing
   no_header_stands : {f : Field} (e : HeaderFault)
       → 1 ≤ length a.here.octets
       → Stands e a.here.octets
       → Leaves a (whether_stands f) a (of_header e)
-  another_stands : {f : Field} → may_be_absent f.need ≡ false → IsOther a f → Leaves a (whether_stands f) a UnexpectedTag
+  another_stands : {f : Field}
+      → may_be_absent f.need ≡ false
+      → IsOther a f
+      → Leaves a (whether_stands f) a UnexpectedTag
   -- of a SET: no component stands next, or one that stood before, or not all that must were read
   no_component : {ss : List Step} {b : State} {e : ReadFault}
       → Blocks a.schema ss (is_extensible ss) a b e
