@@ -1,0 +1,109 @@
+-- Values of the kinds that hold no others (X.691, 12 to 14, 16 to 18, 24, 25 and 30).
+use Rattle.std.specs.Prelude.{◌≡◌, ℕ, ◌-◌, ◌^◌, ◌<◌, ℤ, Bool, true, false, List, [], ◌∷◌, ◌++◌, length, map, flat_map}
+use Rattle.std.specs.Prelude.{Some, slice_get}
+use Rattle.std.specs.List.{AllByRecursion}
+use Rattle.std.specs.Int.Digits.{AllBelowBase}
+use Rattle.asn_base.specs.Abstract.{AbstractValue, boolean, integer, enumerated, bits, octets, text, null, oid}
+use Rattle.asn_base.specs.Abstract.{relative_oid}
+use Rattle.asn_base.specs.declared.strings.StringKind.{StringKind}
+use Rattle.asn_base.specs.Names.{IsMember}
+use Rattle.asn_base.specs.Types.{Constraint, Item, NamedBit, Kind, a_boolean, an_integer, an_enumerated, a_bit_string}
+use Rattle.asn_base.specs.Types.{a_named_bit_string, an_octet_string, a_null, an_object_identifier, a_relative_oid}
+use Rattle.asn_base.specs.Types.{a_utf8_string, a_restricted_string}
+use Rattle.asn_base.specs.Typed.{IsObjectIdentifier, IsRelativeOid}
+use Rattle.bits.specs.Words.{word}
+use Rattle.encodings.specs.Contents.{EndsInOne, joined}
+use Rattle.encodings.specs.Header.{Octets, septets}
+use Rattle.packed_encodings.specs.Lengths.{Bits, Items, fewest_bits, Counted, Sized, CountedOctets}
+use Rattle.packed_encodings.specs.Numbers.{Integer}
+
+-- as many bits as a place among n takes
+abbrev pub place_width : ℕ → ℕ
+place_width n = fewest_bits (n - 1)
+
+-- the place i, from 0, among n
+abbrev pub place_bits : ℕ → ℕ → Bits
+place_bits n i = word (place_width n) i
+
+-- a type with a marker has a bit 0 before what is of its root
+abbrev pub root_bit : Bool → Bits
+root_bit false = []
+root_bit true = false ∷ []
+
+-- the item with this number: its place among those of the root, or among those after the marker
+pub data ItemBits (root : List Item) (e : Bool) (more : List Item) : ℤ → Bits → Type 0 where
+  root_item : {z : ℤ} (i : ℕ) (x : Item)
+      → slice_get root i ≡ Some x
+      → x.number ≡ z
+      → ItemBits root e more z (root_bit e ++ place_bits (length root) i)  -- 14.1, 14.2
+  added_item : {z : ℤ} (i : ℕ) (x : Item)
+      → e ≡ true
+      → slice_get more i ≡ Some x
+      → x.number ≡ z
+      → i < 64
+      → ItemBits root e more z (true ∷ (false ∷ word 6 i))  -- 14.3, 11.6.1
+
+-- each code of the alphabet fits into the bits of a place in it (30.5.4)
+abbrev pub CodesFit : List ℕ → Type 0
+CodesFit a = AllByRecursion (λ c. c < 2 ^ place_width (length a)) a
+
+-- a character of an alphabet: its code where all codes fit, else its place
+pub data Character (a : List ℕ) : ℕ → Bits → Type 0 where
+  by_code : {c : ℕ}
+      → CodesFit a
+      → IsMember c a
+      → Character a c (place_bits (length a) c)  -- 30.5.4
+  by_place : {c : ℕ} (i : ℕ)
+      → (CodesFit a → ⊥)
+      → slice_get a i ≡ Some c
+      → Character a c (place_bits (length a) i)  -- 30.5.4
+
+-- characters one by one
+pub data Characters (a : List ℕ) : List ℕ → Items → Type 0 where
+  no_character : Characters a [] []
+  character : {c : ℕ} {cs : List ℕ} {x : Bits} {xs : Items}
+      → Character a c x
+      → Characters a cs xs
+      → Characters a (c ∷ cs) (x ∷ xs)
+
+-- bits one by one
+abbrev pub singly : Bits → Items
+singly = map (λ b. b ∷ [])
+
+-- the bits of a value of a kind that holds no others; under named bits it has no trailing zero bit (16.2)
+pub data Leaf : Kind → AbstractValue → Bits → Type 0 where
+  of_boolean : {b : Bool} → Leaf a_boolean (boolean b) (b ∷ [])  -- 12.1
+  of_integer : {c : Constraint} {z : ℤ} {b : Bits}
+      → Integer c.visible z b  -- 13
+      → Leaf (an_integer c) (integer z) b
+  of_enumerated : {root more : List Item} {e : Bool} {z : ℤ} {b : Bits}
+      → ItemBits root e more z b  -- 14
+      → Leaf (an_enumerated root e more) (enumerated z) b
+  of_bits : {c : Constraint} {v b : Bits}
+      → Sized c.visible (singly v) b  -- 16.6 to 16.11
+      → Leaf (a_bit_string c) (bits v) b
+  of_named_bits : {ns : List NamedBit} {v b : Bits}
+      → EndsInOne v  -- 16.2
+      → Counted (singly v) b  -- 16.11
+      → Leaf (a_named_bit_string ns) (bits v) b
+  of_octets : {c : Constraint} {o : Octets} {b : Bits}
+      → AllBelowBase 256 o
+      → Sized c.visible (map (word 8) o) b  -- 17.3 to 17.8
+      → Leaf (an_octet_string c) (octets o) b
+  of_null : Leaf a_null null []  -- 18
+  of_oid : {ns : List ℕ} {b : Bits}
+      → IsObjectIdentifier ns
+      → CountedOctets (flat_map septets (joined ns)) b  -- 24
+      → Leaf an_object_identifier (oid ns) b
+  of_relative_oid : {ns : List ℕ} {b : Bits}
+      → IsRelativeOid ns
+      → CountedOctets (flat_map septets ns) b  -- 25
+      → Leaf a_relative_oid (relative_oid ns) b
+  -- a SIZE makes no difference here
+  of_utf8 : {c : Constraint} {o : Octets} {b : Bits}
+      → CountedOctets o b  -- 30.6
+      → Leaf (a_utf8_string c) (text o) b
+  of_restricted : {k : StringKind} {a : List ℕ} {c : Constraint} {o : Octets} {xs : Items} {b : Bits}
+      → Characters a o xs
+      → Sized c.visible xs b  -- 30.5
+      → Leaf (a_restricted_string k a c) (text o) b

@@ -1,0 +1,87 @@
+-- Items after their number (X.691, 11.9).
+use Rattle.std.specs.Prelude.{◌≡◌, ℕ, ◌+◌, ◌*◌, ◌<◌, ◌≤◌, ◌⊎◌, ℤ, pos, Bool, true, false, List, [], ◌∷◌, ◌++◌, length}
+use Rattle.std.specs.Prelude.{map, Option, Some}
+use Rattle.std.specs.Int.Digits.{digits_of, AllBelowBase}
+use Rattle.asn_base.specs.Types.{Bounds}
+use Rattle.asn_base.specs.Typed.{IsInRange}
+use Rattle.bits.specs.Words.{word}
+
+abbrev pub Bits : Type 0
+Bits = List Bool
+
+-- items, each of some bits
+abbrev pub Items : Type 0
+Items = List Bits
+
+-- the bits of all items, one after the other
+abbrev pub all_bits : Items → Bits
+all_bits [] = []
+all_bits (x ∷ xs) = x ++ all_bits xs
+
+-- the fewest bits for the numbers from 0 to m (11.5.6)
+abbrev pub fewest_bits : ℕ → ℕ
+fewest_bits m = length (digits_of 2 m)
+
+-- Items after their number, whatever it is. From 16,384 on they are cut into fragments of 16,384 items or twice, three
+-- or four times as many, each the greatest possible; after the last fragment come fewer than 16,384, maybe none.
+pub data Counted : Items → Bits → Type 0 where
+  short : {xs : Items}
+      → length xs < 128
+      → Counted xs (false ∷ (word 7 (length xs) ++ all_bits xs))  -- 11.9.3.6
+  long : {xs : Items}
+      → 128 ≤ length xs
+      → length xs < 16384
+      → Counted xs (true ∷ (false ∷ (word 14 (length xs) ++ all_bits xs)))  -- 11.9.3.7
+  fragment : (m : ℕ) (xs ys : Items) {b : Bits}
+      → 1 ≤ m
+      → m ≤ 4
+      → length xs ≡ 16384 * m
+      → (length ys < 16384) ⊎ (m ≡ 4)
+      → Counted ys b
+      → Counted (xs ++ ys) (true ∷ (true ∷ (word 6 m ++ (all_bits xs ++ b))))  -- 11.9.3.8
+
+-- the number is one of the root
+abbrev pub IsInRoot : Bounds → ℤ → Type 0
+IsInRoot z v = IsInRange v (record { least = z.least; greatest = z.greatest })
+
+-- an upper bound with which the number of items takes the fewest bits (11.9.4.1)
+abbrev pub IsNarrow : Option ℤ → Type 0
+IsNarrow (Some (pos u)) = u < 65536
+IsNarrow g = ⊥
+
+-- items after their number, which is one of the root
+pub data CountedInRoot (z : Bounds) : Items → Bits → Type 0 where
+  narrow : {xs : Items} (l m n : ℕ)
+      → z.least ≡ Some (pos l)
+      → z.greatest ≡ Some (pos (l + m))
+      → l + m < 65536
+      → n ≤ m
+      → length xs ≡ l + n
+      → CountedInRoot z xs (word (fewest_bits m) n ++ all_bits xs)  -- 11.9.4.1
+  wide : {xs : Items} {b : Bits}
+      → (IsNarrow z.greatest → ⊥)
+      → IsInRoot z (pos (length xs))
+      → Counted xs b
+      → CountedInRoot z xs b  -- 11.9.4.2
+
+-- Items after their number, as SIZE bounds it. Where SIZE is extensible a bit comes first: 0 where the number is one of
+-- the root, else 1 (16.6, 17.3, 20.4).
+pub data Sized (z : Bounds) : Items → Bits → Type 0 where
+  sized : {xs : Items} {b : Bits}
+      → z.extensible ≡ false
+      → CountedInRoot z xs b
+      → Sized z xs b
+  sized_in_root : {xs : Items} {b : Bits}
+      → z.extensible ≡ true
+      → CountedInRoot z xs b
+      → Sized z xs (false ∷ b)
+  sized_outside : {xs : Items} {b : Bits}
+      → z.extensible ≡ true
+      → (IsInRoot z (pos (length xs)) → ⊥)
+      → Counted xs b
+      → Sized z xs (true ∷ b)
+
+-- octets after their number
+pub record CountedOctets (o : List ℕ) (b : Bits) : Type 0 where
+  pub octets : AllBelowBase 256 o
+  pub counted : Counted (map (word 8) o) b

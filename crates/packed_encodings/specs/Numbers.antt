@@ -1,0 +1,62 @@
+-- Whole numbers (X.691, 11.3 to 11.8 and 13).
+use Rattle.std.specs.Prelude.{◌≡◌, ℕ, ◌≤◌, ℤ, pos, ◌+ℤ◌, ◌≤ℤ◌, true, false, ◌∷◌, length, Some, None, IfSome}
+use Rattle.std.specs.Int.Digits.{number_from_digits, AllBelowBase}
+use Rattle.asn_base.specs.Types.{Bounds}
+use Rattle.bits.specs.Words.{word}
+use Rattle.encodings.specs.Contents.{Number}
+use Rattle.encodings.specs.Header.{Octets}
+use Rattle.packed_encodings.specs.Lengths.{Bits, fewest_bits, IsInRoot, CountedOctets}
+
+-- octets, at least one, that are a number that isn't negative (11.3)
+pub record Unsigned (n : ℕ) (o : Octets) : Type 0 where
+  pub some : 1 ≤ length o
+  pub octets : AllBelowBase 256 o
+  pub worth : number_from_digits 256 o ≡ n
+
+-- the fewest of them (11.3.6)
+pub record FewestUnsigned (n : ℕ) (o : Octets) : Type 0 where
+  pub is : Unsigned n o
+  pub fewest : (p : Octets) → Unsigned n p → length o ≤ length p
+
+-- a number of the root
+pub data IntegerInRoot (z : Bounds) : ℤ → Bits → Type 0 where
+  -- from l to l + m, it is l + n
+  between : {v : ℤ} (l : ℤ) (m n : ℕ)
+      → z.least ≡ Some l
+      → z.greatest ≡ Some (l +ℤ pos m)
+      → n ≤ m
+      → v ≡ l +ℤ pos n
+      → IntegerInRoot z v (word (fewest_bits m) n)  -- 11.5
+  -- from l on, it is l + n
+  from_least : {v : ℤ} (l : ℤ) (n : ℕ) {o : Octets} {b : Bits}
+      → z.least ≡ Some l
+      → z.greatest ≡ None
+      → v ≡ l +ℤ pos n
+      → FewestUnsigned n o
+      → CountedOctets o b
+      → IntegerInRoot z v b  -- 11.7
+  -- with no least number
+  unbounded : {v : ℤ} {o : Octets} {b : Bits}
+      → z.least ≡ None
+      → IfSome z.greatest (λ g. v ≤ℤ g)
+      → Number v o
+      → CountedOctets o b
+      → IntegerInRoot z v b  -- 11.8
+
+-- A number as its constraint bounds it. Where the constraint is extensible a bit comes first: 0 where the number is one
+-- of the root, else 1 (13.1).
+pub data Integer (z : Bounds) : ℤ → Bits → Type 0 where
+  integer_bounded : {v : ℤ} {b : Bits}
+      → z.extensible ≡ false
+      → IntegerInRoot z v b
+      → Integer z v b  -- 13.2
+  integer_in_root : {v : ℤ} {b : Bits}
+      → z.extensible ≡ true
+      → IntegerInRoot z v b
+      → Integer z v (false ∷ b)  -- 13.1
+  integer_outside : {v : ℤ} {o : Octets} {b : Bits}
+      → z.extensible ≡ true
+      → (IsInRoot z v → ⊥)
+      → Number v o
+      → CountedOctets o b
+      → Integer z v (true ∷ b)  -- 13.1

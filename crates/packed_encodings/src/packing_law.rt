@@ -1,0 +1,164 @@
+//! The laws of packed encodings (X.691, 11 to 30).
+
+ghost use Rattle.asn_base.specs.Abstract.{AbstractValue};
+ghost use Rattle.asn_base.specs.Same.{AlikeBy, Same};
+ghost use Rattle.asn_base.specs.Schemas.{IsSchema, IsSound};
+ghost use Rattle.asn_base.specs.Typed.{IsValue, IsValueWithoutNodes};
+ghost use Rattle.asn_base.specs.Types.{Bounds, Kind, Resolved};
+ghost use Rattle.bits.specs.Words.{octet_bits};
+ghost use Rattle.packed_encodings.specs.Computed.{DefaultTest, TellsDefaults, bits_by, bits_of, is_default};
+ghost use Rattle.packed_encodings.specs.Leaves.{Leaf};
+ghost use Rattle.packed_encodings.specs.Lengths.{Counted, CountedOctets, Sized};
+ghost use Rattle.packed_encodings.specs.Orders.{AtMost};
+ghost use Rattle.packed_encodings.specs.Packing.{Form, Packed, Reads, Says, exact, lenient};
+ghost use Rattle.packed_encodings.specs.Padding.{Open, Padded};
+ghost use Rattle.std.specs.Prelude.{◌≡◌, ◌⊎◌, ℕ, Bool, List, [], ◌++◌};
+
+use asn_base::law::{alike_values, sameness};
+use encodings::leaf_laws;
+
+/// Bits say one value, and no encoding of a type begins another one, by what is written and by what is read.
+pub fn reading_laws()
+    // Whatever follows two encodings of a type: where they begin alike, they are one, of one value.
+    ensures none_begins_another { (s : List Resolved) (f : Form) (t j k : ℕ) (v w : AbstractValue)
+        (x y p q : List Bool)
+        → IsSchema s
+        → Says s f t v j x
+        → Says s f t w k y
+        → x ++ p ≡ y ++ q
+        → (v ≡ w) × (j ≡ k) × (x ≡ y) × (p ≡ q) }
+    // What is written is read, with no additions that the type lacks.
+    ensures written_is_read { (s : List Resolved) (t k : ℕ) (w : AbstractValue) (x : List Bool)
+        → Says s exact t w k x
+        → Says s lenient t w k x }
+    ensures none_lacking { (s : List Resolved) (t k : ℕ) (w : AbstractValue) (x : List Bool)
+        → Says s exact t w k x
+        → k ≡ 0 }
+{}
+
+/// The parts of encodings: leaves, items and octets after their number, and open types. Each has one list of bits, and
+/// none begins another. An open type and a count of octets exist for any contents.
+pub fn part_laws()
+    ensures one_leaf { (s : List Resolved) (k : Kind) (v w : AbstractValue) (a b : List Bool)
+        → IsSound s k
+        → AlikeBy s k v w
+        → Leaf k v a
+        → Leaf k w b
+        → b ≡ a }
+    ensures leaf_front { (k : Kind) (v w : AbstractValue) (a b p q : List Bool)
+        → Leaf k v a
+        → Leaf k w b
+        → a ++ p ≡ b ++ q
+        → (v ≡ w) × (p ≡ q) }
+    ensures one_sized { (z : Bounds) (xs : List (List Bool)) (a b : List Bool) → Sized z xs a → Sized z xs b → b ≡ a }
+    ensures one_counted { (xs : List (List Bool)) (a b : List Bool) → Counted xs a → Counted xs b → b ≡ a }
+    ensures some_counted { (xs : List (List Bool)) → (a : List Bool) × Counted xs a }
+    ensures octets_front { (o r : List ℕ) (a b p q : List Bool)
+        → CountedOctets o a
+        → CountedOctets r b
+        → a ++ p ≡ b ++ q
+        → (o ≡ r) × (p ≡ q) }
+    ensures one_open { (x y z : List Bool) → Open x y → Open x z → z ≡ y }
+    ensures some_open { (x : List Bool) → (y : List Bool) × Open x y }
+    ensures some_filling { (x : List Bool) → (o : List ℕ) × Padded x o }
+{}
+
+/// Two lists that ascend and hold the same encodings of one type are one list.
+pub fn order_laws()
+    ensures either { (x y : List Bool) → AtMost x y ⊎ AtMost y x }
+    ensures joined { (x y z : List Bool) → AtMost x y → AtMost y z → AtMost x z }
+    ensures one { (s : List Resolved) (f : Form) (t j k : ℕ) (v w : AbstractValue) (x y : List Bool)
+        → IsSchema s
+        → Says s f t v j x
+        → Says s f t w k y
+        → AtMost x y
+        → AtMost y x
+        → x ≡ y }
+{}
+
+/// A message is read as one value, and none begins another.
+pub fn message_laws()
+    ensures one_value { (s : List Resolved) (t j k : ℕ) (v w : AbstractValue) (o : List ℕ)
+        → IsSchema s
+        → Reads s t v j o
+        → Reads s t w k o
+        → (v ≡ w) × (j ≡ k) }
+    ensures none_begins_another { (s : List Resolved) (t j k : ℕ) (v w : AbstractValue) (o r : List ℕ)
+        → IsSchema s
+        → Reads s t v j o
+        → Reads s t w k (o ++ r)
+        → r ≡ [] }
+    // Octets whose bits begin with an encoding are read only where they are that encoding, filled: no octet more, and no
+    // filling bit 1.
+    ensures only_filled { (s : List Resolved) (t j k : ℕ) (v w : AbstractValue) (x p : List Bool) (o : List ℕ)
+        → IsSchema s
+        → Says s lenient t v j x
+        → octet_bits o ≡ x ++ p
+        → Reads s t w k o
+        → Padded x o × (w ≡ v) × (k ≡ j) }
+    // Bits are filled to one list of octets.
+    ensures one_filling { (x : List Bool) (o r : List ℕ) → Padded x o → Padded x r → r ≡ o }
+{}
+
+/// Values that are the same have one list of bits, which is that of no other values.
+pub fn writing_laws()
+    // What is written of a value as it stands is its bits.
+    ensures packed { (s : List Resolved) (t : ℕ) (v : AbstractValue) (x : List Bool)
+        → IsValueWithoutNodes s t v
+        → Says s exact t v 0 x
+        → Packed s t v x }
+    ensures one_list { (s : List Resolved) (t : ℕ) (v w : AbstractValue) (x y : List Bool)
+        → IsSchema s
+        → Same s t v w
+        → Packed s t v x
+        → Packed s t w y
+        → y ≡ x }
+    ensures one_value { (s : List Resolved) (t : ℕ) (v w : AbstractValue) (x : List Bool)
+        → IsSchema s
+        → Packed s t v x
+        → Packed s t w x
+        → Same s t v w }
+    // A message of a value is read as one that is the same, with no additions that the type lacks.
+    ensures message { (s : List Resolved) (t : ℕ) (v : AbstractValue) (x : List Bool) (o : List ℕ)
+        → IsValue s t v
+        → Packed s t v x
+        → Padded x o
+        → (w : AbstractValue) × Same s t v w × Reads s t w 0 o }
+{
+    sameness();
+}
+
+/// Each value of a type of a schema has bits, and a message.
+pub fn existence_laws()
+    ensures bits { (s : List Resolved) (t : ℕ) (v : AbstractValue)
+        → IsSchema s
+        → IsValueWithoutNodes s t v
+        → (x : List Bool) × Packed s t v x }
+    ensures message { (s : List Resolved) (t : ℕ) (v : AbstractValue)
+        → IsSchema s
+        → IsValue s t v
+        → (o : List ℕ) × (w : AbstractValue) × Same s t v w × Reads s t w 0 o }
+{
+    sameness();
+    alike_values();
+    leaf_laws();
+    writing_laws();
+}
+
+/// A function computes the bits of a value by any test of defaults that is right, and there is a test that computes.
+pub fn computing_laws()
+    ensures only { (s : List Resolved) (test : DefaultTest) (t : ℕ) (v : AbstractValue) (x : List Bool)
+        → IsSchema s
+        → TellsDefaults s test
+        → Packed s t v x
+        → bits_by test s v t ≡ x }
+    ensures defaults { (s : List Resolved) → TellsDefaults s (is_default s) }
+    ensures packed { (s : List Resolved) (t : ℕ) (v : AbstractValue)
+        → IsSchema s
+        → IsValueWithoutNodes s t v
+        → Packed s t v (bits_of s v t) }
+{
+    sameness();
+    alike_values();
+    existence_laws();
+}
