@@ -1,22 +1,27 @@
 #!/usr/bin/env bash
-# Runs each command that the README shows behind "$ ./asnc" and compares what it prints with what the README shows.
+# Runs each command that README.md and docs/TOUR.md show after "$ ./asnc" and compares what it prints with what they show.
 set -euo pipefail
 
-usage="usage: tour.sh [PAGE]   (runs the commands of PAGE, README.md where none is named, and compares what they print)"
+usage="usage: tour.sh [PAGE..]   (runs the commands of these pages, README.md and docs/TOUR.md where none is named)"
 if [[ $# -eq 1 && ($1 == --help || $1 == -h) ]]; then
   printf '%s\n' "$usage"
   exit 0
 fi
-if [[ $# -gt 1 || ${1:-README.md} == -* ]]; then
-  printf '%s\n' "$usage" >&2
-  exit 2
-fi
-readme=$(readlink -f -- "${1:-$(dirname "$(readlink -f "${BASH_SOURCE[0]}")")/README.md}")
-if [[ ! -f $readme ]]; then
-  printf '%s\n' "tour.sh: $readme is not there" >&2
-  exit 2
-fi
-cd "$(dirname "$(readlink -f "${BASH_SOURCE[0]}")")"
+top=$(dirname "$(readlink -f "${BASH_SOURCE[0]}")")
+pages=()
+for page in "$@"; do
+  if [[ $page == -* ]]; then
+    printf '%s\n' "$usage" >&2
+    exit 2
+  fi
+  if [[ ! -f $page ]]; then
+    printf '%s\n' "tour.sh: $page is not there" >&2
+    exit 2
+  fi
+  pages+=("$(readlink -f -- "$page")")
+done
+[[ $# -gt 0 ]] || pages=("$top/README.md" "$top/docs/TOUR.md")
+cd "$top"
 ran=0
 failed=0
 command=
@@ -36,18 +41,28 @@ check() {
   shown=
 }
 
+# run_page PAGE: runs the commands of a page.
+run_page() {
+  local line
+  while IFS= read -r line; do
+    line=${line#    }
+    if [[ $line == '$ ./asnc'* ]]; then
+      check
+      command=${line#\$ }
+    elif [[ -z $line || $line == '```'* || $line == '$ '* ]]; then
+      check
+    elif [[ -n $command ]]; then
+      shown+=$line$'\n'
+    fi
+  done <"$1"
+  check
+}
+
 ./asnc --help >/dev/null
-while IFS= read -r line; do
-  line=${line#    }
-  if [[ $line == '$ ./asnc'* ]]; then
-    check
-    command=${line#\$ }
-  elif [[ -z $line || $line == '```'* || $line == '$ '* ]]; then
-    check
-  elif [[ -n $command ]]; then
-    shown+=$line$'\n'
-  fi
-done <"$readme"
-check
-printf '%s\n' "tour: $ran commands of $(basename "$readme"), $failed differ"
+names=
+for page in "${pages[@]}"; do
+  run_page "$page"
+  names+="${names:+ and }$(basename "$page")"
+done
+printf '%s\n' "tour: $ran commands of $names, $failed differ"
 [[ $ran -gt 0 && $failed -eq 0 ]]

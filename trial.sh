@@ -5,7 +5,7 @@ set -euo pipefail
 export LC_ALL=C
 
 top=$(cd "$(dirname "$(readlink -f "${BASH_SOURCE[0]}")")" && pwd)
-usage="usage: trial.sh [--all] [--jobs N] [CRATE..]"
+usage="usage: trial.sh [--all] [--jobs N] [CRATE..]; trial.sh --table | --rows [CRATE..]"
 
 # help: what the words mean.
 help() {
@@ -15,7 +15,11 @@ help() {
     "Edits of definitions are tried alone; a line 'with: CRATE' in one names the crate above whose check refuses it." \
     "The status is 1 where an edit passes, doesn't compile or can't be applied, and 2 for words that are not known." "" \
     "  --all      tries the edits of must-fail too, which rt ci tries" \
-    "  --jobs N   lets a check have N jobs (1)"
+    "  --jobs N   lets a check have N jobs (1)" \
+    "  --table    tries nothing; prints how many edits each crate has or, of the crates named, each edit: whether the" \
+    "             gate or trial.sh tries it, the file that it changes first, and its line 'found:' where it has one" \
+    "  --rows     tries nothing; prints which row needs which clause of a definition (crates/CRATE/trial/clauses.txt);" \
+    "             the status is 1 where a row that is named there is in no file"
 }
 
 # refuse: says what is wrong with the words, and how they go.
@@ -96,7 +100,8 @@ swap() {
   return 1
 }
 
-# apply EDIT: makes the changes of an edit in the copy of its crate.
+# apply EDIT: makes the changes of an edit in the copy of its crate. A line 'found:', which says what the edit found, and a
+# line 'with:' change nothing.
 apply() {
   local line file='' old=''
   while IFS= read -r line || [[ -n $line ]]; do
@@ -415,11 +420,85 @@ table() {
   printf '%s\n' "trial: $many edits, $((many - wrong)) refused, $wrong not; $SECONDS s, $worked processor seconds"
 }
 
-all= jobs=1 crates=()
+# edits_of CRATE: the files of a crate's edits, those of the gate first.
+edits_of() {
+  find "$top/crates/$1/must-fail" "$top/crates/$1/trial" -name '*.edit' 2>/dev/null | sort || true
+}
+
+# count_edits: how many edits each crate has, in the gate and in trial, and how many of these change a definition first.
+count_edits() {
+  local name
+  printf '%-20s %8s %8s %15s\n' crate gate trial 'of definitions'
+  for name in "${crates[@]}"; do
+    edits_of "$name"
+  done | xargs -r awk '
+    FNR == 1 { count = split(FILENAME, part, "/"); name = part[count - 2]; kind = part[count - 1]; first = 1 }
+    /^file: / && first {
+      first = 0
+      number[name, kind]++
+      if ($2 ~ /^(specs|proofs)\//) definitions[name]++
+      if (!(name in seen)) { seen[name]; names[++many] = name }
+    }
+    END {
+      for (i = 1; i <= many; i++) {
+        name = names[i]
+        printf "%-20s %8d %8d %15d\n", name, number[name, "must-fail"], number[name, "trial"], definitions[name]
+        gate += number[name, "must-fail"]; trial += number[name, "trial"]; all += definitions[name]
+      }
+      printf "%-20s %8d %8d %15d\n", "all", gate, trial, all
+    }'
+}
+
+# show_edits: each edit of the crates that are named: who tries it, the file that it changes first, and what was found.
+show_edits() {
+  local name
+  for name in "${crates[@]}"; do
+    edits_of "$name"
+  done | xargs -r awk '
+    function show() { if (name != "") printf "%-16s %-6s %-46s %-24s %s\n", crate, kind, name, file, found }
+    FNR == 1 {
+      show()
+      count = split(FILENAME, part, "/")
+      crate = part[count - 2]; kind = part[count - 1] == "trial" ? "trial" : "gate"
+      name = part[count]; sub(/\.edit$/, "", name)
+      file = ""; found = ""
+    }
+    /^file: / && file == "" { file = $2 }
+    /^found: / { found = substr($0, 8) }
+    END { show() }'
+}
+
+# row_names: the names of all rows: lemmas, laws and rows of data; and those of crates, files of rows and edits.
+row_names() {
+  find "$top/crates" -name out -prune -o \( -name '*.antt' -o -name '*.rt' \) -print0 |
+    xargs -0 sed -nE "s/^((pub|abbrev) )*([a-z][A-Za-z0-9_']*) :.*/\3/p; s/^ *(pub )?fn ([a-z_0-9]+).*/\2/p"
+  sed -nE 's/^=== //p' "$top"/crates/*/data/*.rows | tr ' ' '\n'
+  printf '%s\n' "$top"/crates/* "$top"/crates/*/data/*.rows "$top"/crates/*/trial/*.edit | sed -E 's/.*\///; s/\.[a-z]+$//'
+}
+
+# show_rows: which rows need which clause, and the status 1 where a row that is named is in no file.
+show_rows() {
+  local name lost
+  for name in "${crates[@]}"; do
+    if [[ -f $top/crates/$name/trial/clauses.txt ]]; then
+      cat "$top/crates/$name/trial/clauses.txt"
+    fi
+  done
+  lost=$(for name in "${crates[@]}"; do
+    cat "$top/crates/$name/trial/clauses.txt" 2>/dev/null || true
+  done | grep -v '^#' | sed -E 's/^[^|]*//' | grep -oE "\b[a-z0-9]+([-_][a-z0-9']+)+\b" | sort -u |
+    comm -23 - <(row_names | sort -u))
+  [[ -n $lost ]] || return 0
+  printf '%s\n' "trial.sh: no row has one of these names:" "$lost" >&2
+  return 1
+}
+
+all= jobs=1 show= crates=()
 while [[ $# -gt 0 ]]; do
   case $1 in
     --help) help && exit 0 ;;
     --all) all=yes ;;
+    --table | --rows) show=${1#--} ;;
     --jobs)
       [[ ${2:-} =~ ^[1-9][0-9]?$ ]] || refuse "--jobs takes a number"
       jobs=$2
@@ -433,9 +512,21 @@ while [[ $# -gt 0 ]]; do
   esac
   shift
 done
-if [[ ${#crates[@]} -eq 0 ]]; then
+named=${#crates[@]}
+if [[ $named -eq 0 ]]; then
   mapfile -t crates < <(sed -nE 's/#.*//; s/^([a-z_0-9]+).*:.*/\1/p' "$top/crates.txt")
 fi
+case $show in
+  rows)
+    show_rows
+    exit
+    ;;
+  table)
+    [[ $named -eq 0 ]] || show_edits
+    count_edits
+    exit
+    ;;
+esac
 command -v rt >/dev/null || refuse "the command rt of the Rattle kit is needed"
 
 work=$(mktemp -d)
