@@ -1,0 +1,5 @@
+mod Natural
+mod Fields
+mod Additions
+mod Calls
+mod Written
