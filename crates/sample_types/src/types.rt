@@ -689,72 +689,20 @@ pub fn schema(alloc: Global) -> Result<Schema, AllocError>
     Ok(Schema::of(types))
 }
 
+/// The names of the types, in order of their numbers, and one more.
+const NAMES: &str = "\
+    boolean integer one-to-three-or-eight items bits named-bits octets null oid relative-oid text \
+    one-or-two-characters digits no-members three-members numbers set-of-numbers \
+    set-of-named-bits inner-choice choice group levels tagged set-by-default application-30 \
+    application-31 context-128 context-0-boolean context-1-boolean set truths set-of-truths \
+    set-of-strings zero-to-seven context-2-null two-additions one-group context-0-integer \
+    optional-first context-1-null not-in-order numbered-items newer with-newer twice-implicit \
+    three-digits extensible-size rows set-of-sets mixed context-0-null open-set optional-null \
+    two-numbers two-strings one-truth set-of-one-truth nested newer-or-truth newer-elements \
+    optional-number none-such";
+
 /// The number of the type with this name; `none-such` is the number behind the last one.
 pub fn type_named(name: &str) -> Option<TypeId> {
-    let index = match name {
-        "boolean" => 0,
-        "integer" => 1,
-        "one-to-three-or-eight" => 2,
-        "items" => 3,
-        "bits" => 4,
-        "named-bits" => 5,
-        "octets" => 6,
-        "null" => 7,
-        "oid" => 8,
-        "relative-oid" => 9,
-        "text" => 10,
-        "one-or-two-characters" => 11,
-        "digits" => 12,
-        "no-members" => 13,
-        "three-members" => 14,
-        "numbers" => 15,
-        "set-of-numbers" => 16,
-        "set-of-named-bits" => 17,
-        "inner-choice" => 18,
-        "choice" => 19,
-        "group" => 20,
-        "levels" => 21,
-        "tagged" => 22,
-        "set-by-default" => 23,
-        "application-30" => 24,
-        "application-31" => 25,
-        "context-128" => 26,
-        "context-0-boolean" => 27,
-        "context-1-boolean" => 28,
-        "set" => 29,
-        "truths" => 30,
-        "set-of-truths" => 31,
-        "set-of-strings" => 32,
-        "zero-to-seven" => 33,
-        "context-2-null" => 34,
-        "two-additions" => 35,
-        "one-group" => 36,
-        "context-0-integer" => 37,
-        "optional-first" => 38,
-        "context-1-null" => 39,
-        "not-in-order" => 40,
-        "numbered-items" => 41,
-        "newer" => 42,
-        "with-newer" => 43,
-        "twice-implicit" => 44,
-        "three-digits" => 45,
-        "extensible-size" => 46,
-        "rows" => 47,
-        "set-of-sets" => 48,
-        "mixed" => 49,
-        "context-0-null" => 50,
-        "open-set" => 51,
-        "optional-null" => 52,
-        "two-numbers" => 53,
-        "two-strings" => 54,
-        "one-truth" => 55,
-        "set-of-one-truth" => 56,
-        "nested" => 57,
-        "newer-or-truth" => 58,
-        "newer-elements" => 59,
-        "optional-number" => 60,
-        "none-such" => 61,
-        _ => return None,
-    };
+    let index = NAMES.split(' ').position(|other| other == name)?;
     Some(TypeId { index })
 }
