@@ -7,4 +7,5 @@ pub mod Scopes
 pub mod Modules
 pub mod ByNumber
 pub mod Faults
+pub mod First
 pub mod proving

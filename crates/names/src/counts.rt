@@ -2,6 +2,7 @@
 
 ghost use Rattle.std.specs.Prelude.{◌≡◌, ◌≤◌, ◌+◌, IfErr, OnOk, map};
 ghost use Rattle.trees.specs.Modules.{assignment_of as given_of, module_tree_of};
+ghost use Rattle.names.specs.First.{IsLimitAt};
 ghost use Rattle.names.specs.Modules.{AreFew, type_count, value_count, all_assignments};
 ghost use Rattle.names.specs.proving.Gathering.{IsNamingFault};
 ghost use Rattle.names.specs.proving.Limiting.{IsPastCount};
@@ -33,6 +34,7 @@ fn count(
     ensures types { OnOk result (counts.new.types ≤ 4096) }
     ensures values { OnOk result (counts.new.values ≤ 65536) }
     ensures fault { IfErr result (IsPastCount counts.old.types counts.old.values within.now (map given_of givens.now)) }
+    ensures at { IfErr result (IsLimitAt givens.now) }
 {
     for given in givens {
         match given {

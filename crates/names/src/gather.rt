@@ -6,6 +6,7 @@ ghost use Rattle.trees.specs.Types.{type_tree_of};
 ghost use Rattle.trees.specs.declared.module.Assignment.TheVariants as givens;
 ghost use Rattle.trees.specs.Modules.{AssignmentTree, ModuleTree, assignment_of as given_of, import_of, module_tree_of};
 ghost use Rattle.names.specs.declared.fault.NameFault.TheVariants as faults;
+ghost use Rattle.names.specs.First.{IsTwiceAt, name_place};
 ghost use Rattle.names.specs.Modules.{AreDistinct, name_of, imports_of};
 ghost use Rattle.names.specs.Names.{under, names_of};
 ghost use Rattle.names.specs.Scopes.{module_of, origin_of, meanings, origins};
@@ -59,6 +60,7 @@ fn name_once(
         (meanings assigned.new.entries ≡ meanings assigned.old.entries ++ (name_at name.now, meaning) ∷ []) }
     ensures fresh { OnOk result (under (name_at name.now) (meanings assigned.old.entries) ≡ None) }
     ensures fault { IfErr result (IsTwice within.now (name_at name.now) (meanings assigned.old.entries)) }
+    ensures at { IfErr result (IsTwiceAt name.now.at) }
 {
     let text = name.it.as_str();
     match given_in(assigned, text) {
@@ -119,6 +121,7 @@ fn add_type(
     ensures fresh { OnOk result (under (name_at given.name) (meanings assigned.old.entries) ≡ None) }
     ensures adds { OnOk result (Adds owner (given_of (givens.Type given) ∷ []) tables.old tables.new) }
     ensures fault { IfErr result (IsTwice within.now (name_at given.name) (meanings assigned.old.entries)) }
+    ensures at { IfErr result (IsTwiceAt given.name.at) }
 {
     let TypeAssignment { name, syntax } = given;
     let meaning = Assigned::Type(tables.assignments.len());
@@ -145,6 +148,7 @@ fn add_value(
     ensures fresh { OnOk result (under (name_at given.name) (meanings assigned.old.entries) ≡ None) }
     ensures adds { OnOk result (Adds owner (given_of (givens.Value given) ∷ []) tables.old tables.new) }
     ensures fault { IfErr result (IsTwice within.now (name_at given.name) (meanings assigned.old.entries)) }
+    ensures at { IfErr result (IsTwiceAt given.name.at) }
 {
     let ValueAssignment {
         name,
@@ -180,6 +184,7 @@ fn add(
     ensures fresh { OnOk result (under (name_of (given_of given)) (meanings assigned.old.entries) ≡ None) }
     ensures adds { OnOk result (Adds owner (given_of given ∷ []) tables.old tables.new) }
     ensures fault { IfErr result (IsTwice within.now (name_of (given_of given)) (meanings assigned.old.entries)) }
+    ensures at { IfErr result (IsTwiceAt (name_place given)) }
 {
     match given {
         Assignment::Type(ty) => match add_type(alloc, owner, within, ty, assigned, tables) {
@@ -239,6 +244,7 @@ fn import_once(
     ensures fresh { OnOk result (under (name_at name) (origins imports.old.entries) ≡ None) }
     ensures fault { IfErr result
         (IsTaken within.now (name_at name) (named_by assigned.now.entries (origins imports.old.entries))) }
+    ensures at { under (name_at name) (meanings assigned.now.entries) ≡ None → IfErr result (IsTwiceAt name.at) }
 {
     match given_in(assigned, name.it.as_str()) {
         Some(given) => {

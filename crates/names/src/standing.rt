@@ -5,6 +5,7 @@ ghost use Rattle.trees.specs.Values.{Name, name_at};
 ghost use Rattle.names.specs.Modules.{StandsIn, IsExported};
 ghost use Rattle.names.specs.Names.{names_of};
 ghost use Rattle.names.specs.Scopes.{module_of, origin_of, origins, scopes};
+ghost use Rattle.names.specs.First.{TellsLost, IsFirstExport, IsImportAt, IsFirstImport, IsFirstOf, IsFirstStanding};
 ghost use Rattle.names.specs.proving.Standing.{IsOffered, ExportAssigned, ImportOffered, HasNoAssignment, IsExportFault, IsImportFault, IsImportsFault, AreStanding, IsStandingFault};
 
 use crate::fault::{NameFault, spot};
@@ -24,6 +25,7 @@ fn all_assigned(
         StandsIn (map name_at names.now) x →
         StandsIn (names_of (module_of scope.now).assigned) x) }
     ensures fault { IfErr result (HasNoAssignment within.now (map name_at names.now) (module_of scope.now).assigned) }
+    ensures first { IfErr result (TellsLost names.now (module_of scope.now).assigned) }
 {
     for i in 0..names.len() {
         let name = &names[i];
@@ -42,6 +44,7 @@ fn all_assigned(
 fn exports_stand(alloc: Global, within: &str, scope: &Scope) -> Result<(), NameFault>
     ensures ok { OnOk result (ExportAssigned (module_of scope.now)) }
     ensures fault { IfErr result (IsExportFault within.now (module_of scope.now)) }
+    ensures first { IfErr result (IsFirstExport (module_of scope.now)) }
 {
     match &scope.exports {
         None => Ok(()),
@@ -73,6 +76,7 @@ fn import_stands(
     ensures ok { OnOk result (IsOffered (scopes modules.now.entries) (origin_of origin.now) name.now) }
     ensures fault { IfErr result
         (IsImportFault (scopes modules.now.entries) within.now (origin_of origin.now) name.now) }
+    ensures at { IfErr result (IsImportAt origin.now) }
 {
     let from = &origin.module;
     match scope_of(modules, from.it.as_str()) {
@@ -93,7 +97,8 @@ fn import_stands(
 /// An import, by its place: the name and where it is from.
 fn entry_at<'a>(imports: &'a IndexMap<String, Origin>, i: usize) -> (&'a String, &'a Origin)
     requires { i < length imports.now.entries }
-    ensures { slice_get (origins imports.now.entries) i ≡ Some (string_bytes result.0.now, origin_of result.1.now) }
+    ensures seen { slice_get (origins imports.now.entries) i ≡ Some (string_bytes result.0.now, origin_of result.1.now) }
+    ensures entry { slice_get imports.now.entries i ≡ Some (result.0.now, result.1.now) }
 {
     imports.get_index(i).unwrap()
 }
@@ -101,7 +106,8 @@ fn entry_at<'a>(imports: &'a IndexMap<String, Origin>, i: usize) -> (&'a String,
 /// A module, by its place: its name and its names.
 fn module_at<'a>(modules: &'a IndexMap<String, Scope>, i: usize) -> (&'a String, &'a Scope)
     requires { i < length modules.now.entries }
-    ensures { slice_get (scopes modules.now.entries) i ≡ Some (string_bytes result.0.now, module_of result.1.now) }
+    ensures seen { slice_get (scopes modules.now.entries) i ≡ Some (string_bytes result.0.now, module_of result.1.now) }
+    ensures entry { slice_get modules.now.entries i ≡ Some (result.0.now, result.1.now) }
 {
     modules.get_index(i).unwrap()
 }
@@ -116,6 +122,8 @@ fn imports_stand(
     ensures ok { OnOk result (ImportOffered (scopes modules.now.entries) (origins imports.now.entries)) }
     ensures fault { IfErr result
         (IsImportsFault (scopes modules.now.entries) within.now (origins imports.now.entries)) }
+    ensures first { IfErr result
+        (IsFirstImport (scopes modules.now.entries) within.now imports.now.entries) }
 {
     for i in 0..imports.len() {
         let (name, origin) = entry_at(imports, i);
@@ -139,6 +147,7 @@ fn one_stands(
     ensures fault { IfErr result (λ e.
         IsExportFault within.now (module_of scope.now) e
         ⊎ IsImportsFault (scopes modules.now.entries) within.now (module_of scope.now).imports e) }
+    ensures first { IfErr result (IsFirstOf (scopes modules.now.entries) within.now scope.now) }
 {
     match exports_stand(alloc, within, scope) {
         Ok(()) => {}
@@ -154,6 +163,7 @@ fn one_stands(
 pub fn all_stand(alloc: Global, modules: &IndexMap<String, Scope>) -> Result<(), NameFault>
     ensures ok { OnOk result (AreStanding (scopes modules.now.entries)) }
     ensures fault { IfErr result (IsStandingFault (scopes modules.now.entries)) }
+    ensures first { IfErr result (IsFirstStanding modules.now.entries) }
 {
     for i in 0..modules.len() {
         let (name, scope) = module_at(modules, i);

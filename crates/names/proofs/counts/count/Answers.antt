@@ -1,4 +1,6 @@
-use Rattle.std.proofs.Common.{arith, ◌≡◌, ◌∷◌, [], sym, ap, ◌∙◌}
+use Rattle.std.proofs.Common.{arith, ◌≡◌, ◌∷◌, [], length, refl, sym, ap, ◌∙◌}
+use Rattle.std.proofs.lemmas.Option.{slice_get_read}
+use Rattle.names.specs.First.{name_place}
 use Rattle.trees.specs.Modules.{assignment_of as given_of}
 use Rattle.trees.specs.Values.{name_at}
 use Rattle.names.specs.Faults.{name_told}
@@ -28,3 +30,17 @@ returns-then-counts-eq-MAX_VALUES-clause-fault c =
       c.in_ok-spot-in-Value.ensures.within,
       past_here value_count values_count 65536 c.args.givens.now c.loop-given.given-index g c.args.counts.now.values c.loop-given.counts.values c.loop-given-test.true c.given-item.is (omega arith) c.loop-given.invariant.values one (name_told told) (named ∙ sym name),
     )
+
+pub returns-then-counts-eq-MAX_TYPES-clause-at : goal.returns-then-counts-eq-MAX_TYPES-clause-at
+returns-then-counts-eq-MAX_TYPES-clause-at c =
+    let gs = c.args.givens.now in
+    let g = c.given-item.result in
+    let there = slice_get_read gs (length gs) c.loop-given.given-index g refl c.loop-given-test.true c.given-item.is in
+    (g, (c.loop-given.given-index, there), c.in_ok-spot-in-Type.ensures.at ∙ sym (ap name_place c.in-Type.is))
+
+pub returns-then-counts-eq-MAX_VALUES-clause-at : goal.returns-then-counts-eq-MAX_VALUES-clause-at
+returns-then-counts-eq-MAX_VALUES-clause-at c =
+    let gs = c.args.givens.now in
+    let g = c.given-item.result in
+    let there = slice_get_read gs (length gs) c.loop-given.given-index g refl c.loop-given-test.true c.given-item.is in
+    (g, (c.loop-given.given-index, there), c.in_ok-spot-in-Value.ensures.at ∙ sym (ap name_place c.in-Value.is))

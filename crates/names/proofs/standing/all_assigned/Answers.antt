@@ -1,4 +1,5 @@
-use Rattle.std.proofs.Common.{arith, ◌≡◌, Some, map, sym, ap, ◌∙◌}
+use Rattle.std.proofs.Common.{arith, ◌≡◌, Some, length, map, refl, sym, ap, ◌∙◌}
+use Rattle.std.proofs.lemmas.Option.{slice_get_read}
 use Rattle.std.proofs.lemmas.List.{length-map}
 use Rattle.trees.specs.Values.{name_at}
 use Rattle.names.specs.Names.{names_of, under}
@@ -22,3 +23,13 @@ returns-clause-ok c =
     let ns = c.args.names.now in
     let as' = (module_of c.args.scope.now).assigned in
     all_stood (map name_at ns) (λ x. StandsIn (names_of as') x) c.loop-i.i (omega (arith, length-map ns name_at)) c.loop-i.invariant
+
+pub returns-in-None-clause-first : goal.returns-in-None-clause-first
+returns-in-None-clause-first c = record {
+  number = c.loop-i.i;
+  name = c.index-names-i.result;
+  there = slice_get_read c.args.names.now (length c.args.names.now) c.loop-i.i c.index-names-i.result refl c.loop-i-test.true c.index-names-i.is;
+  told = c.in_ok-told-in-None.ensures.name ∙ c.as_str-in-None.ensures.value;
+  at = c.in_ok-told-in-None.ensures.at;
+  before = c.loop-i.invariant;
+}

@@ -12,16 +12,30 @@ loop-i-preserved c =
     let x = string_bytes c.entry_at.result.0.now in
     let N = origin_of c.entry_at.result.1.now in
     let o = subst (λ z. IsOffered ss N z) c.as_str.ensures.value c.in-Ok.ensures.ok in
-    each_more (origins c.args.imports.now.entries) (λ (i : Name × Name). IsOffered ss i.1 i.0) c.loop-i.i (x, N) c.entry_at.ensures c.loop-i.invariant o
+    each_more (origins c.args.imports.now.entries) (λ (i : Name × Name). IsOffered ss i.1 i.0) c.loop-i.i (x, N) c.entry_at.ensures.seen c.loop-i.invariant o
 
 pub returns-in-Err-clause-fault : goal.returns-in-Err-clause-fault
 returns-in-Err-clause-fault c =
     let ss = scopes c.args.modules.now.entries in
     let x = string_bytes c.entry_at.result.0.now in
     let N = origin_of c.entry_at.result.1.now in
-    (N, x, (c.loop-i.i, c.entry_at.ensures), subst (λ z. IsImportFault ss c.args.within.now N z c.in-Err.fault) c.as_str.ensures.value c.in-Err.ensures.fault)
+    (N, x, (c.loop-i.i, c.entry_at.ensures.seen), subst (λ z. IsImportFault ss c.args.within.now N z c.in-Err.fault) c.as_str.ensures.value c.in-Err.ensures.fault)
 
 pub returns-clause-ok : goal.returns-clause-ok
 returns-clause-ok c = λ N x s.
     let n : c.loop-i.i ≡ length (origins c.args.imports.now.entries) = omega (arith, seen_long origin_of c.args.imports.now.entries) in
     all_stood (origins c.args.imports.now.entries) (λ (i : Name × Name). IsOffered (scopes c.args.modules.now.entries) i.1 i.0) c.loop-i.i n c.loop-i.invariant (x, N) s
+
+pub returns-in-Err-clause-first : goal.returns-in-Err-clause-first
+returns-in-Err-clause-first c =
+    let ss = scopes c.args.modules.now.entries in
+    let N = origin_of c.entry_at.result.1.now in
+    record {
+      number = c.loop-i.i;
+      name = c.entry_at.result.0.now;
+      origin = c.entry_at.result.1.now;
+      there = c.entry_at.ensures.entry;
+      fault = subst (λ z. IsImportFault ss c.args.within.now N z c.in-Err.fault) c.as_str.ensures.value c.in-Err.ensures.fault;
+      at = c.in-Err.ensures.at;
+      before = c.loop-i.invariant;
+    }

@@ -1,0 +1,94 @@
+-- Which of several faults of names is told, and where in the text: the first one, in the order of modules; in a module
+-- that of an export goes before that of an import.
+use Rattle.std.specs.Prelude.{◌≡◌, ◌⊎◌, ◌<◌, ℕ, List, Option, Some, None, String, map, slice_get, string_bytes}
+use Rattle.std.specs.Global.{Global}
+use Rattle.trees.specs.declared.place.At.{At}
+use Rattle.trees.specs.declared.place.Spot.{Spot}
+use Rattle.trees.specs.declared.module.Assignment.{Assignment}
+use Rattle.trees.specs.declared.module.Assignment.TheVariants as givens
+use Rattle.trees.specs.Values.{Name, name_at}
+use Rattle.names.specs.declared.fault.NameFault.{NameFault}
+use Rattle.names.specs.declared.fault.NameFault.TheVariants as faults
+use Rattle.names.specs.declared.scope.Assigned.{Assigned}
+use Rattle.names.specs.declared.scope.Origin.{Origin}
+use Rattle.names.specs.declared.scope.Scope.{Scope}
+use Rattle.names.specs.Faults.{name_told}
+use Rattle.names.specs.Modules.{StandsIn}
+use Rattle.names.specs.Names.{Module, under, names_of}
+use Rattle.names.specs.Scopes.{module_of, origin_of, origins, scopes}
+use Rattle.names.specs.proving.Standing.{ExportAssigned, ImportOffered, IsOffered, IsImportFault}
+
+-- fault 30 is told at this place
+abbrev pub IsTwiceAt : ℕ → NameFault → Type 0
+IsTwiceAt n faults.Memory = Unit {0}
+IsTwiceAt n (faults.Twice s) = s.at ≡ n
+IsTwiceAt n e = ⊥
+
+-- where the name of an assignment is written
+abbrev pub name_place : Assignment → ℕ
+name_place (givens.Type a) = a.name.at
+name_place (givens.Value a) = a.name.at
+
+-- a limit is told at the name of one of these assignments
+abbrev pub IsLimitAt : List Assignment → NameFault → Type 0
+IsLimitAt gs faults.Memory = Unit {0}
+IsLimitAt gs (faults.Limit l s) = (g : Assignment) × StandsIn gs g × (s.at ≡ name_place g)
+IsLimitAt gs e = ⊥
+
+-- ---- exports
+
+-- the first of these names that has no assignment is told, where it is written
+pub record IsFirstLost (ns : List (At (String Global))) (as' : List (Name × Assigned)) (s : Spot) : Type 0 where
+  pub number : ℕ
+  pub name : At (String Global)
+  pub there : slice_get ns number ≡ Some name
+  pub told : name_told s ≡ name_at name
+  pub at : s.at ≡ name.at
+  pub before : (k : ℕ) (x : Name) → k < number → slice_get (map name_at ns) k ≡ Some x → StandsIn (names_of as') x
+
+abbrev pub TellsLost : List (At (String Global)) → List (Name × Assigned) → NameFault → Type 0
+TellsLost ns as' faults.Memory = Unit {0}
+TellsLost ns as' (faults.UnknownName s) = IsFirstLost ns as' s
+TellsLost ns as' e = ⊥
+
+-- so it is of the names that a module exports
+abbrev pub IsFirstExport : Module → NameFault → Type 0
+IsFirstExport m e = (ns : List (At (String Global))) × (m.exports ≡ Some (map name_at ns)) × TellsLost ns m.assigned e
+
+-- ---- imports
+
+-- a module that isn't there is told where it is named behind FROM, a name where it is imported
+abbrev pub IsImportAt : Origin → NameFault → Type 0
+IsImportAt o faults.Memory = Unit {0}
+IsImportAt o (faults.UnknownModule s) = s.at ≡ o.module.at
+IsImportAt o (faults.UnknownName s) = s.at ≡ o.at
+IsImportAt o (faults.NotExported s) = s.at ≡ o.at
+IsImportAt o e = ⊥
+
+-- the first import of module M that isn't offered is told, where it is written
+pub record IsFirstImport
+    (ss : List (Name × Module)) (M : Name) (is : List (String Global × Origin)) (e : NameFault) : Type 0 where
+  pub number : ℕ
+  pub name : String Global
+  pub origin : Origin
+  pub there : slice_get is number ≡ Some (name, origin)
+  pub fault : IsImportFault ss M (origin_of origin) (string_bytes name) e
+  pub at : IsImportAt origin e
+  pub before : (k : ℕ) (i : Name × Name) → k < number → slice_get (origins is) k ≡ Some i → IsOffered ss i.1 i.0
+
+-- ---- modules
+
+-- an export is told first, and an import where all exports are assigned
+abbrev pub IsFirstOf : List (Name × Module) → Name → Scope → NameFault → Type 0
+IsFirstOf ss M s e =
+    IsFirstExport (module_of s) e ⊎ (ExportAssigned (module_of s) × IsFirstImport ss M s.imports.entries e)
+
+-- the first module whose exports and imports don't stand is told
+pub record IsFirstStanding (es : List (String Global × Scope)) (e : NameFault) : Type 0 where
+  pub number : ℕ
+  pub name : String Global
+  pub scope : Scope
+  pub there : slice_get es number ≡ Some (name, scope)
+  pub fault : IsFirstOf (scopes es) (string_bytes name) scope e
+  pub before : (k : ℕ) (m : Name × Module) → k < number → slice_get (scopes es) k ≡ Some m →
+      ExportAssigned m.1 × ImportOffered (scopes es) m.1.imports
