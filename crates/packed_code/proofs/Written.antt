@@ -43,6 +43,7 @@ module _ (s : List Resolved) (t : ℕ) where
       by false (Some l) (Some u) a b d = append-nil (step_bits s t (integer z) (integer_step false (Some l) (Some u)) []) ∙ sym (ap (λ q. if q then (if is_in_root k z then false ∷ root_integer_bits k.least k.greatest z else true ∷ octets_bits (signed_octets z)) else root_integer_bits k.least k.greatest z) a ∙ ap (λ q. root_integer_bits q k.greatest z) b ∙ ap (λ q. root_integer_bits (Some l) q z) d)
 
   fits_write : {k : Kind} {v : AbstractValue} → Fits k v → kind_at s t ≡ k → steps_bits s t v (routine_of s k) ≡ bits_of s v t
+  unfolding routine_of
   fits_write {v = v} fits_boolean e = append-nil (leaf_bits (kind_at s t) v)
   fits_write (fits_integer {c = k} {z = z} l a) e =
       let h = ap (λ q. leaf_bits q (integer z)) e in an_integer_writes k.visible z h ∙ sym h
@@ -82,12 +83,14 @@ module _ (s : List Resolved) (t : ℕ) where
       ap root_of (sym placed) ∙ root_same (member_at m) (same_component m) ps
 
   sequence_writes : {n : ℕ} (e : Bool) (cs : List Component) (ws : Row) → kind_at s t ≡ a_sequence e cs → AreListed s e cs → AreComponents s n cs ws → steps_bits s t (fields ws) (routine_of s (a_sequence e cs)) ≡ bits_of s (fields ws) t
+  unfolding routine_of
   sequence_writes e cs ws kk li a =
       let m = members_of s t (fields ws) in
       structure_writes (a_sequence e cs) e cs ws kk refl li a (root_of (placed_from 0 cs)) (root_of m) (roots (a_sequence e cs) cs ws kk refl a)
       ∙ sym (ap (λ q. structure_bits s q m) kk)
 
   set_writes : {n : ℕ} (e : Bool) (cs : List Component) (ws : Row) → kind_at s t ≡ a_set e cs → AreListed s e cs → AreComponents s n cs ws → steps_bits s t (fields ws) (routine_of s (a_set e cs)) ≡ bits_of s (fields ws) t
+  unfolding routine_of
   set_writes e cs ws kk li a =
       let m = members_of s t (fields ws) in
       structure_writes (a_set e cs) e cs ws kk refl li a (canonical s (root_of (placed_from 0 cs))) (canonical s (root_of m))
@@ -97,6 +100,7 @@ module _ (s : List Resolved) (t : ℕ) where
   -- ---- all kinds
 
   of_kind_writes : {n : ℕ} {k : Kind} {v : AbstractValue} → IsSound s k → kind_at s t ≡ k → ValueOf s n k v → steps_bits s t v (routine_of s k) ≡ bits_of s v t
+  unfolding routine_of
   of_kind_writes ok kk (of_leaf f) = fits_write f kk
   of_kind_writes ok kk (of_sequence {e = e} {cs = cs} {vs = ws} a g) = sequence_writes e cs ws kk ok a
   of_kind_writes ok kk (of_set {e = e} {cs = cs} {vs = ws} a g) = set_writes e cs ws kk ok.0 a

@@ -1,2 +1,4 @@
 pub mod Routines
 pub mod Meaning
+pub mod Placed
+pub mod Runs

@@ -1,6 +1,6 @@
 -- The packed routine of each type (X.691, 12 to 23).
 use Rattle.std.specs.Prelude.{ℕ, suc, ◌+◌, ℤ, ◌-ℤ◌, nat_abs, Bool, true, false, if◌then◌else◌, List, [], ◌∷◌, ◌++◌}
-use Rattle.std.specs.Prelude.{length, map, Option, Some, None, slice_get}
+use Rattle.std.specs.Prelude.{length, map, flat_map, Option, Some, None, slice_get}
 use Rattle.asn_base.specs.declared.schema.TypeId.{TypeId}
 use Rattle.asn_base.specs.Types.{Alternative, Kind, a_boolean, an_integer}
 use Rattle.asn_base.specs.Types.{a_sequence, a_set, a_sequence_of, a_set_of}
@@ -88,7 +88,7 @@ abbrev pub integer_step : (extensible : Bool) → (least greatest : Option ℤ) 
 integer_step false (Some l) (Some u) = steps.Number l (fewest_bits (nat_abs (u -ℤ l)))
 integer_step e l u = steps.Leaf
 
-abbrev pub routine_of : List Resolved → Kind → List PackedStep
+unfoldable pub routine_of : List Resolved → Kind → List PackedStep
 routine_of s a_boolean = steps.Bit ∷ []
 routine_of s (an_integer c) = integer_step c.visible.extensible c.visible.least c.visible.greatest ∷ []
 routine_of s (a_sequence e cs) = structure e (root_of (placed_from 0 cs)) (placed_from 0 cs)
@@ -102,3 +102,17 @@ routine_of s k = steps.Leaf ∷ []
 -- the routine of a type, and none where there is no such type
 abbrev pub routine_at : List Resolved → TypeNumber → List PackedStep
 routine_at s t = elim (slice_get s t) [ None ↦ [] | Some r ↦ routine_of s r.kind ]
+
+-- ---- one table
+
+-- all routines, one after the other
+abbrev pub table_of : List Resolved → List PackedStep
+table_of s = flat_map (λ r. routine_of s r.kind) s
+
+-- where the routines of some types begin after n steps, and where the last one ends
+abbrev pub starts_from : List Resolved → ℕ → List Resolved → List ℕ
+starts_from s n [] = n ∷ []
+starts_from s n (r ∷ rs) = n ∷ starts_from s (n + length (routine_of s r.kind)) rs
+
+abbrev pub starts_of : List Resolved → List ℕ
+starts_of s = starts_from s 0 s

@@ -1,8 +1,23 @@
 //! Packed routines: for each type of a schema the steps by which its values are written in the packed encodings.
 #![tactic(auto)]
 
+mod build;
+mod choice;
+mod code;
+mod fault;
+mod field;
+mod lines;
+mod order;
+mod routine;
 mod routine_law;
 mod step;
+mod width;
 
+pub use build::compile_packed;
+pub use choice::width_of_place;
+pub use code::PackedCode;
+pub use fault::Fault;
+pub use lines::packed_listing;
 pub use routine_law::routine_laws;
 pub use step::{PackedField, PackedStep, RootCall};
+pub use width::{fewest, span};

@@ -1,0 +1,41 @@
+//! From a schema to its packed routines.
+
+ghost use Rattle.asn_base.specs.Seen.{types_of};
+ghost use Rattle.packed_code.specs.Routines.{starts_of, table_of};
+ghost use Rattle.std.specs.Prelude.{◌≡◌, IfOk};
+
+use crate::code::PackedCode;
+use crate::fault::Fault;
+use crate::routine::push_routine;
+use crate::step::PackedStep;
+use asn_base::schema::{Resolved, Schema};
+use std::alloc::Global;
+
+/// All routines in one table, and where each begins.
+#[derive(Drop)]
+pub(crate) struct Table {
+    pub steps: Vec<PackedStep>,
+    pub starts: Vec<usize>,
+}
+
+/// The packed routines of a schema's types. `Memory`: more memory was asked for and refused; nothing else is refused.
+pub fn compile_packed(alloc: Global, schema: &Schema) -> Result<PackedCode, Fault>
+    ensures { IfOk result (λ code. code ≡ schema.now) }
+{
+    let table = all_routines(alloc, schema.types())?;
+    Ok(PackedCode::of(schema.copy(alloc)?, table))
+}
+
+fn all_routines(alloc: Global, types: &[Resolved]) -> Result<Table, Fault>
+    ensures steps { IfOk result (λ t. t.steps.items ≡ table_of (types_of types.now)) }
+    ensures starts { IfOk result (λ t. t.starts.items ≡ starts_of (types_of types.now)) }
+{
+    let mut steps = Vec::new(alloc);
+    let mut starts = Vec::new(alloc);
+    for i in 0..types.len() {
+        starts.push(steps.len())?;
+        push_routine(&mut steps, types, &types[i].core)?;
+    }
+    starts.push(steps.len())?;
+    Ok(Table { steps, starts })
+}

@@ -1,0 +1,87 @@
+//! The alternatives of a CHOICE (X.691, 23).
+
+ghost use Rattle.asn_base.specs.Seen.{alternative_of, types_of};
+ghost use Rattle.packed_code.specs.Routines.{more_calls, root_calls};
+ghost use Rattle.packed_code.specs.declared.step.PackedStep.TheVariants.{Pick};
+ghost use Rattle.packed_encodings.specs.Leaves.{place_width};
+ghost use Rattle.std.specs.Prelude.{◌≡◌, ◌+◌, ◌++◌, ◌∷◌, [], OnOk, length, map};
+
+use crate::fault::Fault;
+use crate::order::rank_of;
+use crate::step::{PackedStep, RootCall};
+use crate::width::fewest;
+use asn_base::schema::{Alternative, Alternatives, Resolved};
+
+/// The bits that a place among so many takes.
+pub fn width_of_place(count: usize) -> usize
+    ensures { result ≡ place_width count }
+{
+    if count == 0 {
+        0
+    } else {
+        fewest((count - 1) as u128)
+    }
+}
+
+/// An alternative for each, the root's first.
+pub(crate) fn push_choice(
+    out: &mut Vec<PackedStep>,
+    types: &[Resolved],
+    alternatives: &Alternatives,
+) -> Result<(), Fault>
+    ensures { OnOk result (out.new.items ≡ out.old.items
+        ++ (Pick (length alternatives.now.root.items + length alternatives.now.additions.items)
+        ∷ (root_calls (types_of types.now) alternatives.now.extensible (map alternative_of alternatives.now.root.items)
+        (map alternative_of alternatives.now.root.items)
+        ++ more_calls 0 (map alternative_of alternatives.now.additions.items)))) }
+{
+    let root = alternatives.root.as_slice();
+    let additions = alternatives.additions.as_slice();
+    push_pick(out, root, additions)?;
+    push_root(out, types, alternatives.extensible, root)?;
+    push_more(out, additions)
+}
+
+fn push_pick(
+    out: &mut Vec<PackedStep>,
+    root: &[Alternative],
+    additions: &[Alternative],
+) -> Result<(), Fault>
+    ensures { OnOk result (out.new.items ≡ out.old.items ++ Pick (length root.now + length additions.now) ∷ []) }
+{
+    out.push(PackedStep::Pick(root.len() + additions.len()))?;
+    Ok(())
+}
+
+/// The alternatives of the root. They are at most 256, so that counting those before each takes few steps.
+fn push_root(
+    out: &mut Vec<PackedStep>,
+    types: &[Resolved],
+    extensible: bool,
+    root: &[Alternative],
+) -> Result<(), Fault>
+    ensures { OnOk result (out.new.items ≡ out.old.items
+        ++ root_calls (types_of types.now) extensible (map alternative_of root.now) (map alternative_of root.now)) }
+{
+    let width = width_of_place(root.len());
+    for i in 0..root.len() {
+        let ty = root[i].ty;
+        let rank = rank_of(types, root, ty);
+        out.push(PackedStep::Root(RootCall {
+            extensible,
+            width,
+            rank,
+            ty,
+        }))?;
+    }
+    Ok(())
+}
+
+fn push_more(out: &mut Vec<PackedStep>, additions: &[Alternative]) -> Result<(), Fault>
+    ensures { OnOk result (out.new.items ≡ out.old.items ++ more_calls 0 (map alternative_of additions.now)) }
+{
+    for i in 0..additions.len() {
+        out.push(PackedStep::More(i, additions[i].ty))?;
+    }
+    Ok(())
+}

@@ -1,0 +1,196 @@
+//! The fields of a SEQUENCE or SET, in the order in which they are encoded (X.691, 19 and 21).
+
+ghost use Rattle.asn_base.specs.Schemas as schemas;
+ghost use Rattle.asn_base.specs.Seen.{component_of, presence_of, types_of};
+ghost use Rattle.asn_base.specs.Typed as typed;
+ghost use Rattle.packed_code.specs.Routines as routines;
+ghost use Rattle.packed_code.specs.Placed.{placed_of};
+ghost use Rattle.packed_code.specs.Runs.{is_member, run};
+ghost use Rattle.std.specs.List.{insert};
+ghost use Rattle.packed_encodings.specs.Orders as orders;
+ghost use Rattle.std.specs.Prelude.{◌≡◌, ◌≤◌, ◌∷◌, [], IfOk, MatchOption, drop, length, map};
+
+use crate::fault::Fault;
+use crate::order::type_before;
+use crate::step::PackedField;
+use asn_base::schema::{Component, Presence, Resolved};
+use std::alloc::Global;
+
+/// A component, and its place in order of definition.
+#[derive(Clone, Copy)]
+pub(crate) struct Placed<'a> {
+    pub place: usize,
+    pub component: &'a Component,
+}
+
+fn has_bit(presence: &Presence) -> bool
+    ensures { result ≡ orders.has_bit (presence_of presence.now) }
+{
+    match presence {
+        Presence::Mandatory => false,
+        Presence::Optional => true,
+        Presence::Default(_) => true,
+        Presence::Addition(addition) => addition.optional,
+    }
+}
+
+fn has_default(presence: &Presence) -> bool
+    ensures { result ≡ routines.has_default (presence_of presence.now) }
+{
+    match presence {
+        Presence::Mandatory => false,
+        Presence::Optional => false,
+        Presence::Default(_) => true,
+        Presence::Addition(_) => false,
+    }
+}
+
+fn is_addition(component: &Component) -> bool
+    ensures { result ≡ schemas.is_addition (component_of component.now) }
+{
+    match &component.presence {
+        Presence::Mandatory => false,
+        Presence::Optional => false,
+        Presence::Default(_) => false,
+        Presence::Addition(_) => true,
+    }
+}
+
+/// The group of version brackets that a component is a member of, if any.
+pub(crate) fn group_of(component: &Component) -> Option<usize>
+    ensures { result ≡ typed.group_of (component_of component.now).presence }
+{
+    match &component.presence {
+        Presence::Mandatory => None,
+        Presence::Optional => None,
+        Presence::Default(_) => None,
+        Presence::Addition(addition) => addition.group,
+    }
+}
+
+pub(crate) fn field(placed: Placed<'_>) -> PackedField
+    ensures { result ≡ routines.field_at (placed_of placed.entry) }
+{
+    let component = placed.component;
+    PackedField {
+        place: placed.place,
+        with_bit: has_bit(&component.presence),
+        with_default: has_default(&component.presence),
+        ty: component.ty,
+    }
+}
+
+/// The components of the root, in order of definition.
+pub(crate) fn root_of<'a>(
+    alloc: Global,
+    components: &'a [Component],
+) -> Result<Vec<Placed<'a>>, Fault>
+    ensures { IfOk result (λ v. map placed_of v.items
+        ≡ orders.root_of (routines.placed_from 0 (map component_of components.now))) }
+{
+    let mut root = Vec::new(alloc);
+    for place in 0..components.len() {
+        let component = &components[place];
+        if !is_addition(component) {
+            root.push(Placed { place, component })?;
+        }
+    }
+    Ok(root)
+}
+
+/// The additions, in order of definition.
+pub(crate) fn behind_marker<'a>(
+    alloc: Global,
+    components: &'a [Component],
+) -> Result<Vec<Placed<'a>>, Fault>
+    ensures { IfOk result (λ v. map placed_of v.items
+        ≡ orders.behind_marker (routines.placed_from 0 (map component_of components.now))) }
+{
+    let mut additions = Vec::new(alloc);
+    for place in 0..components.len() {
+        let component = &components[place];
+        if is_addition(component) {
+            additions.push(Placed { place, component })?;
+        }
+    }
+    Ok(additions)
+}
+
+/// The first of some components, and those after it.
+pub(crate) fn first_of<'a, 'b>(placed: &'b [Placed<'a>]) -> Option<(Placed<'a>, &'b [Placed<'a>])>
+    ensures { MatchOption result (placed.now ≡ []) (λ p. placed.now ≡ p.0 ∷ p.1.now) }
+{
+    if placed.is_empty() {
+        None
+    } else {
+        Some((placed[0], &placed[1..]))
+    }
+}
+
+/// The components after so many.
+pub(crate) fn after<'a, 'b>(placed: &'b [Placed<'a>], count: usize) -> &'b [Placed<'a>]
+    requires { count ≤ length placed.now }
+    ensures { result.now ≡ drop count placed.now }
+{
+    &placed[count..]
+}
+
+/// The place of a component among others that are in the canonical order of their tags.
+#[tactic(auto, using(crate::proofs::Runs::placed_none, crate::proofs::Runs::placed_here, crate::proofs::Runs::placed_further))]
+fn place_for(types: &[Resolved], placed: Placed<'_>, others: &[Placed<'_>]) -> usize
+    ensures at_most { result ≤ length others.now }
+    ensures is { map placed_of (insert others.now result placed.entry)
+        ≡ orders.placed (types_of types.now) (placed_of placed.entry) (map placed_of others.now) }
+{
+    let Some((first, behind)) = first_of(others) else {
+        return 0;
+    };
+    if type_before(types, first.component.ty, placed.component.ty) {
+        place_for(types, placed, behind) + 1
+    } else {
+        0
+    }
+}
+
+/// The components in the canonical order of their tags. They are at most 256, so that it takes few steps.
+pub(crate) fn in_order<'a>(
+    alloc: Global,
+    types: &[Resolved],
+    root: &[Placed<'a>],
+) -> Result<Vec<Placed<'a>>, Fault>
+    ensures { IfOk result (λ v. map placed_of v.items
+        ≡ orders.canonical (types_of types.now) (map placed_of root.now)) }
+{
+    let Some((first, behind)) = first_of(root) else {
+        return Ok(Vec::new(alloc));
+    };
+    let mut sorted = in_order(alloc, types, behind)?;
+    let at = place_for(types, first, sorted.as_slice());
+    sorted.insert(at, first)?;
+    Ok(sorted)
+}
+
+/// Whether the component is a member of the group.
+fn is_of_group(group: usize, component: &Component) -> bool
+    ensures { result ≡ is_member group (component_of component.now) }
+{
+    match group_of(component) {
+        None => false,
+        Some(other) => group == other,
+    }
+}
+
+/// How many members of the group come first.
+pub(crate) fn run_of(group: usize, placed: &[Placed<'_>]) -> usize
+    ensures at_most { result ≤ length placed.now }
+    ensures is { result ≡ run group (map placed_of placed.now) }
+{
+    let Some((first, behind)) = first_of(placed) else {
+        return 0;
+    };
+    if is_of_group(group, first.component) {
+        run_of(group, behind) + 1
+    } else {
+        0
+    }
+}

@@ -1,0 +1,24 @@
+//! How many bits numbers take (X.691, 11.5).
+
+ghost use Rattle.packed_encodings.specs.Lengths.{fewest_bits};
+ghost use Rattle.std.specs.Prelude.{◌≡◌, ◌-ℤ◌, ◌≤◌, nat_abs};
+
+/// The fewest bits for the numbers from 0 to this one, at most 128.
+#[tactic(auto, using(crate::proofs::Widths::halved, crate::proofs::Widths::at_most))]
+pub fn fewest(greatest: u128) -> usize
+    ensures is { result ≡ fewest_bits greatest }
+    ensures at_most { result ≤ 128 }
+{
+    if greatest == 0 {
+        0
+    } else {
+        fewest(greatest / 2) + 1
+    }
+}
+
+/// How far two numbers are apart.
+pub fn span(least: i128, greatest: i128) -> u128
+    ensures { result ≡ nat_abs (greatest -ℤ least) }
+{
+    greatest.abs_diff(least)
+}
