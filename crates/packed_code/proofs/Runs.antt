@@ -1,9 +1,8 @@
 -- Additions that stand together in a group, and insertion.
-use Rattle.std.proofs.Common.{◌≡◌, ℕ, suc, zero, ◌+◌, ◌≤◌, Bool, true, false, List, [], ◌∷◌, ◌++◌, length, map, take, drop, refl, sym, ap, subst, ◌∙◌, arith, append_assoc}
+use Rattle.std.proofs.Common.{◌≡◌, ℕ, suc, zero, ◌+◌, Bool, true, false, List, [], ◌∷◌, ◌++◌, length, map, take, drop, refl, sym, ap, ◌∙◌, arith, append_assoc}
 use Rattle.std.proofs.lemmas.Bool.{eqb-true}
 use Rattle.std.specs.Prelude.{if◌then◌else◌, ◌==◌, Option, Some, None}
 use Rattle.std.specs.List.{insert}
-use Rattle.asn_base.specs.Types.{Component}
 use Rattle.asn_base.specs.Typed.{group_of}
 use Rattle.packed_encodings.specs.Orders.{Member, component, Addition, alone, bracketed, is_of_group, in_front, additions, placed, stands_before}
 use Rattle.asn_base.specs.Types.{Resolved}
