@@ -1,0 +1,16 @@
+pub mod Fronts
+pub mod Headers
+pub mod Leaves
+pub mod Rows
+pub mod Steps
+pub mod Lists
+pub mod Members
+pub mod ByKind
+pub mod Told
+pub mod Sets
+pub mod Skipping
+pub mod Laws
+pub mod Weaker
+pub mod SentBack
+pub mod Placing
+pub mod Standing

@@ -1,0 +1,127 @@
+-- What it takes for rows to follow a type and a value, row by row.
+use Rattle.std.specs.Prelude.{◌≡◌, ℕ, List, [], ◌∷◌, Option, Some, None, slice_get, get_or, length}
+use Rattle.asn_base.specs.declared.tag.Tag.{Tag}
+use Rattle.std.specs.List.{sum}
+use Rattle.asn_base.specs.Abstract.{AbstractValue, Row, fields, list, alternative}
+use Rattle.asn_base.specs.Types.{Alternative, Kind, default, Component, Resolved}
+use Rattle.encodings.specs.Header.{Octets}
+use Rattle.encodings.specs.Encoding.{IsDefault}
+use Rattle.encodings.specs.Account.{Account, Rows, absent_row, default_row, written, ArePlaces}
+use Rattle.octet_account.specs.Flat.{FlatRow, a_leaf, a_wrap, a_seq, a_seqof, a_set, a_setof, an_absent, a_default}
+use Rattle.octet_account.specs.Flat.{rows_of}
+use Rattle.account_checker.specs.declared.asked.Asked.{Asked}
+use Rattle.account_checker.specs.declared.order.Order.{Order}
+use Rattle.account_checker.specs.declared.order.Order.TheVariants.{InOrder, Placed}
+use Rattle.account_checker.specs.Follows.{Where, Part, HasNoDefault, octets_told, sizes, before, by_place, Follows}
+use Rattle.account_checker.specs.Follows.{Under}
+use Rattle.account_checker.specs.Follows.{MembersFollow, ElementsFollow}
+
+-- a member of an account: left out by one of two rows, or written
+pub data Member : Type 0 where
+  is_absent : Member
+  is_default : Member
+  is_written : Account → Member
+
+abbrev pub put : Member → Rows → Rows
+put is_absent rs = absent_row rs
+put is_default rs = default_row rs
+put (is_written a) rs = written a rs
+
+-- its rows
+abbrev pub rows_in : Member → List FlatRow
+rows_in is_absent = an_absent ∷ []
+rows_in is_default = a_default ∷ []
+rows_in (is_written a) = rows_of a
+
+-- how many octets it tells, where it is written
+abbrev pub size_in : Member → Option ℕ
+size_in is_absent = None
+size_in is_default = None
+size_in (is_written a) = Some (octets_told a)
+
+-- as many octets, or none
+abbrev pub size_or : Option ℕ → ℕ
+size_or None = 0
+size_or (Some n) = n
+
+-- one where there is a number, else none
+abbrev pub count_or : Option ℕ → ℕ
+count_or None = 0
+count_or (Some n) = 1
+
+-- the component has a DEFAULT
+abbrev pub HasDefault : Component → Type 0
+HasDefault c = (d : AbstractValue) × (c.presence ≡ default d)
+
+-- the account stands at the place and follows the value
+abbrev pub WrittenAt : List Resolved → Asked → ℕ → ℕ → AbstractValue → Octets → Account → Type 0
+WrittenAt s q place t v x a = (y : Octets) × Part q.headers x place (octets_told a) y × Follows s q t v y a
+
+-- the member follows a component and its value, and stands at the place where it is written
+abbrev pub MemberAt : List Resolved → Asked → ℕ → Component → Option AbstractValue → Octets → Member → Type 0
+MemberAt s q place c None x is_absent = HasNoDefault c
+MemberAt s q place c None x is_default = HasDefault c
+MemberAt s q place c None x (is_written a) =
+    (d : AbstractValue) × (c.presence ≡ default d) × Where q.omitted ⊥ × WrittenAt s q place c.type d x a
+MemberAt s q place c (Some v) x is_absent = ⊥
+MemberAt s q place c (Some v) x is_default = HasDefault c × Where q.omitted (IsDefault s c v)
+MemberAt s q place c (Some v) x (is_written a) =
+    Where q.omitted (IsDefault s c v → ⊥) × WrittenAt s q place c.type v x a
+
+-- the same for an element
+abbrev pub ElementAt : List Resolved → Asked → ℕ → ℕ → AbstractValue → Octets → Member → Type 0
+ElementAt s q place u v x (is_written a) = WrittenAt s q place u v x a
+ElementAt s q place u v x m = ⊥
+
+-- the account follows the value of the alternative with its number
+abbrev pub ChosenFollows : List Resolved → Asked → List Alternative → ℕ → AbstractValue → Octets → Account → Type 0
+ChosenFollows s q as' i v o a = (b : Alternative) × (slice_get as' i ≡ Some b) × Follows s q b.type v o a
+
+-- within outer headers, whether the account follows is whether another one does, whose rows are these, under one tag
+pub record IsOuterOf (q : Asked) (tags : List Tag) (o : Octets) (a : Account) (g : Tag) (x : Octets)
+    (b : Account) : Type 0 where
+  pub inward : (s : List Resolved) (k : Kind) (v : AbstractValue) → Under s q tags k v o a → Under s q (g ∷ []) k v x b
+  pub outward : (s : List Resolved) (k : Kind) (v : AbstractValue) → Under s q (g ∷ []) k v x b → Under s q tags k v o a
+
+-- how many members or rows a row has right below it
+abbrev pub members_in : FlatRow → ℕ
+members_in (a_leaf z) = 0
+members_in (a_wrap z) = 1
+members_in (a_seq z n) = n
+members_in (a_seqof z n) = n
+members_in (a_set z n p i) = n
+members_in (a_setof z n p i) = n
+members_in an_absent = 0
+members_in a_default = 0
+
+-- the offset of the written member with a number, of some with so many octets each
+abbrev pub place_in : Order → List ℕ → ℕ → ℕ
+place_in InOrder ns k = before ns k
+place_in (Placed p i) ns k = before (by_place ns i.now) (get_or p.now k 0)
+
+-- places are those of n members, where it is asked
+abbrev pub AreInOrder : Asked → Order → ℕ → Type 0
+AreInOrder q InOrder n = Unit {0}
+AreInOrder q (Placed p i) n = Where q.places (ArePlaces n p.now i.now)
+
+-- the members of a SEQUENCE or SET follow its components, and tell n octets
+abbrev pub FieldsFollow : List Resolved → Asked → Order → List Component → AbstractValue → ℕ → Octets → Rows → Type 0
+FieldsFollow s q order cs v n x rs =
+    (vs : Row) × (v ≡ fields vs) × Where q.numbers (n ≡ sum (sizes rs))
+    × AreInOrder q order (length (sizes rs))
+    × MembersFollow s q (place_in order (sizes rs)) cs vs 0 x rs
+
+-- the members of a SEQUENCE OF or SET OF follow its elements
+abbrev pub ListFollows : List Resolved → Asked → Order → ℕ → AbstractValue → ℕ → Octets → Rows → Type 0
+ListFollows s q order u v n x rs =
+    (vs : Row) × (v ≡ list vs) × Where q.numbers (n ≡ sum (sizes rs))
+    × AreInOrder q order (length (sizes rs))
+    × ElementsFollow s q (place_in order (sizes rs)) u vs 0 x rs
+
+-- an account follows the value of an alternative, whichever it is
+abbrev pub ChoiceFollows : List Resolved → Asked → List Alternative → AbstractValue → Octets → Account → Type 0
+ChoiceFollows s q as' v o a = (i : ℕ) × (w : AbstractValue) × (v ≡ alternative i w) × ChosenFollows s q as' i w o a
+
+-- where the first list tells j at i, the second one tells i at j
+abbrev pub SendsBack : List ℕ → List ℕ → Type 0
+SendsBack p q = (i j : ℕ) → slice_get p i ≡ Some j → slice_get q j ≡ Some i

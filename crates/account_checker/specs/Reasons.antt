@@ -1,0 +1,63 @@
+-- What each reason of a verdict denies, and in which order.
+use Rattle.std.specs.Prelude.{◌≡◌, ℕ, ◌<◌, true, false, List, length}
+use Rattle.asn_base.specs.Abstract.{AbstractValue}
+use Rattle.asn_base.specs.Types.{TypeNumber, Resolved}
+use Rattle.asn_base.specs.Typed.{IsValue}
+use Rattle.encodings.specs.Header.{Octets}
+use Rattle.encodings.specs.Account.{Account, Tells}
+use Rattle.account_checker.specs.declared.asked.Asked.{Asked}
+use Rattle.account_checker.specs.declared.reason.Reason.{Reason}
+use Rattle.account_checker.specs.declared.reason.Reason.TheVariants.{NotOfType, Shape, Omitted, Numbers, Places, Length}
+use Rattle.account_checker.specs.declared.reason.Reason.TheVariants.{Header, Contents}
+use Rattle.account_checker.specs.Follows.{Follows, octets_told}
+
+abbrev pub rank : Reason → ℕ
+rank NotOfType = 0
+rank Shape = 1
+rank Omitted = 2
+rank Numbers = 3
+rank Places = 4
+rank Length = 5
+rank Header = 6
+rank Contents = 7
+
+-- shape alone; then one more each
+abbrev pub to_shape : Asked
+to_shape = record { omitted = false; numbers = false; places = false; headers = false; contents = false }
+
+abbrev pub to_omitted : Asked
+to_omitted = record { omitted = true; numbers = false; places = false; headers = false; contents = false }
+
+abbrev pub to_numbers : Asked
+to_numbers = record { omitted = true; numbers = true; places = false; headers = false; contents = false }
+
+abbrev pub to_places : Asked
+to_places = record { omitted = true; numbers = true; places = true; headers = false; contents = false }
+
+abbrev pub to_headers : Asked
+to_headers = record { omitted = true; numbers = true; places = true; headers = true; contents = false }
+
+abbrev pub to_contents : Asked
+to_contents = record { omitted = true; numbers = true; places = true; headers = true; contents = true }
+
+-- what a reason denies: of a type, a value, octets and an account
+abbrev pub Holds : List Resolved → TypeNumber → AbstractValue → Octets → Account → Reason → Type 0
+Holds s t v o a NotOfType = IsValue s t v
+Holds s t v o a Shape = Follows s to_shape t v o a
+Holds s t v o a Omitted = Follows s to_omitted t v o a
+Holds s t v o a Numbers = Follows s to_numbers t v o a
+Holds s t v o a Places = Follows s to_places t v o a
+Holds s t v o a Length = length o ≡ octets_told a
+Holds s t v o a Header = Follows s to_headers t v o a
+Holds s t v o a Contents = Follows s to_contents t v o a
+
+-- the first of them that fails
+pub record Fails (s : List Resolved) (t : TypeNumber) (v : AbstractValue) (o : Octets) (a : Account) (r : Reason)
+    : Type 0 where
+  pub denied : Holds s t v o a r → ⊥
+  pub first : (e : Reason) → rank e < rank r → Holds s t v o a e
+
+-- the account tells how the octets encode a value of the type
+pub record IsRight (s : List Resolved) (t : TypeNumber) (v : AbstractValue) (o : Octets) (a : Account) : Type 0 where
+  pub value : IsValue s t v
+  pub tells : Tells s t v o a

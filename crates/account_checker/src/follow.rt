@@ -1,0 +1,759 @@
+//! Whether the rows of an account follow a type and a value.
+
+ghost use Rattle.account_checker.specs.Follows.{AreContents, ElementsFollow, Follows, HasContents, InsideFollows, MembersFollow, Under, Where, before, is_built, octets_told as octets_in, sizes};
+ghost use Rattle.account_checker.specs.Parts.{ChoiceFollows, ElementAt, FieldsFollow, HasDefault, IsOuterOf, ListFollows, Member, MemberAt, WrittenAt, is_absent, is_default as left_out, place_in, rows_in, size_in, size_or};
+ghost use Rattle.asn_base.specs.Abstract.{AbstractValue, Row as Row', abstract, alternative, fields, list, row_of_list, row_of_options};
+ghost use Rattle.asn_base.specs.Decided.{IsChosen, IsComponent};
+ghost use Rattle.asn_base.specs.Seen.{alternative_of, component_of, kind_of};
+ghost use Rattle.asn_base.specs.Typed.{AreComponents, AreElements, ValueIn, ValueOf};
+ghost use Rattle.asn_base.specs.Same.{IsLeaf};
+ghost use Rattle.asn_base.specs.Schemas.{HasValue, IsSound};
+ghost use Rattle.asn_base.specs.Types.{Alternative, Kind, Resolved};
+ghost use Rattle.account_checker.specs.declared.asked.Asked.{Asked as Asked'};
+ghost use Rattle.encodings.specs.Encoding.{IsDefault};
+ghost use Rattle.encodings.specs.Header.{Octets};
+ghost use Rattle.std.specs.List.{AllByRecursion};
+ghost use Rattle.encodings.specs.Account.{Account, Inside, Numbers as Numbers', Rows, header};
+ghost use Rattle.octet_account.specs.Flat.{FlatRow, count, member_rows, rows_of};
+ghost use Rattle.octet_account.specs.Seen.{flat, numbers_of, told_of};
+ghost use Rattle.std.specs.List.{sum};
+ghost use Rattle.std.specs.Prelude.{slice_get, ◌+◌, ◌^◌, ◌≡◌, ◌≤◌, ◌<◌, ◌++◌, ◌∷◌, ◌↔◌, [], IsTrue, List, MatchOption, None, Some, length, map, option_map, ℕ};
+
+use crate::asked::Asked;
+use crate::header::{behind_header, part};
+use crate::order::{Order, are_in_order, start, written_to};
+use crate::walk::{
+    Counted, Passed, chosen_type, further, has_count, has_octets, innermost, is_constructed,
+    is_leaf, is_to_be_written, may_be_absent, may_be_left_out, numbers_in, octets_told,
+};
+use asn_base::law::abstract_values;
+use asn_base::schema::{Alternatives, Component, Core, Presence, Schema, TypeId};
+use asn_base::tag::Tag;
+use asn_base::value::Value;
+use encodings::header_laws;
+use octet_account::row::{Row, Told};
+
+/// Whether the account follows a type and a value as far as it is asked, and the rows behind its own if it does. The
+/// value is one of the type with at most this many levels, and the rows begin with those of an account.
+#[cycle(follow)]
+pub(crate) fn follows<'r>(
+    schema: &Schema,
+    asked: Asked,
+    levels: u8,
+    id: TypeId,
+    value: &Value,
+    octets: &[u8],
+    rows: &'r [Row],
+) -> Option<&'r [Row]>
+    requires value { ValueIn schema.now levels id.index (abstract value.now) }
+    requires few { levels ≤ 64 }
+    ensures { (a : Account) (rest : List FlatRow)
+        → flat rows.now ≡ rows_of a ++ rest
+        → MatchOption result
+        (Follows schema.now asked id.index (abstract value.now) octets.now a → ⊥)
+        (λ r. Follows schema.now asked id.index (abstract value.now) octets.now a × (flat r.now ≡ rest)) }
+{
+    if levels == 0 || !schema.has(id) {
+        return None;
+    }
+    let resolved = schema.get(id);
+    match under(
+        schema,
+        asked,
+        levels - 1,
+        resolved.tags.as_slice(),
+        &resolved.core,
+        value,
+        octets,
+        rows,
+    ) {
+        Some(behind) => Some(behind),
+        None => None,
+    }
+}
+
+/// The same behind tags, for a kind.
+#[cycle(follow)]
+fn under<'r>(
+    schema: &Schema,
+    asked: Asked,
+    levels: u8,
+    tags: &[Tag],
+    core: &Core,
+    value: &Value,
+    octets: &[u8],
+    rows: &'r [Row],
+) -> Option<&'r [Row]>
+    requires value { ValueOf schema.now levels (kind_of core.now) (abstract value.now) }
+    requires few { levels ≤ 64 }
+    requires sound { IsSound schema.now (kind_of core.now) }
+    ensures { (a : Account) (rest : List FlatRow)
+        → flat rows.now ≡ rows_of a ++ rest
+        → MatchOption result
+        (Under schema.now asked tags.now (kind_of core.now) (abstract value.now) octets.now a → ⊥)
+        (λ r. Under schema.now asked tags.now (kind_of core.now) (abstract value.now) octets.now a
+        × (flat r.now ≡ rest)) }
+{
+    if tags.len() == 0 {
+        return match bare(schema, asked, levels, core, value, octets, rows) {
+            Some(behind) => Some(behind),
+            None => None,
+        };
+    }
+    match innermost(asked, tags, octets, rows) {
+        Some(at) => match headed(
+            schema, asked, levels, at.tag, core, value, at.octets, at.rows,
+        ) {
+            Some(behind) => Some(behind),
+            None => None,
+        },
+        None => None,
+    }
+}
+
+/// The same without a tag: a CHOICE has the rows of what it holds.
+#[cycle(follow)]
+fn bare<'r>(
+    schema: &Schema,
+    asked: Asked,
+    levels: u8,
+    core: &Core,
+    value: &Value,
+    octets: &[u8],
+    rows: &'r [Row],
+) -> Option<&'r [Row]>
+    requires value { ValueOf schema.now levels (kind_of core.now) (abstract value.now) }
+    requires few { levels ≤ 64 }
+    ensures { (a : Account) (rest : List FlatRow)
+        → flat rows.now ≡ rows_of a ++ rest
+        → MatchOption result
+        (Under schema.now asked [] (kind_of core.now) (abstract value.now) octets.now a → ⊥)
+        (λ r. Under schema.now asked [] (kind_of core.now) (abstract value.now) octets.now a × (flat r.now ≡ rest)) }
+{
+    match core {
+        Core::Choice(alternatives) => match chosen(
+            schema,
+            asked,
+            levels,
+            alternatives,
+            value,
+            octets,
+            rows,
+        ) {
+            Some(behind) => Some(behind),
+            None => None,
+        },
+        _ => None,
+    }
+}
+
+/// The same behind one tag.
+#[cycle(follow)]
+fn headed<'r>(
+    schema: &Schema,
+    asked: Asked,
+    levels: u8,
+    tag: Tag,
+    core: &Core,
+    value: &Value,
+    octets: &[u8],
+    rows: &'r [Row],
+) -> Option<&'r [Row]>
+    requires value { ValueOf schema.now levels (kind_of core.now) (abstract value.now) }
+    requires few { levels ≤ 64 }
+    requires sound { IsSound schema.now (kind_of core.now) }
+    ensures { (a : Account) (rest : List FlatRow)
+        → flat rows.now ≡ rows_of a ++ rest
+        → MatchOption result
+        (Under schema.now asked (tag ∷ []) (kind_of core.now) (abstract value.now) octets.now a → ⊥)
+        (λ r. Under schema.now asked (tag ∷ []) (kind_of core.now) (abstract value.now) octets.now a
+        × (flat r.now ≡ rest)) }
+{
+    header_laws();
+    let Some((row, behind)) = rows.split_first() else {
+        return None;
+    };
+    let Some(numbers) = numbers_in(&row.told) else {
+        return None;
+    };
+    match behind_header(asked, tag, is_constructed(core), numbers, octets) {
+        Some(x) => match inside(schema, asked, levels, core, value, x, &row.told, behind) {
+            Some(rest) => Some(rest),
+            None => None,
+        },
+        None => None,
+    }
+}
+
+/// The same within a header, whose row is told, and behind it the others.
+#[cycle(follow)]
+fn inside<'r>(
+    schema: &Schema,
+    asked: Asked,
+    levels: u8,
+    core: &Core,
+    value: &Value,
+    octets: &[u8],
+    told: &'r Told,
+    rows: &'r [Row],
+) -> Option<&'r [Row]>
+    requires value { ValueOf schema.now levels (kind_of core.now) (abstract value.now) }
+    requires few { levels ≤ 64 }
+    requires sound { IsSound schema.now (kind_of core.now) }
+    ensures { (z : Numbers') (i : Inside) (rest : List FlatRow)
+        → told_of told.now ∷ flat rows.now ≡ rows_of (header z i) ++ rest
+        → MatchOption result
+        (InsideFollows schema.now asked (kind_of core.now) (abstract value.now) z.contents octets.now i → ⊥)
+        (λ r. InsideFollows schema.now asked (kind_of core.now) (abstract value.now) z.contents octets.now i
+        × (flat r.now ≡ rest)) }
+{
+    match core {
+        Core::Sequence(_, components) => match told {
+            Told::Seq(z, count) => match structure(
+                schema,
+                asked,
+                levels,
+                components.as_slice(),
+                value,
+                z.contents,
+                octets,
+                *count,
+                Order::InOrder,
+                rows,
+            ) {
+                Some(behind) => Some(behind),
+                None => None,
+            },
+            _ => None,
+        },
+        Core::SequenceOf(_, element) => match told {
+            Told::SeqOf(z, count) => match series(
+                schema,
+                asked,
+                levels,
+                *element,
+                value,
+                z.contents,
+                octets,
+                *count,
+                Order::InOrder,
+                rows,
+            ) {
+                Some(behind) => Some(behind),
+                None => None,
+            },
+            _ => None,
+        },
+        Core::Choice(alternatives) => match told {
+            Told::Wrap(z) => match held(
+                schema,
+                asked,
+                levels,
+                alternatives,
+                value,
+                z.contents,
+                octets,
+                rows,
+            ) {
+                Some(behind) => Some(behind),
+                None => None,
+            },
+            _ => None,
+        },
+        Core::Set(_, components) => match told {
+            Told::Set(z, places) => match structure(
+                schema,
+                asked,
+                levels,
+                components.as_slice(),
+                value,
+                z.contents,
+                octets,
+                places.members,
+                Order::Placed(places.places.as_slice(), places.inverse.as_slice()),
+                rows,
+            ) {
+                Some(behind) => Some(behind),
+                None => None,
+            },
+            _ => None,
+        },
+        Core::SetOf(_, element) => match told {
+            Told::SetOf(z, places) => match series(
+                schema,
+                asked,
+                levels,
+                *element,
+                value,
+                z.contents,
+                octets,
+                places.members,
+                Order::Placed(places.places.as_slice(), places.inverse.as_slice()),
+                rows,
+            ) {
+                Some(behind) => Some(behind),
+                None => None,
+            },
+            _ => None,
+        },
+        _ => match told {
+            Told::Leaf(z) => {
+                if is_leaf(asked, core, value, z.contents, octets) {
+                    Some(rows)
+                } else {
+                    None
+                }
+            }
+            _ => None,
+        },
+    }
+}
+
+/// A CHOICE behind a header.
+#[cycle(follow)]
+fn held<'r>(
+    schema: &Schema,
+    asked: Asked,
+    levels: u8,
+    alternatives: &Alternatives,
+    value: &Value,
+    contents: u32,
+    octets: &[u8],
+    rows: &'r [Row],
+) -> Option<&'r [Row]>
+    requires value { (i : ℕ) (v : AbstractValue) → abstract value.now ≡ alternative i v → IsChosen schema.now levels
+        (map alternative_of alternatives.now.root.items ++ map alternative_of alternatives.now.additions.items) i v }
+    requires few { levels ≤ 64 }
+    ensures { (a : Account) (rest : List FlatRow)
+        → flat rows.now ≡ rows_of a ++ rest
+        → MatchOption result
+        (Where asked.numbers (contents ≡ octets_in a)
+        → ChoiceFollows schema.now asked
+        (map alternative_of alternatives.now.root.items ++ map alternative_of alternatives.now.additions.items)
+        (abstract value.now) octets.now a
+        → ⊥)
+        (λ r. Where asked.numbers (contents ≡ octets_in a)
+        × ChoiceFollows schema.now asked
+        (map alternative_of alternatives.now.root.items ++ map alternative_of alternatives.now.additions.items)
+        (abstract value.now) octets.now a
+        × (flat r.now ≡ rest)) }
+{
+    if !has_octets(asked, contents, rows) {
+        return None;
+    }
+    match chosen(schema, asked, levels, alternatives, value, octets, rows) {
+        Some(behind) => Some(behind),
+        None => None,
+    }
+}
+
+/// The value of an alternative.
+#[cycle(follow)]
+fn chosen<'r>(
+    schema: &Schema,
+    asked: Asked,
+    levels: u8,
+    alternatives: &Alternatives,
+    value: &Value,
+    octets: &[u8],
+    rows: &'r [Row],
+) -> Option<&'r [Row]>
+    requires value { (i : ℕ) (v : AbstractValue) → abstract value.now ≡ alternative i v → IsChosen schema.now levels
+        (map alternative_of alternatives.now.root.items ++ map alternative_of alternatives.now.additions.items) i v }
+    requires few { levels ≤ 64 }
+    ensures { (a : Account) (rest : List FlatRow)
+        → flat rows.now ≡ rows_of a ++ rest
+        → MatchOption result
+        (ChoiceFollows schema.now asked
+        (map alternative_of alternatives.now.root.items ++ map alternative_of alternatives.now.additions.items)
+        (abstract value.now) octets.now a
+        → ⊥)
+        (λ r. ChoiceFollows schema.now asked
+        (map alternative_of alternatives.now.root.items ++ map alternative_of alternatives.now.additions.items)
+        (abstract value.now) octets.now a
+        × (flat r.now ≡ rest)) }
+{
+    abstract_values();
+    match value {
+        Value::Alt(index, inner) => match chosen_type(alternatives, *index) {
+            Some(id) => match follows(schema, asked, levels, id, inner, octets, rows) {
+                Some(behind) => Some(behind),
+                None => None,
+            },
+            None => None,
+        },
+        _ => None,
+    }
+}
+
+/// The components of a SEQUENCE or SET, of which so many rows tell.
+#[cycle(follow)]
+fn structure<'r>(
+    schema: &Schema,
+    asked: Asked,
+    levels: u8,
+    components: &[Component],
+    value: &Value,
+    contents: u32,
+    octets: &[u8],
+    told: u32,
+    order: Order<'r>,
+    rows: &'r [Row],
+) -> Option<&'r [Row]>
+    requires value { (vs : Row') → abstract value.now ≡ fields vs
+        → AreComponents schema.now levels (map component_of components.now) vs }
+    requires few { levels ≤ 64 }
+    requires defaults { AllByRecursion (HasValue schema.now) (map component_of components.now) }
+    ensures { (rs : Rows) (rest : List FlatRow)
+        → flat rows.now ≡ member_rows rs ++ rest
+        → count rs ≡ told
+        → MatchOption result
+        (FieldsFollow schema.now asked order.entry (map component_of components.now) (abstract value.now) contents octets.now rs → ⊥)
+        (λ r. FieldsFollow schema.now asked order.entry (map component_of components.now) (abstract value.now) contents octets.now rs
+        × (flat r.now ≡ rest)) }
+{
+    abstract_values();
+    let Value::Fields(items) = value else {
+        return None;
+    };
+    let values = items.as_slice();
+    if told as usize != components.len() {
+        return None;
+    }
+    if values.len() != components.len() {
+        return None;
+    }
+    match members(
+        schema, asked, levels, components, values, order, octets, rows,
+    ) {
+        Some(counted) => {
+            if has_count(asked, contents, counted.octets)
+                && are_in_order(asked, order, counted.written)
+            {
+                Some(counted.rows)
+            } else {
+                None
+            }
+        }
+        None => None,
+    }
+}
+
+/// The components and their values, each in its row or rows, one behind the other.
+#[cycle(follow)]
+fn members<'r>(
+    schema: &Schema,
+    asked: Asked,
+    levels: u8,
+    components: &[Component],
+    values: &[Option<Value>],
+    order: Order<'r>,
+    octets: &[u8],
+    rows: &'r [Row],
+) -> Option<Counted<'r>>
+    requires long { length values.now ≡ length components.now }
+    requires value { AreComponents schema.now levels (map component_of components.now) (row_of_options (map (option_map abstract) values.now)) }
+    requires few { levels ≤ 64 }
+    requires defaults { AllByRecursion (HasValue schema.now) (map component_of components.now) }
+    ensures { (rs : Rows) (rest : List FlatRow)
+        → flat rows.now ≡ member_rows rs ++ rest
+        → count rs ≡ length components.now
+        → MatchOption result
+        (MembersFollow schema.now asked (place_in order.entry (sizes rs)) (map component_of components.now)
+        (row_of_options (map (option_map abstract) values.now)) 0 octets.now rs
+        → ⊥)
+        (λ r. MembersFollow schema.now asked (place_in order.entry (sizes rs)) (map component_of components.now)
+        (row_of_options (map (option_map abstract) values.now)) 0 octets.now rs
+        × (flat r.rows.now ≡ rest)
+        × (r.octets ≡ sum (sizes rs))
+        × (r.written ≡ length (sizes rs))) }
+{
+    let mut left = rows;
+    let mut place: u128 = 0;
+    let mut number: usize = 0;
+    for i in 0..components.len() {
+        let at = start(asked, order, rows, components.len(), number, place);
+        match member(
+            schema,
+            asked,
+            levels,
+            &components[i],
+            &values[i],
+            at,
+            octets,
+            left,
+        ) {
+            Some(passed) => {
+                left = passed.rows;
+                place = further(place, passed.size, i);
+                number = written_to(number, passed.size, components.len());
+            }
+            None => return None,
+        }
+    }
+    Some(Counted {
+        rows: left,
+        octets: place,
+        written: number,
+    })
+}
+
+/// A component and its value, which stands at a place where it is written.
+#[cycle(follow)]
+fn member<'r>(
+    schema: &Schema,
+    asked: Asked,
+    levels: u8,
+    component: &Component,
+    value: &Option<Value>,
+    place: u128,
+    octets: &[u8],
+    rows: &'r [Row],
+) -> Option<Passed<'r>>
+    requires value { IsComponent schema.now levels (component_of component.now) (option_map abstract value.now) }
+    requires few { levels ≤ 64 }
+    requires default { HasValue schema.now (component_of component.now) }
+    ensures { (m : Member) (rest : List FlatRow)
+        → flat rows.now ≡ rows_in m ++ rest
+        → MatchOption result
+        (MemberAt schema.now asked place (component_of component.now) (option_map abstract value.now) octets.now m → ⊥)
+        (λ r. MemberAt schema.now asked place (component_of component.now) (option_map abstract value.now) octets.now m
+        × (flat r.rows.now ≡ rest)
+        × (r.size ≡ size_in m)) }
+{
+    let Some((row, behind)) = rows.split_first() else {
+        return None;
+    };
+    match &row.told {
+        Told::Absent => {
+            if may_be_absent(component, value) {
+                Some(Passed {
+                    rows: behind,
+                    size: None,
+                })
+            } else {
+                None
+            }
+        }
+        Told::Default => {
+            if may_be_left_out(schema, asked, levels, component, value) {
+                Some(Passed {
+                    rows: behind,
+                    size: None,
+                })
+            } else {
+                None
+            }
+        }
+        _ => match value {
+            Some(value) => {
+                if !is_to_be_written(schema, asked, levels, component, value) {
+                    return None;
+                }
+                match written(
+                    schema,
+                    asked,
+                    levels,
+                    component.ty,
+                    value,
+                    place,
+                    octets,
+                    rows,
+                ) {
+                    Some(passed) => Some(passed),
+                    None => None,
+                }
+            }
+            None => match &component.presence {
+                Presence::Default(default) => {
+                    if asked.omitted {
+                        return None;
+                    }
+                    match written(
+                        schema,
+                        asked,
+                        levels,
+                        component.ty,
+                        default,
+                        place,
+                        octets,
+                        rows,
+                    ) {
+                        Some(passed) => Some(passed),
+                        None => None,
+                    }
+                }
+                _ => None,
+            },
+        },
+    }
+}
+
+/// A value that is written at a place.
+#[cycle(follow)]
+fn written<'r>(
+    schema: &Schema,
+    asked: Asked,
+    levels: u8,
+    id: TypeId,
+    value: &Value,
+    place: u128,
+    octets: &[u8],
+    rows: &'r [Row],
+) -> Option<Passed<'r>>
+    requires value { ValueIn schema.now levels id.index (abstract value.now) }
+    requires few { levels ≤ 64 }
+    ensures { (a : Account) (rest : List FlatRow)
+        → flat rows.now ≡ rows_of a ++ rest
+        → MatchOption result
+        (WrittenAt schema.now asked place id.index (abstract value.now) octets.now a → ⊥)
+        (λ r. WrittenAt schema.now asked place id.index (abstract value.now) octets.now a
+        × (flat r.rows.now ≡ rest)
+        × (r.size ≡ Some (octets_in a))) }
+{
+    let Some((row, _)) = rows.split_first() else {
+        return None;
+    };
+    let Some(size) = octets_told(&row.told) else {
+        return None;
+    };
+    let Some(here) = part(asked, octets, place, size) else {
+        return None;
+    };
+    match follows(schema, asked, levels, id, value, here, rows) {
+        Some(behind) => Some(Passed {
+            rows: behind,
+            size: Some(size),
+        }),
+        None => None,
+    }
+}
+
+/// The elements of a SEQUENCE OF or SET OF, of which so many rows tell.
+#[cycle(follow)]
+fn series<'r>(
+    schema: &Schema,
+    asked: Asked,
+    levels: u8,
+    element: TypeId,
+    value: &Value,
+    contents: u32,
+    octets: &[u8],
+    told: u32,
+    order: Order<'r>,
+    rows: &'r [Row],
+) -> Option<&'r [Row]>
+    requires value { (vs : Row') → abstract value.now ≡ list vs → AreElements schema.now levels element.index vs }
+    requires few { levels ≤ 64 }
+    ensures { (rs : Rows) (rest : List FlatRow)
+        → flat rows.now ≡ member_rows rs ++ rest
+        → count rs ≡ told
+        → MatchOption result
+        (ListFollows schema.now asked order.entry element.index (abstract value.now) contents octets.now rs → ⊥)
+        (λ r. ListFollows schema.now asked order.entry element.index (abstract value.now) contents octets.now rs
+        × (flat r.now ≡ rest)) }
+{
+    abstract_values();
+    let Value::List(items) = value else {
+        return None;
+    };
+    let values = items.as_slice();
+    if told as usize != values.len() {
+        return None;
+    }
+    match elements(schema, asked, levels, element, values, order, octets, rows) {
+        Some(counted) => {
+            if has_count(asked, contents, counted.octets)
+                && are_in_order(asked, order, counted.written)
+            {
+                Some(counted.rows)
+            } else {
+                None
+            }
+        }
+        None => None,
+    }
+}
+
+/// The elements, each in its rows, one behind the other.
+#[cycle(follow)]
+fn elements<'r>(
+    schema: &Schema,
+    asked: Asked,
+    levels: u8,
+    element: TypeId,
+    values: &[Value],
+    order: Order<'r>,
+    octets: &[u8],
+    rows: &'r [Row],
+) -> Option<Counted<'r>>
+    requires value { AreElements schema.now levels element.index (row_of_list (map abstract values.now)) }
+    requires few { levels ≤ 64 }
+    ensures { (rs : Rows) (rest : List FlatRow)
+        → flat rows.now ≡ member_rows rs ++ rest
+        → count rs ≡ length values.now
+        → MatchOption result
+        (ElementsFollow schema.now asked (place_in order.entry (sizes rs)) element.index
+        (row_of_list (map abstract values.now)) 0 octets.now rs
+        → ⊥)
+        (λ r. ElementsFollow schema.now asked (place_in order.entry (sizes rs)) element.index
+        (row_of_list (map abstract values.now)) 0 octets.now rs
+        × (flat r.rows.now ≡ rest)
+        × (r.octets ≡ sum (sizes rs))
+        × (r.written ≡ length (sizes rs))) }
+{
+    let mut left = rows;
+    let mut place: u128 = 0;
+    let mut number: usize = 0;
+    for i in 0..values.len() {
+        let at = start(asked, order, rows, values.len(), number, place);
+        match one_element(schema, asked, levels, element, &values[i], at, octets, left) {
+            Some(passed) => {
+                left = passed.rows;
+                place = further(place, passed.size, i);
+                number = written_to(number, passed.size, values.len());
+            }
+            None => return None,
+        }
+    }
+    Some(Counted {
+        rows: left,
+        octets: place,
+        written: number,
+    })
+}
+
+/// One element, which stands at a place.
+#[cycle(follow)]
+fn one_element<'r>(
+    schema: &Schema,
+    asked: Asked,
+    levels: u8,
+    element: TypeId,
+    value: &Value,
+    place: u128,
+    octets: &[u8],
+    rows: &'r [Row],
+) -> Option<Passed<'r>>
+    requires value { ValueIn schema.now levels element.index (abstract value.now) }
+    requires few { levels ≤ 64 }
+    ensures { (m : Member) (rest : List FlatRow)
+        → flat rows.now ≡ rows_in m ++ rest
+        → MatchOption result
+        (ElementAt schema.now asked place element.index (abstract value.now) octets.now m → ⊥)
+        (λ r. ElementAt schema.now asked place element.index (abstract value.now) octets.now m
+        × (flat r.rows.now ≡ rest)
+        × (r.size ≡ size_in m)) }
+{
+    let Some((row, _)) = rows.split_first() else {
+        return None;
+    };
+    match &row.told {
+        Told::Absent => None,
+        Told::Default => None,
+        _ => match written(schema, asked, levels, element, value, place, octets, rows) {
+            Some(passed) => Some(passed),
+            None => None,
+        },
+    }
+}

@@ -1,0 +1,78 @@
+//! Rows after those of a member, and how many octets members have.
+
+ghost use Rattle.account_checker.specs.Follows.{sizes};
+ghost use Rattle.account_checker.specs.Parts.{Member, members_in, rows_in, size_in};
+ghost use Rattle.encodings.specs.Account.{Rows};
+ghost use Rattle.octet_account.specs.Flat.{FlatRow, count, member_rows};
+ghost use Rattle.octet_account.specs.Seen.{flat, told_of};
+ghost use Rattle.std.specs.Prelude.{◌≡◌, ◌≤◌, ◌++◌, ◌∷◌, get_or, List, ℕ};
+
+use crate::walk::octets_told;
+use octet_account::row::{Row, Told};
+
+/// How many members or rows the row has right below it.
+fn rows_below(told: &Told) -> u32
+    ensures is { result ≡ members_in (told_of told.now) }
+    ensures few { result ≤ 4294967295 }
+{
+    match told {
+        Told::Leaf(_) | Told::Absent | Told::Default => 0,
+        Told::Wrap(_) => 1,
+        Told::Seq(_, count) | Told::SeqOf(_, count) => *count,
+        Told::Set(_, places) | Told::SetOf(_, places) => places.members,
+    }
+}
+
+/// The rows after those of the first member.
+fn after_member(rows: &[Row]) -> &[Row]
+    ensures { (m : Member) (rest : List FlatRow) → flat rows.now ≡ rows_in m ++ rest → flat result.now ≡ rest }
+{
+    let mut left: u128 = 1;
+    for i in 0..rows.len() {
+        if left == 0 {
+            return &rows[i..];
+        }
+        left = left - 1 + rows_below(&rows[i].told) as u128;
+    }
+    &[]
+}
+
+/// How many octets the first member has, where it is written.
+fn first_size(rows: &[Row]) -> Option<u64>
+    ensures { (m : Member) (rest : List FlatRow) → flat rows.now ≡ rows_in m ++ rest → result ≡ size_in m }
+{
+    let Some((row, _)) = rows.split_first() else {
+        return None;
+    };
+    match &row.told {
+        Told::Absent => None,
+        Told::Default => None,
+        _ => octets_told(&row.told),
+    }
+}
+
+/// How many octets the written member with this number has, of some members whose rows begin these; 0 where there is
+/// none.
+pub(crate) fn size_at(rows: &[Row], members: usize, number: usize) -> u64
+    ensures is { (rs : Rows) (rest : List FlatRow)
+        → flat rows.now ≡ member_rows rs ++ rest
+        → count rs ≡ members
+        → result ≡ get_or (sizes rs) number 0 }
+    ensures few { result ≤ 18446744073709551615 }
+{
+    let mut left = rows;
+    let mut wanted = number;
+    for i in 0..members {
+        match first_size(left) {
+            Some(size) => {
+                if wanted == 0 {
+                    return size;
+                }
+                wanted = wanted - 1;
+                left = after_member(left);
+            }
+            None => left = after_member(left),
+        }
+    }
+    0
+}

@@ -1,0 +1,327 @@
+//! Whether the rows of an account follow a type and a value, row by row.
+
+ghost use Rattle.account_checker.specs.Follows.{AreContents, ElementsFollow, Follows, HasContents, InsideFollows, MembersFollow, Under, Where, before, is_built, octets_told as octets_in, sizes};
+ghost use Rattle.account_checker.specs.Parts.{ChoiceFollows, ElementAt, FieldsFollow, HasDefault, IsOuterOf, ListFollows, Member, MemberAt, WrittenAt, is_absent, is_default as left_out, rows_in, size_in, size_or};
+ghost use Rattle.asn_base.specs.Abstract.{AbstractValue, Row as Row', abstract, alternative, fields, list, row_of_list, row_of_options};
+ghost use Rattle.asn_base.specs.Decided.{IsChosen, IsComponent};
+ghost use Rattle.asn_base.specs.Seen.{alternative_of, component_of, kind_of};
+ghost use Rattle.asn_base.specs.Typed.{AreComponents, AreElements, ValueIn, ValueOf};
+ghost use Rattle.asn_base.specs.Same.{IsLeaf};
+ghost use Rattle.asn_base.specs.Schemas.{HasValue, IsSound};
+ghost use Rattle.asn_base.specs.Types.{Alternative, Kind, Resolved};
+ghost use Rattle.account_checker.specs.declared.asked.Asked.{Asked as Asked'};
+ghost use Rattle.encodings.specs.Encoding.{IsDefault};
+ghost use Rattle.encodings.specs.Header.{Octets};
+ghost use Rattle.std.specs.List.{AllByRecursion};
+ghost use Rattle.encodings.specs.Account.{Account, Inside, Numbers as Numbers', Rows, header};
+ghost use Rattle.octet_account.specs.Flat.{FlatRow, count, member_rows, rows_of};
+ghost use Rattle.octet_account.specs.Seen.{flat, numbers_of, told_of};
+ghost use Rattle.std.specs.List.{sum};
+ghost use Rattle.std.specs.Prelude.{slice_get, ◌*◌, ◌+◌, ◌^◌, ◌≡◌, ◌≤◌, ◌<◌, ◌++◌, ◌∷◌, ◌↔◌, [], IsTrue, List, MatchOption, None, Some, length, map, option_map, ℕ};
+
+use crate::asked::Asked;
+use crate::header::{behind_header, part};
+use crate::leaf::{are_contents, has_contents};
+use asn_base::law::{abstract_values, levels_grow};
+use asn_base::same::same_values;
+use asn_base::schema::{Alternatives, Component, Core, Presence, Schema, TypeId};
+use asn_base::tag::Tag;
+use asn_base::value::Value;
+use encodings::header_laws;
+use octet_account::row::{Numbers, Row, Told};
+
+/// The octets and rows from the innermost header on.
+#[derive(Clone, Copy)]
+pub(crate) struct At<'r, 'o> {
+    pub tag: Tag,
+    pub octets: &'o [u8],
+    pub rows: &'r [Row],
+}
+
+/// The rows behind a member's, and how many octets it tells, where it is written.
+#[derive(Clone, Copy)]
+pub(crate) struct Passed<'r> {
+    pub rows: &'r [Row],
+    pub size: Option<u64>,
+}
+
+/// The rows after those of members, how many octets these tell, and how many of them are written.
+#[derive(Clone, Copy)]
+pub(crate) struct Counted<'r> {
+    pub rows: &'r [Row],
+    pub octets: u128,
+    pub written: usize,
+}
+
+/// The numbers of a row's header.
+pub(crate) fn numbers_in(told: &Told) -> Option<Numbers>
+    ensures { (a : Account) (behind rest : List FlatRow)
+        → told_of told.now ∷ behind ≡ rows_of a ++ rest
+        → MatchOption result ⊥ (λ z. (i : Inside) × (a ≡ header (numbers_of z) i)) }
+{
+    match told {
+        Told::Leaf(numbers) | Told::Wrap(numbers) => Some(*numbers),
+        Told::Seq(numbers, _) | Told::SeqOf(numbers, _) => Some(*numbers),
+        Told::Set(numbers, _) | Told::SetOf(numbers, _) => Some(*numbers),
+        Told::Absent | Told::Default => None,
+    }
+}
+
+/// How many octets the first row tells, those of its header among them.
+pub(crate) fn octets_told(told: &Told) -> Option<u64>
+    ensures told { (a : Account) (behind rest : List FlatRow)
+        → told_of told.now ∷ behind ≡ rows_of a ++ rest
+        → MatchOption result ⊥ (λ n. octets_in a ≡ n) }
+{
+    match numbers_in(told) {
+        Some(z) => Some(z.identifier as u64 + z.size as u64 + z.contents as u64),
+        None => None,
+    }
+}
+
+/// Whether there are as many contents octets as the row within tells, where it is asked.
+pub(crate) fn has_octets(asked: Asked, contents: u32, rows: &[Row]) -> bool
+    ensures { (a : Account) (rest : List FlatRow)
+        → flat rows.now ≡ rows_of a ++ rest
+        → (IsTrue result ↔ Where asked.numbers (contents ≡ octets_in a)) }
+{
+    if !asked.numbers {
+        return true;
+    }
+    let Some((row, _)) = rows.split_first() else {
+        return false;
+    };
+    match octets_told(&row.told) {
+        Some(told) => told == contents as u64,
+        None => false,
+    }
+}
+
+/// The octets and rows within the outer headers, of which each tag but the last has one, round one row.
+pub(crate) fn innermost<'r, 'o>(
+    asked: Asked,
+    tags: &[Tag],
+    octets: &'o [u8],
+    rows: &'r [Row],
+) -> Option<At<'r, 'o>>
+    ensures { (a : Account) (rest : List FlatRow)
+        → flat rows.now ≡ rows_of a ++ rest
+        → 0 < length tags.now
+        → MatchOption result
+        ((s : List Resolved) (k : Kind) (v : AbstractValue) → Under s asked tags.now k v octets.now a → ⊥)
+        (λ r. (b : Account)
+        × (flat r.rows.now ≡ rows_of b ++ rest)
+        × IsOuterOf asked tags.now octets.now a r.tag r.octets.now b) }
+{
+    header_laws();
+    let Some((tag, inner)) = tags.split_first() else {
+        return None;
+    };
+    if inner.len() == 0 {
+        return Some(At {
+            tag: *tag,
+            octets,
+            rows,
+        });
+    }
+    let Some((row, behind)) = rows.split_first() else {
+        return None;
+    };
+    match &row.told {
+        Told::Wrap(z) => {
+            if !has_octets(asked, z.contents, behind) {
+                return None;
+            }
+            match behind_header(asked, *tag, true, *z, octets) {
+                Some(x) => match innermost(asked, inner, x, behind) {
+                    Some(at) => Some(at),
+                    None => None,
+                },
+                None => None,
+            }
+        }
+        _ => None,
+    }
+}
+
+/// Whether encodings of the kind are constructed.
+pub(crate) fn is_constructed(core: &Core) -> bool
+    ensures { result ≡ is_built (kind_of core.now) }
+{
+    match core {
+        Core::Sequence(_, _) | Core::Set(_, _) => true,
+        Core::SequenceOf(_, _) | Core::SetOf(_, _) | Core::Choice(_) => true,
+        _ => false,
+    }
+}
+
+/// Whether members have as many octets as are told, where it is asked.
+pub(crate) fn has_count(asked: Asked, contents: u32, octets: u128) -> bool
+    ensures { IsTrue result ↔ Where asked.numbers (contents ≡ octets) }
+{
+    if asked.numbers {
+        contents as u128 == octets
+    } else {
+        true
+    }
+}
+
+/// The place behind a member, with so many members before it.
+pub(crate) fn further(place: u128, size: Option<u64>, before: usize) -> u128
+    requires { place ≤ 18446744073709551615 * before }
+    ensures is { result ≡ place + size_or size }
+    ensures most { result ≤ place + 18446744073709551615 }
+{
+    match size {
+        Some(count) => place + count as u128,
+        None => place,
+    }
+}
+
+/// Whether the component is absent and has no DEFAULT.
+pub(crate) fn may_be_absent(component: &Component, value: &Option<Value>) -> bool
+    ensures { (s : List Resolved) (q : Asked') (n : ℕ) (x : Octets)
+        → (IsTrue result ↔ MemberAt s q n (component_of component.now) (option_map abstract value.now) x is_absent) }
+{
+    match value {
+        Some(_) => false,
+        None => match &component.presence {
+            Presence::Default(_) => false,
+            _ => true,
+        },
+    }
+}
+
+/// Whether the component has a DEFAULT, and where it is asked is the same.
+pub(crate) fn may_be_left_out(
+    schema: &Schema,
+    asked: Asked,
+    levels: u8,
+    component: &Component,
+    value: &Option<Value>,
+) -> bool
+    requires value { IsComponent schema.now levels (component_of component.now) (option_map abstract value.now) }
+    requires few { levels ≤ 64 }
+    requires default { HasValue schema.now (component_of component.now) }
+    ensures { (n : ℕ) (x : Octets)
+        → (IsTrue result
+        ↔ MemberAt schema.now asked n (component_of component.now) (option_map abstract value.now) x left_out) }
+{
+    match value {
+        Some(value) => {
+            has_default(component)
+                && (!asked.omitted || is_default(schema, levels, component, value))
+        }
+        None => has_default(component),
+    }
+}
+
+/// Whether the component has a DEFAULT.
+fn has_default(component: &Component) -> bool
+    ensures { IsTrue result ↔ HasDefault (component_of component.now) }
+{
+    match &component.presence {
+        Presence::Default(_) => true,
+        _ => false,
+    }
+}
+
+/// Whether the value is the same as the component's DEFAULT.
+pub(crate) fn is_default(schema: &Schema, levels: u8, component: &Component, value: &Value) -> bool
+    requires value { ValueIn schema.now levels component.now.ty.index (abstract value.now) }
+    requires few { levels ≤ 64 }
+    requires default { HasValue schema.now (component_of component.now) }
+    ensures { IsTrue result ↔ IsDefault schema.now (component_of component.now) (abstract value.now) }
+{
+    levels_grow();
+    match &component.presence {
+        Presence::Default(default) => same_values(value, default, schema, component.ty),
+        _ => false,
+    }
+}
+
+/// Whether the value isn't the same as the component's DEFAULT, where it is asked.
+pub(crate) fn is_to_be_written(
+    schema: &Schema,
+    asked: Asked,
+    levels: u8,
+    component: &Component,
+    value: &Value,
+) -> bool
+    requires value { ValueIn schema.now levels component.now.ty.index (abstract value.now) }
+    requires few { levels ≤ 64 }
+    requires default { HasValue schema.now (component_of component.now) }
+    ensures { IsTrue result
+        ↔ Where asked.omitted (IsDefault schema.now (component_of component.now) (abstract value.now) → ⊥) }
+{
+    if asked.omitted {
+        !is_default(schema, levels, component, value)
+    } else {
+        true
+    }
+}
+
+/// Whether the value has as many contents octets as are told, where it is asked.
+pub(crate) fn tells_contents(asked: Asked, core: &Core, value: &Value, contents: u32) -> bool
+    requires { IsLeaf (kind_of core.now) }
+    ensures { (s : List Resolved)
+        → (IsTrue result ↔ Where asked.numbers (HasContents s (kind_of core.now) (abstract value.now) contents)) }
+{
+    if asked.numbers {
+        has_contents(core, value, contents)
+    } else {
+        true
+    }
+}
+
+/// Whether the octets are the value's contents, where it is asked.
+pub(crate) fn stands(asked: Asked, core: &Core, value: &Value, octets: &[u8]) -> bool
+    requires { IsLeaf (kind_of core.now) }
+    ensures { (s : List Resolved)
+        → (IsTrue result ↔ Where asked.contents (AreContents s (kind_of core.now) (abstract value.now) octets.now)) }
+{
+    if asked.contents {
+        are_contents(core, value, octets)
+    } else {
+        true
+    }
+}
+
+/// Whether a value that holds no others has its contents, and as many as are told, as far as is asked.
+pub(crate) fn is_leaf(
+    asked: Asked,
+    core: &Core,
+    value: &Value,
+    contents: u32,
+    octets: &[u8],
+) -> bool
+    requires { IsLeaf (kind_of core.now) }
+    ensures { (s : List Resolved)
+        → (IsTrue result
+        ↔ Where asked.numbers (HasContents s (kind_of core.now) (abstract value.now) contents)
+        × Where asked.contents (AreContents s (kind_of core.now) (abstract value.now) octets.now)) }
+{
+    if !tells_contents(asked, core, value, contents) {
+        return false;
+    }
+    stands(asked, core, value, octets)
+}
+
+/// The type of the alternative with this number.
+pub(crate) fn chosen_type(alternatives: &Alternatives, index: usize) -> Option<TypeId>
+    ensures { MatchOption result
+        (slice_get (map alternative_of alternatives.now.root.items ++ map alternative_of alternatives.now.additions.items) index ≡ None)
+        (λ t. (a : Alternative)
+        × (slice_get (map alternative_of alternatives.now.root.items ++ map alternative_of alternatives.now.additions.items) index ≡ Some a)
+        × (a.type ≡ t.index)) }
+{
+    let root = alternatives.root.as_slice();
+    if index < root.len() {
+        return Some(root[index].ty);
+    }
+    let additions = alternatives.additions.as_slice();
+    if index - root.len() < additions.len() {
+        return Some(additions[index - root.len()].ty);
+    }
+    None
+}
