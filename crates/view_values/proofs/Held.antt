@@ -1,5 +1,5 @@
 -- Values of a kind, as values of a type.
-use Rattle.std.proofs.Common.{arith, ◌≡◌, ℕ, zero, suc, ◌+◌, ◌-◌, ◌<◌, ◌≤◌, List, [], ◌∷◌, ◌++◌, map, refl, sym, ap, subst, ◌∙◌}
+use Rattle.std.proofs.Common.{arith, ◌≡◌, ℕ, suc, ◌-◌, ◌<◌, List, refl, sym, subst}
 use Rattle.std.specs.Prelude.{Option, Some, None, MatchOption, IfSome, slice_get}
 use Rattle.asn_base.specs.declared.schema.Resolved.{Resolved as Resolved'}
 use Rattle.asn_base.specs.Abstract.{AbstractValue, alternative}
@@ -10,7 +10,7 @@ use Rattle.asn_base.specs.Typed.{Fits, ValueIn, value_in, ValueOf, of_leaf, of_s
 use Rattle.value_text.specs.Print.{alternatives_in}
 use Rattle.views.specs.declared.part.Part.{Part}
 use Rattle.views.specs.Seen.{IsPart}
-use Rattle.views.specs.Tree.{Tree, value_of}
+use Rattle.views.specs.Tree.{Tree}
 
 one_more : (n : ℕ) → 0 < n → suc (n - 1) ≡ n
 one_more n l = omega arith

@@ -1,7 +1,7 @@
 //! Whether a string, or the numbers of an object identifier, are a value of a kind (X.680, 22 to 24, 32, 33, 41 and
 //! 51). Each test may answer false of a value that is one, where ranges or codes don't ascend.
 
-ghost use Rattle.asn_base.specs.Abstract.{bits as bits', octets as octets', oid as oid', relative_oid as relative_oid', text as text'};
+ghost use Rattle.asn_base.specs.Abstract.{boolean, integer, null, bits as bits', octets as octets', oid as oid', relative_oid as relative_oid', text as text'};
 ghost use Rattle.asn_base.specs.Names.{IsMember};
 ghost use Rattle.asn_base.specs.Seen.{constraint_of, kind_of, range_of};
 ghost use Rattle.asn_base.specs.Typed.{Fits, IsAllowed, IsAllowedSize, IsInRange, IsInSome, IsObjectIdentifier, IsRelativeOid};
@@ -11,6 +11,7 @@ ghost use Rattle.std.specs.Prelude.{◌≡◌, ◌-◌, ◌*◌, ◌<◌, ◌^�
 ghost use Rattle.views.specs.Tree.{bits_in};
 
 use asn_base::constraint::{Constraint, Range};
+use asn_base::law::integer_within_limit;
 use asn_base::schema::Core;
 use limits::MAX_ARCS;
 
@@ -143,6 +144,37 @@ fn is_relative_oid(numbers: &[u64]) -> bool
     ensures { IsTrue result ↔ IsRelativeOid numbers.now }
 {
     !numbers.is_empty() && numbers.len() <= MAX_ARCS
+}
+
+/// Whether a truth is a value of the kind.
+pub(crate) fn fits_boolean(core: &Core, truth: bool) -> bool
+    ensures { IsTrue result → Fits (kind_of core.now) (boolean truth) }
+{
+    match core {
+        Core::Boolean => true,
+        _ => false,
+    }
+}
+
+/// Whether a number is a value of the kind.
+pub(crate) fn fits_integer(core: &Core, number: i128) -> bool
+    ensures { IsTrue result → Fits (kind_of core.now) (integer number) }
+{
+    integer_within_limit(number);
+    match core {
+        Core::Integer(constraint) => allows(constraint, number),
+        _ => false,
+    }
+}
+
+/// Whether NULL is a value of the kind.
+pub(crate) fn fits_null(core: &Core) -> bool
+    ensures { IsTrue result → Fits (kind_of core.now) null }
+{
+    match core {
+        Core::Null => true,
+        _ => false,
+    }
 }
 
 /// Whether octets are a value of the kind.

@@ -9,7 +9,10 @@ ghost use Rattle.views.specs.Seen.{AreParts, IsPart};
 ghost use Rattle.views.specs.Tree.{Members, Tree, component_value, element_values, placed, value_of};
 
 use crate::groups::have_no_groups;
-use crate::leaf::{allows_size, fits_bits, fits_octets, fits_oid, fits_relative_oid, fits_text};
+use crate::leaf::{
+    allows_size, fits_bits, fits_boolean, fits_integer, fits_null, fits_octets, fits_oid,
+    fits_relative_oid, fits_text,
+};
 use crate::members::taken;
 use asn_base::constraint::Constraint;
 use asn_base::decide::is_value_without_nodes;
@@ -49,10 +52,10 @@ fn is_within(part: &Part<'_, '_>, schema: &Schema, levels: u8, id: TypeId) -> bo
     }
     let core = &schema.get(id).core;
     match part.shown() {
-        Shown::Bool(truth) => is_small_value(&Value::Bool(truth), schema, id),
-        Shown::Int(number) => is_small_value(&Value::Int(number), schema, id),
+        Shown::Bool(truth) => fits_boolean(core, truth),
+        Shown::Int(number) => fits_integer(core, number),
         Shown::Enum(number) => is_small_value(&Value::Enum(number), schema, id),
-        Shown::Null => is_small_value(&Value::Null, schema, id),
+        Shown::Null => fits_null(core),
         Shown::Bits(unused, octets) => fits_bits(core, unused, octets),
         Shown::Octets(octets) => fits_octets(core, octets),
         Shown::Text(text) => fits_text(core, text),

@@ -3,32 +3,32 @@ use mir.Val.{SFits}
 use Rattle.std.proofs.Common.{arith, rules, ◌≡◌, ◌-◌, map, refl, sym, ap, subst, ◌∙◌}
 use Rattle.std.specs.Prelude.{IfSome, MatchOption, None, Some, option_map}
 use Rattle.std.proofs.lemmas.Int.{to_z-of_z}
-use Rattle.asn_base.specs.declared.value.Value.TheVariants.{Int, Enum}
-use Rattle.asn_base.specs.Abstract.{abstract, row_of_options}
+use Rattle.asn_base.specs.declared.value.Value.TheVariants.{Enum}
+use Rattle.asn_base.specs.Abstract.{abstract, integer, row_of_options}
 use Rattle.asn_base.specs.Decided.{IsComponent, IsFlat}
 use Rattle.asn_base.specs.Seen.{component_of, constraint_of, kind_of}
-use Rattle.asn_base.specs.Typed.{AreComponents, GroupsAreWhole, IsAllowedSize, of_sequence, of_sequence_of, of_set, of_set_of, ValueIn}
-use Rattle.views.specs.Seen.{IsMember, IsPart}
-use Rattle.views.specs.Tree.{Tree, component, component_value, no_member, placed, value_of}
+use Rattle.asn_base.specs.Typed.{AreComponents, Fits, GroupsAreWhole, IsAllowedSize, of_sequence, of_sequence_of, of_set, of_set_of, ValueIn}
+use Rattle.views.specs.Seen.{IsPart}
+use Rattle.views.specs.Tree.{Tree, component, component_value, placed, value_of}
 use Rattle.view_values.proofs.Held.{choice_of, held_as, leaf_as, small_in, some_part}
 use Rattle.view_values.proofs.Rows.{as_many, element_more, elements_over, judged_all, judged_more}
 use Rattle.view_values.proofs.value.+within.Goals as goal
 
 pub is_within-returns-in-Bool : goal.is_within-returns-in-Bool
 is_within-returns-in-Bool t c u p y =
-    small_in c.args.schema.now 64 c.args.levels c.args.id.index _ _ (omega arith) (c.abstract_values.ensures.bool _ ∙ sym (ap value_of (c.in-Bool.ensures.is u p))) (subst IsFlat (sym (c.abstract_values.ensures.bool _)) tt) (c.is_small_value.ensures y)
+    leaf_as c.args.schema.now c.args.levels c.args.id.index c.get.result.now _ _ (omega arith) c.get.ensures.is (ap value_of (c.in-Bool.ensures.is u p)) (c.fits_boolean.ensures y)
 
 pub is_within-returns-in-Int : goal.is_within-returns-in-Int
 is_within-returns-in-Int t c u p y =
-    small_in c.args.schema.now 64 c.args.levels c.args.id.index _ _ (omega arith) (c.abstract_values.ensures.int _ ∙ sym (ap value_of (c.in-Int.ensures.is u p))) (subst IsFlat (sym (c.abstract_values.ensures.int _)) tt) (subst (λ z. ValueIn c.args.schema.now 64 c.args.id.index (abstract (Int z))) (to_z-of_z w128 c.in-Int.number (let f : SFits w128 c.in-Int.number = search rules in f)) (c.is_small_value-in-Int.ensures y))
+    leaf_as c.args.schema.now c.args.levels c.args.id.index c.get.result.now _ _ (omega arith) c.get.ensures.is (ap value_of (c.in-Int.ensures.is u p)) (subst (λ z. Fits (kind_of c.get.result.now.core) (integer z)) (to_z-of_z w128 c.in-Int.number (let f : SFits w128 c.in-Int.number = search rules in f)) (c.fits_integer.ensures y))
 
 pub is_within-returns-in-Enum : goal.is_within-returns-in-Enum
 is_within-returns-in-Enum t c u p y =
-    small_in c.args.schema.now 64 c.args.levels c.args.id.index _ _ (omega arith) (c.abstract_values.ensures.enum_ _ ∙ sym (ap value_of (c.in-Enum.ensures.is u p))) (subst IsFlat (sym (c.abstract_values.ensures.enum_ _)) tt) (subst (λ z. ValueIn c.args.schema.now 64 c.args.id.index (abstract (Enum z))) (to_z-of_z w128 c.in-Enum.number (let f : SFits w128 c.in-Enum.number = search rules in f)) (c.is_small_value-in-Enum.ensures y))
+    small_in c.args.schema.now 64 c.args.levels c.args.id.index _ _ (omega arith) (c.abstract_values.ensures.enum_ _ ∙ sym (ap value_of (c.in-Enum.ensures.is u p))) (subst IsFlat (sym (c.abstract_values.ensures.enum_ _)) tt) (subst (λ z. ValueIn c.args.schema.now 64 c.args.id.index (abstract (Enum z))) (to_z-of_z w128 c.in-Enum.number (let f : SFits w128 c.in-Enum.number = search rules in f)) (c.is_small_value.ensures y))
 
 pub is_within-returns-in-Null : goal.is_within-returns-in-Null
 is_within-returns-in-Null t c u p y =
-    small_in c.args.schema.now 64 c.args.levels c.args.id.index _ _ (omega arith) (c.abstract_values.ensures.null_ ∙ sym (ap value_of (c.in-Null.ensures.is u p))) (subst IsFlat (sym (c.abstract_values.ensures.null_)) tt) (c.is_small_value-in-Null.ensures y)
+    leaf_as c.args.schema.now c.args.levels c.args.id.index c.get.result.now _ _ (omega arith) c.get.ensures.is (ap value_of (c.in-Null.ensures.is u p)) (c.fits_null.ensures y)
 
 pub is_within-returns-in-Bits : goal.is_within-returns-in-Bits
 is_within-returns-in-Bits t c u p y =
