@@ -1,2 +1,5 @@
 pub mod Words
 pub mod Adds
+pub mod Block
+pub mod Left
+pub mod Packed

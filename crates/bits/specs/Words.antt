@@ -6,6 +6,10 @@ abbrev pub word : ℕ → ℕ → List Bool
 word zero n = []
 word (suc k) n = (n / 2 ^ k % 2 == 1) ∷ word k n
 
--- the bits of octets, one octet behind the other
+-- the bits of octets, one octet after the other
 abbrev pub octet_bits : List ℕ → List Bool
 octet_bits = flat_map (word 8)
+
+-- the bits of words of 64, one word after the other
+abbrev pub word_bits : List ℕ → List Bool
+word_bits = flat_map (word 64)

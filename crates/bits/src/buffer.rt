@@ -1,25 +1,32 @@
 //! A list of bits that grows at its end.
 
 ghost use Rattle.bits.specs.Adds.{Pads};
+ghost use Rattle.bits.specs.Packed.{Fills};
 ghost use Rattle.bits.specs.Words.{octet_bits, word};
 ghost use Rattle.std.specs.Prelude.{◌≡◌, ◌%◌, ◌≤◌, ◌++◌, [], ◌∷◌, IfOk, OnErr, OnOk, length, slice_get};
 
+use crate::block::Words;
 use crate::octets::octets_of;
+use crate::pack::{bit_count, put, put_octets, put_words, reserve};
 use std::alloc::{AllocError, Global};
 use std::marker::Model;
 
 /// A list of bits.
 #[derive(Drop)]
 pub struct BitBuf {
-    bits: Vec<bool>,
+    words: Words,
+    len: usize,
 }
 
 impl Model for BitBuf {
+    ghost use Rattle.bits.specs.Packed.{Holds, first_bits};
     ghost use Rattle.std.specs.Prelude.{Bool, List};
 
     ghost Value = { List Bool };
 
-    ghost view = { λ b. b.bits.items };
+    ghost view = { λ b. first_bits b.words.items b.len };
+
+    ghost invariant = { λ b. Holds b.words.items b.len (first_bits b.words.items b.len) };
 }
 
 impl BitBuf {
@@ -28,7 +35,8 @@ impl BitBuf {
         ensures { result ≡ [] }
     {
         BitBuf {
-            bits: Vec::new(alloc),
+            words: Words::new(alloc),
+            len: 0,
         }
     }
 
@@ -36,7 +44,7 @@ impl BitBuf {
     pub fn len(&self) -> usize
         ensures { result ≡ length self.now }
     {
-        self.bits.len()
+        self.len
     }
 
     /// Adds a bit. An `Err` adds nothing.
@@ -44,8 +52,7 @@ impl BitBuf {
         ensures ok { OnOk result (self.new ≡ self.old ++ bit ∷ []) }
         ensures err { OnErr result (self.new ≡ self.old) }
     {
-        self.bits.push(bit)?;
-        Ok(())
+        self.push_word(bit as u64, 1)
     }
 
     /// Adds the low n bits of a number, the highest first; n is at most 64. An `Err` adds nothing.
@@ -54,7 +61,13 @@ impl BitBuf {
         ensures ok { OnOk result (self.new ≡ self.old ++ word n number) }
         ensures err { OnErr result (self.new ≡ self.old) }
     {
-        push_bits(&mut self.bits, number, n)
+        if n == 0 {
+            return Ok(());
+        }
+        reserve(&mut self.words, self.len, n)?;
+        put(&mut self.words, self.len, number, n);
+        self.len += n;
+        Ok(())
     }
 
     /// Fills up with zero bits to whole octets; no bits stay none. An `Err` adds nothing.
@@ -63,15 +76,26 @@ impl BitBuf {
         ensures ok { OnOk result (Pads self.old self.new) }
         ensures err { OnErr result (self.new ≡ self.old) }
     {
-        let zeros = (8 - self.bits.len() % 8) % 8;
-        push_bits(&mut self.bits, 0, zeros)
+        let zeros = (8 - self.len % 8) % 8;
+        self.push_word(0, zeros)
+    }
+
+    /// The bits in order, 64 a word, the highest first. The last word is filled up with zero bits. It takes no memory.
+    pub fn words(&self) -> &[u64]
+        ensures { Fills self.now result.now }
+    {
+        self.words.as_slice()
     }
 
     /// The bit at a place, from 0. It takes no memory.
     pub fn get(&self, place: usize) -> Option<bool>
         ensures { result ≡ slice_get self.now place }
     {
-        self.bits.get(place).copied()
+        if place >= self.len {
+            return None;
+        }
+        let word = self.words.at(place / 64);
+        Some((word >> (63 - place % 64)) % 2 == 1)
     }
 
     /// The octets that the bits are, where they are a multiple of eight; of no bits none.
@@ -79,26 +103,29 @@ impl BitBuf {
         requires { length self % 8 ≡ 0 }
         ensures { IfOk result (λ o. octet_bits o.items ≡ self) }
     {
-        octets_of(*self.bits.allocator(), &self.bits)
+        octets_of(self.words.allocator(), self.words.as_slice(), self.len)
     }
-}
 
-/// Adds the low n bits of a number, the highest first. An `Err` adds nothing.
-#[tactic(auto, using(crate::proofs::WordLaws::word_more))]
-fn push_bits(bits: &mut Vec<bool>, number: u64, n: usize) -> Result<(), AllocError>
-    requires { n ≤ 64 }
-    ensures ok { OnOk result (bits.new.items ≡ bits.old.items ++ word n number) }
-    ensures err { OnErr result (bits.new.items ≡ bits.old.items) }
-{
-    if n == 0 {
-        return Ok(());
+    /// Adds the bits of octets, the highest bit of an octet first, at any place. An `Err` adds nothing.
+    pub fn push_octets(&mut self, octets: &[u8]) -> Result<(), AllocError>
+        ensures ok { OnOk result (self.new ≡ self.old ++ octet_bits octets.now) }
+        ensures err { OnErr result (self.new ≡ self.old) }
+    {
+        let more = bit_count(octets)?;
+        reserve(&mut self.words, self.len, more)?;
+        put_octets(&mut self.words, self.len, octets);
+        self.len += more;
+        Ok(())
     }
-    bits.push((number >> (n - 1)) % 2 == 1)?;
-    match push_bits(bits, number, n - 1) {
-        Ok(()) => Ok(()),
-        Err(e) => {
-            let _last = bits.pop();
-            Err(e)
-        }
+
+    /// Adds the bits of another list. An `Err` adds nothing.
+    pub fn push_bits(&mut self, other: &BitBuf) -> Result<(), AllocError>
+        ensures ok { OnOk result (self.new ≡ self.old ++ other.now) }
+        ensures err { OnErr result (self.new ≡ self.old) }
+    {
+        reserve(&mut self.words, self.len, other.len)?;
+        put_words(&mut self.words, self.len, other.words.as_slice(), other.len);
+        self.len += other.len;
+        Ok(())
     }
 }

@@ -1,0 +1,74 @@
+//! Bits of octets as numbers.
+
+ghost use Rattle.bits.specs.Left.{Begins};
+ghost use Rattle.bits.specs.Words.{octet_bits, word};
+ghost use Rattle.std.specs.Prelude.{◌≡◌, ℕ, ◌+◌, ◌-◌, ◌*◌, ◌^◌, ◌<◌, ◌≤◌, drop, length, take};
+
+use crate::pack::word_of;
+
+/// The n bits at a place, at most 64 of them, as a number, the highest first.
+pub(crate) fn load(octets: &[u8], at: usize, n: usize) -> u64
+    requires few { n ≤ 64 }
+    requires inside { at + n ≤ 8 * length octets.now }
+    requires short { length octets.now ≤ 2 ^ 60 }
+    ensures bits { word n result ≡ take n (drop at (octet_bits octets.now)) }
+    ensures small { result < 2 ^ n }
+{
+    if n <= 32 {
+        return load_some(octets, at, n);
+    }
+    let high = load_some(octets, at, n - 32);
+    let low = load_some(octets, at + (n - 32), 32);
+    (high << 32) | low
+}
+
+/// The n bits at a place, at most 32 of them.
+fn load_some(octets: &[u8], at: usize, n: usize) -> u64
+    requires few { n ≤ 32 }
+    requires inside { at + n ≤ 8 * length octets.now }
+    requires short { length octets.now ≤ 2 ^ 60 }
+    ensures bits { word n result ≡ take n (drop at (octet_bits octets.now)) }
+    ensures small { result < 2 ^ n }
+{
+    if n == 0 {
+        return 0;
+    }
+    let word = eight_from(octets, at / 8);
+    (word << (at % 8)) >> (64 - n)
+}
+
+/// The eight octets from a place on as a number, the first one highest, with zero octets where there are fewer.
+fn eight_from(octets: &[u8], from: usize) -> u64
+    requires { from ≤ length octets.now }
+    ensures { Begins result octets.now from }
+{
+    let rest = &octets[from..];
+    match rest.split_first_chunk::<8>() {
+        Some((front, _)) => word_of(*front),
+        None => last_octets(rest),
+    }
+}
+
+/// Fewer than eight octets as a number, followed by zero octets.
+fn last_octets(octets: &[u8]) -> u64
+    requires { length octets.now < 8 }
+    ensures { (n : ℕ) → n ≤ 8 * length octets.now → take n (word 64 result) ≡ take n (octet_bits octets.now) }
+{
+    let number = number_of(octets);
+    if octets.is_empty() {
+        return 0;
+    }
+    number << (64 - 8 * octets.len())
+}
+
+/// Fewer than eight octets as a number.
+fn number_of(octets: &[u8]) -> u64
+    requires { length octets.now < 8 }
+    ensures { word (8 * length octets.now) result ≡ octet_bits octets.now }
+{
+    let mut number = 0;
+    for octet in octets {
+        number = number * 256 + *octet as u64;
+    }
+    number
+}
