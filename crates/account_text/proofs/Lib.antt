@@ -1,0 +1,9 @@
+pub mod Json
+pub mod Injective
+pub mod Small
+pub mod Texts
+pub mod Leaving
+pub mod Standing
+pub mod Reading
+pub mod Apart
+pub mod Written

@@ -1,0 +1,54 @@
+-- The text of an account: its rows in JSON (RFC 8259), from the root down. Each row is an array that begins with the
+-- name of its kind. All numbers are whole, and written in digits alone: with a sign, a fraction or an exponent the text
+-- is another one, even where the number is the same.
+use Rattle.std.specs.Prelude.{◌≡◌, ℕ, List, [], ◌∷◌, ◌++◌, map, Some, codes, decimal}
+use Rattle.json.specs.Json.{Json, number, string, array, Items, no_items, item, document}
+use Rattle.json.specs.Print.{print}
+use Rattle.json.specs.Tree.{json_tokens}
+use Rattle.encodings.specs.Account.{Numbers, Account}
+use Rattle.octet_account.specs.Flat.{FlatRow, a_leaf, a_wrap, a_seq, a_seqof, a_set, a_setof, an_absent, a_default}
+use Rattle.octet_account.specs.Flat.{AreRows}
+
+abbrev pub items : List Json → Items
+items [] = no_items
+items (j ∷ js) = item j (items js)
+
+abbrev pub number_json : ℕ → Json
+number_json n = number (decimal n)
+
+abbrev pub places_json : List ℕ → Json
+places_json ps = array (items (map number_json ps))
+
+-- how many octets the identifier has, the length, and the contents
+abbrev pub numbers_json : Numbers → List Json
+numbers_json z = number_json z.identifier ∷ number_json z.size ∷ number_json z.contents ∷ []
+
+-- Behind the numbers of a header stand how many members follow, and in SET and SET OF the place of each member in the
+-- octets, and the member at each place.
+abbrev pub row_items : FlatRow → List Json
+row_items (a_leaf z) = string (codes "leaf") ∷ numbers_json z
+row_items (a_wrap z) = string (codes "wrap") ∷ numbers_json z
+row_items (a_seq z n) = string (codes "seq") ∷ (numbers_json z ++ number_json n ∷ [])
+row_items (a_seqof z n) = string (codes "seqof") ∷ (numbers_json z ++ number_json n ∷ [])
+row_items (a_set z n p q) =
+    string (codes "set") ∷ (numbers_json z ++ number_json n ∷ places_json p ∷ places_json q ∷ [])
+row_items (a_setof z n p q) =
+    string (codes "setof") ∷ (numbers_json z ++ number_json n ∷ places_json p ∷ places_json q ∷ [])
+row_items an_absent = string (codes "absent") ∷ []
+row_items a_default = string (codes "default") ∷ []
+
+abbrev pub row_json : FlatRow → Json
+row_json r = array (items (row_items r))
+
+abbrev pub rows_json : List FlatRow → Json
+rows_json rs = array (items (map row_json rs))
+
+-- the text without white space
+abbrev pub compact_text : List FlatRow → List ℕ
+compact_text rs = print (json_tokens (rows_json rs))
+
+-- in whatever JSON spelling, the text has the rows of this account
+pub record IsTextOf (text : List ℕ) (a : Account) : Type 0 where
+  pub rows : List FlatRow
+  pub are : AreRows a rows
+  pub read : document text ≡ Some (rows_json rows)

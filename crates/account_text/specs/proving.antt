@@ -1,0 +1,4 @@
+pub mod Tokens
+pub mod Stack
+pub mod Sets
+pub mod Writing

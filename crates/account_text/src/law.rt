@@ -1,0 +1,14 @@
+//! Laws of the texts of accounts.
+
+ghost use Rattle.std.specs.Prelude.{◌≡◌, ℕ, List};
+ghost use Rattle.encodings.specs.Account.{Account};
+ghost use Rattle.account_text.specs.Text.{IsTextOf};
+
+use octet_account::law::one_account;
+
+/// A text is that of one account at most.
+pub fn one_account_of_a_text()
+    ensures { (text : List ℕ) (a b : Account) → IsTextOf text a → IsTextOf text b → a ≡ b }
+{
+    one_account();
+}

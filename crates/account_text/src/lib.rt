@@ -1,0 +1,13 @@
+//! Accounts of encodings as text, in JSON: what is written, and what is read.
+#![tactic(auto)]
+
+mod fault;
+mod kind;
+pub mod law;
+mod read;
+mod stack;
+mod write;
+
+pub use fault::AccountFault;
+pub use read::from_json;
+pub use write::to_json;

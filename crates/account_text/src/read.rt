@@ -1,0 +1,287 @@
+//! An account from its text, a row at a time: beside the rows it keeps no tree.
+
+ghost use Rattle.std.specs.Prelude.{◌≡◌, ◌∷◌, ℕ, List, MatchOption, IfOk, Err, Ok, Some, decimal, true, false};
+ghost use Rattle.std.specs.List.{AllByRecursion};
+ghost use Rattle.std.specs.Bool.{MatchBool};
+ghost use Rattle.json.specs.Token.{Token as Token', begin_array, end_array, string};
+ghost use Rattle.encodings.specs.Account.{Account as Account', Numbers as Numbers'};
+ghost use Rattle.octet_account.specs.Flat.{FlatRow, IsSmall, AreSmall};
+ghost use Rattle.octet_account.specs.Seen.{numbers_of, told_of, flat};
+ghost use Rattle.account_text.specs.Text.{IsTextOf, rows_json};
+ghost use Rattle.json.specs.Json.{document};
+ghost use Rattle.account_text.specs.proving.Tokens.{number_first, numbers_first, list_first, row_first, rows_first};
+ghost use Rattle.account_text.specs.proving.Sets.{IsSet};
+ghost use Rattle.account_text.specs.proving.Tokens.{kind_name, kind_of, told_first, IsSmallRow};
+
+use crate::fault::AccountFault;
+use crate::kind::{Kind, kind_named};
+use crate::stack::are_rows;
+use json::{Reader, Scratch, Token};
+use limits::MAX_MESSAGE;
+use octet_account::account::Account;
+use octet_account::row::{Numbers, Places, Row, Told};
+use std::alloc::Global;
+
+/// The number, in digits alone, of this text.
+fn number_of(text: &str) -> Option<u32>
+    ensures { MatchOption result ((n : ℕ) → IsSmall n → text.now ≡ decimal n → ⊥)
+        (λ n. IsSmall n × (text.now ≡ decimal n)) }
+{
+    let Ok(number) = text.parse::<u32>() else {
+        return None;
+    };
+    let mut buffer = itoa::Buffer::new();
+    if number as usize > MAX_MESSAGE || buffer.format(number) != text {
+        return None;
+    }
+    Some(number)
+}
+
+/// Takes a number.
+fn number(reader: &mut Reader<'_>) -> Option<u32>
+    ensures { MatchOption result
+        ((n : ℕ) (ts : List Token') → IsSmall n → reader.old ≡ number_first n ts → ⊥)
+        (λ n. IsSmall n × (reader.old ≡ number_first n reader.new)) }
+{
+    match reader.next() {
+        Some(Token::Number(text)) => number_of(text),
+        _ => None,
+    }
+}
+
+/// Takes the bracket that opens an array.
+fn take_begin_array(reader: &mut Reader<'_>) -> bool
+    ensures { MatchBool result (reader.old ≡ begin_array ∷ reader.new)
+        ((ts : List Token') → reader.old ≡ begin_array ∷ ts → ⊥) }
+{
+    matches!(reader.next(), Some(Token::BeginArray))
+}
+
+/// Takes the numbers of a header.
+fn numbers(reader: &mut Reader<'_>) -> Option<Numbers>
+    ensures { MatchOption result
+        ((z : Numbers') (ts : List Token') → AreSmall z → reader.old ≡ numbers_first z ts → ⊥)
+        (λ z. AreSmall (numbers_of z) × (reader.old ≡ numbers_first (numbers_of z) reader.new)) }
+{
+    let identifier = number(reader)?;
+    let size = number(reader)?;
+    let contents = number(reader)?;
+    Some(Numbers {
+        identifier,
+        size,
+        contents,
+    })
+}
+
+/// Takes numbers up to the bracket that closes their array.
+fn places(alloc: Global, reader: &mut Reader<'_>) -> Result<Vec<u32>, AccountFault>
+    ensures read { IfOk result (λ v. AllByRecursion IsSmall v.items
+        × (reader.old ≡ list_first v.items reader.new)) }
+    ensures refused { result ≡ Err AccountFault.NotAccount → (ns : List ℕ) (ts : List Token')
+        → AllByRecursion IsSmall ns
+        → reader.old ≡ list_first ns ts
+        → ⊥ }
+{
+    let mut found = Vec::new(alloc);
+    if !take_begin_array(reader) {
+        return Err(AccountFault::NotAccount);
+    }
+    while !reader.take_end_array() {
+        let Some(place) = number(reader) else {
+            return Err(AccountFault::NotAccount);
+        };
+        if found.push(place).is_err() {
+            return Err(AccountFault::Memory);
+        }
+    }
+    Ok(found)
+}
+
+/// Takes the numbers of a header, and how many members follow.
+fn list(reader: &mut Reader<'_>) -> Option<(Numbers, u32)>
+    ensures { MatchOption result
+        ((z : Numbers') (n : ℕ) (ts : List Token') → AreSmall z → IsSmall n
+        → reader.old ≡ numbers_first z (number_first n ts) → ⊥)
+        (λ p. AreSmall (numbers_of p.0) × IsSmall p.1
+        × (reader.old ≡ numbers_first (numbers_of p.0) (number_first p.1 reader.new))) }
+{
+    let numbers = numbers(reader)?;
+    let members = number(reader)?;
+    Some((numbers, members))
+}
+
+/// Takes the numbers of the header of a SET or SET OF, how many members follow, their places, and the inverse.
+fn set(alloc: Global, reader: &mut Reader<'_>) -> Result<(Numbers, Box<Places>), AccountFault>
+    ensures read { IfOk result (λ s. IsSet (numbers_of s.0) s.1.value reader.old reader.new) }
+    ensures refused { result ≡ Err AccountFault.NotAccount
+        → (z : Numbers') (n : ℕ) (p q : List ℕ) (ts : List Token')
+        → AreSmall z → IsSmall n → AllByRecursion IsSmall p → AllByRecursion IsSmall q
+        → reader.old ≡ numbers_first z (number_first n (list_first p (list_first q ts)))
+        → ⊥ }
+{
+    let Some((numbers, members)) = list(reader) else {
+        return Err(AccountFault::NotAccount);
+    };
+    let places = match self::places(alloc, reader) {
+        Ok(found) => found,
+        Err(fault) => return Err(fault),
+    };
+    let inverse = match self::places(alloc, reader) {
+        Ok(found) => found,
+        Err(fault) => return Err(fault),
+    };
+    match Box::new(
+        alloc,
+        Places {
+            members,
+            places,
+            inverse,
+        },
+    ) {
+        Ok(set) => Ok((numbers, set)),
+        Err(_) => Err(AccountFault::Memory),
+    }
+}
+
+/// Takes what a row of this kind tells.
+fn told(alloc: Global, kind: Kind, reader: &mut Reader<'_>) -> Result<Told, AccountFault>
+    ensures read { IfOk result (λ t. (kind_of (told_of t) ≡ kind) × IsSmallRow (told_of t)
+        × (reader.old ≡ told_first (told_of t) reader.new)) }
+    ensures refused { result ≡ Err AccountFault.NotAccount → (r : FlatRow) (ts : List Token')
+        → kind_of r ≡ kind → IsSmallRow r
+        → reader.old ≡ told_first r ts
+        → ⊥ }
+{
+    match kind {
+        Kind::Leaf => match numbers(reader) {
+            Some(numbers) => Ok(Told::Leaf(numbers)),
+            None => Err(AccountFault::NotAccount),
+        },
+        Kind::Wrap => match numbers(reader) {
+            Some(numbers) => Ok(Told::Wrap(numbers)),
+            None => Err(AccountFault::NotAccount),
+        },
+        Kind::Seq => match list(reader) {
+            Some((numbers, members)) => Ok(Told::Seq(numbers, members)),
+            None => Err(AccountFault::NotAccount),
+        },
+        Kind::SeqOf => match list(reader) {
+            Some((numbers, members)) => Ok(Told::SeqOf(numbers, members)),
+            None => Err(AccountFault::NotAccount),
+        },
+        Kind::Set => match set(alloc, reader) {
+            Ok((numbers, set)) => Ok(Told::Set(numbers, set)),
+            Err(fault) => Err(fault),
+        },
+        Kind::SetOf => match set(alloc, reader) {
+            Ok((numbers, set)) => Ok(Told::SetOf(numbers, set)),
+            Err(fault) => Err(fault),
+        },
+        Kind::Absent => Ok(Told::Absent),
+        Kind::Default => Ok(Told::Default),
+    }
+}
+
+/// Takes a row.
+fn row(alloc: Global, reader: &mut Reader<'_>) -> Result<Row, AccountFault>
+    ensures read { IfOk result (λ r. IsSmallRow (told_of r.told)
+        × (reader.old ≡ row_first (told_of r.told) reader.new)) }
+    ensures refused { result ≡ Err AccountFault.NotAccount → (r : FlatRow) (ts : List Token')
+        → IsSmallRow r
+        → reader.old ≡ row_first r ts
+        → ⊥ }
+{
+    if !take_begin_array(reader) {
+        return Err(AccountFault::NotAccount);
+    }
+    let Some(kind) = take_kind(reader) else {
+        return Err(AccountFault::NotAccount);
+    };
+    let told = match told(alloc, kind, reader) {
+        Ok(told) => told,
+        Err(fault) => return Err(fault),
+    };
+    if !reader.take_end_array() {
+        return Err(AccountFault::NotAccount);
+    }
+    Ok(Row::of(told))
+}
+
+/// Takes the name of a kind.
+fn take_kind(reader: &mut Reader<'_>) -> Option<Kind>
+    ensures { MatchOption result
+        ((k : Kind) (ts : List Token') → reader.old ≡ string (kind_name k) ∷ ts → ⊥)
+        (λ k. reader.old ≡ string (kind_name k) ∷ reader.new) }
+{
+    match reader.next() {
+        Some(Token::String(name)) => kind_named(name),
+        _ => None,
+    }
+}
+
+/// Takes rows up to the bracket that closes their array.
+fn rows(alloc: Global, reader: &mut Reader<'_>) -> Result<Vec<Row>, AccountFault>
+    ensures read { IfOk result (λ v. AllByRecursion IsSmallRow (flat v.items)
+        × (reader.old ≡ rows_first (flat v.items) (end_array ∷ reader.new))) }
+    ensures refused { result ≡ Err AccountFault.NotAccount → (rs : List FlatRow) (ts : List Token')
+        → AllByRecursion IsSmallRow rs
+        → reader.old ≡ rows_first rs (end_array ∷ ts)
+        → ⊥ }
+{
+    let mut found = Vec::new(alloc);
+    while !reader.take_end_array() {
+        let row = match row(alloc, reader) {
+            Ok(row) => row,
+            Err(fault) => return Err(fault),
+        };
+        if found.push(row).is_err() {
+            return Err(AccountFault::Memory);
+        }
+    }
+    Ok(found)
+}
+
+/// Takes the rows of a whole text.
+fn whole(alloc: Global, text: &str) -> Result<Vec<Row>, AccountFault>
+    ensures read { IfOk result (λ v. AllByRecursion IsSmallRow (flat v.items)
+        × (document text.now ≡ Some (rows_json (flat v.items)))) }
+    ensures refused { result ≡ Err AccountFault.NotAccount → (rs : List FlatRow)
+        → AllByRecursion IsSmallRow rs
+        → document text.now ≡ Some (rows_json rs)
+        → ⊥ }
+{
+    let mut scratch = Scratch::new(alloc);
+    let Ok(mut reader) = Reader::new(text, &mut scratch) else {
+        return Err(AccountFault::Memory);
+    };
+    if !take_begin_array(&mut reader) {
+        return Err(AccountFault::NotAccount);
+    }
+    let rows = match rows(alloc, &mut reader) {
+        Ok(rows) => rows,
+        Err(fault) => return Err(fault),
+    };
+    if reader.next().is_some() {
+        return Err(AccountFault::NotAccount);
+    }
+    Ok(rows)
+}
+
+/// Reads the account whose rows a text in JSON tells, in whatever spelling JSON allows; numbers are whole, from 0 to
+/// 16,777,216, and in digits alone. `NotAccount` (100) says that there is none: the text is no JSON, its rows are not
+/// those of one account, there are too few or too many, or they nest deeper than 400 levels. `Memory` (1) says that
+/// memory was refused. It takes time in line with the length of the text, and keeps the rows alone.
+pub fn from_json(alloc: Global, text: &str) -> Result<Account, AccountFault>
+    ensures read { IfOk result (λ a. IsTextOf text.now a) }
+    ensures refused { result ≡ Err AccountFault.NotAccount → (a : Account') → IsTextOf text.now a → ⊥ }
+{
+    let rows = match whole(alloc, text) {
+        Ok(rows) => rows,
+        Err(fault) => return Err(fault),
+    };
+    match are_rows(alloc, rows.as_slice()) {
+        Ok(true) => Ok(Account::of(rows)),
+        Ok(false) => Err(AccountFault::NotAccount),
+        Err(_) => Err(AccountFault::Memory),
+    }
+}

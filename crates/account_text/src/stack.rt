@@ -1,0 +1,106 @@
+//! Whether rows are those of one account.
+
+ghost use Rattle.std.specs.List.{AllByRecursion};
+ghost use Rattle.std.specs.Prelude.{◌≡◌, ◌<◌, ◌++◌, ◌∷◌, [], List, option_to_list, IfSome, None, Ok, true, false};
+ghost use Rattle.encodings.specs.Account.{Account};
+ghost use Rattle.octet_account.specs.Flat.{FlatRow, AreRows};
+ghost use Rattle.octet_account.specs.Seen.{told_of, flat};
+ghost use Rattle.account_text.specs.proving.Stack.{Stands, Left, root, inside_of, is_left_out as leaves_out};
+ghost use Rattle.account_text.specs.proving.Tokens.{IsSmallRow};
+
+use limits::MAX_HEADERS;
+use octet_account::row::{Row, Told};
+use std::alloc::{AllocError, Global};
+
+/// A header whose members are being read: how many are left, and whether each has to be written.
+#[derive(Clone, Copy, Debug, PartialEq, Eq)]
+pub(crate) struct Open {
+    pub(crate) left: u32,
+    pub(crate) all_written: bool,
+}
+
+/// Takes the innermost header that has members left, and closes those inside it.
+#[tactic(auto, using(crate::proofs::Standing::closed))]
+pub(crate) fn next(stack: &mut Vec<Open>) -> Option<Open>
+    ensures kept { (all rs : List FlatRow) → Stands all stack.old.items rs
+        → Stands all (stack.new.items ++ option_to_list result) rs }
+    ensures some { IfSome result (λ f. 0 < f.left) }
+    ensures none { result ≡ None → stack.new.items ≡ [] }
+{
+    while let Some(top) = stack.pop() {
+        if top.left > 0 {
+            return Some(top);
+        }
+    }
+    None
+}
+
+/// The members of a SEQUENCE, SET, list or explicit tag that this row opens.
+fn inside(row: &Row) -> Option<Open>
+    ensures { option_to_list result ≡ inside_of (told_of row.now.told) }
+{
+    let (left, all_written) = match &row.told {
+        Told::Wrap(_) => (1, true),
+        Told::Seq(_, members) => (*members, false),
+        Told::SeqOf(_, members) => (*members, true),
+        Told::Set(_, places) => (places.members, false),
+        Told::SetOf(_, places) => (places.members, true),
+        Told::Leaf(_) | Told::Absent | Told::Default => return None,
+    };
+    Some(Open { left, all_written })
+}
+
+/// Whether a row tells that a component is left out.
+fn is_left_out(row: &Row) -> bool
+    ensures { result ≡ leaves_out (told_of row.now.told) }
+{
+    matches!(row.told, Told::Absent | Told::Default)
+}
+
+/// Takes a row as the next member of the innermost header, where it may stand there.
+fn enter(stack: &mut Vec<Open>, top: Open, row: &Row) -> Result<bool, AllocError>
+    requires some { 0 < top.left }
+    requires small { IsSmallRow (told_of row.now.told) }
+    ensures taken { result ≡ Ok true → (all rs : List FlatRow)
+        → Stands all (stack.old.items ++ top ∷ []) (told_of row.now.told ∷ rs)
+        → Stands all stack.new.items rs }
+    ensures refused { result ≡ Ok false → (all rs : List FlatRow)
+        → Stands all (stack.old.items ++ top ∷ []) (told_of row.now.told ∷ rs)
+        → Left 400 (root ∷ []) all
+        → ⊥ }
+{
+    if stack.as_slice().len() >= MAX_HEADERS {
+        return Ok(false);
+    }
+    if is_left_out(row) && top.all_written {
+        return Ok(false);
+    }
+    let left = top.left - 1;
+    stack.push(Open { left, ..top })?;
+    if let Some(members) = inside(row) {
+        stack.push(members)?;
+    }
+    Ok(true)
+}
+
+/// Whether rows are those of an account. The memory that it takes grows with how deep they nest.
+pub(crate) fn are_rows(alloc: Global, rows: &[Row]) -> Result<bool, AllocError>
+    requires { AllByRecursion IsSmallRow (flat rows.now) }
+    ensures yes { result ≡ Ok true → (a : Account) × AreRows a (flat rows.now) }
+    ensures no { result ≡ Ok false → (a : Account) → AreRows a (flat rows.now) → ⊥ }
+{
+    let mut stack = Vec::new(alloc);
+    stack.push(Open {
+        left: 1,
+        all_written: true,
+    })?;
+    for row in rows {
+        let Some(top) = next(&mut stack) else {
+            return Ok(false);
+        };
+        if !enter(&mut stack, top, row)? {
+            return Ok(false);
+        }
+    }
+    Ok(next(&mut stack).is_none())
+}
