@@ -1,0 +1,79 @@
+-- What the front of some bits is read as.
+use Rattle.std.specs.Prelude.{◌≡◌, ℕ, zero, suc, ◌+◌, ◌^◌, nat_lt, Bool, cond, if◌then◌else◌, List, [], ◌∷◌, ◌++◌}
+use Rattle.std.specs.Prelude.{length, take, drop}
+use Rattle.packed_encodings.specs.Lengths.{Bits}
+use Rattle.packed_readings.specs.declared.refusal.Refusal.{Refusal}
+use Rattle.packed_readings.specs.declared.refusal.Refusal.TheVariants.{Truncated}
+
+-- what is found at the front, and the bits after it; or the first fault, and the bits from its place on
+pub data Outcome (X : Type 0) : Type 0 where
+  found : X → (rest : Bits) → Outcome X
+  stops : Refusal → (rest : Bits) → Outcome X
+
+-- what is read after what was found
+abbrev pub onward : {X Y : Type 0} → Outcome X → (X → Bits → Outcome Y) → Outcome Y
+onward (found v r) g = g v r
+onward (stops e r) g = stops e r
+
+-- what something read is, or why it is refused
+pub data Judged (X : Type 0) : Type 0 where
+  good : X → Judged X
+  bad : Refusal → Judged X
+
+abbrev pub and_then : {X Y : Type 0} → Judged X → (X → Judged Y) → Judged Y
+and_then (good v) j = j v
+and_then (bad e) j = bad e
+
+abbrev pub verdict : {X : Type 0} → Judged X → (at rest : Bits) → Outcome X
+verdict (good v) at rest = found v rest
+verdict (bad e) at rest = stops e at
+
+-- what is read and then judged; the place of a fault is where it begins
+abbrev pub judging : {X Y : Type 0} → (X → Judged Y) → (Bits → Outcome X) → Bits → Outcome Y
+judging j f b = onward (f b) (λ v r. verdict (j v) b r)
+
+-- ---- bits and numbers
+
+abbrev pub bit_from : Bits → Outcome Bool
+bit_from [] = stops Truncated []
+bit_from (x ∷ r) = found x r
+
+-- the number that bits are, the highest first
+abbrev pub worth : Bits → ℕ
+worth [] = 0
+worth (b ∷ bs) = cond b (2 ^ length bs) 0 + worth bs
+
+-- a number of so many bits
+abbrev pub field_from : ℕ → Bits → Outcome ℕ
+field_from n b = if nat_lt (length b) n then stops Truncated b else found (worth (take n b)) (drop n b)
+
+-- a small number (11.6.1): bit 1 is refused for this reason, and bit 0 is before six bits
+abbrev pub small_from : Refusal → Bits → Outcome ℕ
+small_from e b = onward (judging (λ x. if x then bad e else good x) bit_from b) (λ x r. field_from 6 r)
+
+-- so many of them, one after the other
+abbrev pub each_from : {X : Type 0} → (Bits → Outcome X) → ℕ → Bits → Outcome (List X)
+each_from f zero b = found [] b
+each_from f (suc n) b = onward (f b) (λ x r. onward (each_from f n r) (λ xs s. found (x ∷ xs) s))
+
+-- ---- laws
+
+-- The function f reads what P says: values, each with its bits.
+pub record IsReading {X : Type 0} (P : X → Bits → Type 0) (f : Bits → Outcome X) : Type 0 where
+  -- what is found is at the front
+  pub sound : (b r : Bits) (v : X) → f b ≡ found v r → (x : Bits) × P v x × (b ≡ x ++ r)
+  -- what is at the front is found, whatever follows it
+  pub whole : (v : X) (x r : Bits) → P v x → f (x ++ r) ≡ found v r
+  -- a fault but Truncated is there whatever follows, at the same place
+  pub firm : (b r m : Bits) (e : Refusal) → f b ≡ stops e r → (e ≡ Truncated → ⊥) → f (b ++ m) ≡ stops e (r ++ m)
+  -- its place is one of the bits, or their end
+  pub inside : (b r : Bits) (e : Refusal) → f b ≡ stops e r → (x : Bits) × (b ≡ x ++ r)
+
+-- first what P says, then what Q says after it
+pub record Then {X Y : Type 0} (P : X → Bits → Type 0) (Q : X → Y → Bits → Type 0) (w : Y) (z : Bits) : Type 0 where
+  pub first : X
+  pub front : Bits
+  pub back : Bits
+  pub is_first : P first front
+  pub is_next : Q first w back
+  pub whole : z ≡ front ++ back
