@@ -6,8 +6,10 @@ mod kind;
 pub mod law;
 mod read;
 mod stack;
+mod stop;
 mod write;
 
 pub use fault::AccountFault;
 pub use read::from_json;
+pub use stop::{Stop, stop_of};
 pub use write::to_json;

@@ -183,7 +183,7 @@ fn told(alloc: Global, kind: Kind, reader: &mut Reader<'_>) -> Result<Told, Acco
 }
 
 /// Takes a row.
-fn row(alloc: Global, reader: &mut Reader<'_>) -> Result<Row, AccountFault>
+pub(crate) fn row(alloc: Global, reader: &mut Reader<'_>) -> Result<Row, AccountFault>
     ensures read { IfOk result (λ r. IsSmallRow (told_of r.told)
         × (reader.old ≡ row_first (told_of r.told) reader.new)) }
     ensures refused { result ≡ Err AccountFault.NotAccount → (r : FlatRow) (ts : List Token')

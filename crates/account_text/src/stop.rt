@@ -1,0 +1,76 @@
+//! Where octets stop being the text of an account.
+
+use crate::fault::AccountFault;
+use crate::read::row;
+use json::{Reader, Scratch, Token};
+use std::alloc::{AllocError, Global};
+use thiserror::Error;
+
+/// Where octets stop being the text of an account, and what was expected there. Octets and rows are counted from 0; an
+/// octet is the one behind what was read.
+#[derive(Clone, Copy, Debug, PartialEq, Eq, Error)]
+pub enum Stop {
+    /// The octets before this one are UTF-8, and those from it on are not.
+    #[error("at octet {0}: found octets that are not UTF-8, expected text in JSON")]
+    NotText(usize),
+    /// The text doesn't begin with the bracket of an array.
+    #[error("at octet 0: found no JSON array, expected an array of rows")]
+    NotArray,
+    /// Rows were read, and what comes next is none.
+    #[error("at octet {octet}, in row {row}: found no row, expected a kind and its numbers in an array")]
+    NotRow {
+        /// How many rows stand before it.
+        row: usize,
+        octet: usize,
+    },
+    /// More text follows the rows.
+    #[error("at octet {0}: found more text after the rows, expected its end")]
+    Behind(usize),
+    /// These are as many rows, but they are not those of one account.
+    #[error("found {0} rows that are not those of one account, expected after each row as many members as it says, at most 400 deep")]
+    NotOne(usize),
+}
+
+/// What is wrong behind all rows.
+fn after_rows(reader: &mut Reader<'_>, rows: usize) -> Stop {
+    if reader.next().is_some() {
+        return Stop::Behind(reader.offset());
+    }
+    Stop::NotOne(rows)
+}
+
+/// Where rows stop being rows, of which a text can have so many.
+fn in_rows(alloc: Global, reader: &mut Reader<'_>, most: usize) -> Result<Stop, AllocError> {
+    for rows in 0..most {
+        if reader.take_end_array() {
+            return Ok(after_rows(reader, rows));
+        }
+        match row(alloc, reader) {
+            Ok(_) => {}
+            Err(AccountFault::Memory) => return Err(AllocError),
+            Err(AccountFault::NotAccount) => {
+                let octet = reader.offset();
+                return Ok(Stop::NotRow { row: rows, octet });
+            }
+        }
+    }
+    Ok(Stop::NotOne(most))
+}
+
+/// Where octets that [`crate::from_json`] refuses stop being the text of an account. A bad number or name is found
+/// behind it.
+pub fn stop_of(alloc: Global, octets: &[u8]) -> Result<Stop, AllocError> {
+    let text = match str::from_utf8(octets) {
+        Ok(text) => text,
+        Err(fault) => return Ok(Stop::NotText(fault.valid_up_to())),
+    };
+    let mut scratch = Scratch::new(alloc);
+    let mut reader = match Reader::new(text, &mut scratch) {
+        Ok(reader) => reader,
+        Err(_) => return Err(AllocError),
+    };
+    match reader.next() {
+        Some(Token::BeginArray) => in_rows(alloc, &mut reader, octets.len()),
+        _ => Ok(Stop::NotArray),
+    }
+}
