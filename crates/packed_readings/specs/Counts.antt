@@ -10,7 +10,7 @@ use Rattle.packed_encodings.specs.Computed.{is_from, is_to, is_in_root}
 use Rattle.packed_readings.specs.declared.refusal.Refusal.{Refusal}
 use Rattle.packed_readings.specs.declared.refusal.Refusal.TheVariants.{Truncated, NotCanonical, Outside}
 use Rattle.packed_readings.specs.Outcome.{Outcome, found, stops, onward, Judged, good, bad, judging, bit_from, worth}
-use Rattle.packed_readings.specs.Outcome.{field_from}
+use Rattle.packed_readings.specs.Outcome.{field_from, block_from, IsField}
 
 -- ---- numbers of items
 
@@ -128,10 +128,13 @@ octets_in zero b = []
 octets_in (suc n) b = worth (take 8 b) ∷ octets_in n (drop 8 b)
 
 abbrev pub several_octets : Several ℕ
-several_octets n b = if nat_lt (length b) (8 * n) then stops Truncated b else found (octets_in n b) (drop (8 * n) b)
+several_octets n = block_from (8 * n) (octets_in n)
 
 abbrev pub several_bits : Several Bool
-several_bits n b = if nat_lt (length b) n then stops Truncated b else found (take n b) (drop n b)
+several_bits n = block_from n (λ x. x)
+
+abbrev pub IsOctet : ℕ → Bits → Type 0
+IsOctet = IsField 8
 
 -- octets after their number, as those of an open type
 abbrev pub octets_from : Bits → Outcome (List ℕ)

@@ -9,9 +9,10 @@ use Rattle.asn_base.specs.Abstract.{relative_oid}
 use Rattle.asn_base.specs.Types.{Constraint, Item, Kind, a_boolean, an_integer, an_enumerated, a_bit_string}
 use Rattle.asn_base.specs.Types.{a_named_bit_string, an_octet_string, a_null, an_object_identifier, a_relative_oid}
 use Rattle.asn_base.specs.Types.{a_utf8_string, a_restricted_string}
+use Rattle.asn_base.specs.Typed.{Fits}
 use Rattle.encodings.specs.Header.{Octets}
 use Rattle.packed_encodings.specs.Lengths.{Bits, fewest_bits}
-use Rattle.packed_encodings.specs.Leaves.{place_width}
+use Rattle.packed_encodings.specs.Leaves.{place_width, Leaf}
 use Rattle.packed_encodings.specs.Computed.{is_in_root, codes_below}
 use Rattle.packed_readings.specs.declared.refusal.Refusal.{Refusal}
 use Rattle.packed_readings.specs.declared.refusal.Refusal.TheVariants as why
@@ -192,3 +193,8 @@ leaf_from (a_restricted_string k a c) b =
     onward (sized_from c (each_from (character_from a)) b) (λ o r. found (text o) r)  -- 30.5
 -- a kind that holds others
 leaf_from k b = stops why.Outside b
+
+-- the bits of a value of the kind, of those that the kind's constraints allow
+pub record IsLeafOf (k : Kind) (w : AbstractValue) (b : Bits) : Type 0 where
+  pub leaf : Leaf k w b
+  pub fits : Fits k w

@@ -1,3 +1,4 @@
 pub mod Outcome
+pub mod Composing
 pub mod Counts
 pub mod Leaves

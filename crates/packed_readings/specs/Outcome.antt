@@ -1,6 +1,7 @@
 -- What the front of some bits is read as.
-use Rattle.std.specs.Prelude.{◌≡◌, ℕ, zero, suc, ◌+◌, ◌^◌, nat_lt, Bool, cond, if◌then◌else◌, List, [], ◌∷◌, ◌++◌}
+use Rattle.std.specs.Prelude.{◌≡◌, ℕ, zero, suc, ◌+◌, ◌^◌, ◌<◌, nat_lt, Bool, false, cond, if◌then◌else◌, List, [], ◌∷◌, ◌++◌}
 use Rattle.std.specs.Prelude.{length, take, drop}
+use Rattle.bits.specs.Words.{word}
 use Rattle.packed_encodings.specs.Lengths.{Bits}
 use Rattle.packed_readings.specs.declared.refusal.Refusal.{Refusal}
 use Rattle.packed_readings.specs.declared.refusal.Refusal.TheVariants.{Truncated}
@@ -43,9 +44,13 @@ abbrev pub worth : Bits → ℕ
 worth [] = 0
 worth (b ∷ bs) = cond b (2 ^ length bs) 0 + worth bs
 
+-- so many bits, by what they are
+abbrev pub block_from : {X : Type 0} → ℕ → (Bits → X) → Bits → Outcome X
+block_from n h b = if nat_lt (length b) n then stops Truncated b else found (h (take n b)) (drop n b)
+
 -- a number of so many bits
 abbrev pub field_from : ℕ → Bits → Outcome ℕ
-field_from n b = if nat_lt (length b) n then stops Truncated b else found (worth (take n b)) (drop n b)
+field_from n = block_from n worth
 
 -- a small number (11.6.1): bit 1 is refused for this reason, and bit 0 is before six bits
 abbrev pub small_from : Refusal → Bits → Outcome ℕ
@@ -55,6 +60,21 @@ small_from e b = onward (judging (λ x. if x then bad e else good x) bit_from b)
 abbrev pub each_from : {X : Type 0} → (Bits → Outcome X) → ℕ → Bits → Outcome (List X)
 each_from f zero b = found [] b
 each_from f (suc n) b = onward (f b) (λ x r. onward (each_from f n r) (λ xs s. found (x ∷ xs) s))
+
+-- ---- what is read
+
+abbrev pub IsBit : Bool → Bits → Type 0
+IsBit v x = x ≡ v ∷ []
+
+-- the number in n bits
+pub record IsField (n v : ℕ) (x : Bits) : Type 0 where
+  pub fits : v < 2 ^ n
+  pub is : x ≡ word n v
+
+-- a number below 64 in its small form (11.6.1)
+pub record IsSmall (v : ℕ) (x : Bits) : Type 0 where
+  pub fits : v < 64
+  pub is : x ≡ false ∷ word 6 v
 
 -- ---- laws
 
@@ -77,3 +97,9 @@ pub record Then {X Y : Type 0} (P : X → Bits → Type 0) (Q : X → Y → Bits
   pub is_first : P first front
   pub is_next : Q first w back
   pub whole : z ≡ front ++ back
+
+-- what P says, judged to be w
+pub record IsJudged {X Y : Type 0} (P : X → Bits → Type 0) (j : X → Judged Y) (w : Y) (x : Bits) : Type 0 where
+  pub read : X
+  pub is_read : P read x
+  pub judged : j read ≡ good w
