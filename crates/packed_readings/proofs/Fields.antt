@@ -1,5 +1,5 @@
 -- Bits, numbers of some bits, and several of them are read as they stand.
-use Rattle.std.proofs.Common.{arith, ◌≡◌, ℕ, zero, suc, ◌+◌, ◌*◌, ◌/◌, ◌%◌, ◌^◌, ◌<◌, ◌≤◌, ◌⊎◌, ⊎_elim, Bool, true, false, List, [], ◌∷◌, ◌++◌, length, refl, sym, ap, subst, ◌∙◌, append_assoc, length-append, take, drop}
+use Rattle.std.proofs.Common.{arith, ◌≡◌, ℕ, zero, suc, ◌+◌, ◌*◌, ◌/◌, ◌%◌, ◌^◌, ◌<◌, ◌≤◌, ⊎_elim, Bool, true, false, List, [], ◌∷◌, ◌++◌, length, refl, sym, ap, subst, ◌∙◌, length-append, take, drop}
 use Rattle.std.specs.Prelude.{cond, ◌==◌, nat_lt, if◌then◌else◌}
 use Rattle.std.specs.Int.Digits.{digits_of, number_from_digits}
 use Rattle.std.proofs.lemmas.Int.Digits.{number_lt, number_digits_of, all_below_base_digits_of}
@@ -13,7 +13,7 @@ use Rattle.packed_encodings.specs.Lengths.{Bits, Items, all_bits, fewest_bits}
 use Rattle.packed_encodings.specs.Leaves.{singly}
 use Rattle.packed_readings.specs.declared.refusal.Refusal.{Refusal}
 use Rattle.packed_readings.specs.declared.refusal.Refusal.TheVariants.{Truncated}
-use Rattle.packed_readings.specs.Outcome.{Outcome, found, stops, onward, Judged, good, bad, bit_from, worth, block_from, field_from, small_from, each_from, IsBit, IsField, IsSmall, IsReading, Then, IsJudged, judging}
+use Rattle.packed_readings.specs.Outcome.{Outcome, found, stops, Judged, good, bad, bit_from, worth, block_from, field_from, small_from, each_from, IsBit, IsField, IsSmall, IsReading, Then, IsJudged}
 use Rattle.packed_readings.specs.Composing.{found_value, found_rest, stops_why, stops_where, not_both, not_either, next, judged, same}
 use Rattle.packed_readings.specs.Counts.{EachHas, none_has, one_has, AreSeveral, several_bits, several_octets, octets_in, IsOctet}
 
@@ -231,13 +231,12 @@ octets_back (one_has {v = v} {x = x} {vs = vs} {xs = xs} p e) =
     let h = octets_back e in
     let l : length x ≡ 8 = ap length p.is ∙ word_length 8 v in
     let a : length (x ++ all_bits xs) ≡ length x + length (all_bits xs) = length-append x (all_bits xs) in
-    let h0 = h.0 in
-    (
+    let h0 = h.0 in (
       omega (arith, l, a, h0),
       ap (λ q. worth q ∷ octets_in (length xs) (drop 8 (x ++ all_bits xs))) (take_at x (all_bits xs) 8 l ∙ p.is)
-      ∙ ap (λ q. q ∷ octets_in (length xs) (drop 8 (x ++ all_bits xs))) (worth_word 8 v p.fits)
-      ∙ ap (λ q. v ∷ octets_in (length xs) q) (drop_at x (all_bits xs) 8 l)
-      ∙ ap (λ q. v ∷ q) h.1,
+          ∙ ap (λ q. q ∷ octets_in (length xs) (drop 8 (x ++ all_bits xs))) (worth_word 8 v p.fits)
+          ∙ ap (λ q. v ∷ octets_in (length xs) q) (drop_at x (all_bits xs) 8 l)
+          ∙ ap (λ q. v ∷ q) h.1,
     )
 
 pub octets_read : (n : ℕ) → IsReading (AreSeveral IsOctet n) (several_octets n)

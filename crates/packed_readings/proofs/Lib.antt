@@ -1,2 +1,6 @@
 mod Rows
 mod Fields
+mod Parts
+mod Ranges
+mod Sizes
+mod Octets

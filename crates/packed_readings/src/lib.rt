@@ -2,6 +2,7 @@
 //! values of the kinds that hold no others. Each function of `specs` computes what is found, or the first fault.
 #![tactic(auto)]
 
+pub mod law;
 mod refusal;
 
 pub use refusal::{PackedFault, Refusal};
