@@ -4,3 +4,4 @@ mod Parts
 mod Ranges
 mod Sizes
 mod Octets
+mod Shortest

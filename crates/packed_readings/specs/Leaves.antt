@@ -44,10 +44,6 @@ other_number c z =
     else (if is_allowed c z then good (integer z) else bad why.Outside))
     else bad why.IntegerLimit
 
--- no octet, or one before them that is needed for no number (11.3.6, 11.4.6)
-abbrev pub is_long : Octets → Bool
-is_long o = nat_lt 16 (length o)
-
 -- the number that octets are in two's complement
 abbrev pub signed_worth : Octets → ℤ
 signed_worth [] = pos 0
@@ -61,16 +57,13 @@ signed_number (x ∷ []) = good (signed_worth (x ∷ []))
 signed_number (x ∷ y ∷ o) =
     if ((x == 0) && nat_lt y 128) || ((x == 255) && not (nat_lt y 128))
     then bad why.NotCanonical
-    else (if is_long (x ∷ y ∷ o) then bad why.IntegerLimit else good (signed_worth (x ∷ y ∷ o)))
+    else good (signed_worth (x ∷ y ∷ o))
 
 -- a number without sign, in the fewest octets (11.3)
 abbrev pub unsigned_number : Octets → Judged ℕ
 unsigned_number [] = bad why.Outside
 unsigned_number (x ∷ []) = good x
-unsigned_number (x ∷ y ∷ o) =
-    if x == 0
-    then bad why.NotCanonical
-    else (if is_long (x ∷ y ∷ o) then bad why.IntegerLimit else good (number_from_digits 256 (x ∷ y ∷ o)))
+unsigned_number (x ∷ y ∷ o) = if x == 0 then bad why.NotCanonical else good (number_from_digits 256 (x ∷ y ∷ o))
 
 -- from l to l + m
 abbrev pub number_between : Constraint → (l : ℤ) → (m n : ℕ) → Judged AbstractValue
