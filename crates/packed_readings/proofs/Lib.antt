@@ -5,3 +5,5 @@ mod Ranges
 mod Sizes
 mod Octets
 mod Shortest
+mod Numbers
+mod Items
