@@ -7,3 +7,4 @@ mod Octets
 mod Shortest
 mod Numbers
 mod Items
+mod Septets
