@@ -179,7 +179,7 @@ small e = same to from (next (judged (zero_bit e) bit) (λ x. field 6))
 
 -- ---- several
 
-single_bits : (v : Bits) → EachHas IsBit v (singly v)
+pub single_bits : (v : Bits) → EachHas IsBit v (singly v)
 single_bits [] = none_has
 single_bits (b ∷ v) = one_has refl (single_bits v)
 

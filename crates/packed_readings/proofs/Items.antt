@@ -1,7 +1,7 @@
 -- Items of an enumeration, and characters, are read by their places and codes.
-use Rattle.std.proofs.Common.{arith, ◌≡◌, ℕ, zero, suc, ◌-◌, ◌^◌, ◌<◌, ◌≤◌, ◌⊎◌, inl, inr, ⊎_elim, Bool, true, false, List, [], ◌∷◌, ◌++◌, length, refl, sym, ap, subst, ◌∙◌}
+use Rattle.std.proofs.Common.{arith, ◌≡◌, ℕ, zero, suc, ◌-◌, ◌^◌, ◌<◌, ◌⊎◌, inl, inr, ⊎_elim, Bool, true, false, List, [], ◌∷◌, ◌++◌, length, refl, sym, ap, subst, ◌∙◌}
 use Rattle.std.proofs.lemmas.Bool.{lt-ltb, ltb-true, eq-eqb, eqb-true, false_from_ne_true}
-use Rattle.std.specs.Prelude.{nat_lt, ◌==◌, if◌then◌else◌, ◌&&◌, Option, Some, None, slice_get, ℤ}
+use Rattle.std.specs.Prelude.{nat_lt, ◌==◌, if◌then◌else◌, Option, Some, None, slice_get, ℤ}
 use Rattle.std.specs.List.{AllByRecursion}
 use Rattle.bits.specs.Words.{word}
 use Rattle.asn_base.specs.Abstract.{AbstractValue, enumerated, text}
@@ -10,19 +10,19 @@ use Rattle.asn_base.specs.declared.strings.StringKind.{StringKind}
 use Rattle.asn_base.specs.Types.{Constraint, Item, an_enumerated, a_restricted_string}
 use Rattle.asn_base.specs.Typed.{IsWithinLimit, HasNumber, IsAllowedSize, Fits, fits_enumerated, fits_restricted}
 use Rattle.asn_base.specs.Schemas.{AreItems, AreBounds, IsSize}
-use Rattle.packed_encodings.specs.Lengths.{Bits, Items, Sized}
-use Rattle.packed_encodings.specs.Leaves.{place_width, place_bits, root_bit, ItemBits, root_item, added_item, CodesFit, Character, by_code, by_place, Characters, no_character, character, Leaf, of_enumerated, of_restricted}
+use Rattle.packed_encodings.specs.Lengths.{Bits, Items}
+use Rattle.packed_encodings.specs.Leaves.{place_width, place_bits, root_bit, root_item, added_item, CodesFit, Character, by_code, by_place, Characters, no_character, character, Leaf, of_enumerated, of_restricted}
 use Rattle.packed_encodings.specs.Computed.{codes_below}
 use Rattle.packed_readings.specs.declared.refusal.Refusal.{Refusal}
 use Rattle.packed_readings.specs.declared.refusal.Refusal.TheVariants as why
-use Rattle.packed_readings.specs.Outcome.{Outcome, found, stops, onward, Judged, good, bad, and_then, bit_from, field_from, small_from, each_from, IsBit, IsField, IsSmall, IsReading, Then, IsJudged, judging}
+use Rattle.packed_readings.specs.Outcome.{Outcome, onward, Judged, good, bad, bit_from, small_from, each_from, IsBit, IsField, IsSmall, IsReading, Then, IsJudged, judging}
 use Rattle.packed_readings.specs.Composing.{next, judged, same}
 use Rattle.packed_readings.specs.Counts.{EachHas, none_has, one_has, AreSized, sized_from}
 use Rattle.packed_readings.specs.Leaves.{at_place, item_at, root_item_from, item_from, is_code, character_of, character_from, IsLeafOf}
-use Rattle.packed_readings.proofs.Fields.{if_true, if_false, bit, field, small, each, nothing, fewest_fit}
-use Rattle.packed_readings.proofs.Ranges.{bool_cases, apart, if_reading, both_true, true_both}
+use Rattle.packed_readings.proofs.Fields.{if_true, if_false, bit, field, small, each, fewest_fit}
+use Rattle.packed_readings.proofs.Ranges.{apart, if_reading, both_true, true_both}
 use Rattle.packed_readings.proofs.Sizes.{good_is, not_good, sized_read}
-use Rattle.packed_readings.proofs.Numbers.{Both, both_of, of_both}
+use Rattle.packed_readings.proofs.Numbers.{both_of, of_both}
 
 -- ---- places
 

@@ -8,3 +8,4 @@ mod Shortest
 mod Numbers
 mod Items
 mod Septets
+mod LeavesRead

@@ -1,27 +1,25 @@
 -- Whole numbers are read as their constraint bounds them.
-use Rattle.std.proofs.Common.{arith, ◌≡◌, ℕ, zero, suc, ◌+◌, ◌*◌, ◌^◌, ◌<◌, ◌≤◌, ◌⊎◌, inl, inr, ⊎_elim, Bool, true, false, List, [], ◌∷◌, ◌++◌, length, refl, sym, ap, subst, ◌∙◌}
+use Rattle.std.proofs.Common.{arith, ◌≡◌, ℕ, zero, suc, ◌+◌, ◌^◌, ◌≤◌, ⊎_elim, Bool, true, false, List, [], ◌∷◌, ◌++◌, refl, sym, ap, subst, ◌∙◌}
 use Rattle.std.proofs.lemmas.Int.{ints}
-use Rattle.std.proofs.lemmas.Bool.{lt-ltb, le-ltb, ltb-true, ltb-false, cases_lt}
+use Rattle.std.proofs.lemmas.Bool.{lt-ltb, le-ltb, ltb-true, cases_lt}
 use Rattle.std.specs.Prelude.{nat_lt, nat_abs, if◌then◌else◌, ◌&&◌, Option, Some, None, IfSome, ℤ, pos, negsuc, ◌+ℤ◌, ◌-ℤ◌, ◌≤ℤ◌}
 use Rattle.bits.specs.Words.{word}
 use Rattle.asn_base.specs.Abstract.{AbstractValue, integer}
-use Rattle.asn_base.specs.Types.{Bounds, Constraint, Kind, an_integer}
+use Rattle.asn_base.specs.Types.{Bounds, Constraint, an_integer}
 use Rattle.asn_base.specs.Typed.{IsAllowed, IsWithinLimit, Fits, fits_integer}
 use Rattle.asn_base.specs.Schemas.{AreBounds, IsNumber}
-use Rattle.encodings.specs.Contents.{Number}
 use Rattle.packed_encodings.specs.Lengths.{Bits, fewest_bits, IsInRoot, CountedOctets}
-use Rattle.packed_encodings.specs.Numbers.{FewestUnsigned, IntegerInRoot, between, from_least, unbounded, Integer, integer_bounded, integer_in_root, integer_outside}
+use Rattle.packed_encodings.specs.Numbers.{IntegerInRoot, between, from_least, unbounded, Integer, integer_bounded, integer_in_root, integer_outside}
 use Rattle.packed_encodings.specs.Leaves.{Leaf, of_integer}
 use Rattle.packed_encodings.specs.Computed.{is_in_root}
-use Rattle.packed_readings.specs.declared.refusal.Refusal.{Refusal}
 use Rattle.packed_readings.specs.declared.refusal.Refusal.TheVariants as why
-use Rattle.packed_readings.specs.Outcome.{Outcome, found, stops, onward, Judged, good, bad, and_then, bit_from, field_from, IsBit, IsField, IsReading, Then, IsJudged, judging}
+use Rattle.packed_readings.specs.Outcome.{Outcome, onward, Judged, good, bad, and_then, bit_from, field_from, IsBit, IsField, IsReading, Then, IsJudged, judging}
 use Rattle.packed_readings.specs.Composing.{next, judged, same}
 use Rattle.packed_readings.specs.Counts.{is_allowed, octets_from}
 use Rattle.packed_readings.specs.Leaves.{is_within_limit, root_number, other_number, signed_number, unsigned_number, number_between, root_integer_from, integer_from, IsLeafOf}
 use Rattle.packed_readings.proofs.Fields.{if_true, if_false, bit, field, fewest_fit}
 use Rattle.packed_readings.proofs.Octets.{octets}
-use Rattle.packed_readings.proofs.Ranges.{bool_cases, apart, if_reading, le_or_gt, lt_or_ge, both_true, true_both, in_root_true, in_root_is, in_root_false, allowed_true, allowed_is, far_is}
+use Rattle.packed_readings.proofs.Ranges.{apart, if_reading, both_true, true_both, in_root_true, in_root_is, in_root_false, allowed_true, allowed_is, far_is}
 use Rattle.packed_readings.proofs.Sizes.{good_is, not_good, in_order}
 use Rattle.packed_readings.proofs.Shortest.{signed_is, is_signed, unsigned_is, is_unsigned}
 

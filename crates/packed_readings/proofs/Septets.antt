@@ -222,14 +222,12 @@ two n ns l a k = by (nat_lt n 80) refl
   where
     by : (t : Bool) → nat_lt n 80 ≡ t → IsObjectIdentifier (if t then (n / 40) ∷ ((n % 40) ∷ ns) else 2 ∷ ((n - 80) ∷ ns)) × (joined (if t then (n / 40) ∷ ((n % 40) ∷ ns) else 2 ∷ ((n - 80) ∷ ns)) ≡ n ∷ ns)
     by true e =
-        let h = ltb-true n 80 e in
-        (
+        let h = ltb-true n 80 e in (
           arcs (let q : n / 40 ≤ 2 = omega (arith, h) in q) (λ f. (let q : n % 40 < 40 = omega arith in q)) (let q : n % 40 < 2 ^ 64 = omega arith in q) a k,
           ap (λ q. q ∷ ns) (let q : 40 * (n / 40) + n % 40 ≡ n = omega arith in q),
         )
     by false e =
-        let h = ltb-false n 80 e in
-        (
+        let h = ltb-false n 80 e in (
           arcs (omega arith) (λ f. absurd (omega (arith, f))) (let q : n - 80 < 2 ^ 64 = omega (arith, l, h) in q) a k,
           ap (λ q. q ∷ ns) (let q : 40 * 2 + (n - 80) ≡ n = omega (arith, h) in q),
         )

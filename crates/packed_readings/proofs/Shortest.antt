@@ -9,10 +9,10 @@ use Rattle.encodings.specs.Contents.{TwosComplement, not_negative, negative, Num
 use Rattle.encodings.specs.Header.{Octets}
 use Rattle.packed_encodings.specs.Numbers.{Unsigned, FewestUnsigned}
 use Rattle.packed_readings.specs.declared.refusal.Refusal.TheVariants as why
-use Rattle.packed_readings.specs.Outcome.{Judged, good, bad}
+use Rattle.packed_readings.specs.Outcome.{good, bad}
 use Rattle.packed_readings.specs.Leaves.{signed_worth, signed_number, unsigned_number}
-use Rattle.packed_readings.proofs.Fields.{if_true, if_false}
-use Rattle.packed_readings.proofs.Ranges.{bool_cases, true_both}
+use Rattle.packed_readings.proofs.Fields.{if_false}
+use Rattle.packed_readings.proofs.Ranges.{bool_cases}
 use Rattle.packed_readings.proofs.Sizes.{good_is, not_good}
 
 -- there are some, and the first nine bits aren't all alike

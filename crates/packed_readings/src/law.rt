@@ -1,11 +1,12 @@
 //! Laws of what the front of bits is read as.
 
-ghost use Rattle.asn_base.specs.Schemas.{AreBounds, IsSize};
+ghost use Rattle.asn_base.specs.Schemas.{AreBounds, IsSize, IsSound};
 ghost use Rattle.asn_base.specs.Typed.{IsAllowedSize};
-ghost use Rattle.asn_base.specs.Types.{Constraint};
+ghost use Rattle.asn_base.specs.Types.{Constraint, Kind, Resolved};
 ghost use Rattle.packed_encodings.specs.Lengths.{Counted, CountedOctets, Sized};
 ghost use Rattle.packed_readings.specs.declared.refusal.Refusal.{Refusal};
 ghost use Rattle.packed_readings.specs.Counts.{InParts, InSize, IsCount, IsSizing, count_from, octets_from, size_from};
+ghost use Rattle.packed_readings.specs.Leaves.{IsLeafOf, leaf_from};
 ghost use Rattle.packed_readings.specs.Outcome.{IsBit, IsField, IsReading, IsSmall, bit_from, field_from, small_from};
 ghost use Rattle.std.specs.Prelude.{ℕ, Bool, List, length, true};
 
@@ -35,4 +36,9 @@ pub fn count_laws()
 /// Octets after their number, as those of an open type, are read as they stand.
 pub fn octets_laws()
     ensures { IsReading CountedOctets octets_from }
+{}
+
+/// A value of a kind that holds no others is read as it stands, if the kind's constraints allow it.
+pub fn leaf_laws()
+    ensures { (s : List Resolved) (k : Kind) → IsSound s k → IsReading (IsLeafOf k) (leaf_from k) }
 {}

@@ -1,0 +1,285 @@
+-- Values of the kinds that hold no others are read as they stand.
+use Rattle.std.proofs.Common.{◌≡◌, ℕ, suc, Bool, true, false, List, [], ◌∷◌, ◌++◌, length, map, refl, sym, ap, subst, ◌∙◌}
+use Rattle.std.specs.Prelude.{not, ◌&&◌, if◌then◌else◌, pos, chars, IsUtf8}
+use Rattle.std.specs.Str.{is_utf8}
+use Rattle.std.proofs.lemmas.Str.{IsUtf8-from_is_utf8, is_utf8-from_IsUtf8}
+use Rattle.std.proofs.lemmas.List.{length-map}
+use Rattle.bits.specs.Words.{word}
+use Rattle.asn_base.specs.Abstract.{AbstractValue, boolean, bits, octets, text, null}
+use Rattle.asn_base.specs.Types.{Constraint, NamedBit, Kind, a_boolean, an_integer, an_enumerated, a_bit_string, a_named_bit_string, an_octet_string, a_null, an_object_identifier, a_relative_oid, a_utf8_string, a_restricted_string, a_sequence, a_set, a_sequence_of, a_set_of, a_choice, Resolved}
+use Rattle.asn_base.specs.Typed.{IsAllowedSize, Fits, fits_boolean, fits_bits, fits_named_bits, fits_octets, fits_null, fits_utf8}
+use Rattle.asn_base.specs.Schemas.{AreBounds, IsSize, IsSound}
+use Rattle.encodings.specs.Contents.{EndsInOne}
+use Rattle.packed_encodings.specs.Lengths.{Bits, Counted, Sized, CountedOctets}
+use Rattle.packed_encodings.specs.Leaves.{singly, Leaf, of_boolean, of_bits, of_named_bits, of_octets, of_null, of_utf8}
+use Rattle.packed_readings.specs.declared.refusal.Refusal.TheVariants as why
+use Rattle.packed_readings.specs.Outcome.{found, stops, good, bad, bit_from, IsBit, IsReading, IsJudged, judging}
+use Rattle.packed_readings.specs.Composing.{judged, same, stops_why, stops_where, not_both}
+use Rattle.packed_readings.specs.Counts.{AreSized, AreCounted, IsOctet, any_total, several_bits, several_octets, counted_from, sized_from, octets_from, is_allowed}
+use Rattle.packed_readings.specs.Leaves.{ends_in_zero, named_bits, utf8_text, leaf_from, IsLeafOf}
+use Rattle.packed_readings.proofs.Fields.{bit, nothing, bits_read, octets_read, singles, single_bits}
+use Rattle.packed_readings.proofs.Parts.{counted}
+use Rattle.packed_readings.proofs.Octets.{octets_of_items, items_of_octets, octets as octets_are}
+use Rattle.packed_readings.proofs.Ranges.{both_true, true_both, allowed_true, allowed_is, apart}
+use Rattle.packed_readings.proofs.Sizes.{good_is, not_good, sized_read}
+use Rattle.packed_readings.proofs.Numbers.{integers}
+use Rattle.packed_readings.proofs.Items.{enumerations, strings}
+use Rattle.packed_readings.proofs.Septets.{object_identifiers, relative_identifiers}
+
+single_length : (v : Bits) → length (singly v) ≡ length v
+single_length [] = refl
+single_length (b ∷ v) = ap suc (single_length v)
+
+-- ---- BOOLEAN, NULL
+
+record Truth (w : AbstractValue) (x : Bits) : Type 0 where
+  truth : Bool
+  is : w ≡ boolean truth
+  bits_are : x ≡ truth ∷ []
+
+taken_boolean : {w : AbstractValue} {x : Bits} → Leaf a_boolean w x → Truth w x
+taken_boolean (of_boolean {b = b}) = record { truth = b; is = refl; bits_are = refl }
+
+booleans : IsReading (IsLeafOf a_boolean) (judging (λ x. good (boolean x)) bit_from)
+booleans = same to from (judged (λ x. good (boolean x)) bit)
+  where
+    to : (w : AbstractValue) (x : Bits) → IsJudged IsBit (λ x. good (boolean x)) w x → IsLeafOf a_boolean w x
+    to w x j = record {
+      leaf = subst (λ q. Leaf a_boolean q x) (good_is j.judged) (subst (Leaf a_boolean (boolean j.read)) (sym j.is_read) of_boolean);
+      fits = subst (Fits a_boolean) (good_is j.judged) fits_boolean;
+    }
+
+    from : (w : AbstractValue) (x : Bits) → IsLeafOf a_boolean w x → IsJudged IsBit (λ x. good (boolean x)) w x
+    from w x l = let t = taken_boolean l.leaf in record { read = t.truth; is_read = t.bits_are; judged = ap good (sym t.is) }
+
+taken_null : {w : AbstractValue} {x : Bits} → Leaf a_null w x → (w ≡ null) × (x ≡ [])
+taken_null of_null = (refl, refl)
+
+nulls : IsReading (IsLeafOf a_null) (found null)
+nulls = same to (λ w x l. taken_null l.leaf) (nothing null)
+  where
+    to : (w : AbstractValue) (x : Bits) → (w ≡ null) × (x ≡ []) → IsLeafOf a_null w x
+    to w x p = record {
+      leaf = subst (λ q. Leaf a_null q x) (sym p.0) (subst (Leaf a_null null) (sym p.1) of_null);
+      fits = subst (Fits a_null) (sym p.0) fits_null;
+    }
+
+-- ---- BIT STRING
+
+module _ (c : Constraint) (bounds : AreBounds IsSize c) where
+  record SizedBits (w : AbstractValue) (x : Bits) : Type 0 where
+    string : Bits
+    is : w ≡ bits string
+    sized : Sized c.visible (singly string) x
+    allowed : IsAllowedSize c (length string)
+
+  taken_bits : {w : AbstractValue} {x : Bits} → Leaf (a_bit_string c) w x → Fits (a_bit_string c) w → SizedBits w x
+  taken_bits (of_bits {v = v} s) (fits_bits a) = record { string = v; is = refl; sized = s; allowed = a }
+
+  bit_strings : IsReading (IsLeafOf (a_bit_string c)) (judging (λ v. good (bits v)) (sized_from c several_bits))
+  bit_strings = same to from (judged (λ v. good (bits v)) (sized_read c several_bits bits_read bounds))
+    where
+      to : (w : AbstractValue) (x : Bits) → IsJudged (AreSized IsBit c) (λ v. good (bits v)) w x → IsLeafOf (a_bit_string c) w x
+      to w x j =
+          let s = j.is_read in
+          let e = singles s.are in
+          record {
+            leaf = subst (λ q. Leaf (a_bit_string c) q x) (good_is j.judged) (of_bits (subst (λ q. Sized c.visible q x) e s.sized));
+            fits = subst (Fits (a_bit_string c)) (good_is j.judged) (fits_bits (subst (IsAllowedSize c) (ap length e ∙ single_length j.read) s.allowed));
+          }
+
+      from : (w : AbstractValue) (x : Bits) → IsLeafOf (a_bit_string c) w x → IsJudged (AreSized IsBit c) (λ v. good (bits v)) w x
+      from w x l =
+          let t = taken_bits l.leaf l.fits in
+          record {
+            read = t.string;
+            is_read = record { items = singly t.string; are = single_bits t.string; allowed = subst (IsAllowedSize c) (sym (single_length t.string)) t.allowed; sized = t.sized };
+            judged = ap good (sym t.is);
+          }
+
+-- ---- under names
+
+ends : (v : Bits) → ends_in_zero v ≡ false → EndsInOne v
+ends [] e t f = none t f
+  where
+    none : (t : Bits) → [] ≡ t ++ (false ∷ []) → ⊥
+    none [] f = cc
+    none (b ∷ t) f = cc
+ends (b ∷ []) e [] f = by b e (ap head_of f)
+  where
+    head_of : Bits → Bool
+    head_of [] = true
+    head_of (b ∷ bs) = b
+
+    by : (b : Bool) → not b ≡ false → b ≡ false → ⊥
+    by true e f = apart f
+    by false e f = apart e
+ends (b ∷ []) e (d ∷ t) f = none t (ap tail_of f)
+  where
+    tail_of : Bits → Bits
+    tail_of [] = []
+    tail_of (b ∷ bs) = bs
+
+    none : (t : Bits) → [] ≡ t ++ (false ∷ []) → ⊥
+    none [] f = cc
+    none (b ∷ t) f = cc
+ends (b ∷ d ∷ v) e [] f = none (ap tail_of f)
+  where
+    tail_of : Bits → Bits
+    tail_of [] = []
+    tail_of (b ∷ bs) = bs
+
+    none : d ∷ v ≡ [] → ⊥
+    none f = cc
+ends (b ∷ d ∷ v) e (a ∷ t) f = ends (d ∷ v) e t (ap tail_of f)
+  where
+    tail_of : Bits → Bits
+    tail_of [] = []
+    tail_of (b ∷ bs) = bs
+
+zero_end : (v : Bits) → ends_in_zero v ≡ true → (t : Bits) × (v ≡ t ++ (false ∷ []))
+zero_end [] e = absurd (apart (sym e))
+zero_end (true ∷ []) e = absurd (apart (sym e))
+zero_end (false ∷ []) e = ([], refl)
+zero_end (b ∷ d ∷ v) e = let r = zero_end (d ∷ v) e in (b ∷ r.0, ap (λ q. b ∷ q) r.1)
+
+module _ (ns : List NamedBit) where
+  record NamedBits (w : AbstractValue) (x : Bits) : Type 0 where
+    string : Bits
+    is : w ≡ bits string
+    trimmed : EndsInOne string
+    counted_are : Counted (singly string) x
+
+  taken_named : {w : AbstractValue} {x : Bits} → Leaf (a_named_bit_string ns) w x → NamedBits w x
+  taken_named (of_named_bits {v = v} e c) = record { string = v; is = refl; trimmed = e; counted_are = c }
+
+  named_is : (v : Bits) (w : AbstractValue) → named_bits v ≡ good w → (w ≡ bits v) × EndsInOne v
+  named_is v w e = by (ends_in_zero v) refl e
+    where
+      by : (t : Bool) → ends_in_zero v ≡ t → (if t then bad why.NotCanonical else good (bits v)) ≡ good w → (w ≡ bits v) × EndsInOne v
+      by true f e = absurd (not_good e)
+      by false f e = (sym (good_is e), ends v f)
+
+  is_named : (v : Bits) → EndsInOne v → named_bits v ≡ good (bits v)
+  is_named v h = by (ends_in_zero v) refl
+    where
+      by : (t : Bool) → ends_in_zero v ≡ t → (if t then bad why.NotCanonical else good (bits v)) ≡ good (bits v)
+      by true f = absurd (let r = zero_end v f in h r.0 r.1)
+      by false f = refl
+
+  named_strings : IsReading (IsLeafOf (a_named_bit_string ns)) (judging named_bits (counted_from any_total several_bits))
+  named_strings = same to from (judged named_bits (counted any_total several_bits bits_read))
+    where
+      to : (w : AbstractValue) (x : Bits) → IsJudged (AreCounted IsBit any_total) named_bits w x → IsLeafOf (a_named_bit_string ns) w x
+      to w x j =
+          let n = named_is j.read w j.judged in
+          record {
+            leaf = subst (λ q. Leaf (a_named_bit_string ns) q x) (sym n.0) (of_named_bits n.1 (subst (λ q. Counted q x) (singles j.is_read.are) j.is_read.counted));
+            fits = subst (Fits (a_named_bit_string ns)) (sym n.0) fits_named_bits;
+          }
+
+      from : (w : AbstractValue) (x : Bits) → IsLeafOf (a_named_bit_string ns) w x → IsJudged (AreCounted IsBit any_total) named_bits w x
+      from w x l =
+          let t = taken_named l.leaf in
+          record {
+            read = t.string;
+            is_read = record { items = singly t.string; are = single_bits t.string; passed = refl; counted = t.counted_are };
+            judged = is_named t.string t.trimmed ∙ ap good (sym t.is);
+          }
+
+-- ---- OCTET STRING
+
+module _ (c : Constraint) (bounds : AreBounds IsSize c) where
+  record SizedOctets (w : AbstractValue) (x : Bits) : Type 0 where
+    string : List ℕ
+    is : w ≡ octets string
+    sized : AreSized IsOctet c string x
+
+  taken_octets : {w : AbstractValue} {x : Bits} → Leaf (an_octet_string c) w x → Fits (an_octet_string c) w → SizedOctets w x
+  taken_octets (of_octets {o = o} b s) (fits_octets b' a) = record {
+    string = o;
+    is = refl;
+    sized = record { items = map (word 8) o; are = items_of_octets o b; allowed = subst (IsAllowedSize c) (sym (length-map o (word 8))) a; sized = s };
+  }
+
+  octet_strings : IsReading (IsLeafOf (an_octet_string c)) (judging (λ o. good (octets o)) (sized_from c several_octets))
+  octet_strings = same to from (judged (λ o. good (octets o)) (sized_read c several_octets octets_read bounds))
+    where
+      to : (w : AbstractValue) (x : Bits) → IsJudged (AreSized IsOctet c) (λ o. good (octets o)) w x → IsLeafOf (an_octet_string c) w x
+      to w x j =
+          let s = j.is_read in
+          let a = octets_of_items s.are in
+          record {
+            leaf = subst (λ q. Leaf (an_octet_string c) q x) (good_is j.judged) (of_octets a.below (subst (λ q. Sized c.visible q x) a.words s.sized));
+            fits = subst (Fits (an_octet_string c)) (good_is j.judged) (fits_octets a.below (subst (IsAllowedSize c) (ap length a.words ∙ length-map j.read (word 8)) s.allowed));
+          }
+
+      from : (w : AbstractValue) (x : Bits) → IsLeafOf (an_octet_string c) w x → IsJudged (AreSized IsOctet c) (λ o. good (octets o)) w x
+      from w x l = let t = taken_octets l.leaf l.fits in record { read = t.string; is_read = t.sized; judged = ap good (sym t.is) }
+
+-- ---- UTF8String
+
+module _ (c : Constraint) where
+  record Utf8 (w : AbstractValue) (x : Bits) : Type 0 where
+    string : List ℕ
+    is : w ≡ text string
+    counted_are : CountedOctets string x
+    utf8 : IsUtf8 string
+    allowed : IsAllowedSize c (length (chars string))
+
+  taken_utf8 : {w : AbstractValue} {x : Bits} → Leaf (a_utf8_string c) w x → Fits (a_utf8_string c) w → Utf8 w x
+  taken_utf8 (of_utf8 {o = o} d) (fits_utf8 u a) = record { string = o; is = refl; counted_are = d; utf8 = u; allowed = a }
+
+  utf8_at : (w : AbstractValue) (x : Bits) (o : List ℕ) → CountedOctets o x → utf8_text c o ≡ good w → Utf8 w x
+  utf8_at w x o d e = by (is_utf8 o && is_allowed c (pos (length (chars o)))) refl e
+    where
+      by : (t : Bool) → (is_utf8 o && is_allowed c (pos (length (chars o)))) ≡ t → (if t then good (text o) else bad why.Outside) ≡ good w → Utf8 w x
+      by true f e =
+          let p = true_both (is_utf8 o) (is_allowed c (pos (length (chars o)))) f in
+          record { string = o; is = sym (good_is e); counted_are = d; utf8 = IsUtf8-from_is_utf8 o p.0; allowed = allowed_is c (pos (length (chars o))) p.1 }
+      by false f e = absurd (not_good e)
+
+  utf8_of : (o : List ℕ) → IsUtf8 o → IsAllowedSize c (length (chars o)) → utf8_text c o ≡ good (text o)
+  utf8_of o u a = ap (λ t. if t then good (text o) else bad why.Outside) (both_true (is_utf8 o) (is_allowed c (pos (length (chars o)))) (is_utf8-from_IsUtf8 o u) (allowed_true c (pos (length (chars o))) a))
+
+  utf8_strings : IsReading (IsLeafOf (a_utf8_string c)) (judging (utf8_text c) octets_from)
+  utf8_strings = same to from (judged (utf8_text c) octets_are)
+    where
+      to : (w : AbstractValue) (x : Bits) → IsJudged CountedOctets (utf8_text c) w x → IsLeafOf (a_utf8_string c) w x
+      to w x j =
+          let t = utf8_at w x j.read j.is_read j.judged in
+          record {
+            leaf = subst (λ q. Leaf (a_utf8_string c) q x) (sym t.is) (of_utf8 t.counted_are);
+            fits = subst (Fits (a_utf8_string c)) (sym t.is) (fits_utf8 t.utf8 t.allowed);
+          }
+
+      from : (w : AbstractValue) (x : Bits) → IsLeafOf (a_utf8_string c) w x → IsJudged CountedOctets (utf8_text c) w x
+      from w x l = let t = taken_utf8 l.leaf l.fits in record { read = t.string; is_read = t.counted_are; judged = utf8_of t.string t.utf8 t.allowed ∙ ap good (sym t.is) }
+
+-- ---- all kinds
+
+none : (k : Kind) → ((w : AbstractValue) (x : Bits) → Leaf k w x → ⊥) → IsReading (IsLeafOf k) (stops why.Outside)
+none k h = record {
+  sound = λ b r v e. absurd (not_both e);
+  whole = λ v x r l. absurd (h v x l.leaf);
+  firm = λ b r m e d n. ap (λ q. stops q (b ++ m)) (stops_why refl d) ∙ ap (λ q. stops e (q ++ m)) (stops_where refl d);
+  inside = λ b r e d. ([], stops_where refl d);
+}
+
+pub leaves : (s : List Resolved) (k : Kind) → IsSound s k → IsReading (IsLeafOf k) (leaf_from k)
+leaves s a_boolean h = booleans
+leaves s (an_integer c) h = integers c h
+leaves s (an_enumerated root e more) h = enumerations e root more h
+leaves s (a_bit_string c) h = bit_strings c h
+leaves s (a_named_bit_string ns) h = named_strings ns
+leaves s (an_octet_string c) h = octet_strings c h
+leaves s a_null h = nulls
+leaves s an_object_identifier h = object_identifiers
+leaves s a_relative_oid h = relative_identifiers
+leaves s (a_utf8_string c) h = utf8_strings c
+leaves s (a_restricted_string k a c) h = strings a k c h.1
+leaves s (a_sequence e cs) h = none (a_sequence e cs) (λ w x l. elim l [ ])
+leaves s (a_set e cs) h = none (a_set e cs) (λ w x l. elim l [ ])
+leaves s (a_sequence_of c u) h = none (a_sequence_of c u) (λ w x l. elim l [ ])
+leaves s (a_set_of c u) h = none (a_set_of c u) (λ w x l. elim l [ ])
+leaves s (a_choice root e more) h = none (a_choice root e more) (λ w x l. elim l [ ])
