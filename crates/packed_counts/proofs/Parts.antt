@@ -4,7 +4,7 @@ use Rattle.std.proofs.lemmas.Bool.{lt-ltb, le-ltb}
 use Rattle.std.proofs.lemmas.Grind.{common_steps}
 use Rattle.std.proofs.lemmas.List.{take-append-drop, length-drop}
 use Rattle.std.specs.Prelude.{nat_lt, min, if◌then◌else◌}
-use Rattle.bits.specs.Words.{word}
+use Rattle.bits.specs.Words.{word, octet_bits}
 use Rattle.packed_encodings.specs.Lengths.{Bits, Items, all_bits, Counted, short, long, fragment}
 use Rattle.std.specs.Prelude.{map}
 use Rattle.std.proofs.lemmas.List.{length-map}
@@ -88,6 +88,10 @@ part xs b h c =
     let g : Counted xs (true ∷ (true ∷ (word 6 m ++ (all_bits (take (16384 * m) xs) ++ b)))) = subst (λ q. Counted q (true ∷ (true ∷ (word 6 m ++ (all_bits (take (16384 * m) xs) ++ b))))) (take-append-drop (16384 * m) xs) f in
     let r : Counted xs (count_bits (length xs) ++ (all_bits (take (16384 * m) xs) ++ b)) = subst (λ q. Counted xs (q ++ (all_bits (take (16384 * m) xs) ++ b))) (sym (part_bits (length xs) m h t.1.is)) g in
     subst (λ q. Counted xs (count_bits (length xs) ++ (all_bits (take q xs) ++ b))) (sym e) r
+
+pub octets_are : (o : List ℕ) → all_bits (map (word 8) o) ≡ octet_bits o
+octets_are [] = refl
+octets_are (x ∷ o) = ap (λ q. word 8 x ++ q) (octets_are o)
 
 map_take : (n : ℕ) (xs : List ℕ) → map (word 8) (take n xs) ≡ take n (map (word 8) xs)
 map_take zero xs = refl

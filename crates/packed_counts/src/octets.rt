@@ -10,13 +10,11 @@ use bits::buffer::BitBuf;
 use std::alloc::AllocError;
 
 /// Adds octets, eight bits each. `AllocError`: more memory was asked for and refused.
+#[tactic(auto, using(crate::proofs::Parts::octets_are))]
 pub fn push_octets(out: &mut BitBuf, octets: &[u8]) -> Result<(), AllocError>
     ensures { OnOk result (out.new ≡ out.old ++ all_bits (map (word 8) octets.now)) }
 {
-    for i in 0..octets.len() {
-        out.push_word(octets[i] as u64, 8)?;
-    }
-    Ok(())
+    out.push_octets(octets)
 }
 
 /// Adds octets after their number, in fragments where they are many (X.691, 11.9.3). `AllocError`: more memory was asked

@@ -153,6 +153,10 @@ mutual
 abbrev pub Packed : List Resolved → TypeNumber → AbstractValue → Bits → Type 0
 Packed s t v b = (w : AbstractValue) × Same s t v w × Says s exact t w 0 b
 
+-- the bits of some value of the type, as it is written
+abbrev pub IsEncoding : List Resolved → TypeNumber → Bits → Type 0
+IsEncoding s t b = (w : AbstractValue) × Says s exact t w 0 b
+
 -- a message: octets, filled up, that say w as it stands, a value of the type, with k additions that the type lacks
 pub record Reads (s : List Resolved) (t : TypeNumber) (w : AbstractValue) (k : ℕ) (o : Octets) : Type 0 where
   pub value : IsValue s t w

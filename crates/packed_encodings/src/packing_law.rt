@@ -6,12 +6,16 @@ ghost use Rattle.asn_base.specs.Schemas.{IsSchema, IsSound};
 ghost use Rattle.asn_base.specs.Typed.{IsValue, IsValueWithoutNodes};
 ghost use Rattle.asn_base.specs.Types.{Bounds, Kind, Resolved};
 ghost use Rattle.bits.specs.Words.{octet_bits};
-ghost use Rattle.packed_encodings.specs.Computed.{DefaultTest, TellsDefaults, bits_by, bits_of, is_default};
+ghost use Rattle.packed_encodings.specs.Computed.{DefaultTest, TellsDefaults, at_least_one, bits_by, bits_of, counted_bits, is_default, leaf_bits, open_bits, padded_octets, sized_bits, sorted};
 ghost use Rattle.packed_encodings.specs.Leaves.{Leaf};
 ghost use Rattle.packed_encodings.specs.Lengths.{Counted, CountedOctets, Sized};
-ghost use Rattle.packed_encodings.specs.Orders.{AtMost};
-ghost use Rattle.packed_encodings.specs.Packing.{Form, Packed, Reads, Says, exact, lenient};
+ghost use Rattle.packed_encodings.specs.Numbers.{FewestUnsigned};
+ghost use Rattle.packed_encodings.specs.Orders.{Ascending, AtMost};
+ghost use Rattle.packed_encodings.specs.Packing.{Form, IsEncoding, Packed, Reads, Says, exact, lenient};
 ghost use Rattle.packed_encodings.specs.Padding.{Open, Padded};
+ghost use Rattle.std.specs.Int.Digits.{digits_of};
+ghost use Rattle.std.specs.List.{AllByRecursion};
+ghost use Rattle.std.specs.List.Sorted.{IsPermutation};
 ghost use Rattle.std.specs.Prelude.{◌≡◌, ◌⊎◌, ℕ, Bool, List, [], ◌++◌};
 
 use asn_base::law::{alike_values, sameness};
@@ -162,3 +166,25 @@ pub fn computing_laws()
     alike_values();
     existence_laws();
 }
+
+/// What the functions compute of the parts of an encoding, they are: leaves, items after their number, open types,
+/// filled octets, the octets of a number that isn't negative, and the order in a SET OF.
+pub fn function_laws()
+    ensures leaf { (s : List Resolved) (k : Kind) (v w : AbstractValue) (b : List Bool)
+        → IsSound s k
+        → AlikeBy s k v w
+        → Leaf k w b
+        → leaf_bits k v ≡ b }
+    ensures sized { (z : Bounds) (xs : List (List Bool)) (b : List Bool) → Sized z xs b → sized_bits z xs ≡ b }
+    ensures counted { (xs : List (List Bool)) (b : List Bool) → Counted xs b → counted_bits xs ≡ b }
+    ensures open_type { (x y : List Bool) → Open x y → open_bits x ≡ y }
+    ensures filled { (x : List Bool) → Padded x (padded_octets x) }
+    ensures fewest { (n : ℕ) → FewestUnsigned n (at_least_one (digits_of 256 n)) }
+    // The same encodings of one type in ascending order.
+    ensures sorted { (s : List Resolved) (t : ℕ) (xs ys : List (List Bool))
+        → IsSchema s
+        → AllByRecursion (IsEncoding s t) xs
+        → IsPermutation xs ys
+        → Ascending ys
+        → sorted xs ≡ ys }
+{}

@@ -1,0 +1,8 @@
+mod Bounds
+mod Counting
+mod Front
+mod Leaves
+mod Numbers
+mod Texts
+mod Values
+mod Sizes

@@ -1,0 +1,13 @@
+use mir.Syntax.{w128}
+use mir.Val.{SFits, to_z}
+use Rattle.std.proofs.Common.{rules, sym, ap, ◌∙◌}
+use Rattle.std.proofs.lemmas.Int.{to_z-of_z}
+use Rattle.packed_leaves.proofs.Leaves.{place_found}
+use Rattle.packed_leaves.proofs.item.found.Goals as goal
+
+pub returns-then-item-number : goal.returns-then-item-number
+returns-then-item-number c =
+    let f : SFits w128 c.in-Some.item.now.number = search rules in
+    let same = to_z-of_z w128 c.args.number c.ranges.number in
+    let is = sym (to_z-of_z w128 c.in-Some.item.now.number f) ∙ ap (to_z w128) c.if-item-number.true ∙ same in
+    place_found c.args.items.now _ c.in-Some.item.now c.args.number c.in-Some.ensures.lookup.3.0 c.in-Some.ensures.lookup.1 is

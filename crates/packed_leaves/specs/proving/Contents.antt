@@ -1,0 +1,22 @@
+-- Octets that are added after their number.
+use Rattle.asn_base.specs.Abstract.{AbstractValue}
+use Rattle.codec_code.specs.declared.step.LeafKind.{LeafKind}
+use Rattle.codec_code.specs.Steps.{HasContents}
+use Rattle.encodings.specs.Contents.{Number}
+use Rattle.encodings.specs.Header.{Octets}
+use Rattle.std.specs.Prelude.{ℕ, ℤ}
+use Rattle.packed_counts.specs.Counts.{Adds}
+use Rattle.packed_encodings.specs.Lengths.{Bits, CountedOctets}
+use Rattle.packed_encodings.specs.Numbers.{FewestUnsigned}
+
+-- contents octets that the value has
+abbrev pub AddsContents : LeafKind → AbstractValue → Bits → Bits → Type 0
+AddsContents k v = Adds (λ b. (o : Octets) × HasContents k v o × CountedOctets o b)
+
+-- those of a number in two's complement
+abbrev pub AddsNumber : ℤ → Bits → Bits → Type 0
+AddsNumber z = Adds (λ b. (o : Octets) × Number z o × CountedOctets o b)
+
+-- the fewest of a number that isn't negative
+abbrev pub AddsUnsigned : ℕ → Bits → Bits → Type 0
+AddsUnsigned n = Adds (λ b. (o : Octets) × FewestUnsigned n o × CountedOctets o b)

@@ -1,0 +1,7 @@
+-- Where an item is.
+use Rattle.std.specs.Prelude.{◌≡◌, ℕ, ℤ, List, Some, slice_get}
+use Rattle.asn_base.specs.Types.{Item}
+
+-- the item at the place has the number
+abbrev pub IsPlace : List Item → ℤ → ℕ → Type 0
+IsPlace is z i = (x : Item) × (slice_get is i ≡ Some x) × (x.number ≡ z)

@@ -1,0 +1,12 @@
+-- How characters of an alphabet are written.
+use Rattle.std.specs.Prelude.{◌≡◌, ◌≤◌, ◌^◌, ℕ, List, length}
+use Rattle.packed_encodings.specs.Computed.{codes_below}
+use Rattle.packed_encodings.specs.Leaves.{place_width}
+use Rattle.packed_leaves.specs.declared.text.Alphabet.{Alphabet}
+
+-- the codes are those of the alphabet
+pub record IsOf (codes : List ℕ) (a : Alphabet) : Type 0 where
+  pub same : a.codes.now ≡ codes
+  pub wide : a.width ≡ place_width (length codes)
+  pub few : a.width ≤ 8
+  pub tested : a.by_code ≡ codes_below (2 ^ place_width (length codes)) codes

@@ -1,0 +1,134 @@
+//! ENUMERATED (X.691, 14).
+
+ghost use Rattle.asn_base.specs.Abstract.{abstract};
+ghost use Rattle.asn_base.specs.Schemas.{AreItems};
+ghost use Rattle.asn_base.specs.Seen.{item_of};
+ghost use Rattle.asn_base.specs.Typed.{Fits, HasNumber};
+ghost use Rattle.asn_base.specs.Types.{an_enumerated};
+ghost use Rattle.packed_counts.specs.Counts.{Adds};
+ghost use Rattle.packed_encodings.specs.Computed.{leaf_bits};
+ghost use Rattle.packed_encodings.specs.Leaves.{ItemBits, place_width, root_bit};
+ghost use Rattle.bits.specs.Words.{word};
+ghost use Rattle.packed_leaves.specs.proving.Items.{IsPlace};
+ghost use Rattle.std.specs.Prelude.{◌≡◌, ◌++◌, ◌∷◌, ◌<◌, ◌≤◌, IfSome, MatchOption, OnOk, false, length, map, true};
+
+use crate::value::item_number;
+use asn_base::schema::{Item, Items};
+use asn_base::value::Value;
+use bits::buffer::BitBuf;
+use packed_code::fewest;
+use packed_counts::push_number;
+use packed_encodings::function_laws;
+use std::alloc::AllocError;
+
+/// The bits that a place among so many takes.
+pub(crate) fn place_bits(count: usize) -> usize
+    ensures is { result ≡ place_width count }
+    ensures at_most { result ≤ 128 }
+{
+    if count == 0 {
+        0
+    } else {
+        fewest((count - 1) as u128)
+    }
+}
+
+/// The place of the item with this number, where items ascend. Of others it may be None.
+fn found(items: &[Item], number: i128) -> Option<usize>
+    ensures { IfSome result (IsPlace (map item_of items.now) number) }
+{
+    let place = items.partition_point(|item| item.number < number);
+    match items.get(place) {
+        Some(item) => if item.number == number {
+            Some(place)
+        } else {
+            None
+        },
+        None => None,
+    }
+}
+
+/// The place of the item with this number, if there is one.
+fn looked_for(items: &[Item], number: i128) -> Option<usize>
+    ensures { MatchOption result
+        (HasNumber (map item_of items.now) number → ⊥)
+        (IsPlace (map item_of items.now) number) }
+{
+    for i in 0..items.len() {
+        if items[i].number == number {
+            return Some(i);
+        }
+    }
+    None
+}
+
+/// The place of an item among those of the root (14.2).
+fn push_root(out: &mut BitBuf, items: &Items, place: usize) -> Result<(), AllocError>
+    ensures { OnOk result (out.new ≡ out.old
+        ++ (root_bit items.now.extensible ++ word (place_width (length items.now.root.items)) place)) }
+{
+    if items.extensible {
+        out.push(false)?;
+    }
+    push_number(out, place as u128, place_bits(items.root.len()))
+}
+
+/// The place of an item among those after the marker (14.3).
+fn push_added(out: &mut BitBuf, place: usize) -> Result<(), AllocError>
+    requires { place < 64 }
+    ensures { OnOk result (out.new ≡ out.old ++ (true ∷ (false ∷ word 6 place))) }
+{
+    out.push(true)?;
+    out.push(false)?;
+    out.push_word(place as u64, 6)?;
+    Ok(())
+}
+
+/// The item with this number.
+fn push_item(out: &mut BitBuf, items: &Items, number: i128) -> Result<(), AllocError>
+    requires items { AreItems items.now.extensible (map item_of items.now.root.items) (map item_of items.now.additions.items) }
+    requires has { HasNumber (map item_of items.now.root.items ++ map item_of items.now.additions.items) number }
+    ensures { OnOk result (Adds (ItemBits (map item_of items.now.root.items) items.now.extensible
+        (map item_of items.now.additions.items) number) out.old out.new) }
+{
+    let root = items.root.as_slice();
+    let more = items.additions.as_slice();
+    if let Some(place) = found(root, number) {
+        push_root(out, items, place)?;
+        return Ok(());
+    }
+    if let Some(place) = found(more, number) {
+        push_added(out, place)?;
+        return Ok(());
+    }
+    match looked_for(root, number) {
+        Some(place) => {
+            push_root(out, items, place)?;
+            Ok(())
+        }
+        None => match looked_for(more, number) {
+            Some(place) => {
+                push_added(out, place)?;
+                Ok(())
+            }
+            None => unreachable!(),
+        },
+    }
+}
+
+/// The item of an ENUMERATED.
+pub(crate) fn push_enumerated(
+    out: &mut BitBuf,
+    items: &Items,
+    value: &Value,
+) -> Result<(), AllocError>
+    requires items { AreItems items.now.extensible (map item_of items.now.root.items) (map item_of items.now.additions.items) }
+    requires fits { Fits (an_enumerated (map item_of items.now.root.items) items.now.extensible
+        (map item_of items.now.additions.items)) (abstract value.now) }
+    ensures { OnOk result (out.new ≡ out.old ++ leaf_bits (an_enumerated (map item_of items.now.root.items)
+        items.now.extensible (map item_of items.now.additions.items)) (abstract value.now)) }
+{
+    function_laws();
+    push_item(out, items, item_number(value))?;
+    Ok(())
+}

@@ -1,0 +1,137 @@
+//! Strings of characters with an alphabet (X.691, 30.5).
+
+ghost use Rattle.asn_base.specs.Abstract.{abstract};
+ghost use Rattle.asn_base.specs.Schemas.{AreBounds, CodesAscend, IsAlphabet, IsSize};
+ghost use Rattle.asn_base.specs.Seen.{constraint_of};
+ghost use Rattle.asn_base.specs.Typed.{Fits};
+ghost use Rattle.asn_base.specs.Types.{a_restricted_string};
+ghost use Rattle.packed_counts.specs.Counts.{Adds};
+ghost use Rattle.packed_encodings.specs.Computed.{character_bits, code_place, codes_below, leaf_bits};
+ghost use Rattle.packed_encodings.specs.Lengths.{Counted, all_bits};
+ghost use Rattle.packed_leaves.specs.proving.Texts.{IsOf};
+ghost use Rattle.std.specs.Prelude.{◌≡◌, ◌++◌, ◌^◌, ◌<◌, ◌≤◌, OnOk, length, map};
+
+use crate::item::place_bits;
+use crate::value;
+use asn_base::constraint::Constraint;
+use asn_base::strings::StringKind;
+use asn_base::value::Value;
+use bits::buffer::BitBuf;
+use packed_counts::law::count_laws;
+use packed_counts::{push_count, push_size};
+use packed_encodings::function_laws;
+use std::alloc::AllocError;
+
+/// The codes of an alphabet in order, in how many bits a character is written, and whether by its code, where all codes
+/// fit, or by its place (30.5.4).
+#[derive(Clone, Copy)]
+pub(crate) struct Alphabet<'a> {
+    codes: &'a [u8],
+    width: usize,
+    by_code: bool,
+}
+
+/// Whether all codes are below a number, where they ascend: the last one is.
+fn are_below(codes: &[u8], width: usize) -> bool
+    requires small { width ≤ 8 }
+    requires ascend { CodesAscend codes.now }
+    ensures { result ≡ codes_below (2 ^ width) codes.now }
+{
+    if codes.is_empty() {
+        return true;
+    }
+    (codes[codes.len() - 1] as u32) < (1u32 << width)
+}
+
+fn alphabet_of(codes: &[u8]) -> Alphabet<'_>
+    requires ascend { CodesAscend codes.now }
+    requires few { length codes.now ≤ 256 }
+    ensures { IsOf codes.now result }
+{
+    let width = place_bits(codes.len());
+    Alphabet {
+        codes,
+        width,
+        by_code: are_below(codes, width),
+    }
+}
+
+/// The place of a code in the alphabet, or how many codes there are where it isn't there.
+fn place_of(codes: &[u8], code: u8) -> usize
+    ensures { result ≡ code_place codes.now code }
+{
+    for i in 0..codes.len() {
+        if codes[i] == code {
+            return i;
+        }
+    }
+    codes.len()
+}
+
+/// A character: its code where all codes fit, else its place (30.5.4).
+fn push_character(out: &mut BitBuf, alphabet: Alphabet<'_>, code: u8) -> Result<(), AllocError>
+    requires { IsOf alphabet.codes.now alphabet }
+    ensures { OnOk result (out.new ≡ out.old ++ character_bits alphabet.entry.codes.now code) }
+{
+    let number = if alphabet.by_code {
+        code as usize
+    } else {
+        place_of(alphabet.codes, code)
+    };
+    out.push_word(number as u64, alphabet.width)?;
+    Ok(())
+}
+
+fn push_characters(out: &mut BitBuf, alphabet: Alphabet<'_>, text: &[u8]) -> Result<(), AllocError>
+    requires { IsOf alphabet.codes.now alphabet }
+    ensures { OnOk result (out.new ≡ out.old ++ all_bits (map (character_bits alphabet.entry.codes.now) text.now)) }
+{
+    for i in 0..text.len() {
+        push_character(out, alphabet, text[i])?;
+    }
+    Ok(())
+}
+
+/// Characters after their number.
+fn push_counted(out: &mut BitBuf, alphabet: Alphabet<'_>, text: &[u8]) -> Result<(), AllocError>
+    requires { IsOf alphabet.codes.now alphabet }
+    ensures { OnOk result (Adds (Counted (map (character_bits alphabet.entry.codes.now) text.now)) out.old out.new) }
+{
+    count_laws();
+    let next = push_count(out, text.len())?;
+    if text.len() < 16384 {
+        push_characters(out, alphabet, text)?;
+        return Ok(());
+    }
+    let (first, rest) = text.split_at(next);
+    push_characters(out, alphabet, first)?;
+    push_counted(out, alphabet, rest)?;
+    Ok(())
+}
+
+/// The characters of a string after their number, as SIZE bounds it (30.5).
+pub(crate) fn push_text(
+    out: &mut BitBuf,
+    kind: StringKind,
+    codes: &[u8],
+    size: &Constraint,
+    value: &Value,
+) -> Result<(), AllocError>
+    requires codes { IsAlphabet kind codes.now }
+    requires bounds { AreBounds IsSize (constraint_of size.now) }
+    requires fits { Fits (a_restricted_string kind codes.now (constraint_of size.now)) (abstract value.now) }
+    ensures { OnOk result (out.new ≡ out.old
+        ++ leaf_bits (a_restricted_string kind codes.now (constraint_of size.now)) (abstract value.now)) }
+{
+    function_laws();
+    let text = value::text(value);
+    let alphabet = alphabet_of(codes);
+    let once = push_size(out, &size.visible, text.len())?;
+    if once {
+        push_characters(out, alphabet, text)?;
+        Ok(())
+    } else {
+        push_counted(out, alphabet, text)?;
+        Ok(())
+    }
+}
