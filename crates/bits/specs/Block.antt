@@ -1,6 +1,6 @@
 -- Words in memory.
 use Rattle.std.specs.Int.RustNames.{bit_or}
-use Rattle.std.specs.Prelude.{ℕ, List, ◌^◌, refl, slice_index, slice_set}
+use Rattle.std.specs.Prelude.{ℕ, List, [], ◌^◌, Option, Some, None, refl, slice_index, slice_set}
 use Rattle.std.specs.Coded.{Coded, code_by, coded×, coded_list, coded_ℕ}
 
 -- words, and how many there is room for
@@ -15,6 +15,11 @@ abbrev pub block_code : Coded Block
 block_code =
     code_by (List ℕ × ℕ) (coded× (coded_list coded_ℕ) coded_ℕ) (λ b. (b.items, b.room)) (λ p. block p.0 p.1)
     (λ _. refl)
+
+-- without a block there are no words, and no room
+abbrev pub block_or : Option Block → Block
+block_or None = block [] 0
+block_or (Some b) = b
 
 -- the one bits of a word added to the word at a place
 abbrev pub mixed : Block → ℕ → ℕ → Block

@@ -3,30 +3,28 @@
 ghost use Rattle.bits.specs.Block.{block, max_words, mixed};
 ghost use Rattle.std.specs.Prelude.{◌≡◌, ◌<◌, ◌≤◌, ◌++◌, [], ◌∷◌, OnErr, OnOk, length, slice_index};
 
+use crate::held::Held;
 use std::alloc::{AllocError, Global};
 use std::marker::Model;
 
 /// The most words that a block may have.
 const MAX_WORDS: usize = 1 << 56;
 
-/// Words in a row, and how many there is room for.
+/// Words in a row, and how many there is room for. Where there is no room there is no block.
 #[derive(Drop)]
 pub struct Words {
-    items: Vec<u64>,
+    held: Option<Held>,
+    alloc: Global,
 }
 
 impl Model for Words {
-    ghost use Rattle.bits.specs.Block.{Block, block, block_code, max_words};
-    ghost use Rattle.std.specs.Prelude.{◌≤◌};
-    ghost use Rattle.std.specs.Vec.{vec_capacity};
+    ghost use Rattle.bits.specs.Block.{Block, block_code, block_or};
 
     ghost Value = { Block };
 
     ghost coded = { block_code };
 
-    ghost view = { λ w. block w.items.items (vec_capacity w.items) };
-
-    ghost invariant = { λ w. vec_capacity w.items ≤ max_words };
+    ghost view = { λ w. block_or w.held };
 }
 
 impl Words {
@@ -34,9 +32,7 @@ impl Words {
     pub(crate) fn new(alloc: Global) -> Self
         ensures { result ≡ block [] 0 }
     {
-        Words {
-            items: Vec::new(alloc),
-        }
+        Words { held: None, alloc }
     }
 
     /// How many words there is room for.
@@ -45,14 +41,20 @@ impl Words {
         ensures few { self.now.room ≤ max_words }
         ensures inside { length self.now.items ≤ self.now.room }
     {
-        self.items.capacity()
+        match &self.held {
+            Some(held) => held.room(),
+            None => 0,
+        }
     }
 
     /// The words in order. It takes no memory.
     pub(crate) fn as_slice(&self) -> &[u64]
         ensures { result.now ≡ self.now.items }
     {
-        self.items.as_slice()
+        match &self.held {
+            Some(held) => held.as_slice(),
+            None => &[],
+        }
     }
 
     /// The word at a place. It takes no memory.
@@ -60,12 +62,12 @@ impl Words {
         requires { place < length self.now.items }
         ensures { result ≡ slice_index self.now.items place }
     {
-        self.items[place]
+        self.as_slice()[place]
     }
 
     /// What the words are got from.
     pub(crate) fn allocator(&self) -> Global {
-        *self.items.allocator()
+        self.alloc
     }
 
     /// Makes room for so many words, and more. An `Err` changes nothing.
@@ -78,8 +80,11 @@ impl Words {
         if least > MAX_WORDS {
             return Err(AllocError);
         }
-        let room = wanted(self.items.capacity(), least);
-        self.items.reserve_exact(room - self.items.len())?;
+        let room = wanted(self.room(), least);
+        match &mut self.held {
+            Some(held) => held.grow(room)?,
+            None => self.held = Some(Held::with_room(self.alloc, room)?),
+        }
         Ok(())
     }
 
@@ -88,7 +93,9 @@ impl Words {
         requires { length self.old.items < self.old.room }
         ensures { self.new ≡ block (self.old.items ++ word ∷ []) self.old.room }
     {
-        self.items.push_reserved(word);
+        if let Some(held) = &mut self.held {
+            held.add(word);
+        }
     }
 
     /// Adds the one bits of a word to the word at a place.
@@ -96,7 +103,9 @@ impl Words {
         requires { place < length self.old.items }
         ensures { self.new ≡ mixed self.old place word }
     {
-        self.items[place] |= word;
+        if let Some(held) = &mut self.held {
+            held.mix(place, word);
+        }
     }
 }
 

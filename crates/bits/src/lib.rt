@@ -6,6 +6,8 @@ mod append;
 pub mod block;
 pub mod buffer;
 pub mod cursor;
+mod held;
 mod load;
+mod memory;
 mod octets;
 mod pack;
