@@ -71,6 +71,7 @@ impl Words {
     }
 
     /// Makes room for so many words, and more. An `Err` changes nothing.
+    #[inline(never)]
     pub(crate) fn grow(&mut self, least: usize) -> Result<(), AllocError>
         requires { length self.old.items ≤ least }
         ensures items { self.new.items ≡ self.old.items }

@@ -12,6 +12,7 @@ use std::alloc::AllocError;
 const MAX_BITS: usize = 1 << 61;
 
 /// Makes room for n bits after the first `len`. An `Err` changes nothing.
+#[inline(always)]
 pub(crate) fn reserve(words: &mut Words, len: usize, n: usize) -> Result<(), AllocError>
     requires { len ≤ 64 * length words.old.items }
     ensures items { words.new.items ≡ words.old.items }
