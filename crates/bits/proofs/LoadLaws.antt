@@ -1,11 +1,11 @@
 -- Octets read as bits.
-use Rattle.std.proofs.Common.{arith, ◌≡◌, ℕ, zero, suc, ◌+◌, ◌-◌, ◌*◌, ◌/◌, ◌%◌, ◌^◌, ◌<◌, ◌≤◌, Bool, false, List, [], ◌∷◌, ◌++◌, length, refl, sym, ap, ◌∙◌, take-add, take, drop, get_or}
+use Rattle.std.proofs.Common.{arith, ◌≡◌, ℕ, zero, suc, ◌+◌, ◌-◌, ◌*◌, ◌/◌, ◌%◌, ◌^◌, ◌<◌, ◌≤◌, false, List, [], ◌∷◌, ◌++◌, length, refl, sym, ap, ◌∙◌, append_assoc, take, drop, get_or}
 use Rattle.std.specs.Prelude.{replicate}
-use Rattle.std.proofs.lemmas.Nat.{shr_below, shr_high, pow_below, pow-add, shl_whole, or_shifted, mul-add-lt}
+use Rattle.std.proofs.lemmas.Nat.{shr_split, or_shifted, shr_below, shr_high, pow_below, pow-add}
 use Rattle.std.specs.Int.RustNames.{bit_or}
-use Rattle.std.proofs.lemmas.List.{take_at, drop_at, take-append-drop, take-append-le, take_more, drop-drop, drop-take, drop_all}
+use Rattle.std.proofs.lemmas.List.{take_at, drop_at, take-append-drop, take-append-le, take_more, take_all, drop_more, drop-drop, drop-take, drop_all}
 use Rattle.bits.specs.Words.{word, octet_bits}
-use Rattle.bits.proofs.SplitLaws.{word_split, word_length, word_up, word_cut, word_low}
+use Rattle.bits.proofs.SplitLaws.{word_split, word_length, word_up, word_cut, word_low, word_both, no_bits, fronts}
 use Rattle.bits.proofs.PackLaws.{flat_append, flat_push}
 
 pub octets_drop : (i : ℕ) (os : List ℕ) → drop (8 * i) (octet_bits os) ≡ octet_bits (drop i os)
@@ -24,11 +24,11 @@ loaded os at n v e =
     ∙ ap (λ q. q ++ drop n (drop at (octet_bits os))) (sym e)
     ∙ ap (λ q. word n v ++ q) (drop-drop n at (octet_bits os))
 
--- the first n bits of a number
-pub high_bits : (n x : ℕ) → n ≤ 64 → word n (x / 2 ^ (64 - n)) ≡ take n (word 64 x)
-high_bits n x l =
-    let e : word 64 x ≡ word n (x / 2 ^ (64 - n)) ++ word (64 - n) x = word_split n (64 - n) 64 x (omega (arith, l)) in
-    sym (ap (take n) e ∙ take_at (word n (x / 2 ^ (64 - n))) (word (64 - n) x) n (word_length n (x / 2 ^ (64 - n))))
+-- the first n bits of a number of w bits
+pub first_bits_of : (w n x : ℕ) → n ≤ w → word n (x / 2 ^ (w - n)) ≡ take n (word w x)
+first_bits_of w n x l =
+    let e : word w x ≡ word n (x / 2 ^ (w - n)) ++ word (w - n) x = word_split n (w - n) w x (omega (arith, l)) in
+    sym (ap (take n) e ∙ take_at (word n (x / 2 ^ (w - n))) (word (w - n) x) n (word_length n (x / 2 ^ (w - n))))
 
 -- a number moved up shows its lower bits
 pub moved_up : (u n x : ℕ) → u ≤ 64 → n ≤ 64 - u → take n (word 64 (x * 2 ^ u % 2 ^ 64)) ≡ drop u (take (u + n) (word 64 x))
@@ -40,34 +40,74 @@ moved_up u n x l m =
     ∙ ap (take n) (sym (ap (drop u) b ∙ drop_at (word u (x / 2 ^ (64 - u))) (word (64 - u) x) u (word_length u (x / 2 ^ (64 - u)))))
     ∙ sym (drop-take u n (word 64 x))
 
+-- the bits at a place are those of the octet there, without the ones before them
+bits_there : (os : List ℕ) (at : ℕ) → drop (at % 8) (octet_bits (drop (at / 8) os)) ≡ drop at (octet_bits os)
+bits_there os at =
+    ap (drop (at % 8)) (sym (octets_drop (at / 8) os))
+    ∙ drop-drop (at % 8) (8 * (at / 8)) (octet_bits os)
+    ∙ ap (λ q. drop q (octet_bits os)) (let c : 8 * (at / 8) + at % 8 ≡ at = omega arith in c)
+
 -- n bits at a place, of the eight octets there
-pub some_loaded : (os : List ℕ) (at n w : ℕ) → n ≤ 32 → take (at % 8 + n) (word 64 w) ≡ take (at % 8 + n) (octet_bits (drop (at / 8) os)) → word n (w * 2 ^ (at % 8) % 2 ^ 64 / 2 ^ (64 - n)) ≡ take n (drop at (octet_bits os))
+pub some_loaded : (os : List ℕ) (at n w : ℕ) → at % 8 + n ≤ 64 → take (at % 8 + n) (word 64 w) ≡ take (at % 8 + n) (octet_bits (drop (at / 8) os)) → word n (w * 2 ^ (at % 8) % 2 ^ 64 / 2 ^ (64 - n)) ≡ take n (drop at (octet_bits os))
 some_loaded os at n w l e =
-    high_bits n (w * 2 ^ (at % 8) % 2 ^ 64) (omega (arith, l))
+    first_bits_of 64 n (w * 2 ^ (at % 8) % 2 ^ 64) (omega (arith, l))
     ∙ moved_up (at % 8) n w (omega arith) (omega (arith, l))
     ∙ ap (drop (at % 8)) e
     ∙ drop-take (at % 8) n (octet_bits (drop (at / 8) os))
-    ∙ ap (λ q. take n (drop (at % 8) q)) (sym (octets_drop (at / 8) os))
-    ∙ ap (take n) (drop-drop (at % 8) (8 * (at / 8)) (octet_bits os))
-    ∙ ap (λ q. take n (drop q (octet_bits os))) (let c : 8 * (at / 8) + at % 8 ≡ at = omega arith in c)
+    ∙ ap (take n) (bits_there os at)
+
+-- a number moved up by u bits, and the first u bits of an octet in its place
+filled_up : (u x o : ℕ) → u ≤ 8 → o < 256 → word 64 (bit_or (x * 2 ^ u % 2 ^ 64) (o / 2 ^ (8 - u))) ≡ word (64 - u) x ++ take u (word 8 o)
+filled_up u x o l m =
+    let f = x * 2 ^ u % 2 ^ 64 in
+    let h = o / 2 ^ (8 - u) in
+    let up : word 64 f ≡ word (64 - u) x ++ replicate u false = word_cut 64 64 (x * 2 ^ u) (omega arith) ∙ word_up (64 - u) u 64 x (omega (arith, l)) in
+    let low : word u f ≡ replicate u false = word_cut 64 u (x * 2 ^ u) (omega (arith, l)) ∙ word_up 0 u u x (omega arith) in
+    let none : f % 2 ^ u ≡ 0 = no_bits u f low in
+    let few : h < 2 ^ u = shr_below o u (8 - u) (rw (let c : u + (8 - u) ≡ 8 = omega (arith, l) in c) m) in
+    let whole : f ≡ f / 2 ^ u * 2 ^ u = sym (shr_split f u) ∙ ap (λ q. f / 2 ^ u * 2 ^ u + q) none ∙ (let z : f / 2 ^ u * 2 ^ u + 0 ≡ f / 2 ^ u * 2 ^ u = omega arith in z) in
+    let sum : bit_or f h ≡ f + h = ap (λ q. bit_or q h) whole ∙ or_shifted (f / 2 ^ u) u h few ∙ ap (λ q. q + h) (sym whole) in
+    let front : word (64 - u) (f / 2 ^ u) ≡ word (64 - u) x =
+    (fronts (word (64 - u) (f / 2 ^ u)) (word u f) (word (64 - u) x) (replicate u false) (word_length (64 - u) (f / 2 ^ u) ∙ sym (word_length (64 - u) x))
+    (sym (word_split (64 - u) u 64 f (omega (arith, l))) ∙ up)).0 in
+    ap (word 64) sum ∙ word_both (64 - u) u 64 f h (omega (arith, l)) none few ∙ ap (λ q. q ++ word u h) front ∙ ap (λ q. word (64 - u) x ++ q) (first_bits_of 8 u o l)
+
+-- an octet is the first eight of the bits from it on
+octet_there : (os : List ℕ) (i : ℕ) → i < length os → take 8 (octet_bits (drop i os)) ≡ word 8 (get_or os i 0)
+octet_there os i l = ap (λ q. take 8 (octet_bits q)) (drop_more os i 0 l) ∙ take_at (word 8 (get_or os i 0)) (octet_bits (drop (i + 1) os)) 8 (word_length 8 (get_or os i 0))
+
+-- n bits at a place, of the eight octets there and the next one
+pub nine_loaded : (os : List ℕ) (at n w : ℕ) → n ≤ 64 → at / 8 + 8 < length os → get_or os (at / 8 + 8) 0 < 256 → take 64 (word 64 w) ≡ take 64 (octet_bits (drop (at / 8) os))
+    → word n (bit_or (w * 2 ^ (at % 8) % 2 ^ 64) (get_or os (at / 8 + 8) 0 / 2 ^ (8 - at % 8)) / 2 ^ (64 - n)) ≡ take n (drop at (octet_bits os))
+nine_loaded os at n w l inside m e =
+    let u = at % 8 in
+    let o = get_or os (at / 8 + 8) 0 in
+    let few : u ≤ 8 = omega arith in
+    let bits = octet_bits (drop (at / 8) os) in
+    let first = word u (w / 2 ^ (64 - u)) in
+    let second = word (64 - u) w in
+    let behind = drop 8 (drop 64 bits) in
+    let y = bit_or (w * 2 ^ u % 2 ^ 64) (o / 2 ^ (8 - u)) in
+    let eight : take 64 bits ≡ first ++ second = sym e ∙ take_all 64 (word 64 w) (rw (word_length 64 w) (omega arith)) ∙ word_split u (64 - u) 64 w (omega (arith, few)) in
+    let next : take 8 (drop 64 bits) ≡ word 8 o = ap (take 8) (octets_drop 8 (drop (at / 8) os) ∙ ap octet_bits (drop-drop 8 (at / 8) os)) ∙ octet_there os (at / 8 + 8) inside in
+    let parts : bits ≡ first ++ (second ++ (word 8 o ++ behind)) =
+    sym (take-append-drop 64 bits) ∙ ap (λ q. q ++ drop 64 bits) eight ∙ append_assoc first second (drop 64 bits)
+    ∙ ap (λ q. first ++ (second ++ q)) (sym (take-append-drop 8 (drop 64 bits)) ∙ ap (λ q. q ++ behind) next) in
+    let left : drop u bits ≡ (second ++ take u (word 8 o)) ++ (drop u (word 8 o) ++ behind) =
+    ap (drop u) parts ∙ drop_at first (second ++ (word 8 o ++ behind)) u (word_length u (w / 2 ^ (64 - u)))
+    ∙ ap (λ q. second ++ (q ++ behind)) (sym (take-append-drop u (word 8 o)))
+    ∙ ap (λ q. second ++ q) (append_assoc (take u (word 8 o)) (drop u (word 8 o)) behind)
+    ∙ sym (append_assoc second (take u (word 8 o)) (drop u (word 8 o) ++ behind)) in
+    let filled = filled_up u w o few m in
+    let long : n ≤ length (second ++ take u (word 8 o)) = rw (sym (ap length filled) ∙ word_length 64 y) l in
+    first_bits_of 64 n y l ∙ ap (take n) filled ∙ sym (take-append-le n (second ++ take u (word 8 o)) (drop u (word 8 o) ++ behind) long)
+    ∙ ap (take n) (sym left ∙ bits_there os at)
 
 pub small_high : (n x : ℕ) → n ≤ 64 → x < 2 ^ 64 → x / 2 ^ (64 - n) < 2 ^ n
 small_high n x l f = shr_below x n (64 - n) (rw (let c : n + (64 - n) ≡ 64 = omega (arith, l) in c) f)
 
 shr_is : (a k b : ℕ) → b < 2 ^ k → (a * 2 ^ k + b) / 2 ^ k ≡ a
 shr_is = shr_high
-
-take_two : (j k : ℕ) (xs : List Bool) → take (j + k) xs ≡ take j xs ++ take k (drop j xs)
-take_two = take-add
-
--- two numbers, one after the other
-pub two_loaded : (bits : List Bool) (j k a b : ℕ) → b < 2 ^ k → word j a ≡ take j bits → word k b ≡ take k (drop j bits) → word (j + k) (a * 2 ^ k + b) ≡ take (j + k) bits
-two_loaded bits j k a b l e f =
-    word_split j k (j + k) (a * 2 ^ k + b) refl
-    ∙ ap (λ q. word j q ++ word k (a * 2 ^ k + b)) (shr_is a k b l)
-    ∙ ap (λ q. word j a ++ q) (word_low k a b ∙ f)
-    ∙ ap (λ q. q ++ take k (drop j bits)) e
-    ∙ sym (take_two j k bits)
 
 -- fewer than eight octets
 pub few_first : (os : List ℕ) (n v : ℕ) → length os < 8 → word (8 * length os) v ≡ octet_bits os → n ≤ 8 * length os → take n (word 64 (v * 2 ^ (64 - 8 * length os) % 2 ^ 64)) ≡ take n (octet_bits os)
@@ -103,20 +143,3 @@ pub octet_more : (i v x : ℕ) → v < 2 ^ (8 * i) → x < 256 → v * 256 + x <
 octet_more i v x l m =
     let p : 2 ^ (8 * (i + 1)) ≡ 256 * 2 ^ (8 * i) = ap (λ q. 2 ^ q) (let c : 8 * (i + 1) ≡ 8 + 8 * i = omega arith in c) ∙ pow-add 2 8 (8 * i) in
     omega (arith, p, l, m)
-
--- a number moved up, and one put into the free bits
-pub joined_or : (a j k b : ℕ) → a < 2 ^ j → b < 2 ^ k → j + k ≤ 64 → bit_or (a * 2 ^ k % 2 ^ 64) b ≡ a * 2 ^ k + b
-joined_or a j k b l m e = ap (λ q. bit_or q b) (shl_whole a j k 64 l e) ∙ or_shifted a k b m
-
-pub joined_small : (a j k n b : ℕ) → a < 2 ^ j → b < 2 ^ k → j + k ≡ n → a * 2 ^ k + b < 2 ^ n
-joined_small a j k n b l m e =
-    let p : 2 ^ n ≡ 2 ^ k * 2 ^ j = ap (λ q. 2 ^ q) (let c : n ≡ k + j = omega (arith, e) in c) ∙ pow-add 2 k j in
-    rw p (mul-add-lt a (2 ^ k) b (2 ^ j) l m)
-
--- n bits at a place, the last 32 of them apart
-pub two_parts : (os : List ℕ) (at n a b : ℕ) → 32 ≤ n → n ≤ 64 → a < 2 ^ (n - 32) → b < 2 ^ 32 → word (n - 32) a ≡ take (n - 32) (drop at (octet_bits os)) → word 32 b ≡ take 32 (drop (at + (n - 32)) (octet_bits os)) → word n (a * 2 ^ 32 + b) ≡ take n (drop at (octet_bits os))
-two_parts os at n a b l m sa sb e f =
-    let c : n - 32 + 32 ≡ n = omega (arith, l) in
-    ap (λ q. word q (a * 2 ^ 32 + b)) (sym c)
-    ∙ two_loaded (drop at (octet_bits os)) (n - 32) 32 a b sb e (f ∙ ap (take 32) (sym (drop-drop (n - 32) at (octet_bits os))))
-    ∙ ap (λ q. take q (drop at (octet_bits os))) c

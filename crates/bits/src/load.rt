@@ -14,27 +14,16 @@ pub(crate) fn load(octets: &[u8], at: usize, n: usize) -> u64
     ensures bits { word n result ≡ take n (drop at (octet_bits octets.now)) }
     ensures small { result < 2 ^ n }
 {
-    if n <= 32 {
-        return load_some(octets, at, n);
-    }
-    let high = load_some(octets, at, n - 32);
-    let low = load_some(octets, at + (n - 32), 32);
-    (high << 32) | low
-}
-
-/// The n bits at a place, at most 32 of them.
-fn load_some(octets: &[u8], at: usize, n: usize) -> u64
-    requires few { n ≤ 32 }
-    requires inside { at + n ≤ 8 * length octets.now }
-    requires short { length octets.now ≤ 2 ^ 60 }
-    ensures bits { word n result ≡ take n (drop at (octet_bits octets.now)) }
-    ensures small { result < 2 ^ n }
-{
     if n == 0 {
         return 0;
     }
-    let word = eight_from(octets, at / 8);
-    (word << (at % 8)) >> (64 - n)
+    let used = at % 8;
+    let front = eight_from(octets, at / 8) << used;
+    if used + n <= 64 {
+        return front >> (64 - n);
+    }
+    let next = octets[at / 8 + 8] as u64 >> (8 - used);
+    (front | next) >> (64 - n)
 }
 
 /// The eight octets from a place on as a number, the first one highest, with zero octets where there are fewer.

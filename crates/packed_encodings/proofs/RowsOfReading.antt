@@ -2,27 +2,29 @@
 use Rattle.std.proofs.Common.{lit<, lit≤, arith, ◌≡◌, ℕ, zero, suc, ◌+◌, ◌*◌, ◌/◌, ◌%◌, ◌^◌, ◌<◌, ◌≤◌, inl, inr, ⊎_elim, true, false, List, [], ◌∷◌, ◌++◌, length, map, replicate, refl, sym, ap, subst, ◌∙◌}
 use Rattle.std.proofs.lemmas.Int.{ints}
 use Rattle.std.proofs.Math.Nat.{pow-succ'}
-use Rattle.packed_encodings.proofs.Words.{fewest_fit}
+use Rattle.packed_encodings.proofs.Words.{fewest_fit, word_then, heads, tails, not_false, not_true}
 use Rattle.std.proofs.lemmas.List.{length-replicate}
-use Rattle.std.specs.Prelude.{Some, pos, negsuc, ◌+ℤ◌, ◌≤ℤ◌, ◌-◌}
+use Rattle.std.specs.Prelude.{Some, pos, negsuc, ◌+ℤ◌, ◌≤ℤ◌, ◌-◌, ℤ, None}
 use Rattle.std.specs.Int.Digits.{AllBelowBase, digits_of}
 use Rattle.std.proofs.lemmas.Int.Digits.{length-digits_of-le, digits_of_step}
-use Rattle.bits.specs.Words.{word}
+use Rattle.bits.specs.Words.{word, octet_bits}
 use Rattle.asn_base.specs.Abstract.{AbstractValue, boolean, integer, octets, relative_oid, fields, list, end, absent, present}
-use Rattle.asn_base.specs.Types.{Bounds, any_size, a_boolean, an_integer, an_octet_string, a_sequence, a_sequence_of, a_relative_oid, mandatory, default, Resolved, Is}
+use Rattle.asn_base.specs.Types.{Constraint, Bounds, any_size, a_boolean, an_integer, an_octet_string, a_sequence, a_sequence_of, a_relative_oid, mandatory, default, Resolved, Is}
 use Rattle.encodings.specs.Header.{septets}
-use Rattle.packed_encodings.specs.Lengths.{Bits, Items, all_bits, fewest_bits, Counted, CountedOctets, short, fragment, sized, wide}
+use Rattle.packed_encodings.specs.Lengths.{Bits, Items, all_bits, fewest_bits, Counted, CountedOctets, short, fragment, sized, wide, narrow, sized_in_root, sized_outside, long}
 use Rattle.packed_encodings.specs.Numbers.{IntegerInRoot, between, Integer, integer_bounded}
 use Rattle.packed_encodings.specs.Leaves.{Leaf, of_boolean, of_integer, of_octets, of_relative_oid}
 use Rattle.packed_encodings.specs.Orders.{beside_none, beside_absent, beside_present}
 use Rattle.packed_encodings.specs.Padding.{Padded, padded, open_type, no_bit, set_bit}
-use Rattle.packed_encodings.specs.Packing.{exact, lenient, no_marker, some_stand, Says, says, leaf, sequence, sequence_of, no_member, must_stand, may_stand, no_addition, added, not_added, Elements, no_element, element, Reads}
+use Rattle.packed_encodings.specs.Packing.{exact, lenient, no_marker, some_stand, Says, says, leaf, sequence, sequence_of, no_member, must_stand, may_stand, no_addition, added, not_added, Elements, no_element, element, Reads, Form, Holds}
 use Rattle.packed_encodings.proofs.Rows.{of_kind, is_component, from_to, new, truths}
 use Rattle.asn_base.specs.declared.tag.Tag.{Tag}
 use Rattle.asn_base.specs.Schemas.{IsSchema}
 use Rattle.packed_encodings.proofs.LeafIn.{lt_or_ge}
 use Rattle.packed_encodings.proofs.Single.{padded_only}
 use Rattle.packed_encodings.proofs.Theorems.{only_filled}
+use Rattle.asn_base.specs.Typed.{IsAllowed, IsValue, ValueIn, value_in, ValueOf, of_leaf, fits_integer}
+use Rattle.packed_encodings.proofs.Fronts.{padded_bits, same_kind, holds_at}
 
 -- octets, which are filled up, say a value
 record IsRead (s : List Resolved) (w : AbstractValue) (k : ℕ) (o : List ℕ) : Type 0 where
@@ -193,6 +195,15 @@ greatest_relative n a b c d e f g h ea eb ec ed ee ef eg eh en =
     (subst (λ z. CountedOctets z (false ∷ (word 7 10 ++ all_bits (map (word 8) (129 ∷ (replicate 8 255 ++ (127 ∷ []))))))) (sym (ap (λ z. z ++ []) (greatest_arc n a b c d e f g h ea eb ec ed ee ef eg eh en)))
     (record { octets = (lit< tt, (lit< tt, (lit< tt, (lit< tt, (lit< tt, (lit< tt, (lit< tt, (lit< tt, (lit< tt, (lit< tt, tt)))))))))); counted = short (lit< tt) }))
 
+-- as a message: 0A81FFFFFFFFFFFFFFFF7F
+greatest_relative_read : IsRead (of_kind a_relative_oid ∷ []) (relative_oid (18446744073709551615 ∷ [])) 0 (10 ∷ 129 ∷ (replicate 8 255 ++ (127 ∷ [])))
+greatest_relative_read = record {
+  bits = _;
+  says_it = says (record { found = refl })
+      (leaf (greatest_relative 18446744073709551615 255 32767 4194303 536870911 68719476735 8796093022207 1125899906842623 144115188075855871 refl refl refl refl refl refl refl refl refl));
+  filled = padded 0 (lit≤ tt) (lit< tt) (lit< tt, (lit< tt, (lit< tt, (lit< tt, (lit< tt, (lit< tt, (lit< tt, (lit< tt, (lit< tt, (lit< tt, (lit< tt, tt))))))))))) refl;
+}
+
 -- ---- refusals
 
 true_bit : {s : List Resolved} {t : ℕ} {tags : List Tag} → Is s t tags a_boolean → Says s lenient t (boolean true) 0 (true ∷ [])
@@ -215,3 +226,57 @@ no_octet_more : (s : List Resolved) (t k : ℕ) (tags : List Tag) (w : AbstractV
 no_octet_more s t k tags w i is r =
     let p = only_filled s t 0 k (boolean true) w (true ∷ []) (replicate 15 false) (128 ∷ (0 ∷ [])) i (true_bit is) refl r in
     let e : 2 ≡ 1 = ap length (padded_only true_octet p.0 refl) in omega (arith, e)
+
+-- INTEGER (1..3 | 8) reads no value from 60: the bits 011 are 4, which lies between the ranges
+abbrev in_union : Constraint
+in_union = record {
+  allowed = Some (record { least = Some (pos 1); greatest = Some (pos 3) } ∷ record { least = Some (pos 8); greatest = Some (pos 8) } ∷ []);
+  visible = (from_to 1 8).visible;
+}
+
+four_bits : {s : List Resolved} {t : ℕ} {tags : List Tag} → Is s t tags (an_integer in_union) → Says s lenient t (integer (pos 4)) 0 (false ∷ (true ∷ (true ∷ [])))
+four_bits i = says i (leaf (of_integer (integer_bounded refl (between (pos 1) 7 3 refl refl (lit≤ tt) refl))))
+
+allowed_integer : {s : List Resolved} {n : ℕ} {c : Constraint} {z : ℤ} → ValueOf s n (an_integer c) (integer z) → IsAllowed c z
+allowed_integer (of_leaf (fits_integer small a)) = a
+
+allowed_there : {s : List Resolved} {n t : ℕ} {tags : List Tag} {c : Constraint} {z : ℤ} → ValueIn s n t (integer z) → Is s t tags (an_integer c) → IsAllowed c z
+allowed_there {s = s} {z = z} (value_in {n = n} i v) j = allowed_integer (subst (λ k. ValueOf s n k (integer z)) (same_kind i j) v)
+
+four_excluded : IsAllowed in_union (pos 4) → ⊥
+four_excluded (inl a) = let b = a.1 in omega (arith, ints, b)
+four_excluded (inr (inl a)) = let b = a.0 in omega (arith, ints, b)
+four_excluded (inr (inr a)) = absurd a
+
+none_between : (s : List Resolved) (t k : ℕ) (tags : List Tag) (w : AbstractValue) → IsSchema s → Is s t tags (an_integer in_union) → Reads s t w k (96 ∷ []) → ⊥
+none_between s t k tags w i is r =
+    let p = only_filled s t 0 k (integer (pos 4)) w (false ∷ (true ∷ (true ∷ []))) (replicate 5 false) (96 ∷ []) i (four_bits is) refl r in
+    four_excluded (allowed_there (subst (λ v. IsValue s t v) p.1 r.value).shaped is)
+
+-- OCTET STRING reads no value from 800101: the number of octets, 1, is in two octets, where one is enough
+octets_counted : {w : AbstractValue} {b : Bits} → Leaf (an_octet_string any_size) w b → (xs : Items) × Counted xs b
+octets_counted (of_octets {o = o} below (sized e (narrow l m n f g h i j))) = absurd (no_number g)
+  where
+    no_number : {z : ℤ} → None ≡ Some z → ⊥
+    no_number e = cc
+octets_counted (of_octets {o = o} below (sized e (wide f g c))) = (map (word 8) o, c)
+octets_counted (of_octets below (sized_in_root e c)) = absurd (not_true e)
+octets_counted (of_octets below (sized_outside e f c)) = absurd (not_true e)
+
+counted_there : {s : List Resolved} {f : Form} {t k : ℕ} {tags : List Tag} {w : AbstractValue} {b : Bits} → Says s f t w k b → Is s t tags (an_octet_string any_size) → (xs : Items) × Counted xs b
+counted_there (says i h) j = of_kind_there (holds_at (same_kind i j) h)
+  where
+    of_kind_there : {s : List Resolved} {f : Form} {k : ℕ} {w : AbstractValue} {b : Bits} → Holds s f (an_octet_string any_size) w k b → (xs : Items) × Counted xs b
+    of_kind_there (leaf a) = octets_counted a
+
+no_longer_count : {xs : Items} {b : Bits} (z : Bits) → Counted xs b → octet_bits (128 ∷ (1 ∷ (1 ∷ []))) ≡ b ++ z → ⊥
+no_longer_count z (short l) e = not_false (heads e)
+no_longer_count {xs} z (long l m) e =
+    let a = word_then 14 1 (length xs) (word 8 1) (all_bits xs) [] z (lit< tt) m (tails (tails e)) in
+    let b = a.0 in omega (arith, b, l)
+no_longer_count z (fragment m xs ys a b c d f) e = not_true (heads (tails e))
+
+none_counted_longer : (s : List Resolved) (t k : ℕ) (tags : List Tag) (w : AbstractValue) → Is s t tags (an_octet_string any_size) → Reads s t w k (128 ∷ (1 ∷ (1 ∷ []))) → ⊥
+none_counted_longer s t k tags w is r =
+    let p = padded_bits r.filled in
+    no_longer_count p.0 (counted_there r.says_it is).1 p.1
