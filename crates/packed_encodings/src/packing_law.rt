@@ -4,19 +4,20 @@ ghost use Rattle.asn_base.specs.Abstract.{AbstractValue};
 ghost use Rattle.asn_base.specs.Same.{AlikeBy, Same};
 ghost use Rattle.asn_base.specs.Schemas.{IsSchema, IsSound};
 ghost use Rattle.asn_base.specs.Typed.{IsValue, IsValueWithoutNodes};
-ghost use Rattle.asn_base.specs.Types.{Bounds, Kind, Resolved};
+ghost use Rattle.asn_base.specs.Types.{Alternative, Bounds, Is, Kind, Resolved, a_choice};
+ghost use Rattle.asn_base.specs.declared.tag.Tag.{Tag};
 ghost use Rattle.bits.specs.Words.{octet_bits};
 ghost use Rattle.packed_encodings.specs.Computed.{DefaultTest, TellsDefaults, at_least_one, bits_by, bits_of, counted_bits, is_default, leaf_bits, open_bits, padded_octets, sized_bits, sorted};
-ghost use Rattle.packed_encodings.specs.Leaves.{Leaf};
+ghost use Rattle.packed_encodings.specs.Leaves.{Leaf, place_width};
 ghost use Rattle.packed_encodings.specs.Lengths.{Counted, CountedOctets, Sized};
 ghost use Rattle.packed_encodings.specs.Numbers.{FewestUnsigned};
-ghost use Rattle.packed_encodings.specs.Orders.{Ascending, AtMost};
+ghost use Rattle.packed_encodings.specs.Orders.{Ascending, AtMost, rank};
 ghost use Rattle.packed_encodings.specs.Packing.{Form, IsEncoding, Packed, Reads, Says, exact, lenient};
 ghost use Rattle.packed_encodings.specs.Padding.{Open, Padded};
 ghost use Rattle.std.specs.Int.Digits.{digits_of};
 ghost use Rattle.std.specs.List.{AllByRecursion};
 ghost use Rattle.std.specs.List.Sorted.{IsPermutation};
-ghost use Rattle.std.specs.Prelude.{◌≡◌, ◌⊎◌, ℕ, Bool, List, [], ◌++◌};
+ghost use Rattle.std.specs.Prelude.{◌≡◌, ◌⊎◌, ◌<◌, ◌^◌, ℕ, Bool, List, [], ◌++◌, Some, length, slice_get};
 
 use asn_base::law::{alike_values, sameness};
 use encodings::leaf_laws;
@@ -65,6 +66,26 @@ pub fn part_laws()
     ensures one_open { (x y z : List Bool) → Open x y → Open x z → z ≡ y }
     ensures some_open { (x : List Bool) → (y : List Bool) × Open x y }
     ensures some_filling { (x : List Bool) → (o : List ℕ) × Padded x o }
+{}
+
+/// The place of an alternative of the root in the canonical order of tags tells it, is below their number, and fits into
+/// the bits of a place among so many (X.691, 23.4 to 23.6).
+pub fn place_laws()
+    ensures one { (s : List Resolved) (t i j : ℕ) (tags : List Tag) (root more : List Alternative) (e : Bool)
+        (a b : Alternative)
+        → IsSchema s
+        → Is s t tags (a_choice root e more)
+        → slice_get root i ≡ Some a
+        → slice_get root j ≡ Some b
+        → rank s root a.type ≡ rank s root b.type
+        → i ≡ j }
+    ensures below { (s : List Resolved) (t i : ℕ) (tags : List Tag) (root more : List Alternative) (e : Bool)
+        (a : Alternative)
+        → IsSchema s
+        → Is s t tags (a_choice root e more)
+        → slice_get root i ≡ Some a
+        → rank s root a.type < length root }
+    ensures fits { (n i : ℕ) → i < n → i < 2 ^ place_width n }
 {}
 
 /// Two lists that ascend and hold the same encodings of one type are one list.

@@ -1,0 +1,15 @@
+mod Exact
+mod Opening
+mod Members
+mod Additions
+mod Pieces
+mod Within
+mod Natural
+mod Places
+mod Groups
+mod Fields
+mod Elements
+mod Chosen
+mod AllKinds
+mod Whole
+mod Rows

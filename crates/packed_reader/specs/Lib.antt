@@ -1,0 +1,5 @@
+pub mod Readings
+pub mod Levels
+pub mod Structures
+pub mod Lists
+pub mod Values

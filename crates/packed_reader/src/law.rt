@@ -1,0 +1,84 @@
+//! Laws of what bits are read as.
+
+ghost use Rattle.asn_base.specs.Abstract.{AbstractValue};
+ghost use Rattle.asn_base.specs.Schemas.{IsSchema};
+ghost use Rattle.asn_base.specs.Typed.{IsValue};
+ghost use Rattle.asn_base.specs.Types.{Resolved};
+ghost use Rattle.bits.specs.Words.{octet_bits};
+ghost use Rattle.packed_encodings.specs.Packing.{Reads, Says, lenient};
+ghost use Rattle.packed_encodings.specs.Padding.{Padded};
+ghost use Rattle.packed_reader.specs.Readings.{Fault, IsExact};
+ghost use Rattle.packed_reader.specs.Values.{IsValueRead, answers, faulty, message_from, too_long, value_from};
+ghost use Rattle.packed_readings.specs.declared.refusal.Refusal.TheVariants.{Padding, Truncated};
+ghost use Rattle.std.specs.Int.Digits.{AllBelowBase};
+ghost use Rattle.std.specs.Prelude.{◌≡◌, ◌↔◌, ◌*◌, ◌<◌, ◌≤◌, ℕ, Bool, List, [], ◌++◌, length};
+
+use packed_encodings::{computing_laws, message_laws, part_laws, place_laws, reading_laws};
+use packed_readings::law::{count_laws, field_laws, leaf_laws, octets_laws};
+
+/// A value of any type is read as bits say it, within the limits on levels and on values: what is read is at the front,
+/// what is at the front is read whatever follows it, and a fault but Truncated is there whatever follows.
+pub fn value_laws()
+    ensures { (s : List Resolved) (l t n : ℕ) → IsSchema s → IsExact (IsValueRead s l t n) (value_from s l t n) }
+{
+    reading_laws();
+    part_laws();
+    place_laws();
+    computing_laws();
+    field_laws();
+    count_laws();
+    octets_laws();
+    leaf_laws();
+}
+
+/// What octets are read as, as a message of a type. One answer at most is given, since a function gives it.
+pub fn message_laws_of_reading()
+    // A value is answered just where the octets are a message that says it, with so many additions that the type lacks.
+    ensures answered { (s : List Resolved) (t k : ℕ) (w : AbstractValue) (o : List ℕ)
+        → IsSchema s
+        → AllBelowBase 256 o
+        → message_from s t o ≡ answers w k
+        → Reads s t w k o × (length o ≤ 16777216) }
+    ensures read { (s : List Resolved) (t k : ℕ) (w : AbstractValue) (o : List ℕ)
+        → IsSchema s
+        → Reads s t w k o
+        → length o ≤ 16777216
+        → message_from s t o ≡ answers w k }
+    ensures too_long { (s : List Resolved) (t : ℕ) (o : List ℕ)
+        → IsSchema s
+        → message_from s t o ≡ too_long ↔ 16777216 < length o }
+    // Octets that end within a message are truncated.
+    ensures truncated { (s : List Resolved) (t k : ℕ) (w : AbstractValue) (o m : List ℕ)
+        → IsSchema s
+        → Reads s t w k (o ++ m)
+        → length (o ++ m) ≤ 16777216
+        → 1 ≤ length m
+        → (e : Fault) × (i : ℕ) × (message_from s t o ≡ faulty e i) × (e.why ≡ Truncated) }
+    // After the bits of a value others stand than those that fill its last octet.
+    ensures padding { (s : List Resolved) (t k : ℕ) (w : AbstractValue) (x p : List Bool) (o : List ℕ)
+        → IsSchema s
+        → AllBelowBase 256 o
+        → 1 ≤ length o
+        → length o ≤ 16777216
+        → Says s lenient t w k x
+        → IsValue s t w
+        → octet_bits o ≡ x ++ p
+        → (Padded x o → ⊥)
+        → message_from s t o ≡ faulty (record { why = Padding; path = [] }) (length x) }
+    // Another fault is the first one: it stays, at its place, whatever octets follow.
+    ensures stays { (s : List Resolved) (t i : ℕ) (e : Fault) (o m : List ℕ)
+        → IsSchema s
+        → message_from s t o ≡ faulty e i
+        → (e.why ≡ Truncated → ⊥)
+        → length (o ++ m) ≤ 16777216
+        → message_from s t (o ++ m) ≡ faulty e i }
+    // Its place is one of the bits, or their end.
+    ensures within { (s : List Resolved) (t i : ℕ) (e : Fault) (o : List ℕ)
+        → IsSchema s
+        → message_from s t o ≡ faulty e i
+        → i ≤ 8 * length o }
+{
+    part_laws();
+    message_laws();
+    value_laws();
+}

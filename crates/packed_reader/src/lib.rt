@@ -1,0 +1,8 @@
+//! The reader of packed encodings: what the bits of a message are read as, for a value of any type. The functions of
+//! `specs` compute it, or the first fault with its place and the part of the value that it is in.
+#![tactic(auto)]
+
+pub mod law;
+mod part;
+
+pub use part::Part;
