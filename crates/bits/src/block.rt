@@ -11,10 +11,15 @@ use std::marker::Model;
 const MAX_WORDS: usize = 1 << 56;
 
 /// Words in a row, and how many there is room for. Where there is no room there is no block.
-#[derive(Drop)]
 pub struct Words {
     held: Option<Held>,
     alloc: Global,
+}
+
+impl Drop for Words {
+    fn drop(self) {
+        let Words { held: _, alloc: _ } = self;
+    }
 }
 
 impl Model for Words {

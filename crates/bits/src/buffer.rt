@@ -12,10 +12,15 @@ use std::alloc::{AllocError, Global};
 use std::marker::Model;
 
 /// A list of bits.
-#[derive(Drop)]
 pub struct BitBuf {
     words: Words,
     len: usize,
+}
+
+impl Drop for BitBuf {
+    fn drop(self) {
+        let BitBuf { words: _, len: _ } = self;
+    }
 }
 
 impl Model for BitBuf {

@@ -8,7 +8,8 @@ use std::alloc::{AllocError, Allocator, Global};
 use std::marker::Model;
 use std::slice;
 
-/// A block of memory with room for words. The first places hold words, the others nothing yet.
+/// A block of memory with room for words of 64 bits. The first places hold words, the others nothing yet. Who holds it
+/// keeps the number of its words and of its places, which its calls are handed.
 pub(crate) struct Memory {
     start: *mut u64,
     ghost words: { List ℕ },
@@ -23,7 +24,7 @@ impl Model for Memory {
 }
 
 impl Memory {
-    /// A block with room for so many words, and none in it.
+    /// A block with room for so many words, and none in it. `Err` where the heap has no such block.
     pub(crate) fn allocate(alloc: &Global, room: usize) -> Result<Memory, AllocError>
         requires { room ≤ max_words }
         ensures { IfOk result (λ m. (m.words ≡ []) × (m.room ≡ room)) }
@@ -36,7 +37,7 @@ impl Memory {
         }
     }
 
-    /// Gives the block back.
+    /// Gives the block back to the heap.
     pub(crate) fn free(self, alloc: &Global, room: usize)
         requires { room ≡ self.room }
     {
@@ -76,6 +77,7 @@ impl Memory {
         ensures words { self.new.words ≡ self.old.words ++ word ∷ [] }
         ensures room { self.new.room ≡ self.old.room }
     {
+        // The place after the words is in the block, and holds nothing that is let go.
         unsafe { self.start.add(len).write(word) }
     }
 
@@ -85,14 +87,16 @@ impl Memory {
         ensures words { self.new.words ≡ slice_set self.old.words place word }
         ensures room { self.new.room ≡ self.old.room }
     {
+        // The place holds a word.
         unsafe { *self.start.add(place) = word }
     }
 
-    /// The words.
+    /// The words in order, lent for as long as the block is.
     pub(crate) fn lend(&self, len: usize) -> &[u64]
         requires { len ≡ length self.now.words }
         ensures { result.now ≡ self.now.words }
     {
+        // All these places hold words, and none is written while they are lent.
         unsafe { slice::from_raw_parts(self.start, len) }
     }
 }
