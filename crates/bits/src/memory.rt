@@ -5,7 +5,7 @@ ghost use Rattle.bits.specs.Ownership.{memory_owns, memory_lends};
 ghost use Rattle.std.specs.Prelude.{◌≡◌, ◌<◌, ◌≤◌, ◌++◌, ℕ, List, [], ◌∷◌, IfOk, OnErr, OnOk, length, slice_set};
 
 use std::alloc::{AllocError, Allocator, Global};
-use std::marker::Model;
+use std::marker::{Model, Send, Sync};
 use std::slice;
 
 /// A block of memory with room for words of 64 bits. The first places hold words, the others nothing yet. Who holds it
@@ -22,6 +22,10 @@ impl Model for Memory {
 
     ghost also_shares = { λ m _ κ. memory_lends m.start m.words κ };
 }
+
+unsafe impl Send for Memory {}
+
+unsafe impl Sync for Memory {}
 
 impl Memory {
     /// A block with room for so many words, and none in it. `Err` where the heap has no such block.
