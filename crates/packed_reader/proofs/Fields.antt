@@ -418,7 +418,7 @@ module _ (s : List Resolved) (l : ℕ) (set e : Bool) (cs : List Component) (li 
   no_list f [] h = refl
   no_list f (x ∷ xs) h = absurd (cc)
 
-  no_more : e ≡ false → more ≡ []
+  pub no_more : e ≡ false → more ≡ []
   no_more f =
       let ws = no_row cs in
       let b = none_behind (subst (λ z. AreListed s z cs) f li) (beside_seen cs ws (no_row_many cs)) in

@@ -13,3 +13,4 @@ mod Chosen
 mod AllKinds
 mod Whole
 mod Rows
+mod Stepwise

@@ -3,3 +3,4 @@ pub mod Levels
 pub mod Structures
 pub mod Lists
 pub mod Values
+pub mod Steps

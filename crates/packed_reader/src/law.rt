@@ -1,19 +1,23 @@
 //! Laws of what bits are read as.
 
 ghost use Rattle.asn_base.specs.Abstract.{AbstractValue};
+ghost use Rattle.asn_base.specs.Same.{Same};
 ghost use Rattle.asn_base.specs.Schemas.{IsSchema};
 ghost use Rattle.asn_base.specs.Typed.{IsValue};
 ghost use Rattle.asn_base.specs.Types.{Resolved};
 ghost use Rattle.bits.specs.Words.{octet_bits};
-ghost use Rattle.packed_encodings.specs.Packing.{Reads, Says, lenient};
+ghost use Rattle.packed_encodings.specs.Packing.{Packed, Reads, Says, lenient};
 ghost use Rattle.packed_encodings.specs.Padding.{Padded};
 ghost use Rattle.packed_reader.specs.Readings.{Fault, IsExact};
+ghost use Rattle.packed_reader.specs.Steps.{value_by};
 ghost use Rattle.packed_reader.specs.Values.{IsValueRead, answers, faulty, message_from, too_long, value_from};
 ghost use Rattle.packed_readings.specs.declared.refusal.Refusal.TheVariants.{Padding, Truncated};
 ghost use Rattle.std.specs.Int.Digits.{AllBelowBase};
 ghost use Rattle.std.specs.Prelude.{◌≡◌, ◌↔◌, ◌*◌, ◌<◌, ◌≤◌, ℕ, Bool, List, [], ◌++◌, length};
 
-use packed_encodings::{computing_laws, message_laws, part_laws, place_laws, reading_laws};
+use packed_encodings::{
+    computing_laws, message_laws, part_laws, place_laws, reading_laws, writing_laws,
+};
 use packed_readings::law::{count_laws, field_laws, leaf_laws, octets_laws};
 
 /// A value of any type is read as bits say it, within the limits on levels and on values: what is read is at the front,
@@ -30,6 +34,13 @@ pub fn value_laws()
     octets_laws();
     leaf_laws();
 }
+
+/// The steps of routines, where each type has its own, read what types say.
+pub fn step_laws()
+    ensures { (s : List Resolved) (l t n : ℕ) (b : List Bool)
+        → IsSchema s
+        → value_by s l t n b ≡ value_from s l t n b }
+{}
 
 /// What octets are read as, as a message of a type. One answer at most is given, since a function gives it.
 pub fn message_laws_of_reading()
@@ -65,6 +76,14 @@ pub fn message_laws_of_reading()
         → octet_bits o ≡ x ++ p
         → (Padded x o → ⊥)
         → message_from s t o ≡ faulty (record { why = Padding; path = [] }) (length x) }
+    // The message that a value is written as is read as one that is the same, with no additions that the type lacks.
+    ensures written { (s : List Resolved) (t : ℕ) (v : AbstractValue) (x : List Bool) (o : List ℕ)
+        → IsSchema s
+        → IsValue s t v
+        → Packed s t v x
+        → Padded x o
+        → length o ≤ 16777216
+        → (w : AbstractValue) × Same s t v w × (message_from s t o ≡ answers w 0) }
     // Another fault is the first one: it stays, at its place, whatever octets follow.
     ensures stays { (s : List Resolved) (t i : ℕ) (e : Fault) (o m : List ℕ)
         → IsSchema s
@@ -80,5 +99,6 @@ pub fn message_laws_of_reading()
 {
     part_laws();
     message_laws();
+    writing_laws();
     value_laws();
 }

@@ -18,3 +18,8 @@ returns-clause-stays c = λ s t j e o m i h n l. fault_stays s t c.part_laws.ens
 
 pub returns-clause-within : goal.returns-clause-within
 returns-clause-within c = λ s t j e o i h. place_within s t c.part_laws.ensures.octets_front (c.value_laws.ensures s 64 t 16777216 i) o e j h
+
+pub returns-clause-written : goal.returns-clause-written
+returns-clause-written c = λ s t v x o i h p f l.
+    (let w = c.writing_laws.ensures.message s t v x o h p f in
+    (w.0, w.1, reads_answer s t c.part_laws.ensures.octets_front (c.value_laws.ensures s 64 t 16777216 i) o w.0 0 w.2 l))
