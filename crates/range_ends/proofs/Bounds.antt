@@ -29,8 +29,8 @@ above Numbers l z h m = tt
 above Sizes l z h m = size_from z (let e = from_size l h in omega (arith, ints, e, m))
 
 module _ (p : Program) (k : Kind) (M : Name) (of : Counted) where
-  abbrev end_of : (e : EndTree) (z : ℤ) → IsBoundOf p k M of e z → IsEnd p k M (IsOf of) e
-  end_of e z b = record { number = z; stands = b.stands; only_one = b.only_one; such = b.such }
+  abbrev pub fine_end : (e : EndTree) (z : ℤ) → IsBoundOf p k M of e z → IsEnd p k M (IsOf of) e
+  fine_end e z b = record { number = z; stands = b.stands; only_one = b.only_one; such = b.such }
 
   pub reversed_of : (a b : EndTree) (l g : ℤ) →
       IsBoundOf p k M of a l →
@@ -41,8 +41,8 @@ module _ (p : Program) (k : Kind) (M : Name) (of : Counted) where
     lower = a;
     upper = b;
     is = refl;
-    least = end_of a l u;
-    greatest = end_of b g v;
+    least = fine_end a l u;
+    greatest = fine_end b g v;
     reversed = h;
   }
 
@@ -53,8 +53,8 @@ module _ (p : Program) (k : Kind) (M : Name) (of : Counted) where
       IsRangeOf p k M of (between (Some a) (Some b)) (record { least = Some l; greatest = Some g })
   between_of a b l g u v h = record {
     range = (
-      end_of a l u,
-      end_of b g v,
+      fine_end a l u,
+      fine_end b g v,
       λ x y s t. (let e = u.only_one x s in let f = v.only_one y t in omega (arith, ints, e, f, h)),
     );
     same = λ z. (
@@ -70,7 +70,7 @@ module _ (p : Program) (k : Kind) (M : Name) (of : Counted) where
       IsBoundOf p k M of a l →
       IsRangeOf p k M of (between (Some a) None) (record { least = Some l; greatest = None })
   from_of a l u = record {
-    range = (end_of a l u, tt, tt);
+    range = (fine_end a l u, tt, tt);
     same = λ z. (
       λ i. (above of l z u.such i.0, ((l, u.stands, i.0), tt)),
       λ i. ((let e = u.only_one i.1.0.0 i.1.0.1 in omega (arith, ints, e, i.1.0.2)), tt),
@@ -91,7 +91,7 @@ module _ (p : Program) (k : Kind) (M : Name) (of : Counted) where
       IsBoundOf p k M of b g →
       IsRangeOf p k M of (between None (Some b)) (record { least = f; greatest = Some g })
   up_to_of b g f e v = record {
-    range = (tt, end_of b g v, tt);
+    range = (tt, fine_end b g v, tt);
     same = λ z. (
       λ i. (let j = (under_floor z (Some g) f e).0 i in (j.0, (tt, (g, v.stands, j.1.1)))),
       λ i. (under_floor z (Some g) f e).1

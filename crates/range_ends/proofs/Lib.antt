@@ -6,3 +6,4 @@ mod Lists
 mod Following
 mod Nameless
 mod Bounds
+mod First

@@ -1,5 +1,5 @@
 -- Where a type without named numbers is constrained, values lead where their references do.
-use Rattle.std.proofs.Common.{◌≡◌, ◌⊎◌, inl, inr, ℕ, ℤ, ◌<◌, List, length, get_or, Option, Some, None, refl, sym, ap, ◌∙◌, arith}
+use Rattle.std.proofs.Common.{◌≡◌, inl, inr, ℕ, ℤ, ◌<◌, List, length, get_or, Option, Some, None, refl, sym, ◌∙◌, arith}
 use Rattle.trees.specs.Values.{Name, Tree, reference}
 use Rattle.type_table.specs.Table.{Kind}
 use Rattle.resolve.specs.Program.{Program, IsWhole}

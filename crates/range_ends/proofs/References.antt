@@ -15,7 +15,7 @@ pub some_same : {X : Type 0} (x y : X) → Some x ≡ Some y → x ≡ y
 some_same x y e = cc
 
 -- what a name refers to is what it means
-any_meaning : (ms : List (Name × Module)) (M : Name) (q : Option Name) (x : Name) (a : Assigned) →
+pub any_meaning : (ms : List (Name × Module)) (M : Name) (q : Option Name) (x : Name) (a : Assigned) →
     Refers ms M q x a →
     Meaning ms M x a
 any_meaning ms M q x a (bare m) = m

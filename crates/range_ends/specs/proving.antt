@@ -3,3 +3,4 @@ pub mod Steps
 pub mod Ways
 pub mod Bounds
 pub mod Far
+pub mod Round

@@ -3,6 +3,7 @@
 
 mod ends;
 mod far;
+pub mod law;
 mod program;
 mod ranges;
 mod reference_table;

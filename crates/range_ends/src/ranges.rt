@@ -1,10 +1,11 @@
 //! The numbers that ranges allow.
 
-ghost use Rattle.std.specs.Prelude.{◌≡◌, Some, None, MatchResult, IsTrue, ◌↔◌, map};
+ghost use Rattle.std.specs.Prelude.{◌≡◌, Some, None, IfErr, MatchResult, IsTrue, ◌↔◌, map};
 ghost use Rattle.asn_base.specs.Seen.{range_of as seen_of};
 ghost use Rattle.trees.specs.Constraints.{range_of as tree_of_range, end_of, between as between'};
 ghost use Rattle.type_table.specs.Seen.{kind_of};
 ghost use Rattle.range_ends.specs.Answers.{IsOf, IsRangeOf, AreRangesOf, IsRangeFault, AreRangesWrong};
+ghost use Rattle.range_ends.specs.First.{end_place, IsEndWrong, IsBetweenWrong, IsRangeWrong, IsFirst};
 ghost use Rattle.range_ends.specs.proving.Bounds.{IsBoundOf, IsBoundFault, floor_of as floor'};
 
 use crate::ends::{EndFault, end_at};
@@ -52,8 +53,10 @@ pub struct Site<'a> {
     pub of: Counted,
 }
 
-/// Where an end stands in the text.
-fn place(end: &EndSyntax) -> usize {
+/// Where an end is written in the text.
+fn place(end: &EndSyntax) -> usize
+    ensures { result ≡ end_place end.now }
+{
     match end {
         EndSyntax::Number(number) => number.at,
         EndSyntax::Reference(reference) => reference.at,
@@ -82,9 +85,11 @@ fn floor_of(of: Counted) -> Option<i128>
 
 /// The number of an end.
 fn bound_at(site: &Site<'_>, end: &EndSyntax) -> Result<i128, RangeFault>
-    ensures { MatchResult result
+    ensures found { MatchResult result
         (IsBoundOf site.now.scope.now (kind_of site.now.shape.now) site.now.within.now site.now.of (end_of end.now))
         (IsBoundFault site.now.scope.now (kind_of site.now.shape.now) site.now.within.now site.now.of (end_of end.now)) }
+    ensures wrong { IfErr result
+        (IsEndWrong site.now.scope.now (kind_of site.now.shape.now) site.now.within.now site.now.of end.now) }
 {
     match end_at(site.scope, site.shape, site.within, end) {
         Err(EndFault::Lost) => Err(RangeFault::NoEnd(place(end))),
@@ -101,11 +106,13 @@ fn bound_at(site: &Site<'_>, end: &EndSyntax) -> Result<i128, RangeFault>
 
 /// The range from one end to the other.
 fn between(site: &Site<'_>, first: &EndSyntax, last: &EndSyntax) -> Result<Range, RangeFault>
-    ensures { MatchResult result
+    ensures found { MatchResult result
         (λ r. IsRangeOf site.now.scope.now (kind_of site.now.shape.now) site.now.within.now site.now.of
         (between' (Some (end_of first.now)) (Some (end_of last.now))) (seen_of r))
         (IsRangeFault site.now.scope.now (kind_of site.now.shape.now) site.now.within.now site.now.of
         (between' (Some (end_of first.now)) (Some (end_of last.now)))) }
+    ensures wrong { IfErr result
+        (IsBetweenWrong site.now.scope.now (kind_of site.now.shape.now) site.now.within.now site.now.of first.now last.now) }
 {
     let least = match bound_at(site, first) {
         Ok(least) => least,
@@ -126,11 +133,13 @@ fn between(site: &Site<'_>, first: &EndSyntax, last: &EndSyntax) -> Result<Range
 
 /// A range in numbers.
 fn range_at(site: &Site<'_>, range: &RangeSyntax) -> Result<Range, RangeFault>
-    ensures { MatchResult result
+    ensures found { MatchResult result
         (λ r. IsRangeOf site.now.scope.now (kind_of site.now.shape.now) site.now.within.now site.now.of
         (tree_of_range range.now) (seen_of r))
         (IsRangeFault site.now.scope.now (kind_of site.now.shape.now) site.now.within.now site.now.of
         (tree_of_range range.now)) }
+    ensures wrong { IfErr result
+        (IsRangeWrong site.now.scope.now (kind_of site.now.shape.now) site.now.within.now site.now.of range.now) }
 {
     match range {
         RangeSyntax::Single(end) => match bound_at(site, end) {
@@ -163,18 +172,21 @@ fn range_at(site: &Site<'_>, range: &RangeSyntax) -> Result<Range, RangeFault>
 }
 
 /// Ranges in numbers (X.680, clauses 50.1, 51.2 and 51.4), one for each: a number is in one of them just where the
-/// ranges as they are written allow it. The fault is that of one of the ranges, or tells that there was not enough
-/// memory.
+/// ranges as they are written allow it. The fault is that of the first range at fault: of its lower end before its upper
+/// one, and of each before their order; or it reports that there was not enough memory. `NoEnd` has the place of the end,
+/// `Reversed` that of the lower end.
 pub fn ranges_at(
     alloc: Global,
     site: &Site<'_>,
     ranges: &[RangeSyntax],
 ) -> Result<Vec<Range>, RangesFault>
-    ensures { MatchResult result
+    ensures found { MatchResult result
         (λ v. AreRangesOf site.now.scope.now (kind_of site.now.shape.now) site.now.within.now site.now.of
         (map tree_of_range ranges.now) (map seen_of v.items))
         (AreRangesWrong site.now.scope.now (kind_of site.now.shape.now) site.now.within.now site.now.of
         (map tree_of_range ranges.now)) }
+    ensures first { IfErr result
+        (IsFirst site.now.scope.now (kind_of site.now.shape.now) site.now.within.now site.now.of ranges.now) }
 {
     let mut all = Vec::new(alloc);
     for range in ranges {

@@ -4,4 +4,5 @@ pub mod Steps
 pub mod Fronts
 pub mod Clashes
 pub mod Taggings
+pub mod Firsts
 pub mod Rows

@@ -22,7 +22,7 @@ use Rattle.tagging.specs.Faults.{Stands}
 use Rattle.tagging.specs.declared.fault.TagFault.{TagFault}
 use Rattle.tagging.specs.declared.fault.TagFault.TheVariants as faults
 use Rattle.tagging.specs.declared.fault.Limit.TheVariants as limits
-use Rattle.tagging.specs.proving.Checks.{SuitsTag, IsGood, BearsHere, BearsAt}
+use Rattle.tagging.specs.proving.Checks.{SuitsTag, IsGood, BearsHere, BearsAt, NoneBears}
 use Rattle.tagging.specs.proving.Step.{Outermost}
 use Rattle.tagging.proofs.Paths.{written_exists, written_unique}
 use Rattle.tagging.proofs.Fronts.{within_all, head_first, first_head, head_unique}
@@ -37,7 +37,7 @@ pub collected_long : (ts : List Type') (cs : List Part) (vs : List (List Label))
 collected_long ts cs vs nothing = refl
 collected_long ts cs vs (one {cs = cs'} {vs = vs'} b w) = ap suc (collected_long ts cs' vs' w)
 
-front_none : (ts : List Type') (cs : List Part) (us : List Label) (n : ℕ) (c : Part) → Fronts ts cs us →
+pub front_none : (ts : List Type') (cs : List Part) (us : List Label) (n : ℕ) (c : Part) → Fronts ts cs us →
     slice_get cs n ≡ Some c → Tags ts c.ty [] → ⊥
 front_none ts cs us n c none e t = absurd cc
 front_none ts cs us zero c (front {c = b} {t = u} h f) e t = let s : b ≡ c = cc in let x = head_unique ts c.ty (Some u) None (subst (λ z. Head ts z.ty (Some u)) s h) (record { path = []; tags = t; is = refl }) in absurd cc
@@ -152,10 +152,6 @@ no_other_fault p (faults.TagClash x) n s t = none_breaks p.types TagClash s.ty s
 no_other_fault p (faults.ImplicitChoice x) n s t = none_breaks p.types ImplicitChoice s.ty s.has t
 no_other_fault p (faults.UntaggedChoice x) n s t = none_breaks p.types UntaggedChoice s.ty s.has t
 no_other_fault p (faults.MixedAutomatic x) n s t = none_breaks p.types MixedAutomatic s.ty s.has t
-
--- no member before place n bears a tag, of the additions or of the root
-abbrev pub NoneBears : List Type' → List Part → Bool → ℕ → Type 0
-NoneBears ts cs b n = (r : Bears ts cs b) → n ≤ r.number
 
 pub bears_here : (ts : List Type') (cs : List Part) (b : Bool) (n : ℕ) (c : Part) → slice_get cs n ≡ Some c →
     BearsHere ts c b → BearsAt ts cs b n

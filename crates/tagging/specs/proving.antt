@@ -6,3 +6,4 @@ pub mod Step
 pub mod Heads
 pub mod Lists
 pub mod Checks
+pub mod Told

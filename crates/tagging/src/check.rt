@@ -1,17 +1,19 @@
 //! The check of all types of a table.
 
-ghost use Rattle.std.specs.Prelude.{ℕ, ◌≡◌, ◌<◌, ◌↔◌, List, length, map, MatchOption, MatchResult, Option, Some, slice_get, IsTrue};
+ghost use Rattle.std.specs.Prelude.{ℕ, ◌≡◌, ◌<◌, ◌↔◌, List, length, map, IfErr, IfSome, MatchOption, MatchResult, Option, Some, slice_get, IsTrue};
 ghost use Rattle.asn_base.specs.declared.tag.Tag.{Tag};
 ghost use Rattle.trees.specs.declared.module.TagDefault.{TagDefault};
 ghost use Rattle.trees.specs.declared.types.ListKind.{ListKind};
-ghost use Rattle.type_table.specs.Seen.{kind_of, part_of, type_of};
+ghost use Rattle.type_table.specs.Seen.{kind_of, part_of, type_of, types_of};
 ghost use Rattle.type_table.specs.Table.{Type', Is, IsLinked, tagged};
 ghost use Rattle.tagging.specs.First.{Distinct};
+ghost use Rattle.tagging.specs.FirstFault.{IsListFault, IsShapeFault, IsTypeFault, IsFirstOf};
 ghost use Rattle.tagging.specs.proving.Heads.{IsFirstFault};
 ghost use Rattle.tagging.specs.proving.Lists.{Collected, tag_lists};
 ghost use Rattle.tagging.specs.Tagged.{Bears, BearTags, Breaks, IsTagged};
 ghost use Rattle.tagging.specs.proving.Checks.{IsList, AreThere, HasFew, IsNumbered, Suits, SuitsAutomatic, SuitsList, SuitsTag};
-ghost use Rattle.tagging.specs.proving.Checks.{IsGood, Checked, StandsAt, BearsHere, BearsAt};
+ghost use Rattle.tagging.specs.proving.Checks.{IsGood, Checked, StandsAt, BearsHere, BearsAt, NoneBears};
+ghost use Rattle.tagging.specs.proving.Told.{IsImplicitFault, IsMixedFault, IsBareFault, IsClashFault, IsBroken, as_fault};
 
 use crate::automatic::automatic_number;
 use crate::columns::Columns;
@@ -90,9 +92,10 @@ fn bears(columns: &Columns<'_>, component: &ListMember, additions: bool) -> bool
 
 /// The first of the additions, or of the root's members, with a tag that is written in the list.
 fn bearing(columns: &Columns<'_>, components: &[ListMember], additions: bool) -> Option<usize>
-    ensures { MatchOption result
+    ensures found { MatchOption result
         (Bears columns.now.types (map part_of components.now) additions → ⊥)
         (BearsAt columns.now.types (map part_of components.now) additions) }
+    ensures first { IfSome result (NoneBears columns.now.types (map part_of components.now) additions) }
 {
     for place in 0..components.len() {
         if bears(columns, &components[place], additions) {
@@ -110,7 +113,9 @@ fn check_automatic(
     components: &[ListMember],
 ) -> Result<(), Fault>
     requires there { (k : ListKind) × IsList columns.now.types list k default (map part_of components.now) }
-    ensures { Checked columns.now.types result (SuitsAutomatic columns.now.types (map part_of components.now) default) }
+    ensures found { Checked columns.now.types result
+        (SuitsAutomatic columns.now.types (map part_of components.now) default) }
+    ensures first { IfErr result (IsMixedFault columns.now.types list components.now) }
 {
     match default {
         TagDefault::Explicit | TagDefault::Implicit => Ok(()),
@@ -136,9 +141,10 @@ fn bear_tags(
 ) -> Result<(), FrontFault>
     requires parts { AreThere columns.now.types (map part_of components.now) }
     requires there { (d : TagDefault) × IsList columns.now.types list kind d (map part_of components.now) }
-    ensures { MatchResult result
+    ensures found { MatchResult result
         (λ _. BearTags columns.now.types kind (map part_of components.now))
         (IsFirstFault columns.now.types) }
+    ensures first { IfErr result (IsBareFault columns.now.types components.now) }
 {
     match kind {
         ListKind::Sequence => Ok(()),
@@ -150,7 +156,8 @@ fn bear_tags(
 }
 
 fn fault_of(fault: FrontFault) -> Fault
-    ensures { (ts : List Type') → IsFirstFault ts fault → StandsAt ts result }
+    ensures same { result ≡ as_fault fault }
+    ensures found { (ts : List Type') → IsFirstFault ts fault → StandsAt ts result }
 {
     match fault {
         FrontFault::Memory => Fault::Memory,
@@ -168,7 +175,8 @@ fn check_distinct(
 ) -> Result<(), Fault>
     requires parts { AreThere columns.now.types (map part_of components.now) }
     requires there { (d : TagDefault) × IsList columns.now.types list kind d (map part_of components.now) }
-    ensures { Checked columns.now.types result (Distinct columns.now.types kind (map part_of components.now)) }
+    ensures found { Checked columns.now.types result (Distinct columns.now.types kind (map part_of components.now)) }
+    ensures first { IfErr result (IsClashFault columns.now.types list kind components.now) }
 {
     match collect(alloc, columns, components) {
         Err(fault) => Err(fault_of(fault)),
@@ -193,7 +201,9 @@ fn check_list(
 ) -> Result<(), Fault>
     requires parts { AreThere columns.now.types (map part_of components.now) }
     requires there { IsList columns.now.types list kind default (map part_of components.now) }
-    ensures { Checked columns.now.types result (SuitsList columns.now.types kind (map part_of components.now) default) }
+    ensures found { Checked columns.now.types result
+        (SuitsList columns.now.types kind (map part_of components.now) default) }
+    ensures first { IfErr result (IsListFault columns.now.types list kind default components.now) }
 {
     match check_automatic(columns, list, default, components) {
         Err(fault) => Err(fault),
@@ -217,7 +227,8 @@ fn check_tag(
     requires there { inner < length columns.now.types }
     requires is { (t : Tag) × (d : TagDefault) × (p : Option (ℕ × ℕ)) ×
         Is columns.now.types ty (tagged t keyword inner) d p }
-    ensures { Checked columns.now.types result (SuitsTag columns.now.types keyword inner) }
+    ensures found { Checked columns.now.types result (SuitsTag columns.now.types keyword inner) }
+    ensures first { IfErr result (IsImplicitFault columns.now.types ty at) }
 {
     match keyword {
         Keyword::Absent => Ok(()),
@@ -237,8 +248,10 @@ fn check_written(
 ) -> Result<(), Fault>
     requires linked { IsLinked columns.now.types }
     requires is { slice_get columns.now.types ty ≡ Some (type_of written.now) }
-    ensures { Checked columns.now.types result
+    ensures found { Checked columns.now.types result
         (Suits columns.now.types (kind_of written.now.shape) written.now.default) }
+    ensures first { IfErr result
+        (IsShapeFault columns.now.types ty written.now.at written.now.default written.now.shape) }
 {
     match &written.shape {
         Shape::Simple(_) => Ok(()),
@@ -254,9 +267,10 @@ fn check_written(
 /// The rule on numbers of tags that a type breaks, if it breaks one.
 fn broken(columns: &Columns<'_>, ty: usize) -> Option<Rule>
     requires { ty < length columns.now.types }
-    ensures { MatchOption result
+    ensures found { MatchOption result
         (HasFew columns.now.types ty × IsNumbered columns.now.types ty)
         (λ r. Breaks columns.now.types r ty) }
+    ensures first { IfSome result (λ r. IsBroken columns.now.types r ty) }
 {
     if !has_few(columns, ty) {
         return Some(Rule::Tags);
@@ -267,11 +281,18 @@ fn broken(columns: &Columns<'_>, ty: usize) -> Option<Rule>
     }
 }
 
-fn check_type(alloc: Global, columns: &Columns<'_>, ty: usize) -> Result<(), Fault>
+fn check_type(
+    alloc: Global,
+    columns: &Columns<'_>,
+    ty: usize,
+    written: &Written,
+) -> Result<(), Fault>
     requires there { ty < length columns.now.types }
-    ensures { Checked columns.now.types result (IsGood columns.now.types ty) }
+    requires linked { IsLinked columns.now.types }
+    requires is { slice_get columns.now.types ty ≡ Some (type_of written.now) }
+    ensures found { Checked columns.now.types result (IsGood columns.now.types ty) }
+    ensures first { IfErr result (IsTypeFault columns.now.types ty written.now) }
 {
-    let written = columns.written(ty);
     match broken(columns, ty) {
         Some(rule) => Err(Fault::At(rule, ty, written.at)),
         None => match check_written(alloc, columns, ty, written) {
@@ -281,12 +302,15 @@ fn check_type(alloc: Global, columns: &Columns<'_>, ty: usize) -> Result<(), Fau
     }
 }
 
-/// Whether all types of a table can be tagged, or which one breaks a rule.
-pub(crate) fn check(alloc: Global, columns: &Columns<'_>) -> Result<(), Fault>
-    ensures { Checked columns.now.types result (IsTagged columns.now.types) }
+/// Whether all types of a table, which are written so, can be tagged, or the first one that breaks a rule.
+pub(crate) fn check(alloc: Global, columns: &Columns<'_>, types: &[Written]) -> Result<(), Fault>
+    requires linked { IsLinked columns.now.types }
+    requires types { types_of types.now ≡ columns.now.types }
+    ensures found { Checked columns.now.types result (IsTagged columns.now.types) }
+    ensures first { IfErr result (IsFirstOf columns.now.types types.now) }
 {
-    for ty in 0..columns.len() {
-        match check_type(alloc, columns, ty) {
+    for ty in 0..types.len() {
+        match check_type(alloc, columns, ty, &types[ty]) {
             Ok(()) => {}
             Err(fault) => return Err(fault),
         }

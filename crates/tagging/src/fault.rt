@@ -1,10 +1,12 @@
 //! Why modules could not be tagged.
 
-ghost use Rattle.std.specs.Prelude.{ℕ};
+ghost use Rattle.std.specs.Prelude.{ℕ, List};
 ghost use Rattle.names.specs.Faults.{module_told, name_told};
 ghost use Rattle.resolve.specs.Program.{Program};
 ghost use Rattle.tagging.specs.Tagged.{Breaks};
 ghost use Rattle.tagging.specs.Faults.{Stands, IsWrittenIn};
+ghost use Rattle.tagging.specs.FirstFault.{IsFirstFault, IsFirst};
+ghost use Rattle.type_table.specs.declared.table.Written.{Written as Written'};
 
 use crate::check::Rule;
 use names::fault::spot;
@@ -49,10 +51,14 @@ pub enum TagFault {
 
 /// The fault that a type in this module, in the assignment of this name, breaks the rule.
 pub(crate) fn fault_at(alloc: Global, rule: Rule, owner: &str, name: &str, at: usize) -> TagFault
-    ensures { (p : Program) (i : ℕ) →
+    ensures stands { (p : Program) (i : ℕ) →
         Breaks p.types rule i →
         IsWrittenIn p i owner.now name.now →
         Stands p result }
+    ensures first { (p : Program) (ws : List Written') (i : ℕ) →
+        IsFirstFault p.types ws rule i at →
+        IsWrittenIn p i owner.now name.now →
+        IsFirst p ws result }
 {
     match spot(alloc, owner, name, at) {
         Ok(spot) => fault_of(rule, spot),
@@ -61,10 +67,14 @@ pub(crate) fn fault_at(alloc: Global, rule: Rule, owner: &str, name: &str, at: u
 }
 
 fn fault_of(rule: Rule, spot: Spot) -> TagFault
-    ensures { (p : Program) (i : ℕ) →
+    ensures stands { (p : Program) (i : ℕ) →
         Breaks p.types rule i →
         IsWrittenIn p i (module_told spot) (name_told spot) →
         Stands p result }
+    ensures first { (p : Program) (ws : List Written') (i : ℕ) →
+        IsFirstFault p.types ws rule i spot.at →
+        IsWrittenIn p i (module_told spot) (name_told spot) →
+        IsFirst p ws result }
 {
     match rule {
         Rule::Tags => TagFault::Limit(Limit::Tags, spot),

@@ -1,9 +1,10 @@
 //! The tags that can stand first.
 
-ghost use Rattle.std.specs.Prelude.{ℕ, ◌≡◌, ◌<◌, length, map, MatchResult, [], ◌∷◌};
+ghost use Rattle.std.specs.Prelude.{ℕ, ◌≡◌, ◌<◌, length, map, IfErr, MatchResult, [], ◌∷◌};
 ghost use Rattle.type_table.specs.Seen.{kind_of, part_of};
 ghost use Rattle.tagging.specs.declared.first.FrontFault.TheVariants.{Memory};
 ghost use Rattle.tagging.specs.proving.Checks.{AreThere};
+ghost use Rattle.tagging.specs.proving.Told.{IsBareFault};
 ghost use Rattle.tagging.specs.proving.Heads.{Fronts, AreFirst, IsFrontFault, IsFirstFault, members_of};
 
 use crate::automatic::head;
@@ -38,16 +39,17 @@ fn single(alloc: Global, tag: Label) -> Result<Vec<Label>, FrontFault>
     }
 }
 
-/// The outermost tags of members, of which none is an untagged CHOICE.
+/// The outermost tags of members, of which none is an untagged CHOICE, or the first one that is.
 pub(crate) fn fronts(
     alloc: Global,
     columns: &Columns<'_>,
     members: &[ListMember],
 ) -> Result<Vec<Label>, FrontFault>
     requires parts { AreThere columns.now.types (map part_of members.now) }
-    ensures { MatchResult result
+    ensures found { MatchResult result
         (λ v. Fronts columns.now.types (map part_of members.now) v.items)
         (IsFrontFault columns.now.types (map part_of members.now)) }
+    ensures first { IfErr result (IsBareFault columns.now.types members.now) }
 {
     let mut tags = Vec::new(alloc);
     for place in 0..members.len() {

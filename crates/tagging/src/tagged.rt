@@ -1,9 +1,13 @@
 //! Linked modules whose types have their tags.
 
-ghost use Rattle.std.specs.Prelude.{ℕ, IsTrue, ◌↔◌, ◌≡◌, ◌<◌, ◌≤◌, length, IfOk, IsOk, MatchResult};
+ghost use Rattle.std.specs.Prelude.{ℕ, IsTrue, ◌↔◌, ◌≡◌, ◌<◌, ◌≤◌, length, List, IfErr, IfOk, IsOk, MatchResult};
 ghost use Rattle.tagging.specs.Tags.{Path, path_of, Tags};
 ghost use Rattle.tagging.specs.Tagged.{Breaks, IsTagged, HaveOneFirst};
 ghost use Rattle.tagging.specs.Faults.{Stands};
+ghost use Rattle.tagging.specs.FirstFault.{IsFirst, IsFirstFault, TellsFirst};
+ghost use Rattle.type_table.specs.Seen.{types_of};
+ghost use Rattle.type_table.specs.Table.{IsLinked};
+ghost use Rattle.type_table.specs.declared.table.Written.{Written as Written'};
 
 use crate::automatic::path_of;
 use crate::check::{Fault, Rule, check};
@@ -14,6 +18,7 @@ use asn_base::schema::TypeId;
 use resolve::Linked;
 use std::alloc::{AllocError, Global};
 use std::marker::Model;
+use type_table::Written;
 
 /// Linked modules whose types have their tags as X.680 asks: every list is distinct, and each SET component and each
 /// CHOICE alternative has exactly one tag that can stand first. It borrows the modules, so the numbers of types are
@@ -69,29 +74,47 @@ impl<'a> Tagged<'a> {
 /// The fault that this type breaks the rule, with the names of its module and of the assignment where it is written.
 fn named(alloc: Global, columns: &Columns<'_>, rule: Rule, ty: usize, at: usize) -> TagFault
     requires { Breaks columns.now.types rule ty }
-    ensures { Stands columns.now result }
+    ensures stands { Stands columns.now result }
+    ensures first { (ws : List Written') →
+        IsFirstFault columns.now.types ws rule ty at →
+        IsFirst columns.now ws result }
 {
     let home = columns.home(ty);
     fault_at(alloc, rule, home.module, home.name, at)
 }
 
-/// Linked modules with their tags (X.680, clauses 25, 27, 29 and 31), or a fault that stands in them, with its module,
-/// the name of the assignment and the place: `TagClash`, `ImplicitChoice`, `UntaggedChoice`, `MixedAutomatic`,
-/// `Limit(Tags)` where more than four tags are written on a type, those behind its references with them,
-/// `Limit(TagNumber)`, or `Memory`.
+/// Whether types, which are written so, can be tagged, or the first fault of them with its names and its place.
+fn checked(alloc: Global, columns: &Columns<'_>, types: &[Written]) -> Result<(), TagFault>
+    requires linked { IsLinked columns.now.types }
+    requires types { types_of types.now ≡ columns.now.types }
+    ensures found { MatchResult result (λ _. IsTagged columns.now.types) (Stands columns.now) }
+    ensures first { IfErr result (IsFirst columns.now types.now) }
+{
+    match check(alloc, columns, types) {
+        Ok(()) => Ok(()),
+        Err(Fault::Memory) => Err(TagFault::Memory),
+        Err(Fault::At(rule, ty, at)) => Err(named(alloc, columns, rule, ty, at)),
+    }
+}
+
+/// Linked modules with their tags (X.680, clauses 25, 27, 29 and 31), or the first fault that stands in them, by the
+/// numbers of types, with its module, the name of the assignment and the place: `Limit(Tags)` where more than four tags
+/// are written on a type, those behind its references with them, `Limit(TagNumber)`, `ImplicitChoice`,
+/// `MixedAutomatic`, `UntaggedChoice` or `TagClash`, asked of each type in this order; or `Memory`.
 pub fn tag(alloc: Global, linked: &Linked) -> Result<Tagged<'_>, TagFault>
-    ensures { MatchResult result
+    ensures found { MatchResult result
         (λ t. (t ≡ linked.now) × IsTagged linked.now.types)
         (Stands linked.now) }
+    ensures first { IfErr result (TellsFirst linked.now) }
 {
+    let types = linked.types();
     let columns = match Columns::of(alloc, linked) {
         Ok(columns) => columns,
         Err(_) => return Err(TagFault::Memory),
     };
-    match check(alloc, &columns) {
+    match checked(alloc, &columns, types) {
         Ok(()) => Ok(Tagged::of(columns)),
-        Err(Fault::Memory) => Err(TagFault::Memory),
-        Err(Fault::At(rule, ty, at)) => Err(named(alloc, &columns, rule, ty, at)),
+        Err(fault) => Err(fault),
     }
 }
 

@@ -77,3 +77,7 @@ pub record BearsHere (ts : List Type') (c : Part) (of_additions : Bool) : Type 0
 pub record BearsAt (ts : List Type') (cs : List Part) (of_additions : Bool) (n : ℕ) : Type 0 where
   pub bearing : Bears ts cs of_additions
   pub is : bearing.number ≡ n
+
+-- no member before place n bears a tag, of the additions or of the root
+abbrev pub NoneBears : List Type' → List Part → Bool → ℕ → Type 0
+NoneBears ts cs b n = (r : Bears ts cs b) → n ≤ r.number

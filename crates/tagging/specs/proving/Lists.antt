@@ -73,6 +73,12 @@ pub record IsMet (k : ListKind) (cs : List Part) (vs : List (List Label)) (q : �
 abbrev pub Meets : ListKind → List Part → List (List Label) → ℕ → List (ℕ × ℕ) → Type 0
 Meets k cs vs q keys = (x : ℕ × ℕ) → IsIn keys x ↔ IsMet k cs vs q x
 
--- the answer to whether members clash: none do, or that at place q does with one before it
+-- the member at place q clashes with one before it, and none before that place does
+pub record ClashesFirst (ts : List Type') (k : ListKind) (cs : List Part) (q : ℕ) : Type 0 where
+  pub earlier : ℕ
+  pub clash : Clash ts k cs earlier q
+  pub before : (m n : ℕ) → n < q → Clash ts k cs m n → ⊥
+
+-- the answer to whether members clash: none do, or the first one that does
 abbrev pub TellsClash : List Type' → ListKind → List Part → Option ℕ → Type 0
-TellsClash ts k cs o = MatchOption o (Distinct ts k cs) (λ q. (p : ℕ) × Clash ts k cs p q)
+TellsClash ts k cs o = MatchOption o (Distinct ts k cs) (ClashesFirst ts k cs)

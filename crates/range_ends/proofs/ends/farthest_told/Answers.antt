@@ -1,4 +1,4 @@
-use Rattle.std.proofs.Common.{◌≡◌, ◌∙◌, sym, ap, arith, get_or, rules}
+use Rattle.std.proofs.Common.{◌∙◌, sym, arith, get_or, rules}
 use Rattle.trees.specs.Values.{tree_of}
 use Rattle.type_table.specs.Seen.{kind_of}
 use Rattle.range_ends.proofs.References.{listed_read}

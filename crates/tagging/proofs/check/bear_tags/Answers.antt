@@ -5,10 +5,17 @@ use Rattle.tagging.proofs.Fronts.{front_untagged}
 use Rattle.tagging.proofs.check.bear_tags.Goals as goal
 use Rattle.tagging.proofs.check.bear_tags.Goals.{in-Ok, in-Err}
 
-pub returns-after-fronts : goal.returns-after-fronts
-returns-after-fronts c =
+pub returns-after-fronts-clause-found : goal.returns-after-fronts-clause-found
+returns-after-fronts-clause-found c =
     let r = c.requires.there in
     elim c.match-fronts.branch [
-      | in-Ok w ↦ rw w.result-is (bear c.args.columns.now.types c.args.kind (map part_of c.args.components.now) _ w.in-Ok.ensures)
-      | in-Err w ↦ rw w.result-is (front_untagged c.args.columns.now.types c.args.kind r.1.marker (map part_of c.args.components.now) c.args.list r.0 r.1.place w.in-Err.fault (not_sequence c.args.kind c.in_default.not-Sequence) r.1.is w.in-Err.ensures)
+      | in-Ok w ↦ rw w.result-is (bear c.args.columns.now.types c.args.kind (map part_of c.args.components.now) _ w.in-Ok.ensures.found)
+      | in-Err w ↦ rw w.result-is (front_untagged c.args.columns.now.types c.args.kind r.1.marker (map part_of c.args.components.now) c.args.list r.0 r.1.place w.in-Err.fault (not_sequence c.args.kind c.in_default.not-Sequence) r.1.is w.in-Err.ensures.found)
+    ]
+
+pub returns-after-fronts-clause-first : goal.returns-after-fronts-clause-first
+returns-after-fronts-clause-first c =
+    elim c.match-fronts.branch [
+      | in-Ok w ↦ rw w.result-is tt
+      | in-Err w ↦ rw w.result-is w.in-Err.ensures.first
     ]

@@ -1,6 +1,6 @@
 use Rattle.std.specs.Prelude.{map}
 use Rattle.type_table.specs.Seen.{part_of}
-use Rattle.tagging.proofs.Taggings.{NoneBears}
+use Rattle.tagging.specs.proving.Checks.{NoneBears}
 use Rattle.tagging.proofs.check.bearing.Given as goal
 
 abbrev pub invariant-loop-place : goal.invariant-loop-place

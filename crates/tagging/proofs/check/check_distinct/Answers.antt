@@ -1,8 +1,12 @@
 use Rattle.std.specs.Prelude.{map}
+use Rattle.type_table.specs.declared.table.ListMember.{ListMember}
 use Rattle.type_table.specs.Seen.{part_of}
-use Rattle.std.proofs.Common.{length, ap, sym, ◌∙◌}
+use Rattle.std.proofs.Common.{length, ap, refl, subst, sym, ◌∙◌}
+use Rattle.std.proofs.lemmas.Option.{slice_get_read}
 use Rattle.std.proofs.lemmas.List.{length-map}
-use Rattle.tagging.specs.proving.Lists.{tag_lists}
+use Rattle.tagging.specs.proving.Lists.{Collected, tag_lists}
+use Rattle.tagging.specs.proving.Told.{IsClashFault}
+use Rattle.tagging.proofs.Firsts.{clashing_at, later_inside, of_front}
 use Rattle.tagging.proofs.Tables.{parts_long}
 use Rattle.tagging.proofs.Taggings.{collected_long}
 use Rattle.tagging.proofs.check.check_distinct.Goals as goal
@@ -10,5 +14,24 @@ use Rattle.tagging.proofs.check.check_distinct.Goals as goal
 pub clash-requires : goal.clash-requires
 clash-requires c = record { as_long = ap length c.deref.ensures.value ∙ sym (length-map c.in-Ok.firsts.items (λ v. v.items)) ∙ collected_long c.args.columns.now.types (map part_of c.args.components.now) (tag_lists c.in-Ok.firsts.items) c.in-Ok.ensures ∙ parts_long c.args.components.now }
 
-pub returns-in-Err : goal.returns-in-Err
-returns-in-Err c = c.fault_of.ensures c.args.columns.now.types c.in-Err.ensures
+pub returns-in-Err-clause-found : goal.returns-in-Err-clause-found
+returns-in-Err-clause-found c = c.fault_of.ensures.found c.args.columns.now.types c.in-Err.ensures
+
+pub returns-in-Err-clause-first : goal.returns-in-Err-clause-first
+returns-in-Err-clause-first c =
+    subst (IsClashFault c.args.columns.now.types c.args.list c.args.kind c.args.components.now) (sym c.fault_of.ensures.same)
+    (of_front c.args.columns.now.types c.args.list c.args.kind c.args.components.now c.in-Err.fault c.in-Err.ensures)
+
+pub returns-clause-first : goal.returns-clause-first
+returns-clause-first c =
+    let ts = c.args.columns.now.types in
+    let ms = c.args.components.now in
+    let t = c.in-Ok-Some.ensures.clash ts
+    (subst (λ v. Collected ts (map part_of ms) (tag_lists v)) (sym c.deref.ensures.value) c.in-Ok.ensures) in (
+      refl,
+      clashing_at ts c.args.kind ms c.in-Ok-Some.later c.index-components-later.result c.in-Ok-Some.field-0
+          _ (ap (λ (m : ListMember). m.name.at) (sym c.index-components-later.is)) c.in-Ok-Some.field-0-is t
+          (slice_get_read ms (length ms) c.in-Ok-Some.later c.index-components-later.result refl
+          (later_inside (length ms) c.in-Ok-Some.later c.in-Ok-Some.field-0 c.in-Ok-Some.field-0-is c.in-Ok-Some.ensures.within)
+          c.index-components-later.is),
+    )

@@ -15,7 +15,7 @@ returns-in-None c =
     let ts = c.args.columns.now.types in
     let w = c.written.result.now in
     choice_answer ts c.args.ty c.core.result (kind_of w.shape) w.default (place_of w.place) c.fronts.result c.in-None.ensures c.core.ensures.core (is_at ts c.core.result (type_of w) c.written.ensures.written)
-    (subst (λ ms. MatchResult c.fronts.result (λ v. Fronts ts ms v.items) (IsFrontFault ts ms)) c.members.ensures c.fronts.ensures)
+    (subst (λ ms. MatchResult c.fronts.result (λ v. Fronts ts ms v.items) (IsFrontFault ts ms)) c.members.ensures c.fronts.ensures.found)
 
 pub fronts-requires : goal.fronts-requires
 fronts-requires c =

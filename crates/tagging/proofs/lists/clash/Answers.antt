@@ -4,6 +4,7 @@ use Rattle.type_table.specs.Seen.{part_of}
 use Rattle.tagging.specs.proving.Lists.{tag_lists}
 use Rattle.tagging.proofs.Tables.{part_at, parts_long}
 use Rattle.tagging.proofs.Clashes.{list_at, clear_next, clash_met, distinct_all}
+use Rattle.tagging.proofs.Firsts.{clear_before}
 use Rattle.tagging.proofs.lists.clash.Goals as goal
 
 pub returns-in-Some-clause-clash : goal.returns-in-Some-clause-clash
@@ -11,7 +12,8 @@ returns-in-Some-clause-clash c = λ ts col.
     let cs = map part_of c.args.members.now in
     let vs = tag_lists c.args.firsts.now in
     let e : slice_get vs c.loop-place.place ≡ Some c.as_slice-tags.result.now = list_at c.args.firsts.now c.loop-place.place c.index-firsts-place.result (omega (arith, c.loop-place-test.true, c.requires.as_long)) c.index-firsts-place.is ∙ ap Some (sym c.as_slice-tags.ensures.value) in
-    clash_met ts c.args.kind cs vs c.loop-place.place c.as_slice-tags.result.now c.loop-place.seen.keys c.in-Some._key col (omega (arith, c.loop-place-test.true, parts_long c.args.members.now)) e c.loop-place.invariant.meets c.in-Some.ensures.0 c.in-Some.ensures.1
+    let r = clash_met ts c.args.kind cs vs c.loop-place.place c.as_slice-tags.result.now c.loop-place.seen.keys c.in-Some._key col (omega (arith, c.loop-place-test.true, parts_long c.args.members.now)) e c.loop-place.invariant.meets c.in-Some.ensures.0 c.in-Some.ensures.1 in
+    record { earlier = r.0; clash = r.1; before = clear_before ts c.args.kind cs c.loop-place.place (c.loop-place.invariant.clear ts col) }
 
 pub loop-place-preserved : goal.loop-place-preserved
 loop-place-preserved c =

@@ -1,0 +1,128 @@
+-- Which of several faults of tags is reported, and where in the text: that of the first type, by its number, that breaks a
+-- rule. Of a type the rules are asked in this order: how many tags are written on it, the number of its automatic tag,
+-- and the word IMPLICIT; of a list its automatic tags, its members that need a tag, and whether first tags differ.
+use Rattle.std.specs.Prelude.{◌≡◌, ◌<◌, ℕ, true, List, [], Some, map, slice_get}
+use Rattle.trees.specs.declared.place.Spot.{Spot}
+use Rattle.trees.specs.declared.module.TagDefault.{TagDefault}
+use Rattle.trees.specs.declared.types.ListKind.{ListKind}
+use Rattle.type_table.specs.declared.table.ListMember.{ListMember}
+use Rattle.type_table.specs.declared.table.Shape.{Shape}
+use Rattle.type_table.specs.declared.table.Shape.TheVariants as shapes
+use Rattle.type_table.specs.declared.table.Written.{Written}
+use Rattle.type_table.specs.Seen.{part_of, types_of}
+use Rattle.type_table.specs.Table.{Part, Type'}
+use Rattle.names.specs.Faults.{module_told, name_told}
+use Rattle.resolve.specs.Program.{Program}
+use Rattle.tagging.specs.declared.check.Fault.{Fault}
+use Rattle.tagging.specs.declared.check.Fault.TheVariants.{Memory, At}
+use Rattle.tagging.specs.declared.check.Rule.{Rule}
+use Rattle.tagging.specs.declared.check.Rule.TheVariants as rules
+use Rattle.tagging.specs.declared.fault.TagFault.{TagFault}
+use Rattle.tagging.specs.declared.fault.TagFault.TheVariants as faults
+use Rattle.tagging.specs.declared.fault.Limit.TheVariants as limits
+use Rattle.tagging.specs.Tags.{Tags}
+use Rattle.tagging.specs.Tagged.{BearTags, IsOverfull, IsTooGreat, IsImplicit, IsUntagged, Clash}
+use Rattle.tagging.specs.Faults.{IsWrittenIn}
+use Rattle.tagging.specs.proving.Checks.{BearsHere, HasFew, IsNumbered, SuitsAutomatic, IsGood}
+
+-- ---- members of a list, each reported where its name is written
+
+-- the first addition that bears a tag which is written in the list
+pub record IsBearingAt (ts : List Type') (ms : List ListMember) (at : ℕ) : Type 0 where
+  pub number : ℕ
+  pub member : ListMember
+  pub there : slice_get ms number ≡ Some member
+  pub told : at ≡ member.name.at
+  pub bears : BearsHere ts (part_of member) true
+  pub before : (n : ℕ) (c : Part) → n < number → slice_get (map part_of ms) n ≡ Some c → BearsHere ts c true → ⊥
+
+-- the first member that is an untagged CHOICE, which is type ty
+pub record IsBareAt (ts : List Type') (ms : List ListMember) (ty at : ℕ) : Type 0 where
+  pub number : ℕ
+  pub member : ListMember
+  pub there : slice_get ms number ≡ Some member
+  pub told : at ≡ member.name.at
+  pub is : member.ty ≡ ty
+  pub untagged : Tags ts ty []
+  pub before : (n : ℕ) (c : Part) → n < number → slice_get (map part_of ms) n ≡ Some c → Tags ts c.ty [] → ⊥
+
+-- the first member that can begin with a tag with which an earlier one can begin too, where either can come next
+pub record IsClashingAt (ts : List Type') (k : ListKind) (ms : List ListMember) (at : ℕ) : Type 0 where
+  pub number : ℕ
+  pub member : ListMember
+  pub there : slice_get ms number ≡ Some member
+  pub told : at ≡ member.name.at
+  pub earlier : ℕ
+  pub clash : Clash ts k (map part_of ms) earlier number
+  pub before : (m n : ℕ) → n < number → Clash ts k (map part_of ms) m n → ⊥
+
+-- Where members need a tag, the first that has none is reported. Where all have what they need, type ty can be an
+-- alternative, without a tag, of a CHOICE that a member is.
+pub data IsUntaggedAt (ts : List Type') (k : ListKind) (ms : List ListMember) (ty at : ℕ) : Type 0 where
+  own : IsBareAt ts ms ty at → IsUntaggedAt ts k ms ty at
+  inner : BearTags ts k (map part_of ms) → IsUntagged ts ty → IsUntaggedAt ts k ms ty at
+
+-- ---- types
+
+-- the first fault of list i of kind k, in a module with this tag default
+abbrev pub IsListFault : List Type' → ℕ → ListKind → TagDefault → List ListMember → Fault → Type 0
+IsListFault ts i k d ms Memory = Unit {0}
+IsListFault ts i k d ms (At rules.MixedAutomatic ty at) = (ty ≡ i) × IsBearingAt ts ms at
+IsListFault ts i k d ms (At rules.UntaggedChoice ty at) =
+    SuitsAutomatic ts (map part_of ms) d × IsUntaggedAt ts k ms ty at
+IsListFault ts i k d ms (At rules.TagClash ty at) =
+    SuitsAutomatic ts (map part_of ms) d
+    × BearTags ts k (map part_of ms)
+    × (ty ≡ i)
+    × IsClashingAt ts k ms at
+IsListFault ts i k d ms (At r ty at) = ⊥
+
+-- the first fault of type i by what it is
+abbrev pub IsShapeFault : List Type' → ℕ → ℕ → TagDefault → Shape → Fault → Type 0
+IsShapeFault ts i place d (shapes.Members k m ms) e = IsListFault ts i k d ms.items e
+IsShapeFault ts i place d (shapes.Tagged t w j) Memory = Unit {0}
+IsShapeFault ts i place d (shapes.Tagged t w j) (At rules.ImplicitChoice ty at) =
+    (ty ≡ i) × (at ≡ place) × IsImplicit ts i
+IsShapeFault ts i place d s e = ⊥
+
+-- the first fault of type i, which is written so: what breaks the type as a whole is reported where it begins
+abbrev pub IsTypeFault : List Type' → ℕ → Written → Fault → Type 0
+IsTypeFault ts i w Memory = Unit {0}
+IsTypeFault ts i w (At rules.Tags ty at) = (ty ≡ i) × (at ≡ w.at) × IsOverfull ts i
+IsTypeFault ts i w (At rules.TagNumber ty at) = (ty ≡ i) × (at ≡ w.at) × HasFew ts i × IsTooGreat ts i
+IsTypeFault ts i w (At r ty at) =
+    HasFew ts i × IsNumbered ts i × IsShapeFault ts i w.at w.default w.shape (At r ty at)
+
+-- of the types that are written so, this is the first fault: no type before that one breaks a rule
+pub record IsFirstFault (ts : List Type') (ws : List Written) (r : Rule) (ty at : ℕ) : Type 0 where
+  pub number : ℕ
+  pub written : Written
+  pub there : slice_get ws number ≡ Some written
+  pub fault : IsTypeFault ts number written (At r ty at)
+  pub before : (i : ℕ) → i < number → IsGood ts i
+
+abbrev pub IsFirstOf : List Type' → List Written → Fault → Type 0
+IsFirstOf ts ws Memory = Unit {0}
+IsFirstOf ts ws (At r ty at) = IsFirstFault ts ws r ty at
+
+-- ---- faults by name
+
+-- so is the fault at this spot, and it is reported with the module and the assignment in which that type is written
+pub record IsFirstAt (p : Program) (ws : List Written) (r : Rule) (s : Spot) : Type 0 where
+  pub ty : ℕ
+  pub first : IsFirstFault p.types ws r ty s.at
+  pub stands : IsWrittenIn p ty (module_told s) (name_told s)
+
+-- this fault of program p, whose types are written so, is the first; Memory says nothing
+abbrev pub IsFirst : Program → List Written → TagFault → Type 0
+IsFirst p ws faults.Memory = Unit {0}
+IsFirst p ws (faults.Limit limits.Tags s) = IsFirstAt p ws rules.Tags s
+IsFirst p ws (faults.Limit limits.TagNumber s) = IsFirstAt p ws rules.TagNumber s
+IsFirst p ws (faults.TagClash s) = IsFirstAt p ws rules.TagClash s
+IsFirst p ws (faults.ImplicitChoice s) = IsFirstAt p ws rules.ImplicitChoice s
+IsFirst p ws (faults.UntaggedChoice s) = IsFirstAt p ws rules.UntaggedChoice s
+IsFirst p ws (faults.MixedAutomatic s) = IsFirstAt p ws rules.MixedAutomatic s
+
+-- so is it for the types as they are written
+abbrev pub TellsFirst : Program → TagFault → Type 0
+TellsFirst p e = (ws : List Written) × (types_of ws ≡ p.types) × IsFirst p ws e
