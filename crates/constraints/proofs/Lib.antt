@@ -6,3 +6,5 @@ mod Leaving
 mod Noting
 mod Bounding
 mod Excluding
+mod Firsts
+mod Rows

@@ -1,6 +1,6 @@
 //! Tagged modules whose constraints have a meaning.
 
-ghost use Rattle.std.specs.Prelude.{ℕ, ℤ, IsTrue, ◌↔◌, ◌≡◌, ◌⊎◌, ◌<◌, false, true, pos, length, MatchOption, MatchResult, IsSomeAnd};
+ghost use Rattle.std.specs.Prelude.{ℕ, ℤ, IsTrue, ◌↔◌, ◌≡◌, ◌⊎◌, ◌<◌, false, true, pos, length, IfErr, MatchOption, MatchResult, IsSomeAnd};
 ghost use Rattle.asn_base.specs.declared.strings.StringKind.{StringKind};
 ghost use Rattle.asn_base.specs.Schemas.{IsLeast, IsGreatest};
 ghost use Rattle.asn_base.specs.Seen.{bounds_of};
@@ -13,6 +13,7 @@ ghost use Rattle.constraints.specs.Constraints.{is_integer as is_integer', has_a
 ghost use Rattle.constraints.specs.Allowed.{IsAllowed, IsCounted, IsInAlphabet, AreVisible, AreCharacters};
 ghost use Rattle.constraints.specs.Bounded.{AreBounded};
 ghost use Rattle.constraints.specs.Faults.{Stands};
+ghost use Rattle.constraints.specs.First.{TellsFirst};
 ghost use Rattle.constraints.specs.proving.Columns.{AreAllNoted, IsLeft};
 
 use crate::column::{Column, column_of, core_at};
@@ -100,13 +101,15 @@ impl<'a> Bounded<'a> {
     }
 }
 
-/// Tagged modules with what their constraints leave (X.680, clauses 49 to 51), or a fault that stands in them, with its
-/// module, the name of the assignment and the place: `Circular`, `Empty`, `WrongKind`, `Reconstrained`,
-/// `LowerAboveUpper`, `MarkerPlace`, or `Memory`.
+/// Tagged modules with what their constraints leave (X.680, clauses 49 to 51), or the first fault that stands in them,
+/// with its module, the name of the assignment and the place: `Reconstrained`, `WrongKind`, `MarkerPlace`,
+/// `LowerAboveUpper` or `Circular` of one constraint, `Empty` of a type, or `Memory`. Types are looked at by their
+/// numbers, before each those behind it, and constraints in order.
 pub fn bound<'a>(alloc: Global, tagged: &'a Tagged<'a>) -> Result<Bounded<'a>, BoundFault>
-    ensures { MatchResult result
+    ensures found { MatchResult result
         (λ b. (b ≡ tagged.now) × AreBounded tagged.now)
         (Stands tagged.now) }
+    ensures first { IfErr result (TellsFirst tagged.now) }
 {
     let linked = tagged.linked();
     let scope = match ReferenceTable::of(alloc, linked) {

@@ -1,9 +1,10 @@
 //! The characters that texts and ranges of characters allow.
 
-ghost use Rattle.std.specs.Prelude.{◌≡◌, ◌↔◌, ◌⊎◌, ◌<◌, ◌≤◌, ℕ, Some, map, MatchOption, MatchResult};
+ghost use Rattle.std.specs.Prelude.{◌≡◌, ◌↔◌, ◌⊎◌, ◌<◌, ◌≤◌, ℕ, Some, map, IfErr, MatchOption, MatchResult};
 ghost use Rattle.asn_base.specs.Names.{IsMember};
 ghost use Rattle.trees.specs.Constraints.{chars_of};
 ghost use Rattle.range_ends.specs.Characters.{IsCharacter, IsAmong, IsAmongAny, IsFit, AreFit};
+ghost use Rattle.constraints.specs.First.{AreEndsWrong, IsCharsWrong, IsFirstChars};
 ghost use Rattle.constraints.specs.proving.Characters.{AreFrom, IsCharsFault, AreCharsWrong, Adds};
 
 use ranges::Codes;
@@ -49,9 +50,10 @@ fn add_text(codes: &mut Codes, text: &[u8])
 
 /// The codes of the ends of a range.
 fn ends(first: &At<Vec<u8>>, last: &At<Vec<u8>>) -> Result<(u32, u32), CharsFault>
-    ensures { MatchResult result
+    ensures found { MatchResult result
         (λ e. AreFrom first.now.it.items last.now.it.items e.0 e.1)
         (IsCharsFault (first.now.it.items, Some last.now.it.items)) }
+    ensures wrong { IfErr result (AreEndsWrong first.now last.now) }
 {
     match (character(&first.it), character(&last.it)) {
         (None, _) => Err(CharsFault::NoCharacter(first.at)),
@@ -68,9 +70,10 @@ fn ends(first: &At<Vec<u8>>, last: &At<Vec<u8>>) -> Result<(u32, u32), CharsFaul
 
 /// Adds the characters of a text or a range.
 fn add_chars(codes: &mut Codes, chars: &CharsSyntax) -> Result<(), CharsFault>
-    ensures { MatchResult result
+    ensures found { MatchResult result
         (λ _. Adds (chars_of chars.now) codes.old codes.new)
         (IsCharsFault (chars_of chars.now)) }
+    ensures wrong { IfErr result (IsCharsWrong chars.now) }
 {
     match &chars.last {
         None => {
@@ -87,12 +90,14 @@ fn add_chars(codes: &mut Codes, chars: &CharsSyntax) -> Result<(), CharsFault>
     }
 }
 
-/// The codes, below 128, of the characters that texts and ranges allow (X.680, clauses 51.4 and 51.7).
+/// The codes, below 128, of the characters that texts and ranges allow (X.680, clauses 51.4 and 51.7), or the first fault
+/// of them.
 pub(crate) fn codes_at(chars: &[CharsSyntax]) -> Result<Codes, CharsFault>
-    ensures { MatchResult result
+    ensures found { MatchResult result
         (λ s. AreFit (map chars_of chars.now)
         × ((c : ℕ) → IsMember c s ↔ (IsAmongAny (map chars_of chars.now) c × (c < 128))))
         (AreCharsWrong (map chars_of chars.now)) }
+    ensures first { IfErr result (IsFirstChars chars.now) }
 {
     let mut codes = Codes::none();
     for one in chars {

@@ -4,6 +4,7 @@ ghost use Rattle.std.specs.Prelude.{◌≡◌, ◌<◌, ℕ, IfOk, IfErr, OnOk, 
 ghost use Rattle.type_table.specs.Seen.{kind_of, type_of, types_of};
 ghost use Rattle.type_table.specs.Table.{IsLinked, behind as behind', next};
 ghost use Rattle.range_ends.specs.Ends.{IsOfKind};
+ghost use Rattle.constraints.specs.proving.Told.{TellsOfType, TellsOfOne, TellsFirstOf, AreBehind};
 ghost use Rattle.constraints.specs.proving.Columns.{AreNoted, AreAllNoted, IsNoted, IsTrail, IsFault, IsStartOf, IsLimitOf, IsShared, fault_of, limit_noted, number_noted};
 
 use crate::limit::{Limit, first_limit, limit_of};
@@ -46,7 +47,8 @@ fn trail(
     requires linked { IsLinked (types_of types.now) }
     requires long { length at.now ≡ length types.now }
     requires there { start < length types.now }
-    ensures { IfOk result (λ v. IsTrail (types_of types.now) at.now start v.items) }
+    ensures trail { IfOk result (λ v. IsTrail (types_of types.now) at.now start v.items) }
+    ensures behind { IfOk result (λ v. AreBehind (types_of types.now) start v.items) }
 {
     let mut all = Vec::new(alloc);
     let mut ty = start;
@@ -157,7 +159,8 @@ fn limit_in(
     requires there { ty < length linked.now.types }
     requires noted { AreNoted linked.now column.now.at.items column.now.limits.items }
     requires behind { (j : ℕ) → next linked.now.types ty ≡ Some j → IsNoted column.now.at.items j }
-    ensures { MatchResult result (IsLimitOf linked.now ty) (IsFault linked.now) }
+    ensures found { MatchResult result (IsLimitOf linked.now ty) (IsFault linked.now) }
+    ensures first { IfErr result (TellsOfType linked.now ty) }
 {
     linked.whole();
     let start = match start_of(alloc, linked, column, ty) {
@@ -192,7 +195,8 @@ fn limit_at(
     requires there { ty < length scope.now.types }
     requires noted { AreNoted scope.now column.now.at.items column.now.limits.items }
     requires behind { (j : ℕ) → next scope.now.types ty ≡ Some j → IsNoted column.now.at.items j }
-    ensures { MatchResult result (IsLimitOf scope.now ty) (IsFault scope.now) }
+    ensures found { MatchResult result (IsLimitOf scope.now ty) (IsFault scope.now) }
+    ensures first { IfErr result (TellsOfType scope.now ty) }
 {
     limit_in(alloc, scope.linked(), scope, column, ty)
 }
@@ -224,6 +228,7 @@ fn note(
     ensures it { OnOk result (IsNoted column.new.at.items ty) }
     ensures kept { OnOk result ((i : ℕ) → IsNoted column.old.at.items i → IsNoted column.new.at.items i) }
     ensures fault { IfErr result (IsFault scope.now) }
+    ensures first { IfErr result (TellsOfType scope.now ty) }
 {
     match shared(scope.linked(), ty) {
         Some(next) => match column.number(next) {
@@ -263,6 +268,7 @@ fn note_trail(
     ensures it { OnOk result (IsNoted column.new.at.items start) }
     ensures kept { OnOk result ((i : ℕ) → IsNoted column.old.at.items i → IsNoted column.new.at.items i) }
     ensures fault { IfErr result (IsFault scope.now) }
+    ensures first { IfErr result (TellsOfOne scope.now trail.now) }
 {
     for step in 0..trail.len() {
         let ty = trail[trail.len() - 1 - step];
@@ -285,11 +291,12 @@ fn nothing_noted(alloc: Global, count: usize) -> Result<Vec<Option<usize>>, Allo
     Ok(at)
 }
 
-/// The limits of all types.
+/// The limits of all types, or the first fault of their constraints.
 pub(crate) fn column_of(alloc: Global, scope: &ReferenceTable<'_>) -> Result<Column, Fault>
-    ensures { MatchResult result
+    ensures found { MatchResult result
         (λ c. AreAllNoted scope.now c.at.items c.limits.items)
         (IsFault scope.now) }
+    ensures first { IfErr result (TellsFirstOf scope.now) }
 {
     let types = scope.linked().types();
     let at = match nothing_noted(alloc, types.len()) {

@@ -2,17 +2,20 @@
 
 ghost use Rattle.std.specs.Prelude.{◌≡◌, ◌<◌, ℕ, length, Some, slice_get};
 ghost use Rattle.names.specs.Faults.{module_told, name_told};
-ghost use Rattle.names.specs.Sources.{value_of};
+ghost use Rattle.names.specs.Sources.{assignment_of, value_of};
 ghost use Rattle.resolve.specs.Program.{Program, IsAssignment};
 ghost use Rattle.tagging.specs.Faults.{IsWrittenIn};
 ghost use Rattle.constraints.specs.Faults.{Stands};
+ghost use Rattle.constraints.specs.First.{IsFirstFault, TellsFirst};
+ghost use Rattle.constraints.specs.proving.Told.{TellsFirstOf};
+ghost use Rattle.constraints.specs.declared.column.Fault.TheVariants as column;
 ghost use Rattle.constraints.specs.proving.Columns.{Breaks, IsFault, IsRoundAt};
 
 use crate::column::{Fault, written_at};
 use crate::meaning::Rule;
 use asn_base::schema::TypeId;
-use names::ValueAt;
 use names::fault::spot;
+use names::{AssignedAt, ValueAt};
 use resolve::Linked;
 use std::alloc::Global;
 use thiserror::Error;
@@ -50,10 +53,14 @@ pub enum BoundFault {
 
 /// The fault at a spot that a type breaks a rule.
 fn fault_of(rule: Rule, spot: Spot) -> BoundFault
-    ensures { (p : Program) (i : ℕ) →
+    ensures stands { (p : Program) (i : ℕ) →
         Breaks p rule i →
         IsWrittenIn p i (module_told spot) (name_told spot) →
         Stands p result }
+    ensures first { (p : Program) (i : ℕ) →
+        IsFirstFault p (column.At rule i spot.at) →
+        IsWrittenIn p i (module_told spot) (name_told spot) →
+        TellsFirst p result }
 {
     match rule {
         Rule::Empty => BoundFault::Empty(spot),
@@ -68,7 +75,8 @@ fn fault_of(rule: Rule, spot: Spot) -> BoundFault
 fn broken(alloc: Global, linked: &Linked, rule: Rule, ty: usize, at: usize) -> BoundFault
     requires there { ty < length linked.now.types }
     requires breaks { Breaks linked.now rule ty }
-    ensures { Stands linked.now result }
+    ensures stands { Stands linked.now result }
+    ensures first { IsFirstFault linked.now (column.At rule ty at) → TellsFirst linked.now result }
 {
     let home = linked.home(TypeId { index: ty });
     let _written = written_at(linked, ty);
@@ -86,17 +94,26 @@ fn value_at(linked: &Linked, value: usize) -> &ValueAt
     &linked.values()[value]
 }
 
+/// An assignment.
+fn assigned_at(linked: &Linked, assignment: usize) -> &AssignedAt
+    requires { assignment < length linked.now.assignments }
+    ensures { slice_get linked.now.assignments assignment ≡ Some (assignment_of result.now) }
+{
+    &linked.assignments()[assignment]
+}
+
 /// The fault that an end leads to a value, which leads back to itself.
 fn circular(alloc: Global, linked: &Linked, value: usize) -> BoundFault
     requires there { value < length linked.now.values }
     requires round { IsRoundAt linked.now value }
-    ensures { Stands linked.now result }
+    ensures stands { Stands linked.now result }
+    ensures first { IsFirstFault linked.now (column.Circular value) → TellsFirst linked.now result }
 {
     linked.whole();
     let written = value_at(linked, value);
     let home = linked.assigned(written.assignment);
-    let at = linked.assignments()[written.assignment].name.at;
-    match spot(alloc, home.module, home.name, at) {
+    let assigned = assigned_at(linked, written.assignment);
+    match spot(alloc, home.module, home.name, assigned.name.at) {
         Ok(spot) => BoundFault::Circular(spot),
         Err(_) => BoundFault::Memory,
     }
@@ -105,7 +122,8 @@ fn circular(alloc: Global, linked: &Linked, value: usize) -> BoundFault
 /// What is wrong with the constraints of linked modules, with the names that it is told by.
 pub(crate) fn told(alloc: Global, linked: &Linked, fault: Fault) -> BoundFault
     requires { IsFault linked.now fault }
-    ensures { Stands linked.now result }
+    ensures stands { Stands linked.now result }
+    ensures first { TellsFirstOf linked.now fault → TellsFirst linked.now result }
 {
     match fault {
         Fault::Memory => BoundFault::Memory,

@@ -1,8 +1,9 @@
 //! What the constraints of a type leave.
 
-ghost use Rattle.std.specs.Prelude.{◌≡◌, ◌↔◌, ℕ, ℤ, IfOk, MatchResult, map, length, true, false, MatchBool};
+ghost use Rattle.std.specs.Prelude.{◌≡◌, ◌↔◌, ℕ, ℤ, IfErr, IfOk, MatchResult, map, length, true, false, MatchBool};
 ghost use Rattle.trees.specs.Constraints.{constraint_of};
 ghost use Rattle.type_table.specs.Seen.{kind_of};
+ghost use Rattle.constraints.specs.First.{IsFirstConstraint, IsLimitWrong};
 ghost use Rattle.constraints.specs.proving.Limits.{IsFirst, IsSame, Narrows, IsNarrowed, AreWrong, HasCodes, LeavesNothing, LeavesSome, IsLimitFault, InAny, AmongAny, floor as floor'};
 ghost use Rattle.asn_base.specs.Names.{IsMember};
 ghost use Rattle.asn_base.specs.Typed.{IsInSome};
@@ -136,7 +137,7 @@ fn is_empty(shape: &Shape, limit: &Limit) -> bool
 }
 
 /// What constraints of a type of a shape, read in a module, leave of what was left before them; or what is wrong with
-/// one of them.
+/// the first of them at fault.
 fn narrowed_by(
     alloc: Global,
     scope: &ReferenceTable<'_>,
@@ -145,9 +146,10 @@ fn narrowed_by(
     start: Limit,
     constraints: &[ConstraintSyntax],
 ) -> Result<Limit, Wrong>
-    ensures { MatchResult result
+    ensures found { MatchResult result
         (Narrows scope.now (kind_of shape.now) within.now (map constraint_of constraints.now) (length constraints.now) start)
         (AreWrong scope.now (kind_of shape.now) within.now (map constraint_of constraints.now) start) }
+    ensures first { IfErr result (IsFirstConstraint scope.now (kind_of shape.now) within.now constraints.now start) }
 {
     let mut limit = start;
     for constraint in constraints {
@@ -176,10 +178,11 @@ pub(crate) fn limit_of(
     constraints: &[ConstraintSyntax],
     at: usize,
 ) -> Result<Limit, Wrong>
-    ensures { MatchResult result
+    ensures found { MatchResult result
         (λ l. Narrows scope.now (kind_of shape.now) within.now (map constraint_of constraints.now) (length constraints.now) start l
         × LeavesSome (kind_of shape.now) l)
         (IsLimitFault scope.now (kind_of shape.now) within.now (map constraint_of constraints.now) start) }
+    ensures first { IfErr result (IsLimitWrong scope.now (kind_of shape.now) within.now constraints.now start at) }
 {
     let limit = match narrowed_by(alloc, scope, shape, within, start, constraints) {
         Ok(limit) => limit,

@@ -1,10 +1,12 @@
 //! What one constraint of a type means.
 
-ghost use Rattle.std.specs.Prelude.{◌≡◌, ℕ, MatchResult, map, false, true};
+ghost use Rattle.std.specs.Prelude.{◌≡◌, ℕ, IfErr, MatchResult, map, false, true};
 ghost use Rattle.trees.specs.Constraints.{constraint_of, form_of, ranges_of};
 ghost use Rattle.type_table.specs.Seen.{kind_of};
 ghost use Rattle.constraints.specs.Constraints.{takes as takes', may_extend as may_extend', is_alone as is_alone', is_integer as is_integer', has_size as has_size', has_alphabet as has_alphabet', is_marked as is_marked'};
 ghost use Rattle.range_ends.specs.declared.ranges.Counted.{Counted as Counted'};
+ghost use Rattle.constraints.specs.First.{IsConstraintWrong};
+ghost use Rattle.constraints.specs.proving.Told.{AreRangesWrong};
 ghost use Rattle.constraints.specs.proving.Meanings.{IsMeaningOf, AreNumbersOf, IsWrong, ranged};
 
 use crate::characters::{CharsFault, codes_at};
@@ -114,10 +116,12 @@ fn numbers_of(
     at: usize,
     ranges: &RangesSyntax,
 ) -> Result<Ranges, Wrong>
-    ensures { MatchResult result
+    ensures found { MatchResult result
         (AreNumbersOf site.now.scope.now (kind_of site.now.shape.now) site.now.within.now site.now.of (ranges_of ranges.now))
         (IsWrong site.now.scope.now (kind_of site.now.shape.now) site.now.within.now
         (ranged site.now.of (ranges_of ranges.now))) }
+    ensures wrong { IfErr result
+        (AreRangesWrong site.now.scope.now (kind_of site.now.shape.now) site.now.within.now site.now.of at ranges.now) }
 {
     if !is_marked(site.shape, ranges) {
         return Err(Wrong::At(Rule::MarkerPlace, at));
@@ -145,9 +149,10 @@ fn taken(
     constraint: &ConstraintSyntax,
 ) -> Result<Meaning, Wrong>
     requires { takes' (kind_of shape.now) (constraint_of constraint.now) ≡ true }
-    ensures { MatchResult result
+    ensures found { MatchResult result
         (IsMeaningOf scope.now (kind_of shape.now) within.now (constraint_of constraint.now))
         (IsWrong scope.now (kind_of shape.now) within.now (constraint_of constraint.now)) }
+    ensures wrong { IfErr result (IsConstraintWrong scope.now (kind_of shape.now) within.now constraint.now) }
 {
     match &constraint.form {
         ConstraintForm::Values(ranges) => {
@@ -194,7 +199,8 @@ fn taken(
     }
 }
 
-/// The meaning of a constraint of a type of a shape, read in a module, or what is wrong with it.
+/// The meaning of a constraint of a type of a shape, read in a module, or what is first wrong with it: whether the type
+/// takes it, its marker, its ranges in order.
 pub(crate) fn meaning_of(
     alloc: Global,
     scope: &ReferenceTable<'_>,
@@ -202,9 +208,10 @@ pub(crate) fn meaning_of(
     within: &str,
     constraint: &ConstraintSyntax,
 ) -> Result<Meaning, Wrong>
-    ensures { MatchResult result
+    ensures found { MatchResult result
         (IsMeaningOf scope.now (kind_of shape.now) within.now (constraint_of constraint.now))
         (IsWrong scope.now (kind_of shape.now) within.now (constraint_of constraint.now)) }
+    ensures wrong { IfErr result (IsConstraintWrong scope.now (kind_of shape.now) within.now constraint.now) }
 {
     if takes(shape, &constraint.form) {
         taken(alloc, scope, shape, within, constraint)

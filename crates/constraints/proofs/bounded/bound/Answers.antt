@@ -3,11 +3,11 @@ use Rattle.constraints.specs.proving.Columns.{AreAllNoted}
 use Rattle.constraints.proofs.Bounding.{bounded_by}
 use Rattle.constraints.proofs.bounded.bound.Goals as goal
 
-pub returns-in-Ok-column_of : goal.returns-in-Ok-column_of
-returns-in-Ok-column_of c =
+pub returns-in-Ok-column_of-clause-found : goal.returns-in-Ok-column_of-clause-found
+returns-in-Ok-column_of-clause-found c =
     let col = c.in-Ok-column_of.column in (
       refl,
       bounded_by c.args.tagged.now col.at.items col.limits.items
           (subst (λ p. AreAllNoted p col.at.items col.limits.items) (c.in-Ok.ensures ∙ c.linked-linked.ensures.value)
-          c.in-Ok-column_of.ensures),
+          c.in-Ok-column_of.ensures.found),
     )

@@ -36,7 +36,7 @@ returns-in-Ok-push-clause-noted c =
     let n : c.len-number.result ≡ length c.args.column.now.limits.items = search rules in
     subst (λ a. AreNoted c.args.scope.now (slice_set c.args.column.now.at.items c.args.ty (Some a)) c.push.new.self.items) (sym n)
     (are_pushed c.args.scope.now c.args.column.now.at.items c.args.column.now.limits.items c.push.new.self.items c.args.ty
-    c.in-Ok.limit c.requires.noted c.in-Ok-push.ensures.items c.in-Ok.ensures)
+    c.in-Ok.limit c.requires.noted c.in-Ok-push.ensures.items c.in-Ok.ensures.found)
 
 pub returns-in-Ok-push-clause-it : goal.returns-in-Ok-push-clause-it
 returns-in-Ok-push-clause-it c =

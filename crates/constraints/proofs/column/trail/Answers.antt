@@ -4,21 +4,22 @@ use Rattle.type_table.specs.Seen.{type_of, types_of}
 use Rattle.type_table.specs.Table.{walk, next, behind_of}
 use Rattle.type_table.specs.proving.Tables.{as_long}
 use Rattle.type_table.specs.proving.Walks.{one_more}
+use Rattle.constraints.proofs.Firsts.{behind_next, long_next}
 use Rattle.constraints.proofs.Noting.{noted_by}
 use Rattle.constraints.proofs.Letters.{seen_here}
 use Rattle.constraints.proofs.Trails.{front_ends, front_more, front_known, never_long}
 use Rattle.constraints.proofs.column.trail.Goals as goal
 
-pub returns-then-is_some : goal.returns-then-is_some
-returns-then-is_some c =
+pub returns-then-is_some-clause-trail : goal.returns-then-is_some-clause-trail
+returns-then-is_some-clause-trail c =
     let l = c.loop-step.invariant.inside in
     let long = c.requires.long in
     let e = slice_get-get_or c.args.at.now c.loop-step.ty None (omega (arith, l, long)) in
     front_known (types_of c.args.types.now) c.args.at.now c.args.start c.loop-step.ty c.loop-step.all.items
     c.loop-step.invariant.front (noted_by c.args.at.now c.loop-step.ty _ e (sym c.is_some.ensures ∙ c.if-is_some.true))
 
-pub returns-in-None : goal.returns-in-None
-returns-in-None c =
+pub returns-in-None-clause-trail : goal.returns-in-None-clause-trail
+returns-in-None-clause-trail c =
     let ts = types_of c.args.types.now in
     let w = c.index-types-ty.result in
     let here = seen_here type_of c.args.types.now c.loop-step.ty w c.loop-step.invariant.inside c.index-types-ty.is in
@@ -38,12 +39,16 @@ loop-step-preserved c =
     record {
       inside = omega (arith, i, as_long c.args.types.now);
       leads = one_more (next ts) c.loop-step.step c.args.start c.loop-step.ty c.in-Some.next c.loop-step.invariant.leads n;
+      long = long_next c.loop-step.all.items c.push.new.self.items c.loop-step.ty c.loop-step.step c.loop-step.invariant.long
+          c.in_ok-push.ensures.items;
+      behind = behind_next ts c.args.start c.loop-step.ty c.loop-step.step c.loop-step.all.items c.push.new.self.items
+          c.loop-step.invariant.long c.loop-step.invariant.behind c.loop-step.invariant.leads c.in_ok-push.ensures.items;
       front = front_more ts c.args.start c.loop-step.ty c.loop-step.all.items c.push.new.self.items c.loop-step.invariant.front
           (omega (arith, l, as_long c.args.types.now)) c.in_ok-push.ensures.items c.in-Some.next n;
     }
 
-pub returns : goal.returns
-returns c =
+pub returns-clause-trail : goal.returns-clause-trail
+returns-clause-trail c =
     let ts = types_of c.args.types.now in
     let e = c.loop-step.auto.step-end in
     let f = c.loop-step-test.false in
@@ -51,3 +56,9 @@ returns c =
     let all : c.loop-step.step ≡ length ts = omega (arith, e, f, as_long c.args.types.now) in
     absurd (never_long ts c.args.start c.loop-step.ty c.requires.linked (omega (arith, t, as_long c.args.types.now))
     (ap (λ k. walk ts k c.args.start) (sym all) ∙ c.loop-step.invariant.leads))
+
+pub returns-in-None-clause-behind : goal.returns-in-None-clause-behind
+returns-in-None-clause-behind c =
+    behind_next (types_of c.args.types.now) c.args.start c.loop-step.ty c.loop-step.step c.loop-step.all.items
+    c.push.new.self.items c.loop-step.invariant.long c.loop-step.invariant.behind c.loop-step.invariant.leads
+    c.in_ok-push.ensures.items

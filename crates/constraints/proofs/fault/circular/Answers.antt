@@ -4,8 +4,8 @@ use Rattle.names.specs.Sources.{value_of}
 use Rattle.resolve.specs.Program.{IsAssignment}
 use Rattle.constraints.proofs.fault.circular.Goals as goal
 
-pub returns-in-Ok : goal.returns-in-Ok
-returns-in-Ok c =
+pub returns-in-Ok-clause-stands : goal.returns-in-Ok-clause-stands
+returns-in-Ok-clause-stands c =
     let p = c.args.linked.now in
     let v = value_of c.value_at-written.result.now in
     let b = subst (λ M. IsAssignment p v.assignment M c.assigned-home.result.name.now) (sym c.in-Ok.ensures.within) c.assigned-home.ensures in
@@ -16,4 +16,20 @@ returns-in-Ok c =
       stands = subst (IsAssignment p v.assignment (module_told c.in-Ok.spot)) (sym c.in-Ok.ensures.name) b;
       ty = c.requires.round.0;
       round = c.requires.round.1;
+    }
+
+pub returns-in-Ok-clause-first : goal.returns-in-Ok-clause-first
+returns-in-Ok-clause-first c = λ f.
+    let p = c.args.linked.now in
+    let v = value_of c.value_at-written.result.now in
+    let b = subst (λ M. IsAssignment p v.assignment M c.assigned-home.result.name.now) (sym c.in-Ok.ensures.within) c.assigned-home.ensures in
+    record {
+      number = c.args.value;
+      first = f;
+      value = v;
+      there = c.value_at-written.ensures;
+      stands = subst (IsAssignment p v.assignment (module_told c.in-Ok.spot)) (sym c.in-Ok.ensures.name) b;
+      assigned = c.assigned_at-assigned.result.now;
+      written = c.assigned_at-assigned.ensures;
+      at = c.in-Ok.ensures.at;
     }

@@ -1,0 +1,202 @@
+-- Which of several faults of constraints is reported, and where in the text. Types are checked by their numbers, and
+-- before each one those that its references and tags lead to, the farthest first. The constraints of a type go in
+-- order. For each one the order is: no earlier one has a marker; the type takes it; its own marker; its ranges.
+use Rattle.std.specs.Prelude.{◌≡◌, ◌⊎◌, ◌<◌, ℕ, true, false, List, Some, Vec, map, slice_get}
+use Rattle.std.specs.Global.{Global}
+use Rattle.trees.specs.declared.place.At.{At as Placed}
+use Rattle.trees.specs.declared.place.Spot.{Spot}
+use Rattle.trees.specs.declared.constraint.CharsSyntax.{CharsSyntax}
+use Rattle.trees.specs.declared.constraint.ConstraintForm.TheVariants as forms
+use Rattle.trees.specs.declared.constraint.ConstraintSyntax.{ConstraintSyntax}
+use Rattle.trees.specs.declared.constraint.RangesSyntax.{RangesSyntax}
+use Rattle.trees.specs.Constraints.{ConstraintTree, constraint_of, chars_of}
+use Rattle.trees.specs.Values.{Name}
+use Rattle.names.specs.declared.sources.AssignedAt.{AssignedAt}
+use Rattle.names.specs.Faults.{module_told, name_told}
+use Rattle.names.specs.Sources.{Value, assignment_of}
+use Rattle.type_table.specs.declared.table.Written.{Written}
+use Rattle.type_table.specs.Seen.{type_of}
+use Rattle.type_table.specs.Table.{Kind, walk}
+use Rattle.resolve.specs.Program.{Program, IsAssignment}
+use Rattle.tagging.specs.Faults.{IsWrittenIn}
+use Rattle.range_ends.specs.Characters.{CharsTree, IsCharacter, IsFit, AreReversed}
+use Rattle.range_ends.specs.Ends.{IsOfKind}
+use Rattle.range_ends.specs.First.{IsFirstWrong}
+use Rattle.range_ends.specs.declared.ranges.Counted.TheVariants.{Numbers, Sizes}
+use Rattle.range_ends.specs.declared.ranges.RangeFault.{RangeFault}
+use Rattle.range_ends.specs.declared.ranges.RangeFault.TheVariants as ranges
+use Rattle.constraints.specs.Constraints.{takes, is_marked, IsFitting}
+use Rattle.constraints.specs.declared.characters.CharsFault.{CharsFault}
+use Rattle.constraints.specs.declared.characters.CharsFault.TheVariants as chars
+use Rattle.constraints.specs.declared.column.Fault.{Fault}
+use Rattle.constraints.specs.declared.column.Fault.TheVariants as faults
+use Rattle.constraints.specs.declared.fault.BoundFault.{BoundFault}
+use Rattle.constraints.specs.declared.fault.BoundFault.TheVariants as told
+use Rattle.constraints.specs.declared.limit.Limit.{Limit}
+use Rattle.constraints.specs.declared.meaning.Rule.{Rule}
+use Rattle.constraints.specs.declared.meaning.Rule.TheVariants as rules
+use Rattle.constraints.specs.declared.meaning.Wrong.{Wrong}
+use Rattle.constraints.specs.declared.meaning.Wrong.TheVariants as wrongs
+use Rattle.constraints.specs.proving.Columns.{IsLimitOf, IsStartOf, fault_of}
+use Rattle.constraints.specs.proving.Limits.{IsMarkedIn, LeavesNone}
+
+-- ---- characters
+
+-- an end of a range is not one character, which is reported at that end, the first one before the last; or the first
+-- character has a greater code, which is reported at the first
+abbrev pub AreEndsWrong : Placed (Vec ℕ Global) → Placed (Vec ℕ Global) → CharsFault → Type 0
+AreEndsWrong a b (chars.NoCharacter at) =
+    ((at ≡ a.at) × ((c : ℕ) → IsCharacter a.it.items c → ⊥))
+    ⊎ ((at ≡ b.at) × (c : ℕ) × IsCharacter a.it.items c × ((d : ℕ) → IsCharacter b.it.items d → ⊥))
+AreEndsWrong a b (chars.Reversed at) = (at ≡ a.at) × AreReversed a.it.items b.it.items
+
+abbrev pub IsCharsWrong : CharsSyntax → CharsFault → Type 0
+IsCharsWrong c f = (b : Placed (Vec ℕ Global)) × (c.last ≡ Some b) × AreEndsWrong c.first b f
+
+-- the first fault of texts and ranges of characters
+pub record IsFirstChars (cs : List CharsSyntax) (f : CharsFault) : Type 0 where
+  pub number : ℕ
+  pub range : CharsSyntax
+  pub there : slice_get cs number ≡ Some range
+  pub fault : IsCharsWrong range f
+  pub before : (n : ℕ) (c : CharsTree) → n < number → slice_get (map chars_of cs) n ≡ Some c → IsFit c
+
+-- ---- one constraint
+
+-- what is wrong with a constraint where this is wrong with a range of it
+abbrev pub wrong_of : RangeFault → Wrong
+wrong_of (ranges.NoEnd at) = wrongs.At rules.WrongKind at
+wrong_of (ranges.Reversed at) = wrongs.At rules.LowerAboveUpper at
+wrong_of (ranges.Circular v) = wrongs.Circular v
+
+abbrev pub wrong_chars : CharsFault → Wrong
+wrong_chars (chars.NoCharacter at) = wrongs.At rules.WrongKind at
+wrong_chars (chars.Reversed at) = wrongs.At rules.LowerAboveUpper at
+
+-- this is reported first of a constraint by itself, of a type of kind k, read in module M: at the constraint, or at an
+-- end of a range in it
+pub data IsConstraintWrong (p : Program) (k : Kind) (M : Name) (c : ConstraintSyntax) (w : Wrong) : Type 0 where
+  memory : w ≡ wrongs.Memory → IsConstraintWrong p k M c w
+  not_taken : takes k (constraint_of c) ≡ false →
+      w ≡ wrongs.At rules.WrongKind c.at →
+      IsConstraintWrong p k M c w
+  misplaced : takes k (constraint_of c) ≡ true →
+      is_marked k (constraint_of c) ≡ false →
+      w ≡ wrongs.At rules.MarkerPlace c.at →
+      IsConstraintWrong p k M c w
+  in_numbers : (r : RangesSyntax) (f : RangeFault) →
+      takes k (constraint_of c) ≡ true →
+      is_marked k (constraint_of c) ≡ true →
+      c.form ≡ forms.Values r →
+      IsFirstWrong p k M Numbers r.ranges.items f →
+      w ≡ wrong_of f →
+      IsConstraintWrong p k M c w
+  in_sizes : (r : RangesSyntax) (f : RangeFault) →
+      takes k (constraint_of c) ≡ true →
+      is_marked k (constraint_of c) ≡ true →
+      c.form ≡ forms.Size r →
+      IsFirstWrong p k M Sizes r.ranges.items f →
+      w ≡ wrong_of f →
+      IsConstraintWrong p k M c w
+  in_characters : (cs : Vec CharsSyntax Global) (f : CharsFault) →
+      takes k (constraint_of c) ≡ true →
+      c.form ≡ forms.From cs →
+      IsFirstChars cs.items f →
+      w ≡ wrong_chars f →
+      IsConstraintWrong p k M c w
+
+-- ---- the constraints of a type
+
+-- a marker is before constraint n: in an earlier one of these, or in one of a type that this type leads to, whose
+-- constraints leave l
+abbrev pub IsBehindMarker : List ConstraintSyntax → Limit → ℕ → Type 0
+IsBehindMarker cs l n = (l.extensible ≡ true) ⊎ IsMarkedIn (map constraint_of cs) n
+
+-- this is reported first of constraint n of these, c
+pub data IsNextWrong (p : Program) (k : Kind) (M : Name) (cs : List ConstraintSyntax) (l : Limit) (n : ℕ)
+    (c : ConstraintSyntax) (w : Wrong) : Type 0 where
+  reconstrained : IsBehindMarker cs l n →
+      w ≡ wrongs.At rules.Reconstrained c.at →
+      IsNextWrong p k M cs l n c w
+  itself : (IsBehindMarker cs l n → ⊥) →
+      IsConstraintWrong p k M c w →
+      IsNextWrong p k M cs l n c w
+
+-- the first fault of these constraints
+pub record IsFirstConstraint (p : Program) (k : Kind) (M : Name) (cs : List ConstraintSyntax) (l : Limit) (w : Wrong)
+    : Type 0 where
+  pub number : ℕ
+  pub constraint : ConstraintSyntax
+  pub there : slice_get cs number ≡ Some constraint
+  pub fault : IsNextWrong p k M cs l number constraint w
+  pub before : (n : ℕ) (c : ConstraintTree) →
+      n < number →
+      slice_get (map constraint_of cs) n ≡ Some c →
+      IsFitting p k M c
+
+-- this is reported first of all of them, of a type that begins at the place: a fault of one, or that nothing is left
+-- where each has a meaning
+pub data IsLimitWrong (p : Program) (k : Kind) (M : Name) (cs : List ConstraintSyntax) (l : Limit) (place : ℕ)
+    (w : Wrong) : Type 0 where
+  of_one : IsFirstConstraint p k M cs l w → IsLimitWrong p k M cs l place w
+  empty : LeavesNone p k M (map constraint_of cs) l →
+      w ≡ wrongs.At rules.Empty place →
+      IsLimitWrong p k M cs l place w
+
+-- ---- types
+
+-- this is reported first of type i, as it is written
+pub record IsTypeFault (p : Program) (i : ℕ) (f : Fault) : Type 0 where
+  pub written : Written
+  pub there : slice_get p.types i ≡ Some (type_of written)
+  pub kind : Kind
+  pub of_kind : IsOfKind p.types i kind
+  pub within : Name
+  pub assigns : Name
+  pub stands : IsAssignment p written.assignment within assigns
+  -- what the constraints of the types that it leads to leave
+  pub start : Limit
+  pub starts : IsStartOf p i start
+  pub wrong : Wrong
+  pub fault : IsLimitWrong p kind within written.constraints.items start written.at wrong
+  pub told : f ≡ fault_of wrong i
+
+-- This is reported first of a program: of type `number`, or of a type that it leads to. The constraints of all types
+-- with lower numbers have a meaning, and leave something.
+pub record IsFirstFault (p : Program) (f : Fault) : Type 0 where
+  pub number : ℕ
+  pub steps : ℕ
+  pub of : ℕ
+  pub leads : walk p.types steps number ≡ Some of
+  pub fault : IsTypeFault p of f
+  pub before : (i : ℕ) → i < number → (l : Limit) × IsLimitOf p i l
+
+-- ---- faults by name
+
+-- the first fault breaks the rule, and is reported with the module and the assignment in which its type is written
+pub record IsFirstAt (p : Program) (r : Rule) (s : Spot) : Type 0 where
+  pub ty : ℕ
+  pub first : IsFirstFault p (faults.At r ty s.at)
+  pub stands : IsWrittenIn p ty (module_told s) (name_told s)
+
+-- the first fault is that an end leads to a value which leads back to itself: this is reported where that value gets
+-- its name
+pub record IsFirstCircle (p : Program) (s : Spot) : Type 0 where
+  pub number : ℕ
+  pub first : IsFirstFault p (faults.Circular number)
+  pub value : Value
+  pub there : slice_get p.values number ≡ Some value
+  pub stands : IsAssignment p value.assignment (module_told s) (name_told s)
+  pub assigned : AssignedAt
+  pub written : slice_get p.assignments value.assignment ≡ Some (assignment_of assigned)
+  pub at : s.at ≡ assigned.name.at
+
+-- this fault is the first; Memory says nothing
+abbrev pub TellsFirst : Program → BoundFault → Type 0
+TellsFirst p told.Memory = Unit {0}
+TellsFirst p (told.Circular s) = IsFirstCircle p s
+TellsFirst p (told.Empty s) = IsFirstAt p rules.Empty s
+TellsFirst p (told.WrongKind s) = IsFirstAt p rules.WrongKind s
+TellsFirst p (told.Reconstrained s) = IsFirstAt p rules.Reconstrained s
+TellsFirst p (told.LowerAboveUpper s) = IsFirstAt p rules.LowerAboveUpper s
+TellsFirst p (told.MarkerPlace s) = IsFirstAt p rules.MarkerPlace s
