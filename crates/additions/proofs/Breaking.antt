@@ -1,5 +1,5 @@
 -- Types that keep what extension markers ask, and those that don't.
-use Rattle.std.proofs.Common.{◌≡◌, ◌⊎◌, inl, inr, ℕ, zero, suc, ◌+◌, ◌<◌, ◌≤◌, ℤ, ◌<ℤ◌, Bool, true, false, List, [], ◌∷◌, length, map, Option, Some, None, refl, sym, ap, ◌∙◌, arith, subst}
+use Rattle.std.proofs.Common.{◌≡◌, inl, inr, ℕ, ◌+◌, ◌<◌, Bool, List, length, Option, Some, None, refl, sym, ap, ◌∙◌, arith, subst}
 use Rattle.std.proofs.lemmas.Int.{ints}
 use Rattle.std.specs.Prelude.{slice_get}
 use Rattle.std.proofs.lemmas.Option.{slice_get_within}
@@ -10,21 +10,20 @@ use Rattle.trees.specs.declared.types.ListKind.{ListKind}
 use Rattle.trees.specs.declared.types.Simple.{Simple}
 use Rattle.trees.specs.declared.types.Simple.TheVariants as simples
 use Rattle.trees.specs.declared.types.EnumeratedSyntax.{EnumeratedSyntax}
-use Rattle.trees.specs.Types.{Plain, an_enumerated, plain_of}
+use Rattle.trees.specs.Types.{an_enumerated, plain_of}
 use Rattle.names.specs.Sources.{place_of}
 use Rattle.resolve.specs.Program.{Program}
 use Rattle.type_table.specs.declared.table.Written.{Written}
 use Rattle.type_table.specs.Items.{Item, additions_of, addition_numbers}
 use Rattle.type_table.specs.Lists.{AreSound, IsSoundKind, IsSoundEnumeration}
-use Rattle.type_table.specs.Seen.{type_of, types_of, kind_of, root_of, more_of, behind_marker}
-use Rattle.type_table.specs.Table.{Part, Type', Kind, simple, reference, tagged, members, elements, Is}
-use Rattle.tagging.specs.Faults.{Somewhere}
+use Rattle.type_table.specs.Seen.{type_of, kind_of}
+use Rattle.type_table.specs.Table.{Part, Type', Kind, simple, members, Is}
 use Rattle.additions.specs.declared.check.Rule.{Rule}
 use Rattle.additions.specs.declared.check.Rule.TheVariants.{MarkerPlace, AdditionOrder, DefaultAddition}
 use Rattle.additions.specs.declared.check.Broken.{Broken}
 use Rattle.additions.specs.declared.fault.ExtFault.{ExtFault}
 use Rattle.additions.specs.declared.fault.ExtFault.TheVariants as faults
-use Rattle.additions.specs.Additions.{Keeps, KeepsAt, KeepAdditions, IsAboveEarlier, IsNotAbove, IsMisplaced, unmarked, behind_addition, out_of_brackets, Breaks, in_list, in_items, IsFirstBreak}
+use Rattle.additions.specs.Additions.{Keeps, KeepsAt, KeepAdditions, IsAboveEarlier, unmarked, behind_addition, out_of_brackets, Breaks, in_list, in_items}
 use Rattle.additions.specs.Faults.{Stands}
 use Rattle.additions.specs.proving.Checks.{KeepBefore, AscendBefore, FallsFirst, BreaksFirst, BreaksListFirst}
 use Rattle.additions.proofs.Rising.{additions_long}
@@ -141,9 +140,9 @@ no_break ts AdditionOrder i n (in_items root more d p h s) g =
 
 pub no_other_fault : (p : Program) (e : ExtFault) → (e ≡ faults.Memory → ⊥) → Stands p e → KeepAdditions p.types → ⊥
 no_other_fault p faults.Memory n s k = n refl
-no_other_fault p (faults.MarkerPlace x) n s k = no_break p.types MarkerPlace s.ty s.has.number s.has.breaks (k s.ty s.has.number)
-no_other_fault p (faults.AdditionOrder x) n s k = no_break p.types AdditionOrder s.ty s.has.number s.has.breaks (k s.ty s.has.number)
-no_other_fault p (faults.DefaultAddition x) n s k = no_break p.types DefaultAddition s.ty s.has.number s.has.breaks (k s.ty s.has.number)
+no_other_fault p (faults.MarkerPlace x) n s k = no_break p.types MarkerPlace s.ty s.first.first.number s.first.first.breaks (k s.ty s.first.first.number)
+no_other_fault p (faults.AdditionOrder x) n s k = no_break p.types AdditionOrder s.ty s.first.first.number s.first.first.breaks (k s.ty s.first.first.number)
+no_other_fault p (faults.DefaultAddition x) n s k = no_break p.types DefaultAddition s.ty s.first.first.number s.first.first.breaks (k s.ty s.first.first.number)
 
 -- ---- results
 

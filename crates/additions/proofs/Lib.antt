@@ -1,3 +1,4 @@
 pub mod Rising
 pub mod Placing
 pub mod Breaking
+mod Naming

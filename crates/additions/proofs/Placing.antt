@@ -1,28 +1,25 @@
 -- Members of a list, each at its place.
-use Rattle.std.proofs.Common.{◌≡◌, ◌⊎◌, inl, inr, ℕ, zero, suc, ◌+◌, ◌-◌, ◌<◌, ◌≤◌, Bool, true, false, List, [], ◌∷◌, length, map, Option, Some, None, refl, sym, ap, ◌∙◌, arith, subst, get_or}
+use Rattle.std.proofs.Common.{◌≡◌, inl, inr, ℕ, zero, suc, ◌+◌, ◌-◌, ◌<◌, Bool, true, false, List, [], ◌∷◌, length, map, Option, Some, None, refl, sym, ap, ◌∙◌, arith, subst, get_or}
 use Rattle.std.specs.Prelude.{slice_get, All, not, IsTrue, MatchOption}
 use Rattle.std.proofs.lemmas.Option.{slice_get_read}
 use Rattle.std.proofs.lemmas.Bool.{cases_lt}
-use Rattle.std.proofs.lemmas.Option.{slice_get_within}
 use Rattle.std.proofs.lemmas.List.{length-map}
-use Rattle.asn_base.specs.Tags.{class_rank}
 use Rattle.asn_base.specs.declared.tag.Tag.{Tag}
-use Rattle.trees.specs.declared.module.TagDefault.{TagDefault}
 use Rattle.trees.specs.declared.types.ListKind.{ListKind}
 use Rattle.trees.specs.declared.types.ListKind.TheVariants.{Choice}
 use Rattle.trees.specs.declared.types.Standing.{Standing}
-use Rattle.trees.specs.declared.types.Standing.TheVariants.{Root, Addition}
+use Rattle.trees.specs.declared.types.Standing.TheVariants.{Addition}
 use Rattle.names.specs.proving.Distinct.{item_at}
 use Rattle.type_table.specs.declared.table.ListMember.{ListMember}
 use Rattle.type_table.specs.Seen.{part_of}
-use Rattle.type_table.specs.Table.{Part, Type', members, Is, IsLinked}
+use Rattle.type_table.specs.Table.{Part, Type', IsLinked}
 use Rattle.tagging.specs.declared.path.FormedTag.{FormedTag}
 use Rattle.tagging.specs.declared.path.TagForm.{TagForm}
 use Rattle.tagging.specs.Tags.{Label, Path, path_of, label, Tags}
 use Rattle.tagging.specs.First.{First, outermost, is_addition}
 use Rattle.tagging.specs.Tagged.{IsTagged, HaveOneFirst}
-use Rattle.additions.specs.Additions.{IsAdded, IsOfGroup, IsTogether, IsPlaced, IsParted, IsMisplaced, unmarked, behind_addition, LabelBefore, IsInOrder, IsOutOfOrder, Keeps}
-use Rattle.additions.specs.proving.Checks.{IsListAt, IsChecked, IsSeenBefore, FollowsAddition, ArePlacedBefore, AreTogetherBefore, KeepBefore}
+use Rattle.additions.specs.Additions.{IsAdded, IsOfGroup, IsTogether, IsPlaced, IsParted, IsMisplaced, behind_addition, LabelBefore, IsInOrder, IsOutOfOrder, Keeps}
+use Rattle.additions.specs.proving.Checks.{IsChecked, IsSeenBefore, FollowsAddition, ArePlacedBefore, AreTogetherBefore, KeepBefore}
 
 some_one : {X : Type 0} {a b : X} → Some a ≡ Some b → a ≡ b
 some_one h = cc
@@ -53,6 +50,10 @@ same_part cs i c x l e f = some_one (sym (part_at cs i c l e) ∙ f)
 pub component_at : (cs : List ListMember) (i : ℕ) (c : ListMember) → i < length cs → c ≡ get_or cs i c →
     slice_get cs i ≡ Some c
 component_at cs i c l e = slice_get_read cs (length cs) i c refl l e
+
+pub some_of : {A : Type 0} (P : Type 0) (R : A → Type 0) (o : Option A) (a : A) → o ≡ Some a → MatchOption o P R → R a
+some_of P R None a e h = absurd cc
+some_of P R (Some b) a e h = let q : b ≡ a = cc in subst R q h
 
 pub none_of : {A : Type 0} (P : Type 0) (R : A → Type 0) (o : Option A) → o ≡ None → MatchOption o P R → P
 none_of P R None e h = h

@@ -1,5 +1,5 @@
 -- Numbers that ascend behind those of the root.
-use Rattle.std.proofs.Common.{◌≡◌, ◌⊎◌, inl, inr, ℕ, zero, suc, ◌+◌, ◌-◌, ◌<◌, ◌≤◌, ℤ, ◌<ℤ◌, ◌≤ℤ◌, List, [], ◌∷◌, ◌++◌, length, length-append, Option, Some, None, refl, sym, ap, ◌∙◌, arith, subst}
+use Rattle.std.proofs.Common.{◌≡◌, inl, inr, ℕ, suc, ◌+◌, ◌-◌, ◌<◌, ◌≤◌, ℤ, ◌<ℤ◌, ◌≤ℤ◌, List, [], ◌∷◌, ◌++◌, length, length-append, Option, Some, None, refl, sym, ap, ◌∙◌, arith, subst}
 use Rattle.std.proofs.lemmas.Int.{ints}
 use Rattle.std.specs.Prelude.{slice_get, pos, ◌^◌, MatchOption}
 use Rattle.std.proofs.lemmas.Bool.{cases_lt}
@@ -7,7 +7,6 @@ use Rattle.std.proofs.lemmas.Option.{slice_get_within}
 use Rattle.type_table.specs.Items.{Item, number_or, counted_to, past, root_from, root_numbers, additions_from, addition_numbers, numbers_of, given_numbers}
 use Rattle.std.specs.Prelude.{max}
 use Rattle.type_table.specs.Lists.{IsSoundEnumeration}
-use Rattle.additions.specs.Additions.{IsAboveEarlier, IsNotAbove}
 use Rattle.additions.specs.proving.Checks.{AscendBefore, FallsFirst}
 
 pub some_one : {X : Type 0} {a b : X} → Some a ≡ Some b → a ≡ b

@@ -5,7 +5,6 @@ use Rattle.asn_base.specs.Tags.{class_rank}
 use Rattle.trees.specs.declared.module.TagDefault.{TagDefault}
 use Rattle.trees.specs.declared.types.ListKind.{ListKind}
 use Rattle.trees.specs.declared.types.ListKind.TheVariants.{Choice}
-use Rattle.trees.specs.declared.types.Standing.{Standing}
 use Rattle.trees.specs.declared.types.Standing.TheVariants.{Addition}
 use Rattle.trees.specs.Types.{PresenceTree, mandatory, optional, default, an_enumerated}
 use Rattle.type_table.specs.Items.{Item, additions_of, addition_numbers}

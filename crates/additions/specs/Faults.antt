@@ -1,15 +1,14 @@
 -- What faults say of bounded modules: of a program p. Names are lists of octets.
 use Rattle.resolve.specs.Program.{Program}
-use Rattle.tagging.specs.Faults.{Somewhere}
-use Rattle.additions.specs.Additions.{IsFirstBreak}
+use Rattle.additions.specs.First.{IsFirstAt}
 use Rattle.additions.specs.declared.check.Rule.TheVariants as rules
 use Rattle.additions.specs.declared.fault.ExtFault.{ExtFault}
 use Rattle.additions.specs.declared.fault.ExtFault.TheVariants.{Memory, MarkerPlace, AdditionOrder, DefaultAddition}
 
--- the fault is one of this program, stands in the module and under the name that it names, and is the first by the
--- numbers of types; Memory says nothing
+-- the fault is the first one of this program, by the numbers of types, with its module, the name of its assignment and
+-- its place; Memory says nothing
 abbrev pub Stands : Program → ExtFault → Type 0
 Stands p Memory = Unit {0}
-Stands p (MarkerPlace s) = Somewhere p (IsFirstBreak p.types rules.MarkerPlace) s
-Stands p (AdditionOrder s) = Somewhere p (IsFirstBreak p.types rules.AdditionOrder) s
-Stands p (DefaultAddition s) = Somewhere p (IsFirstBreak p.types rules.DefaultAddition) s
+Stands p (MarkerPlace s) = IsFirstAt p rules.MarkerPlace s
+Stands p (AdditionOrder s) = IsFirstAt p rules.AdditionOrder s
+Stands p (DefaultAddition s) = IsFirstAt p rules.DefaultAddition s

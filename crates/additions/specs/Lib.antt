@@ -1,6 +1,7 @@
 -- What has to be believed: what extension markers ask of the members of lists and of the items of enumerations, and
--- how one breaks it (`Additions`), and what faults say (`Faults`).
+-- how one breaks it (`Additions`), what faults say (`Faults`), and where the first one is told (`First`).
 -- What stands in `proving` only contracts inside the crate and proofs speak of.
 pub mod Additions
 pub mod Faults
+pub mod First
 pub mod proving

@@ -8,8 +8,9 @@ ghost use Rattle.type_table.specs.Lists.{AreSound, IsSoundEnumeration};
 ghost use Rattle.type_table.specs.Seen.{part_of, type_of, types_of, root_of, more_of};
 ghost use Rattle.additions.specs.declared.check.Rule.TheVariants.{AdditionOrder as AdditionOrder'};
 ghost use Rattle.additions.specs.Additions.{KeepAdditions, KeepsAt};
+ghost use Rattle.additions.specs.proving.Told.{TellsAt, TellsOf};
 ghost use Rattle.additions.specs.proving.Checks.{IsListAt, KeepBefore, BreaksListFirst, AscendBefore, FallsFirst};
-ghost use Rattle.additions.specs.proving.Checks.{BreaksFirst, IsItemAt, IsMemberAt, IsNamedAt, StandsAt};
+ghost use Rattle.additions.specs.proving.Checks.{BreaksFirst, IsItemAt, IsMemberAt, IsNamedAt};
 
 use crate::items::items_break;
 use crate::members::list_breaks;
@@ -159,7 +160,7 @@ fn type_breaks(
 fn check_all(alloc: Global, tagged: &Tagged<'_>, types: &[Written]) -> Result<(), Fault>
     requires types { types_of types.now ≡ tagged.now.types }
     requires sound { AreSound tagged.now.types }
-    ensures { MatchResult result (λ _. KeepAdditions tagged.now.types) (StandsAt tagged.now.types) }
+    ensures { MatchResult result (λ _. KeepAdditions tagged.now.types) (TellsOf tagged.now.types types.now) }
 {
     for ty in 0..types.len() {
         match type_breaks(alloc, tagged, ty, &types[ty]) {
@@ -174,7 +175,7 @@ fn check_all(alloc: Global, tagged: &Tagged<'_>, types: &[Written]) -> Result<()
 /// Whether all types keep what extension markers ask, or the first one that breaks a rule.
 pub(crate) fn check(alloc: Global, tagged: &Tagged<'_>) -> Result<(), Fault>
     requires sound { AreSound tagged.now.types }
-    ensures { MatchResult result (λ _. KeepAdditions tagged.now.types) (StandsAt tagged.now.types) }
+    ensures { MatchResult result (λ _. KeepAdditions tagged.now.types) (TellsAt tagged.now.types) }
 {
     check_all(alloc, tagged, tagged.linked().types())
 }

@@ -4,8 +4,8 @@ ghost use Rattle.std.specs.Prelude.{ℕ};
 ghost use Rattle.names.specs.Faults.{module_told, name_told};
 ghost use Rattle.resolve.specs.Program.{Program};
 ghost use Rattle.tagging.specs.Faults.{IsWrittenIn};
-ghost use Rattle.additions.specs.Additions.{IsFirstBreak};
 ghost use Rattle.additions.specs.Faults.{Stands};
+ghost use Rattle.additions.specs.First.{IsFirstNamed};
 
 use crate::check::Rule;
 use thiserror::Error;
@@ -35,7 +35,7 @@ pub enum ExtFault {
 /// The fault at a spot that a type breaks a rule.
 pub(crate) fn fault_of(rule: Rule, spot: Spot) -> ExtFault
     ensures { (p : Program) (i : ℕ) →
-        IsFirstBreak p.types rule i →
+        IsFirstNamed p.types rule i spot.at →
         IsWrittenIn p i (module_told spot) (name_told spot) →
         Stands p result }
 {

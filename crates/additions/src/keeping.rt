@@ -3,8 +3,9 @@
 ghost use Rattle.std.specs.Prelude.{◌≡◌, ◌<◌, Some, length, slice_get, MatchResult};
 ghost use Rattle.type_table.specs.Seen.{type_of};
 ghost use Rattle.type_table.specs.Lists.{AreSound};
-ghost use Rattle.additions.specs.Additions.{IsFirstBreak, KeepAdditions};
+ghost use Rattle.additions.specs.Additions.{KeepAdditions};
 ghost use Rattle.additions.specs.Faults.{Stands};
+ghost use Rattle.additions.specs.First.{IsFirstNamed};
 
 use crate::check::{Fault, Rule, check};
 use crate::fault::{ExtFault, fault_of};
@@ -26,7 +27,7 @@ fn written_at(linked: &Linked, ty: usize) -> &Written
 /// The fault that a type breaks a rule, with the names of its module and of the assignment where it is written.
 fn told(alloc: Global, linked: &Linked, rule: Rule, ty: usize, at: usize) -> ExtFault
     requires there { ty < length linked.now.types }
-    requires breaks { IsFirstBreak linked.now.types rule ty }
+    requires breaks { IsFirstNamed linked.now.types rule ty at }
     ensures { Stands linked.now result }
 {
     let home = linked.home(TypeId { index: ty });

@@ -9,9 +9,7 @@ use Rattle.trees.specs.declared.types.Simple.TheVariants as simples
 use Rattle.trees.specs.declared.types.EnumeratedItem.{EnumeratedItem}
 use Rattle.type_table.specs.Table.{Part, Type', members, Is}
 use Rattle.additions.specs.declared.check.Broken.{Broken}
-use Rattle.additions.specs.declared.check.Fault.{Fault}
-use Rattle.additions.specs.declared.check.Fault.TheVariants.{Memory, At}
-use Rattle.additions.specs.Additions.{IsAdded, IsTogether, IsPlaced, IsOfGroup, Keeps, KeepsAt, BreaksIn, Breaks, IsFirstBreak, IsAboveEarlier, IsNotAbove}
+use Rattle.additions.specs.Additions.{IsAdded, IsTogether, IsPlaced, IsOfGroup, Keeps, KeepsAt, BreaksIn, Breaks, IsAboveEarlier, IsNotAbove}
 
 -- type i is a list of this kind
 pub record IsListAt (ts : List Type') (i : ℕ) (k : ListKind) (marker : Bool) (cs : List Part) : Type 0 where
@@ -71,11 +69,6 @@ pub record BreaksFirst (ts : List Type') (i : ℕ) (b : Broken) : Type 0 where
 pub record BreaksListFirst (ts : List Type') (k : ListKind) (marker : Bool) (cs : List Part) (b : Broken) : Type 0 where
   pub breaks : BreaksIn ts b.rule k marker cs b.place
   pub before : KeepBefore ts k marker cs b.place
-
--- the fault is the first of this table
-abbrev pub StandsAt : List Type' → Fault → Type 0
-StandsAt ts Memory = Unit {0}
-StandsAt ts (At r i at) = IsFirstBreak ts r i
 
 -- the name of item n behind the marker is written at this place
 abbrev pub IsItemAt : Option (List EnumeratedItem) → ℕ → ℕ → Type 0

@@ -2,6 +2,7 @@ use Rattle.std.proofs.Common.{sym, subst}
 use Rattle.type_table.specs.Seen.{type_of}
 use Rattle.names.specs.Faults.{module_told}
 use Rattle.resolve.specs.Program.{IsAssignment}
+use Rattle.additions.specs.First.{IsFirstNamed}
 use Rattle.additions.proofs.keeping.told.Goals as goal
 
 pub returns-in-Ok : goal.returns-in-Ok
@@ -11,4 +12,4 @@ returns-in-Ok c =
     let a = c.home-home.ensures t c.written_at-written.ensures in
     let b = subst (λ M. IsAssignment p t.assignment M c.home-home.result.name.now) (sym c.in-Ok.ensures.within) a in
     let d = subst (IsAssignment p t.assignment (module_told c.in-Ok.spot)) (sym c.in-Ok.ensures.name) b in
-    c.fault_of.ensures p c.args.ty c.requires.breaks (record { type = t; found = c.written_at-written.ensures; assigned = d })
+    c.fault_of.ensures p c.args.ty (subst (IsFirstNamed p.types c.args.rule c.args.ty) (sym c.in-Ok.ensures.at) c.requires.breaks) (record { type = t; found = c.written_at-written.ensures; assigned = d })

@@ -1,4 +1,4 @@
-use Rattle.std.proofs.Common.{arith, rules, ◌<◌}
+use Rattle.std.proofs.Common.{rules, ◌<◌}
 use Rattle.additions.proofs.Placing.{follows}
 use Rattle.additions.proofs.members.follows_addition.Goals as goal
 

@@ -1,8 +1,7 @@
-use Rattle.std.proofs.Common.{map, sym, subst, refl, arith, ◌∙◌}
+use Rattle.std.proofs.Common.{map, sym, arith, ◌∙◌}
 use Rattle.type_table.specs.Seen.{part_of}
 use Rattle.tagging.specs.Tags.{label}
-use Rattle.additions.specs.Additions.{IsAdded}
-use Rattle.additions.proofs.Placing.{part_at, same_part, negated, not_negated, not_both, in_order_first, in_order_next, out_of_order}
+use Rattle.additions.proofs.Placing.{part_at, negated, not_negated, not_both, in_order_first, in_order_next, out_of_order}
 use Rattle.additions.proofs.members.is_disordered.Goals as goal
 
 pub returns-then-not-follows_addition-clause-ordered : goal.returns-then-not-follows_addition-clause-ordered

@@ -1,8 +1,8 @@
-use Rattle.std.proofs.Common.{map, sym, subst, ap, ◌∙◌, ◌≡◌, false, true}
+use Rattle.std.proofs.Common.{map, sym, subst, ◌∙◌, ◌≡◌, false}
 use Rattle.type_table.specs.Seen.{part_of}
 use Rattle.tagging.specs.First.{is_addition}
 use Rattle.additions.specs.Additions.{IsAdded, unmarked}
-use Rattle.additions.proofs.Placing.{part_at, same_part, negated, not_negated, not_both, placed_root, placed_added, misplaced_root, are_together}
+use Rattle.additions.proofs.Placing.{part_at, same_part, not_both, placed_root, placed_added, misplaced_root, are_together}
 use Rattle.additions.proofs.members.is_misplaced.Goals as goal
 
 pub returns-then-not-is_addition-clause-misplaced : goal.returns-then-not-is_addition-clause-misplaced

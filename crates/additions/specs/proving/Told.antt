@@ -1,0 +1,25 @@
+-- Where the check of all types tells what is wrong.
+use Rattle.std.specs.Prelude.{◌≡◌, ℕ, List, Some, slice_get}
+use Rattle.type_table.specs.declared.table.Written.{Written}
+use Rattle.type_table.specs.Table.{Type'}
+use Rattle.additions.specs.Additions.{IsFirstBreak}
+use Rattle.additions.specs.First.{IsFirstNamed}
+use Rattle.additions.specs.declared.check.Rule.{Rule}
+use Rattle.additions.specs.declared.check.Fault.{Fault}
+use Rattle.additions.specs.declared.check.Fault.TheVariants.{Memory, At}
+use Rattle.additions.specs.proving.Checks.{IsNamedAt}
+
+-- of types that are written so, type i is the first that breaks a rule, at the member or item of this name's place
+pub record IsFirstOf (ts : List Type') (ws : List Written) (r : Rule) (i at : ℕ) : Type 0 where
+  pub first : IsFirstBreak ts r i
+  pub written : Written
+  pub there : slice_get ws i ≡ Some written
+  pub named : IsNamedAt written.shape first.number at
+
+abbrev pub TellsOf : List Type' → List Written → Fault → Type 0
+TellsOf ts ws Memory = Unit {0}
+TellsOf ts ws (At r i at) = IsFirstOf ts ws r i at
+
+abbrev pub TellsAt : List Type' → Fault → Type 0
+TellsAt ts Memory = Unit {0}
+TellsAt ts (At r i at) = IsFirstNamed ts r i at
