@@ -16,3 +16,4 @@ pub mod NamedBits
 pub mod BitForms
 pub mod Packing
 pub mod LeafValues
+pub mod Rows

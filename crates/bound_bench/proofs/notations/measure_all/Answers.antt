@@ -6,4 +6,4 @@ use Rattle.bound_bench.proofs.notations.measure_all.Goals as goal
 pub measure_each-requires : goal.measure_each-requires
 measure_each-requires c =
     let h = subst (λ o. IfSome o (λ (p : Program). AreSound p.types)) c.in-Some.is c.in_ok-linked.ensures in
-    subst (λ (p : Program). AreSound p.types) (sym (c.in-Ok-bound.ensures.0 ∙ c.in-Ok.ensures.0)) h
+    subst (λ (p : Program). AreSound p.types) (sym (c.in-Ok-bound.ensures.found.0 ∙ c.in-Ok.ensures.found.0)) h
