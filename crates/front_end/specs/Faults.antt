@@ -19,10 +19,12 @@ use Rattle.names.specs.declared.fault.NameFault.TheVariants as linking
 use Rattle.resolve.specs.Links.{Links, IsLinkFault}
 use Rattle.resolve.specs.Program.{Program}
 use Rattle.tagging.specs.Faults as tagging
+use Rattle.tagging.specs.FirstFault as first_tags
 use Rattle.tagging.specs.Tagged.{IsTagged}
 use Rattle.tagging.specs.declared.fault.TagFault.TheVariants as tags
 use Rattle.constraints.specs.Bounded.{AreBounded}
 use Rattle.constraints.specs.Faults as bounding
+use Rattle.constraints.specs.First as first_bounds
 use Rattle.constraints.specs.declared.fault.BoundFault.TheVariants as bounds
 use Rattle.typed_values.specs.declared.fault.ValueFault.{ValueFault}
 use Rattle.extensions.specs.Faults as settling
@@ -62,12 +64,13 @@ pub record Tells (p : Program) (P : ValueFault → Type 0) (t : ValueTold) : Typ
   pub stands : P fault
   pub told : IsTold p fault t
 
--- The fault stands in linked modules: in their tags; else in their constraints; else behind a marker, in a DEFAULT, or
--- in a value assignment. Memory says nothing.
+-- The fault is the first one of linked modules: of their tags; else of their constraints; else of what follows a marker,
+-- of a DEFAULT, or of a value assignment. Memory says nothing.
 abbrev pub IsLinkedFault : Program → FrontFault → Type 0
 IsLinkedFault p faults.Memory = Unit {0}
-IsLinkedFault p (faults.Tag f) = (f ≡ tags.Memory → ⊥) × tagging.Stands p f
-IsLinkedFault p (faults.Bound f) = IsTagged p.types × (f ≡ bounds.Memory → ⊥) × bounding.Stands p f
+IsLinkedFault p (faults.Tag f) = (f ≡ tags.Memory → ⊥) × tagging.Stands p f × first_tags.TellsFirst p f
+IsLinkedFault p (faults.Bound f) =
+    IsTagged p.types × (f ≡ bounds.Memory → ⊥) × bounding.Stands p f × first_bounds.TellsFirst p f
 IsLinkedFault p (faults.Additions f) = IsTagged p.types × AreBounded p × settling.Stands p (settled.Additions f)
 IsLinkedFault p (faults.Default t) =
     IsTagged p.types × AreBounded p × Tells p (λ f. settling.Stands p (settled.Default f)) t
