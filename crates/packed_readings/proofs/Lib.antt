@@ -9,3 +9,6 @@ mod Numbers
 mod Items
 mod Septets
 mod LeavesRead
+mod Widths
+mod Searched
+mod Steps

@@ -1,8 +1,8 @@
 -- Tests of bounds and ranges.
-use Rattle.std.proofs.Common.{arith, ◌≡◌, ℕ, zero, suc, ◌<◌, ◌≤◌, ◌⊎◌, inl, inr, ⊎_elim, Bool, true, false, List, [], ◌∷◌, refl, ap, ◌∙◌}
+use Rattle.std.proofs.Common.{arith, ◌≡◌, ℕ, zero, suc, ◌<◌, ◌≤◌, ◌⊎◌, inl, inr, ⊎_elim, Bool, true, false, List, [], ◌∷◌, refl, sym, ap, ◌∙◌}
 use Rattle.std.proofs.lemmas.Int.{ints}
 use Rattle.std.proofs.lemmas.Bool.{le-leb, leb-true, false_from_ne_true}
-use Rattle.std.specs.Prelude.{nat_abs, int_le, if◌then◌else◌, ◌&&◌, Option, Some, None, IfSome, ℤ, pos, negsuc, ◌+ℤ◌, ◌-ℤ◌, ◌<ℤ◌, ◌≤ℤ◌}
+use Rattle.std.specs.Prelude.{nat_abs, int_le, if◌then◌else◌, ◌&&◌, Option, Some, None, IfSome, ℤ, pos, negsuc, ◌+ℤ◌, ◌-ℤ◌, ◌<ℤ◌, ◌≤ℤ◌, ◌↔◌, IsTrue}
 use Rattle.asn_base.specs.Types.{Range, Bounds, Constraint}
 use Rattle.asn_base.specs.Typed.{IsInRange, IsInSome, IsAllowed}
 use Rattle.packed_encodings.specs.Lengths.{IsInRoot}
@@ -127,3 +127,14 @@ far_abs l m = by ((l +ℤ pos m) -ℤ l) (omega (arith, ints))
 
 pub far_is : (l g : ℤ) (m : ℕ) → g ≡ l +ℤ pos m → nat_abs (g -ℤ l) ≡ m
 far_is l g m e = ap (λ q. nat_abs (q -ℤ l)) e ∙ far_abs l m
+
+one_truth : (a b : Bool) → (a ≡ true → b ≡ true) → (b ≡ true → a ≡ true) → a ≡ b
+one_truth true b f g = sym (f refl)
+one_truth false true f g = g refl
+one_truth false false f g = refl
+
+pub root_same : (b : Bool) (z : Bounds) (v : ℤ) → (IsTrue b ↔ IsInRoot z v) → b ≡ is_in_root z v
+root_same b z v e = one_truth b (is_in_root z v) (λ t. in_root_true z v (e.0 t)) (λ t. e.1 (in_root_is z v t))
+
+pub allowed_same : (b : Bool) (c : Constraint) (v : ℤ) → (IsTrue b ↔ IsAllowed c v) → b ≡ is_allowed c v
+allowed_same b c v e = one_truth b (is_allowed c v) (λ t. allowed_true c v (e.0 t)) (λ t. e.1 (allowed_is c v t))

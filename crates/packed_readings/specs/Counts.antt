@@ -9,21 +9,17 @@ use Rattle.packed_encodings.specs.Leaves.{root_bit}
 use Rattle.packed_encodings.specs.Computed.{is_from, is_to, is_in_root}
 use Rattle.packed_readings.specs.declared.refusal.Refusal.{Refusal}
 use Rattle.packed_readings.specs.declared.refusal.Refusal.TheVariants.{Truncated, NotCanonical, Outside}
+pub use Rattle.packed_readings.specs.declared.count.Count.{Count}
+pub use Rattle.packed_readings.specs.declared.count.Count.TheVariants.{Last as last, Part as part}
+pub use Rattle.packed_readings.specs.declared.count.ToldCount.{ToldCount}
+pub use Rattle.packed_readings.specs.declared.count.ToldCount.TheVariants.{In7Bits as in_7_bits, In14Bits as in_14_bits}
+pub use Rattle.packed_readings.specs.declared.count.ToldCount.TheVariants.{InParts as in_parts}
+pub use Rattle.packed_readings.specs.declared.size.Sizing.{Sizing}
+pub use Rattle.packed_readings.specs.declared.size.Sizing.TheVariants.{AtOnce as at_once, Counted as counted}
 use Rattle.packed_readings.specs.Outcome.{Outcome, found, stops, onward, Judged, good, bad, judging, bit_from, worth}
 use Rattle.packed_readings.specs.Outcome.{field_from, block_from, IsField}
 
 -- ---- numbers of items
-
--- So many items come, and none after them; or so many times 16,384 come, and others after a further number.
-pub data Count : Type 0 where
-  last : ℕ → Count
-  part : ℕ → Count
-
--- the same as it is told, in any form
-pub data ToldCount : Type 0 where
-  in_7_bits : ℕ → ToldCount
-  in_14_bits : ℕ → ToldCount
-  in_parts : ℕ → ToldCount
 
 abbrev pub told_count : Bits → Outcome ToldCount
 told_count b =
@@ -152,11 +148,6 @@ is_in_some z (r ∷ rs) = if is_in_range z r then true else is_in_some z rs
 -- the constraint allows the number in a value
 abbrev pub is_allowed : Constraint → ℤ → Bool
 is_allowed c z = elim c.allowed [ None ↦ true | Some rs ↦ is_in_some z rs ]
-
--- What SIZE tells before items: so many come at once; or they come after their number, which is one of the root or not.
-pub data Sizing : Type 0 where
-  at_once : ℕ → Sizing
-  counted : (outside : Bool) → Sizing
 
 -- from l to l + m
 abbrev pub size_of : Constraint → (l m n : ℕ) → Judged Sizing

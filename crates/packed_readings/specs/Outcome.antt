@@ -1,8 +1,10 @@
 -- What the front of some bits is read as.
 use Rattle.std.specs.Prelude.{◌≡◌, ℕ, zero, suc, ◌+◌, ◌^◌, ◌<◌, nat_lt, Bool, false, cond, if◌then◌else◌, List, [], ◌∷◌, ◌++◌}
-use Rattle.std.specs.Prelude.{length, take, drop}
+use Rattle.std.specs.Prelude.{length, take, drop, Result, Ok, Err}
 use Rattle.bits.specs.Words.{word}
 use Rattle.packed_encodings.specs.Lengths.{Bits}
+use Rattle.packed_readings.specs.declared.refusal.PackedFault.{PackedFault}
+use Rattle.packed_readings.specs.declared.refusal.PackedFault.TheVariants.{Memory, Refused}
 use Rattle.packed_readings.specs.declared.refusal.Refusal.{Refusal}
 use Rattle.packed_readings.specs.declared.refusal.Refusal.TheVariants.{Truncated}
 
@@ -10,6 +12,16 @@ use Rattle.packed_readings.specs.declared.refusal.Refusal.TheVariants.{Truncated
 pub data Outcome (X : Type 0) : Type 0 where
   found : X → (rest : Bits) → Outcome X
   stops : Refusal → (rest : Bits) → Outcome X
+
+-- what a call answers, with the bits that are left then
+abbrev pub outcome : {X : Type 0} → Result X Refusal → (rest : Bits) → Outcome X
+outcome (Ok v) r = found v r
+outcome (Err e) r = stops e r
+
+-- a call's fault: that of the bits, with those that are left then; or memory
+abbrev pub IsFault : {X : Type 0} → Outcome X → PackedFault → (rest : Bits) → Type 0
+IsFault o Memory r = Unit {0}
+IsFault o (Refused e) r = o ≡ stops e r
 
 -- what is read after what was found
 abbrev pub onward : {X Y : Type 0} → Outcome X → (X → Bits → Outcome Y) → Outcome Y

@@ -2,7 +2,15 @@
 //! values of the kinds that hold no others. Each function of `specs` computes what is found, or the first fault.
 #![tactic(auto)]
 
+mod count;
+mod field;
 pub mod law;
+mod range;
 mod refusal;
+mod size;
+mod width;
 
+pub use count::{Count, read_count};
+pub use field::{read_bit, read_field, read_small};
 pub use refusal::{PackedFault, Refusal};
+pub use size::{Sizing, read_size, size_fault};

@@ -1,0 +1,4 @@
+use Rattle.packed_readings.proofs.width.+fewest.Given as goal
+
+abbrev pub decreases-fewest : goal.decreases-fewest
+decreases-fewest l = l.greatest

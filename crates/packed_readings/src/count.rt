@@ -1,0 +1,101 @@
+//! Numbers of items (X.691, 11.9.3).
+
+ghost use Rattle.bits.specs.Left.{bits_left};
+ghost use Rattle.packed_readings.specs.Counts.{canonical_count, count_from, told_count};
+ghost use Rattle.packed_readings.specs.Outcome.{Judged, good, bad, outcome};
+ghost use Rattle.packed_readings.specs.declared.count.ToldCount.TheVariants.{In7Bits, In14Bits, InParts};
+ghost use Rattle.std.specs.Prelude.{◌≡◌, ◌∷◌, ◌<◌, true, IfErr, IfOk};
+
+use crate::field::{read_bit, read_field};
+use crate::refusal::Refusal;
+use bits::cursor::Bits;
+
+/// How many items come next: so many, and none after them; or so many times 16,384, and others after a further number.
+#[derive(Clone, Copy, Debug, PartialEq, Eq)]
+pub enum Count {
+    Last(usize),
+    Part(usize),
+}
+
+/// A number of items as it is told, in its canonical form or not.
+#[derive(Clone, Copy, Debug)]
+pub(crate) enum ToldCount {
+    In7Bits(usize),
+    In14Bits(usize),
+    InParts(usize),
+}
+
+/// Takes a number of items in any form.
+fn read_told(bits: &mut Bits<'_>) -> Result<ToldCount, Refusal>
+    ensures { told_count (bits_left bits.old) ≡ outcome result (bits_left bits.new) }
+{
+    match read_bit(bits) {
+        Ok(false) => match read_field(bits, 7) {
+            Ok(number) => Ok(ToldCount::In7Bits(number as usize)),
+            Err(refusal) => Err(refusal),
+        },
+        Ok(true) => read_longer(bits),
+        Err(refusal) => Err(refusal),
+    }
+}
+
+/// The same after its first bit 1.
+fn read_longer(bits: &mut Bits<'_>) -> Result<ToldCount, Refusal>
+    ensures { told_count (true ∷ bits_left bits.old) ≡ outcome result (bits_left bits.new) }
+{
+    match read_bit(bits) {
+        Ok(false) => match read_field(bits, 14) {
+            Ok(number) => Ok(ToldCount::In14Bits(number as usize)),
+            Err(refusal) => Err(refusal),
+        },
+        Ok(true) => match read_field(bits, 6) {
+            Ok(number) => Ok(ToldCount::InParts(number as usize)),
+            Err(refusal) => Err(refusal),
+        },
+        Err(refusal) => Err(refusal),
+    }
+}
+
+/// The number of items, if it is told in its canonical form.
+fn canonical(told: ToldCount, full: bool) -> Result<Count, Refusal>
+    ensures ok { IfOk result (λ c. canonical_count full told ≡ good c) }
+    ensures err { IfErr result (λ e. canonical_count full told ≡ bad e) }
+{
+    match told {
+        ToldCount::In7Bits(count) => Ok(Count::Last(count)),
+        ToldCount::In14Bits(count) => {
+            if count < 128 {
+                return Err(Refusal::NotCanonical);
+            }
+            Ok(Count::Last(count))
+        }
+        ToldCount::InParts(times) => {
+            if full && (0 < times && times < 5) {
+                return Ok(Count::Part(times));
+            }
+            Err(Refusal::NotCanonical)
+        }
+    }
+}
+
+/// Takes the number of the next items. Only where `full` holds they may be a part, after which others follow: before any
+/// item, and after a part of four times 16,384 items.
+///
+/// `NotCanonical`: eight bits would be enough, or there is such a part where none may be, or one of no items or of more
+/// than four times 16,384. No bit is taken then. `Truncated`: the bits end before.
+pub fn read_count(bits: &mut Bits<'_>, full: bool) -> Result<Count, Refusal>
+    ensures { count_from full (bits_left bits.old) ≡ outcome result (bits_left bits.new) }
+{
+    let start = *bits;
+    let told = match read_told(bits) {
+        Ok(told) => told,
+        Err(refusal) => return Err(refusal),
+    };
+    match canonical(told, full) {
+        Ok(count) => Ok(count),
+        Err(refusal) => {
+            *bits = start;
+            Err(refusal)
+        }
+    }
+}

@@ -1,0 +1,124 @@
+//! Numbers of items as SIZE bounds them (X.691, 11.9.4, 16.6, 17.3 and 20.4).
+
+ghost use Rattle.asn_base.specs.Schemas.{AreBounds, IsSize};
+ghost use Rattle.asn_base.specs.Seen.{constraint_of};
+ghost use Rattle.bits.specs.Left.{bits_left};
+ghost use Rattle.packed_encodings.specs.Lengths.{fewest_bits};
+ghost use Rattle.packed_readings.specs.Counts.{root_size, size_fault, size_from, size_of};
+ghost use Rattle.packed_readings.specs.Outcome.{good, bad, judging, field_from, outcome};
+ghost use Rattle.std.specs.Prelude.{◌≡◌, ◌-◌, ◌<◌, ◌≤◌, IfErr, IfOk, Option, Some, pos};
+
+use crate::field::{read_bit, read_field};
+use crate::range::{is_allowed, is_in_root};
+use crate::refusal::Refusal;
+use crate::width::fewest;
+use asn_base::constraint::Constraint;
+use bits::cursor::Bits;
+
+/// What SIZE tells before items: so many come at once; or they come after their number, which is outside the root of
+/// SIZE or not.
+#[derive(Clone, Copy, Debug, PartialEq, Eq)]
+pub enum Sizing {
+    AtOnce(usize),
+    Counted(bool),
+}
+
+/// Why so many items are refused that were told as outside the root of SIZE, or as a number of the root; None where
+/// they aren't. `NotCanonical`: the number is one of the root, and was told as outside. `Outside`: SIZE doesn't allow it,
+/// or it is outside the root, and was told as one of it.
+pub fn size_fault(constraint: &Constraint, outside: bool, count: usize) -> Option<Refusal>
+    ensures { result ≡ size_fault (constraint_of constraint.now) outside count }
+{
+    let allowed = is_allowed(constraint, count as i128);
+    if is_in_root(&constraint.visible, count as i128) {
+        if outside {
+            return Some(Refusal::NotCanonical);
+        }
+        if allowed {
+            return None;
+        }
+        return Some(Refusal::Outside);
+    }
+    if outside && allowed {
+        return None;
+    }
+    Some(Refusal::Outside)
+}
+
+/// The size that is `over` more than the least one, where there are so many sizes above that.
+fn size_over(constraint: &Constraint, least: usize, above: usize, over: usize) -> Result<Sizing, Refusal>
+    requires few { least < 65536 }
+    requires some { above < 65536 }
+    ensures ok { IfOk result (λ z. size_of (constraint_of constraint.now) least above over ≡ good z) }
+    ensures err { IfErr result (λ e. size_of (constraint_of constraint.now) least above over ≡ bad e) }
+{
+    if above < over {
+        return Err(Refusal::Outside);
+    }
+    let size = least + over;
+    if is_allowed(constraint, size as i128) {
+        Ok(Sizing::AtOnce(size))
+    } else {
+        Err(Refusal::Outside)
+    }
+}
+
+/// Takes a number of items from `least` to `greatest`.
+#[tactic(auto, using(crate::proofs::Widths::narrow))]
+fn read_narrow(constraint: &Constraint, least: usize, greatest: usize, bits: &mut Bits<'_>) -> Result<Sizing, Refusal>
+    requires order { least ≤ greatest }
+    requires few { greatest < 65536 }
+    ensures { judging (size_of (constraint_of constraint.now) least (greatest - least)) (field_from (fewest_bits (greatest - least))) (bits_left bits.old)
+        ≡ outcome result (bits_left bits.new) }
+{
+    let start = *bits;
+    let above = greatest - least;
+    let width = fewest(above as u128);
+    let over = match read_field(bits, width) {
+        Ok(over) => over as usize,
+        Err(truncated) => return Err(truncated),
+    };
+    match size_over(constraint, least, above, over) {
+        Ok(sizing) => Ok(sizing),
+        Err(refusal) => {
+            *bits = start;
+            Err(refusal)
+        }
+    }
+}
+
+/// Takes what the root of SIZE tells before items.
+fn read_root_size(constraint: &Constraint, bits: &mut Bits<'_>) -> Result<Sizing, Refusal>
+    requires { AreBounds IsSize (constraint_of constraint.now) }
+    ensures { root_size (constraint_of constraint.now) constraint.now.visible.least constraint.now.visible.greatest (bits_left bits.old)
+        ≡ outcome result (bits_left bits.new) }
+{
+    let Some(least) = constraint.visible.least else {
+        return Ok(Sizing::Counted(false));
+    };
+    let Some(greatest) = constraint.visible.greatest else {
+        return Ok(Sizing::Counted(false));
+    };
+    if least < 0 || greatest < least || greatest >= 65536 {
+        return Ok(Sizing::Counted(false));
+    }
+    read_narrow(constraint, least as usize, greatest as usize, bits)
+}
+
+/// Takes what SIZE tells before items. What the constraint keeps is what it keeps in a schema.
+///
+/// `Outside`: the number that is told is none that SIZE allows. No bit of it is taken then. `Truncated`: the bits end
+/// before.
+pub fn read_size(constraint: &Constraint, bits: &mut Bits<'_>) -> Result<Sizing, Refusal>
+    requires { AreBounds IsSize (constraint_of constraint.now) }
+    ensures { size_from (constraint_of constraint.now) (bits_left bits.old) ≡ outcome result (bits_left bits.new) }
+{
+    if !constraint.visible.extensible {
+        return read_root_size(constraint, bits);
+    }
+    match read_bit(bits) {
+        Ok(true) => Ok(Sizing::Counted(true)),
+        Ok(false) => read_root_size(constraint, bits),
+        Err(truncated) => Err(truncated),
+    }
+}

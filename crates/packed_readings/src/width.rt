@@ -1,0 +1,27 @@
+//! How many bits numbers take (X.691, 11.5).
+
+ghost use Rattle.packed_encodings.specs.Leaves.{place_width};
+ghost use Rattle.packed_encodings.specs.Lengths.{fewest_bits};
+ghost use Rattle.std.specs.Prelude.{◌≡◌, ◌≤◌};
+
+/// The fewest bits for the numbers from 0 to this one, at most 128.
+#[tactic(auto, using(crate::proofs::Widths::halved))]
+pub(crate) fn fewest(greatest: u128) -> usize
+    ensures is { result ≡ fewest_bits greatest }
+    ensures at_most { result ≤ 128 }
+{
+    if greatest == 0 {
+        0
+    } else {
+        fewest(greatest / 2) + 1
+    }
+}
+
+/// The bits of a place among so many, at most 64.
+#[tactic(auto, using(crate::proofs::Widths::few_places))]
+pub(crate) fn width_of_place(count: usize) -> usize
+    ensures is { result ≡ place_width count }
+    ensures at_most { result ≤ 64 }
+{
+    fewest(count.saturating_sub(1) as u128)
+}
