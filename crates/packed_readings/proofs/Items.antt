@@ -1,8 +1,9 @@
 -- Items of an enumeration, and characters, are read by their places and codes.
-use Rattle.std.proofs.Common.{arith, ◌≡◌, ℕ, zero, suc, ◌-◌, ◌^◌, ◌<◌, ◌⊎◌, inl, inr, ⊎_elim, Bool, true, false, List, [], ◌∷◌, ◌++◌, length, refl, sym, ap, subst, ◌∙◌}
+use Rattle.std.proofs.Common.{arith, ◌≡◌, ℕ, zero, suc, ◌-◌, ◌^◌, ◌<◌, ◌⊎◌, inl, inr, ⊎_elim, Bool, true, false, List, [], ◌∷◌, ◌++◌, length, get_or, refl, sym, ap, subst, ◌∙◌, ◌≤◌}
 use Rattle.std.proofs.lemmas.Bool.{lt-ltb, ltb-true, eq-eqb, eqb-true, false_from_ne_true}
-use Rattle.std.specs.Prelude.{nat_lt, ◌==◌, if◌then◌else◌, Option, Some, None, slice_get, ℤ}
+use Rattle.std.specs.Prelude.{nat_lt, ◌==◌, if◌then◌else◌, Option, Some, None, slice_get, ℤ, ◌↔◌, IsTrue}
 use Rattle.std.specs.List.{AllByRecursion}
+use Rattle.std.specs.Int.Digits.{AllBelowBase}
 use Rattle.bits.specs.Words.{word}
 use Rattle.asn_base.specs.Abstract.{AbstractValue, enumerated, text}
 use Rattle.asn_base.specs.Names.{IsMember, is_first, is_later}
@@ -234,6 +235,43 @@ code_is c (d ∷ a) e = by (d == c) refl e (λ f. code_is c a f)
     by : (t : Bool) → (d == c) ≡ t → (if t then true else is_code a c) ≡ true → (is_code a c ≡ true → IsMember c a) → IsMember c (d ∷ a)
     by true f e k = subst (λ q. IsMember q (d ∷ a)) (eqb-true d c f) is_first
     by false f e k = is_later (k e)
+
+one_truth : (a b : Bool) → (a ≡ true → b ≡ true) → (b ≡ true → a ≡ true) → a ≡ b
+one_truth true b f g = sym (f refl)
+one_truth false true f g = g refl
+one_truth false false f g = refl
+
+pub code_same : (b : Bool) (a : List ℕ) (c : ℕ) → (IsTrue b ↔ IsMember c a) → b ≡ is_code a c
+code_same b a c e = one_truth b (is_code a c) (λ t. code_true a (e.0 t)) (λ t. e.1 (code_is c a t))
+
+octet_in : (a : List ℕ) (c : ℕ) → IsMember c a → AllBelowBase 256 a → c < 256
+octet_in [] c m b = elim m [ ]
+octet_in (d ∷ a) c is_first b = b.0
+octet_in (d ∷ a) c (is_later m) b = octet_in a c m b.1
+
+pub code_octet : (a : List ℕ) (c : ℕ) (t : Bool) → t ≡ is_code a c → t ≡ true → AllBelowBase 256 a → c < 256
+code_octet a c t e f b = octet_in a c (code_is c a (sym e ∙ f)) b
+
+there_is : {X : Type 0} (xs : List X) (i : ℕ) (x : X) → i < length xs → x ≡ get_or xs i x → slice_get xs i ≡ Some x
+there_is [] i x l e = absurd (omega (arith, l))
+there_is (y ∷ xs) zero x l e = ap (λ q. Some q) (sym e)
+there_is (y ∷ xs) (suc i) x l e = there_is xs i x (omega (arith, l)) e
+
+none_is : {X : Type 0} (xs : List X) (i : ℕ) → length xs ≤ i → slice_get xs i ≡ None
+none_is [] zero l = refl
+none_is [] (suc i) l = refl
+none_is (y ∷ xs) zero l = absurd (omega (arith, l))
+none_is (y ∷ xs) (suc i) l = none_is xs i (omega (arith, l))
+
+pub placed_character : (a : List ℕ) (n c : ℕ) (t : Bool) → t ≡ codes_below (2 ^ place_width (length a)) a → t ≡ false → n < length a → c ≡ get_or a n c → character_of a n ≡ good c
+placed_character a n c t g h l e =
+    if_false (codes_below (2 ^ place_width (length a)) a) (if is_code a n then good n else bad why.Outside) (at_place why.Outside a n) (sym g ∙ h)
+    ∙ is_there why.Outside a n c (there_is a n c l e)
+
+pub no_character_there : (a : List ℕ) (n : ℕ) (t : Bool) → t ≡ codes_below (2 ^ place_width (length a)) a → t ≡ false → length a ≤ n → character_of a n ≡ bad why.Outside
+no_character_there a n t g h l =
+    if_false (codes_below (2 ^ place_width (length a)) a) (if is_code a n then good n else bad why.Outside) (at_place why.Outside a n) (sym g ∙ h)
+    ∙ ap (λ o. elim o [ None ↦ bad why.Outside | Some x ↦ good x ]) (none_is a n l)
 
 code_fits : {c : ℕ} (n : ℕ) (a : List ℕ) → AllByRecursion (λ c. c < n) a → IsMember c a → c < n
 code_fits n [] h m = elim m [ ]

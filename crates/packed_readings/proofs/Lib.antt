@@ -12,3 +12,4 @@ mod LeavesRead
 mod Widths
 mod Searched
 mod Steps
+mod Counted

@@ -48,3 +48,41 @@ without n (inr q) = q
 pub not_here : {P Q R : Type 0} → P ↔ (Q ⊎ R) → (Q → ⊥) → P ↔ R
 not_here a n = onward a (without n) inr
 
+pub drop_here : {A : Type 0} (xs : List A) (i : ℕ) (d : A) → i < length xs → drop i xs ≡ get_or xs i d ∷ drop (i + 1) xs
+drop_here [] i d h = absurd (omega arith)
+drop_here (x ∷ xs) zero d h = refl
+drop_here (x ∷ xs) (suc i) d h =
+    let e : suc (i + 1) ≡ suc i + 1 = omega arith in
+    drop_here xs i d (omega arith) ∙ ap (λ k. get_or xs i d ∷ drop k (x ∷ xs)) e
+
+pub drop_end : {A B : Type 0} (f : A → B) (xs : List A) (i : ℕ) → length xs ≤ i → drop i (map f xs) ≡ []
+drop_end f [] zero h = refl
+drop_end f [] (suc i) h = refl
+drop_end f (x ∷ xs) zero h = absurd (omega arith)
+drop_end f (x ∷ xs) (suc i) h = drop_end f xs i (omega arith)
+
+pub drop_past : {A : Type 0} (xs : List A) (i : ℕ) → length xs ≤ i → drop i xs ≡ []
+drop_past [] zero h = refl
+drop_past [] (suc i) h = refl
+drop_past (x ∷ xs) zero h = absurd (omega arith)
+drop_past (x ∷ xs) (suc i) h = drop_past xs i (omega arith)
+
+-- what holds of the whole just where it holds of what is left
+
+abbrev IsHeadOr : ℕ → List ℕ → Type 0
+IsHeadOr x [] = ⊥
+IsHeadOr x (y ∷ xs) = (y ≡ x) ⊎ IsMember x xs
+
+split_member : {x : ℕ} {ys : List ℕ} → IsMember x ys → IsHeadOr x ys
+split_member is_first = inl refl
+split_member (is_later m) = inr m
+
+pub member_at : {x y : ℕ} {xs : List ℕ} → IsMember x (y ∷ xs) ↔ ((y ≡ x) ⊎ IsMember x xs)
+member_at {x} {y} {xs} = (λ m. split_member m, joined)
+  where
+    joined : (y ≡ x) ⊎ IsMember x xs → IsMember x (y ∷ xs)
+    joined (inl e) = subst (λ q. IsMember q (y ∷ xs)) e is_first
+    joined (inr m) = is_later m
+
+pub no_member : {x : ℕ} → IsMember x [] → ⊥
+no_member m = elim m [ ]

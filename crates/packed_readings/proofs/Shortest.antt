@@ -1,32 +1,59 @@
 -- Octets of a number in two's complement, and of one without a sign: the shortest ones (X.691, 11.3 and 11.4).
-use Rattle.std.proofs.Common.{arith, ◌≡◌, ℕ, ℤ, suc, ◌+◌, ◌-◌, ◌*◌, ◌<◌, ◌≤◌, ◌^◌, pos, negsuc, Bool, true, false, List, [], ◌∷◌, length, map, refl, sym, ap, subst, ◌∙◌, ⊎_elim}
+use Rattle.std.proofs.Common.{arith, ◌≡◌, ℕ, ℤ, suc, ◌+◌, ◌-◌, ◌*◌, ◌<◌, ◌≤◌, ◌^◌, pos, negsuc, Bool, true, false, List, [], ◌∷◌, length, get_or, map, refl, sym, ap, subst, ◌∙◌, ⊎_elim, to_z, of_z}
+use mir.Syntax.{w128}
+use Rattle.std.proofs.lemmas.Int.{ints}
 use Rattle.std.specs.Prelude.{nat_lt, if◌then◌else◌, ◌==◌, ◌&&◌, ◌||◌, not}
-use Rattle.std.proofs.lemmas.Bool.{cases_lt, lt-ltb, le-ltb, ltb-true, ltb-false, eq-eqb, eqb-true, eqb-false}
+use Rattle.std.proofs.lemmas.Bool.{cases_lt, lt-ltb, le-ltb, ltb-true, ltb-false, eq-eqb, eqb-true, eqb-false, false_from_ne_true}
 use Rattle.std.proofs.Math.Nat.{mul-le-mul_left, pow-suc, pow-le-pow_right}
 use Rattle.std.specs.Int.Digits.{number_from_digits, number_from_digits_after, AllBelowBase}
-use Rattle.std.proofs.lemmas.Int.Digits.{number_lt}
+use Rattle.std.proofs.lemmas.Int.Digits.{number_after_ge, number_lt}
+use Rattle.asn_base.specs.Typed.{IsWithinLimit}
 use Rattle.encodings.specs.Contents.{TwosComplement, not_negative, negative, Number}
 use Rattle.encodings.specs.Header.{Octets}
 use Rattle.packed_encodings.specs.Numbers.{Unsigned, FewestUnsigned}
 use Rattle.packed_readings.specs.declared.refusal.Refusal.TheVariants as why
 use Rattle.packed_readings.specs.Outcome.{good, bad}
-use Rattle.packed_readings.specs.Leaves.{signed_worth, signed_number, unsigned_number}
-use Rattle.packed_readings.proofs.Fields.{if_false}
+use Rattle.packed_readings.specs.Leaves.{is_within_limit, signed_worth, signed_number, unsigned_number}
+use Rattle.packed_readings.specs.proving.Numbers.{IsShort, turned_after, IsNumber, limited}
+use Rattle.packed_readings.proofs.Fields.{if_true, if_false}
 use Rattle.packed_readings.proofs.Ranges.{bool_cases}
 use Rattle.packed_readings.proofs.Sizes.{good_is, not_good}
 
--- there are some, and the first nine bits aren't all alike
-abbrev IsShort : Octets → Type 0
-IsShort [] = ⊥
-IsShort (x ∷ []) = Unit {0}
-IsShort (x ∷ y ∷ o) = (x ≡ 0 → 128 ≤ y) × (x ≡ 255 → y < 128)
+-- ---- one octet more
 
-abbrev first : Octets → ℕ
-first [] = 0
-first (x ∷ o) = x
+pub worth_step : (high x : ℕ) (o b : List ℕ) → o ≡ x ∷ b → number_from_digits_after 256 high o < 2 ^ 128 → number_from_digits_after 256 (high * 256 + x) b < 2 ^ 128
+worth_step high x o b e l = subst (λ q. number_from_digits_after 256 high q < 2 ^ 128) e l
 
-abbrev turned_after : ℕ → Octets → ℕ
-turned_after high o = number_from_digits_after 256 high (map (λ d. 255 - d) o)
+pub worth_fits : (high x : ℕ) (o b : List ℕ) → o ≡ x ∷ b → number_from_digits_after 256 high o < 2 ^ 128 → high * 256 + x < 2 ^ 128
+worth_fits high x o b e l =
+    let k = worth_step high x o b e l in
+    let m = number_after_ge 256 (high * 256 + x) b (omega arith) in
+    omega (arith, k, m)
+
+pub worth_small : (high x : ℕ) (o b : List ℕ) → o ≡ x ∷ b → number_from_digits_after 256 high o < 2 ^ 128 → high * 256 < 2 ^ 128
+worth_small high x o b e l = let k = worth_fits high x o b e l in omega (arith, k)
+
+pub worth_none : (high : ℕ) (o : List ℕ) → length o ≡ 0 → high ≡ number_from_digits_after 256 high o
+worth_none high [] e = refl
+worth_none high (x ∷ o) e = absurd (omega arith)
+
+pub turned_step : (high x : ℕ) (o b : List ℕ) → o ≡ x ∷ b → turned_after high o < 2 ^ 128 → turned_after (high * 256 + (255 - x)) b < 2 ^ 128
+turned_step high x o b e l = subst (λ q. turned_after high q < 2 ^ 128) e l
+
+pub turned_fits : (high x : ℕ) (o b : List ℕ) → o ≡ x ∷ b → turned_after high o < 2 ^ 128 → high * 256 + (255 - x) < 2 ^ 128
+turned_fits high x o b e l =
+    let k = turned_step high x o b e l in
+    let m = number_after_ge 256 (high * 256 + (255 - x)) (map (λ d. 255 - d) b) (omega arith) in
+    omega (arith, k, m)
+
+pub turned_small : (high x : ℕ) (o b : List ℕ) → o ≡ x ∷ b → turned_after high o < 2 ^ 128 → high * 256 < 2 ^ 128
+turned_small high x o b e l = let k = turned_fits high x o b e l in omega (arith, k)
+
+pub turned_none : (high : ℕ) (o : List ℕ) → length o ≡ 0 → high ≡ turned_after high o
+turned_none high [] e = refl
+turned_none high (x ∷ o) e = absurd (omega arith)
+
+-- ---- the first octet's part
 
 split : (n : ℕ) (ds : List ℕ) → number_from_digits_after 256 n ds ≡ n * 256 ^ length ds + number_from_digits 256 ds
 split n [] = omega arith
@@ -67,7 +94,7 @@ some_octets : (n : ℕ) (p : List ℕ) → TwosComplement (pos n) p → 1 ≤ le
 some_octets n p (not_negative l b e h) = l
 
 -- short octets with the first bit 0 are the shortest ones
-low_number : (o : List ℕ) → AllBelowBase 256 o → IsShort o → first o < 128 → Number (pos (number_from_digits 256 o)) o
+pub low_number : (o : List ℕ) → AllBelowBase 256 o → IsShort o → get_or o 0 0 < 128 → Number (pos (number_from_digits 256 o)) o
 low_number [] all s l = elim s [ ]
 low_number (x ∷ []) all s l = record {
   is = not_negative (omega arith) all refl (low_below x [] l tt);
@@ -86,7 +113,7 @@ low_number (x ∷ y ∷ ys) all s l = record {
 
 -- ---- each bit turned
 
-abbrev complement : ℕ → ℕ
+abbrev pub complement : ℕ → ℕ
 complement d = 255 - d
 
 after_complement : (m n : ℕ) (ds : List ℕ) → AllBelowBase 256 ds → number_from_digits_after 256 m (map complement ds) + number_from_digits_after 256 n ds + 1 ≡ (m + n + 1) * 256 ^ length ds
@@ -97,7 +124,7 @@ after_complement m n (d ∷ ds) all =
     let sum : m * 256 + (255 - d) + (n * 256 + d) + 1 ≡ (m + n + 1) * 256 = omega arith in
     ih ∙ ap (λ k. k * 256 ^ length ds) sum ∙ omega (arith, ap (λ k. (m + n + 1) * k) (pow-suc 256 (length ds)))
 
-below_complement : (ds : List ℕ) → AllBelowBase 256 (map complement ds)
+pub below_complement : (ds : List ℕ) → AllBelowBase 256 (map complement ds)
 below_complement [] = tt
 below_complement (d ∷ ds) = (omega arith, below_complement ds)
 
@@ -141,14 +168,58 @@ short_turned (x ∷ y ∷ o) all s =
     let m : y < 256 = all.1.0 in
     (λ e. (let k : y < 128 = s.1 (omega arith) in omega arith), λ e. (let k : 128 ≤ y = s.0 (omega arith) in omega arith))
 
-head_turned : (o : List ℕ) → IsShort o → 128 ≤ first o → first (map complement o) < 128
+head_turned : (o : List ℕ) → IsShort o → 128 ≤ get_or o 0 0 → get_or (map complement o) 0 0 < 128
 head_turned [] s l = elim s [ ]
 head_turned (x ∷ o) s l = omega arith
 
-high_number : (o : List ℕ) → AllBelowBase 256 o → IsShort o → 128 ≤ first o → Number (negsuc (turned_after 0 o)) o
+pub high_number : (o : List ℕ) → AllBelowBase 256 o → IsShort o → 128 ≤ get_or o 0 0 → Number (negsuc (turned_after 0 o)) o
 high_number o all s l =
     let n = low_number (map complement o) (below_complement o) (short_turned o all s) (head_turned o s l) in
     subst (λ q. Number (negsuc (turned_after 0 o)) q) (turned_twice o all) (turned _ (map complement o) n)
+
+-- ---- within the limit
+
+pub low_within : (o : List ℕ) → AllBelowBase 256 o → IsShort o → length o ≤ 16 → get_or o 0 0 < 128 → number_from_digits 256 o < 2 ^ 127
+low_within o all s few l =
+    let a = enough _ o ((low_number o all s l).is) in
+    let mono : 256 ^ length o ≤ 256 ^ 16 = pow-le-pow_right (omega arith) few in
+    omega (arith, a, mono)
+
+pub high_within : (o : List ℕ) → AllBelowBase 256 o → IsShort o → length o ≤ 16 → 128 ≤ get_or o 0 0 → turned_after 0 o < 2 ^ 127
+high_within o all s few l = low_within (map complement o) (below_complement o) (short_turned o all s) (omega (arith, length_map o, few)) (head_turned o s l)
+
+pub worth_within : (o : List ℕ) → AllBelowBase 256 o → length o ≤ 16 → number_from_digits_after 256 0 o < 2 ^ 128
+worth_within o all few =
+    let a = number_lt 256 o all in
+    let mono : 256 ^ length o ≤ 256 ^ 16 = pow-le-pow_right (omega arith) few in
+    omega (arith, a, mono)
+
+pub turned_within : (o : List ℕ) → length o ≤ 16 → turned_after 0 o < 2 ^ 128
+turned_within o few = worth_within (map complement o) (below_complement o) (omega (arith, length_map o, few))
+
+-- ---- past the limit
+
+past : (o : List ℕ) → AllBelowBase 256 o → IsShort o → 17 ≤ length o → 2 ^ 127 ≤ number_from_digits 256 o
+past [] all s l = elim s [ ]
+past (x ∷ []) all s l = absurd (omega arith)
+past (x ∷ y ∷ ys) all s l =
+    let least = low_least x y ys s.0 in
+    let m : 16 ≤ length (y ∷ ys) = omega arith in
+    let mono : 256 ^ 16 ≤ 256 ^ length (y ∷ ys) = pow-le-pow_right (omega arith) m in
+    omega (arith, least, mono)
+
+pub past_limit : (o : List ℕ) → AllBelowBase 256 o → IsShort o → 17 ≤ length o → (z : ℤ) × Number z o × (IsWithinLimit z → ⊥)
+past_limit o all s l = ⊎_elim low high (cases_lt (get_or o 0 0) 128)
+  where
+    low : get_or o 0 0 < 128 → (z : ℤ) × Number z o × (IsWithinLimit z → ⊥)
+    low lt = (pos (number_from_digits 256 o), low_number o all s lt, λ w. (let p = past o all s l in omega (arith, w, p)))
+
+    high : 128 ≤ get_or o 0 0 → (z : ℤ) × Number z o × (IsWithinLimit z → ⊥)
+    high ge = (
+      negsuc (turned_after 0 o),
+      high_number o all s ge,
+      λ w. (let p = past (map complement o) (below_complement o) (short_turned o all s) (omega (arith, length_map o, l)) in omega (arith, w, p)),
+    )
 
 -- ---- octets that aren't short
 
@@ -171,7 +242,7 @@ some_there : {z : ℤ} {o : List ℕ} → TwosComplement z o → 1 ≤ length o
 some_there (not_negative l b e h) = l
 some_there (negative l b e h) = l
 
-no_number : (o : List ℕ) → (IsShort o → ⊥) → (z : ℤ) → Number z o → ⊥
+pub no_number : (o : List ℕ) → (IsShort o → ⊥) → (z : ℤ) → Number z o → ⊥
 no_number [] h z n = let l = some_there n.is in omega (arith, l)
 no_number (x ∷ []) h z n = h tt
 no_number (x ∷ y ∷ ys) h z n = ⊎_elim zero_first (λ ge. ⊎_elim (λ lt. h (λ e. absurd (omega arith), λ e. absurd (omega arith))) ones_first (cases_lt x 255)) (cases_lt x 1)
@@ -315,3 +386,65 @@ is_unsigned (x ∷ y ∷ o) n u = by (x == 0) refl
       where
         shorter : number_from_digits 256 (y ∷ o) ≡ n
         shorter = let w = u.is.worth in let z = eqb-true x 0 f in omega (arith, first_part x (y ∷ o), w, ap (λ q. q * 256 ^ length (y ∷ o)) z)
+
+-- ---- as calls judge them
+
+limit_is : (z : ℤ) → is_within_limit z ≡ true → IsWithinLimit z
+limit_is (pos n) e = ltb-true n (2 ^ 127) e
+limit_is (negsuc n) e = ltb-true n (2 ^ 127) e
+
+limit_true : (z : ℤ) → IsWithinLimit z → is_within_limit z ≡ true
+limit_true (pos n) l = lt-ltb n (2 ^ 127) l
+limit_true (negsuc n) l = lt-ltb n (2 ^ 127) l
+
+pub signed_none : (o : List ℕ) → length o ≡ 0 → limited (signed_number o) ≡ bad why.Outside
+signed_none [] e = refl
+signed_none (x ∷ o) e = absurd (omega (arith, e))
+
+pub signed_long : (o : List ℕ) → (length o ≡ 0 → ⊥) → (IsShort o → ⊥) → limited (signed_number o) ≡ bad why.NotCanonical
+signed_long [] n h = absurd (n refl)
+signed_long (x ∷ []) n h = absurd (h tt)
+signed_long (x ∷ y ∷ o) n h = ⊎_elim
+    (λ e. ap limited (if_true (is_padded x y) (bad why.NotCanonical) (good (signed_worth (x ∷ y ∷ o))) e))
+    (λ e. absurd (h (short_is x y o e)))
+    (bool_cases (is_padded x y))
+
+pub signed_past : (o : List ℕ) → AllBelowBase 256 o → IsShort o → 17 ≤ length o → limited (signed_number o) ≡ bad why.IntegerLimit
+signed_past o b s l =
+    let p = past_limit o b s l in
+    ap limited (is_signed o p.0 p.1) ∙ if_false (is_within_limit p.0) (good p.0) (bad why.IntegerLimit) (false_from_ne_true (is_within_limit p.0) (λ e. p.2 (limit_is p.0 e)))
+
+pub signed_good : (o : List ℕ) (z : ℤ) → IsNumber z o → limited (signed_number o) ≡ good z
+signed_good o z n = ap limited (is_signed o z n.number) ∙ if_true (is_within_limit z) (good z) (bad why.IntegerLimit) (limit_true z n.within)
+
+pub unsigned_none : (o : List ℕ) → length o ≡ 0 → unsigned_number o ≡ bad why.Outside
+unsigned_none [] e = refl
+unsigned_none (x ∷ o) e = absurd (omega (arith, e))
+
+pub unsigned_zero : (o : List ℕ) → 1 < length o → get_or o 0 0 ≡ 0 → unsigned_number o ≡ bad why.NotCanonical
+unsigned_zero [] l e = absurd (omega (arith, l))
+unsigned_zero (x ∷ []) l e = absurd (omega (arith, l))
+unsigned_zero (x ∷ y ∷ o) l e = if_true (x == 0) (bad why.NotCanonical) (good (number_from_digits 256 (x ∷ y ∷ o))) (eq-eqb x 0 e)
+
+pub unsigned_good : (o : List ℕ) (n : ℕ) → (length o ≡ 0 → ⊥) → (1 < length o → get_or o 0 0 ≡ 0 → ⊥) → n ≡ number_from_digits_after 256 0 o → unsigned_number o ≡ good n
+unsigned_good [] n s h e = absurd (s refl)
+unsigned_good (x ∷ []) n s h e = ap good (omega (arith, e))
+unsigned_good (x ∷ y ∷ o) n s h e = if_false (x == 0) (bad why.NotCanonical) (good (number_from_digits 256 (x ∷ y ∷ o))) (false_from_ne_true (x == 0) (λ f. h (omega arith) (eqb-true x 0 f))) ∙ ap good (sym e)
+
+pub unsigned_past : (o : List ℕ) → (1 < length o → get_or o 0 0 ≡ 0 → ⊥) → 17 ≤ length o → (n : ℕ) × (2 ^ 128 ≤ n) × (unsigned_number o ≡ good n)
+unsigned_past o h l = (number_from_digits 256 o, large o h l, unsigned_good o (number_from_digits 256 o) (λ e. omega (arith, e, l)) h refl)
+  where
+    large : (o : List ℕ) → (1 < length o → get_or o 0 0 ≡ 0 → ⊥) → 17 ≤ length o → 2 ^ 128 ≤ number_from_digits 256 o
+    large [] h l = absurd (omega (arith, l))
+    large (x ∷ o) h l =
+        let some : 1 ≤ x = ⊎_elim (λ z. absurd (h (omega (arith, l)) (omega (arith, z)))) (λ g. g) (cases_lt x 1) in
+        let a = at_least x o some in
+        let m : 256 ^ 16 ≤ 256 ^ length o = pow-le-pow_right (omega arith) (let k : 16 ≤ length o = omega (arith, l) in k) in
+        omega (arith, a, m)
+
+pub same_number : (x : List ℕ) (z : ℤ) → IsNumber z x → IsNumber (to_z w128 (of_z w128 z)) x
+same_number x z n = subst (λ q. IsNumber q x) (sym (same z n.within)) n
+  where
+    same : (z : ℤ) → IsWithinLimit z → to_z w128 (of_z w128 z) ≡ z
+    same (pos n) l = omega (arith, ints)
+    same (negsuc n) l = omega (arith, ints)

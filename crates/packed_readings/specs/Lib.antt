@@ -2,3 +2,5 @@ pub mod Outcome
 pub mod Composing
 pub mod Counts
 pub mod Leaves
+pub mod Code
+pub mod proving

@@ -1,6 +1,7 @@
 //! Numbers of items (X.691, 11.9.3).
 
 ghost use Rattle.bits.specs.Left.{bits_left};
+ghost use Rattle.packed_readings.specs.Code.{IsFew};
 ghost use Rattle.packed_readings.specs.Counts.{canonical_count, count_from, told_count};
 ghost use Rattle.packed_readings.specs.Outcome.{Judged, good, bad, outcome};
 ghost use Rattle.packed_readings.specs.declared.count.ToldCount.TheVariants.{In7Bits, In14Bits, InParts};
@@ -84,7 +85,8 @@ fn canonical(told: ToldCount, full: bool) -> Result<Count, Refusal>
 /// `NotCanonical`: eight bits would be enough, or there is such a part where none may be, or one of no items or of more
 /// than four times 16,384. No bit is taken then. `Truncated`: the bits end before.
 pub fn read_count(bits: &mut Bits<'_>, full: bool) -> Result<Count, Refusal>
-    ensures { count_from full (bits_left bits.old) ≡ outcome result (bits_left bits.new) }
+    ensures few { IfOk result IsFew }
+    ensures is { count_from full (bits_left bits.old) ≡ outcome result (bits_left bits.new) }
 {
     let start = *bits;
     let told = match read_told(bits) {

@@ -1,0 +1,28 @@
+-- Octets of a number.
+use Rattle.std.specs.Prelude.{◌≡◌, ℕ, ◌-◌, ◌<◌, ◌≤◌, ℤ, [], ◌∷◌, map, if◌then◌else◌}
+use Rattle.std.specs.Int.Digits.{number_from_digits_after}
+use Rattle.asn_base.specs.Typed.{IsWithinLimit}
+use Rattle.encodings.specs.Header.{Octets}
+use Rattle.encodings.specs.Contents.{Number}
+use Rattle.packed_readings.specs.declared.refusal.Refusal.TheVariants.{IntegerLimit}
+use Rattle.packed_readings.specs.Outcome.{Judged, good, bad}
+use Rattle.packed_readings.specs.Leaves.{is_within_limit}
+
+-- there are some, and the first nine bits aren't all alike (X.691, 11.4.6)
+abbrev pub IsShort : Octets → Type 0
+IsShort [] = ⊥
+IsShort (x ∷ []) = Unit {0}
+IsShort (x ∷ y ∷ o) = (x ≡ 0 → 128 ≤ y) × (x ≡ 255 → y < 128)
+
+-- what octets are worth with each bit turned, after some that are worth `high`
+abbrev pub turned_after : ℕ → Octets → ℕ
+turned_after high o = number_from_digits_after 256 high (map (λ d. 255 - d) o)
+
+pub record IsNumber (z : ℤ) (x : Octets) : Type 0 where
+  pub number : Number z x
+  pub within : IsWithinLimit z
+
+-- a number past the limit is refused
+abbrev pub limited : Judged ℤ → Judged ℤ
+limited (good z) = if is_within_limit z then good z else bad IntegerLimit
+limited (bad e) = bad e

@@ -1,0 +1,119 @@
+//! Numbers as octets (X.691, 11.3 and 11.4).
+
+ghost use Rattle.packed_readings.specs.Leaves.{signed_number, unsigned_number};
+ghost use Rattle.packed_readings.specs.Outcome.{bad, good};
+ghost use Rattle.packed_readings.specs.proving.Numbers.{IsNumber, IsShort, limited, turned_after};
+ghost use Rattle.std.specs.Int.Digits.{AllBelowBase, number_from_digits_after};
+ghost use Rattle.std.specs.Prelude.{◌≡◌, ◌<◌, ◌≤◌, ◌^◌, ◌↔◌, IfErr, IfOk, IfSome, IfNone, IsTrue, ℕ, length, negsuc, pos};
+
+use crate::character::are_octets;
+use crate::refusal::Refusal;
+
+/// The number that octets are in two's complement, in the fewest octets. `Outside`: there are none. `NotCanonical`:
+/// fewer are enough. `IntegerLimit`: the number is none from -2^127 to 2^127 - 1.
+pub(crate) fn signed(octets: &[u8]) -> Result<i128, Refusal>
+    ensures ok { IfOk result (λ z. limited (signed_number octets.now) ≡ good z) }
+    ensures err { IfErr result (λ e. limited (signed_number octets.now) ≡ bad e) }
+{
+    if octets.is_empty() {
+        return Err(Refusal::Outside);
+    }
+    if !is_shortest(octets) {
+        return Err(Refusal::NotCanonical);
+    }
+    are_octets(octets);
+    if octets.len() > 16 {
+        return Err(Refusal::IntegerLimit);
+    }
+    Ok(number_of(octets))
+}
+
+/// Whether there are octets, the first nine bits of which aren't all alike.
+fn is_shortest(octets: &[u8]) -> bool
+    ensures { IsTrue result ↔ IsShort octets.now }
+{
+    let Some((first, others)) = octets.split_first() else {
+        return false;
+    };
+    let Some((second, _)) = others.split_first() else {
+        return true;
+    };
+    if *first == 0 {
+        return *second >= 128;
+    }
+    *first < 255 || *second < 128
+}
+
+/// The number that octets are in two's complement.
+fn number_of(octets: &[u8]) -> i128
+    requires short { IsShort octets.now }
+    requires few { length octets.now ≤ 16 }
+    ensures { IsNumber result octets.now }
+{
+    are_octets(octets);
+    if octets[0] < 128 {
+        not_negative(worth(octets, 0))
+    } else {
+        negative(turned_worth(octets, 0))
+    }
+}
+
+/// The number itself.
+fn not_negative(number: u128) -> i128
+    requires { number < 2 ^ 127 }
+    ensures { result ≡ pos number }
+{
+    number as i128
+}
+
+/// One less than the negated number.
+fn negative(number: u128) -> i128
+    requires { number < 2 ^ 127 }
+    ensures { result ≡ negsuc number }
+{
+    -1 - number as i128
+}
+
+/// What octets are worth after some that are worth `high`.
+#[tactic(auto, using(crate::proofs::Shortest::worth_fits, crate::proofs::Shortest::worth_small, crate::proofs::Shortest::worth_step, crate::proofs::Shortest::worth_none))]
+fn worth(octets: &[u8], high: u128) -> u128
+    requires { number_from_digits_after 256 high octets.now < 2 ^ 128 }
+    ensures { result ≡ number_from_digits_after 256 high octets.now }
+{
+    let Some((octet, others)) = octets.split_first() else {
+        return high;
+    };
+    worth(others, high * 256 + *octet as u128)
+}
+
+/// The same of the octets with each bit turned.
+#[tactic(auto, using(crate::proofs::Shortest::turned_fits, crate::proofs::Shortest::turned_small, crate::proofs::Shortest::turned_step, crate::proofs::Shortest::turned_none))]
+fn turned_worth(octets: &[u8], high: u128) -> u128
+    requires { turned_after high octets.now < 2 ^ 128 }
+    ensures { result ≡ turned_after high octets.now }
+{
+    let Some((octet, others)) = octets.split_first() else {
+        return high;
+    };
+    turned_worth(others, high * 256 + (255 - *octet) as u128)
+}
+
+/// The number without a sign that octets are, in the fewest octets; None where it is 2^128 or greater. `Outside`: there
+/// are none. `NotCanonical`: fewer are enough.
+pub(crate) fn unsigned(octets: &[u8]) -> Result<Option<u128>, Refusal>
+    ensures some { IfOk result (λ o. IfSome o (λ n. unsigned_number octets.now ≡ good n)) }
+    ensures none { IfOk result (λ o. IfNone o ((n : ℕ) × (2 ^ 128 ≤ n) × (unsigned_number octets.now ≡ good n))) }
+    ensures err { IfErr result (λ e. unsigned_number octets.now ≡ bad e) }
+{
+    if octets.is_empty() {
+        return Err(Refusal::Outside);
+    }
+    if octets.len() > 1 && octets[0] == 0 {
+        return Err(Refusal::NotCanonical);
+    }
+    are_octets(octets);
+    if octets.len() > 16 {
+        return Ok(None);
+    }
+    Ok(Some(worth(octets, 0)))
+}
