@@ -12,7 +12,11 @@ use Rattle.packed_readings.specs.declared.refusal.Refusal.{Refusal}
 use Rattle.packed_readings.specs.declared.refusal.Refusal.TheVariants as why
 use Rattle.packed_readings.specs.Outcome.{IsReading, Then, IsJudged, good, bad, judging}
 use Rattle.packed_readings.specs.Composing.{judged}
-use Rattle.packed_readings.specs.Counts.{Count, last, part, count_from, total, IsCount, part_count, InParts, last_items, part_items, Sizing, at_once, counted, size_from, size_fault, IsSizing, InSize, items_at_once, items_in_parts}
+use Rattle.packed_readings.specs.declared.count.Count.{Count}
+use Rattle.packed_readings.specs.declared.count.Count.TheVariants.{Last as last, Part as part}
+use Rattle.packed_readings.specs.declared.size.Sizing.{Sizing}
+use Rattle.packed_readings.specs.declared.size.Sizing.TheVariants.{AtOnce as at_once, Counted as counted}
+use Rattle.packed_readings.specs.Counts.{count_from, total, IsCount, part_count, InParts, last_items, part_items, size_from, size_fault, IsSizing, InSize, items_at_once, items_in_parts}
 use Rattle.packed_reader.specs.declared.part.Part.TheVariants.{Element}
 use Rattle.packed_reader.specs.Readings.{plain, Taken, taken, IsExact}
 use Rattle.packed_reader.specs.Structures.{joined}

@@ -7,7 +7,11 @@ use Rattle.packed_encodings.specs.Lengths.{Bits, Items}
 use Rattle.packed_readings.specs.declared.refusal.Refusal.{Refusal}
 use Rattle.packed_readings.specs.declared.refusal.Refusal.TheVariants as why
 use Rattle.packed_readings.specs.Outcome.{judging}
-use Rattle.packed_readings.specs.Counts.{Count, last, part, count_from, total, Sizing, at_once, counted, size_from, size_fault}
+use Rattle.packed_readings.specs.declared.count.Count.{Count}
+use Rattle.packed_readings.specs.declared.count.Count.TheVariants.{Last as last, Part as part}
+use Rattle.packed_readings.specs.declared.size.Sizing.{Sizing}
+use Rattle.packed_readings.specs.declared.size.Sizing.TheVariants.{AtOnce as at_once, Counted as counted}
+use Rattle.packed_readings.specs.Counts.{count_from, total, size_from, size_fault}
 use Rattle.packed_reader.specs.declared.part.Part.TheVariants.{Element}
 use Rattle.packed_reader.specs.Readings.{Reading, read, stop, next, in_part, plain, tested, with_bits, Taken, taken}
 use Rattle.packed_reader.specs.Structures.{joined}

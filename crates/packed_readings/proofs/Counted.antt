@@ -1,12 +1,11 @@
 -- Items after their number, as calls read them.
-use Rattle.std.proofs.Common.{arith, ◌≡◌, ℕ, zero, suc, ◌+◌, ◌-◌, ◌*◌, ◌^◌, ◌<◌, ◌≤◌, Bool, true, false, List, [], ◌∷◌, ◌++◌, length, refl, sym, ap, subst, ◌∙◌, length-append}
-use Rattle.std.specs.Prelude.{◌==◌, cond, Option, Some, None}
+use Rattle.std.proofs.Common.{arith, ◌≡◌, ℕ, zero, suc, ◌+◌, ◌*◌, ◌<◌, ◌≤◌, Bool, true, false, List, [], ◌++◌, length, refl, sym, ap, subst, ◌∙◌, length-append}
+use Rattle.std.specs.Prelude.{◌==◌, cond, Option}
 use Rattle.packed_encodings.specs.Lengths.{Bits}
 use Rattle.packed_readings.specs.declared.refusal.Refusal.{Refusal}
 use Rattle.packed_readings.specs.declared.refusal.PackedFault.{PackedFault}
 use Rattle.packed_readings.specs.declared.refusal.PackedFault.TheVariants as faults
 use Rattle.packed_readings.specs.declared.strings.Next.{Next}
-use Rattle.packed_readings.specs.declared.strings.Next.TheVariants as nexts
 use Rattle.packed_readings.specs.Outcome.{Outcome, found, stops, onward, Judged, good, bad, verdict, judging, IsFault}
 use Rattle.packed_readings.specs.Composing.{found_rest, not_both}
 use Rattle.packed_readings.specs.declared.strings.Form.{Form}
@@ -43,19 +42,19 @@ few_of_told full b r t c e f = few_count full b r c (ap (λ o. onward o (λ v r.
 
 -- ---- items of one number
 
-module _ (test : ℕ → Option Refusal) (items : Several ℕ) (full : Bool) (before : List ℕ) where
+module _ {X : Type 0} (test : ℕ → Option Refusal) (items : Several X) (full : Bool) (before : List X) where
   abbrev Told : Bits → Outcome Count
   Told = judging (total test (length before)) (count_from full)
 
-  abbrev Step : ℕ → Bits → Outcome (List ℕ)
+  abbrev Step : ℕ → Bits → Outcome (List X)
   Step k b = parts_from (suc k) test items full before b
 
-  pub step_last : (b m r : Bits) (n : ℕ) (after : List ℕ) (k : ℕ) → Told b ≡ found (last n) m → Gained (items n m) before after r → Step k b ≡ found after r
+  pub step_last : (b m r : Bits) (n : ℕ) (after : List X) (k : ℕ) → Told b ≡ found (last n) m → Gained (items n m) before after r → Step k b ≡ found after r
   step_last b m r n after k e g =
       ap (λ o. onward o (λ c r. items_of items before c r (λ f xs s. parts_from k test items f xs s))) e
       ∙ ap (λ o. onward o (λ xs s. found (before ++ xs) s)) g.is ∙ ap (λ q. found q r) (sym g.joined)
 
-  pub step_part : (b m r : Bits) (n : ℕ) (after : List ℕ) (k : ℕ) → Told b ≡ found (part n) m → Gained (items (16384 * n) m) before after r → Step k b ≡ parts_from k test items (n == 4) after r
+  pub step_part : (b m r : Bits) (n : ℕ) (after : List X) (k : ℕ) → Told b ≡ found (part n) m → Gained (items (16384 * n) m) before after r → Step k b ≡ parts_from k test items (n == 4) after r
   step_part b m r n after k e g =
       ap (λ o. onward o (λ c r. items_of items before c r (λ f xs s. parts_from k test items f xs s))) e
       ∙ ap (λ o. onward o (λ xs s. parts_from k test items (n == 4) (before ++ xs) s)) g.is
@@ -108,32 +107,32 @@ items_shorter (forms.Characters s) n b r before after g = by ((each (a_character
 -- ---- number after number
 
 -- what is known of the whole, where more comes or not
-abbrev pub IsSoFar : (ℕ → Option Refusal) → Several ℕ → Outcome (List ℕ) → (more full : Bool) → (before : List ℕ) → Bits → Type 0
+abbrev pub IsSoFar : {X : Type 0} → (ℕ → Option Refusal) → Several X → Outcome (List X) → (more full : Bool) → (before : List X) → Bits → Type 0
 IsSoFar test items whole true full before b = (k : ℕ) × (length b < k) × (whole ≡ parts_from k test items full before b)
 IsSoFar test items whole false full before b = whole ≡ found before b
 
-module _ (test : ℕ → Option Refusal) (items : Several ℕ) where
-  pub so_far_first : (b : Bits) (before : List ℕ) → before ≡ [] → IsSoFar test items (counted_from test items b) true true before b
+module _ {X : Type 0} (test : ℕ → Option Refusal) (items : Several X) where
+  pub so_far_first : (b : Bits) (before : List X) → before ≡ [] → IsSoFar test items (counted_from test items b) true true before b
   so_far_first b before e = (suc (length b), omega arith, ap (λ q. parts_from (suc (length b)) test items true q b) (sym e))
 
-  here : (whole : Outcome (List ℕ)) (more full : Bool) (before : List ℕ) (b : Bits) → more ≡ true → IsSoFar test items whole more full before b → IsSoFar test items whole true full before b
+  here : (whole : Outcome (List X)) (more full : Bool) (before : List X) (b : Bits) → more ≡ true → IsSoFar test items whole more full before b → IsSoFar test items whole true full before b
   here whole more full before b e s = subst (λ q. IsSoFar test items whole q full before b) e s
 
-  pub so_far_last : (whole : Outcome (List ℕ)) (more full : Bool) (before after : List ℕ) (b r : Bits) → more ≡ true → IsSoFar test items whole more full before b → ((k : ℕ) → parts_from (suc k) test items full before b ≡ found after r) → whole ≡ found after r
+  pub so_far_last : (whole : Outcome (List X)) (more full : Bool) (before after : List X) (b r : Bits) → more ≡ true → IsSoFar test items whole more full before b → ((k : ℕ) → parts_from (suc k) test items full before b ≡ found after r) → whole ≡ found after r
   so_far_last whole more full before after b r m s f = let t = here whole more full before b m s in by t.0 t.1 t.2
     where
       by : (k : ℕ) → length b < k → whole ≡ parts_from k test items full before b → whole ≡ found after r
       by zero l e = absurd (omega (arith, l))
       by (suc k) l e = e ∙ f k
 
-  pub so_far_more : (whole : Outcome (List ℕ)) (more full next : Bool) (before after : List ℕ) (b r : Bits) → more ≡ true → IsSoFar test items whole more full before b → ((k : ℕ) → parts_from (suc k) test items full before b ≡ parts_from k test items next after r) → length r < length b → IsSoFar test items whole more next after r
+  pub so_far_more : (whole : Outcome (List X)) (more full next : Bool) (before after : List X) (b r : Bits) → more ≡ true → IsSoFar test items whole more full before b → ((k : ℕ) → parts_from (suc k) test items full before b ≡ parts_from k test items next after r) → length r < length b → IsSoFar test items whole more next after r
   so_far_more whole more full next before after b r m s f h = let t = here whole more full before b m s in subst (λ q. IsSoFar test items whole q next after r) (sym m) (by t.0 t.1 t.2)
     where
       by : (k : ℕ) → length b < k → whole ≡ parts_from k test items full before b → IsSoFar test items whole true next after r
       by zero l e = absurd (omega (arith, l))
       by (suc k) l e = (k, (let j : length r < k = omega (arith, l, h) in j), e ∙ f k)
 
-  pub so_far_stops : (whole : Outcome (List ℕ)) (more full : Bool) (before : List ℕ) (b r : Bits) (e : PackedFault) → more ≡ true → IsSoFar test items whole more full before b → ((k : ℕ) → IsFault (parts_from (suc k) test items full before b) e r) → IsFault whole e r
+  pub so_far_stops : (whole : Outcome (List X)) (more full : Bool) (before : List X) (b r : Bits) (e : PackedFault) → more ≡ true → IsSoFar test items whole more full before b → ((k : ℕ) → IsFault (parts_from (suc k) test items full before b) e r) → IsFault whole e r
   so_far_stops whole more full before b r e m s f = let t = here whole more full before b m s in by t.0 t.1 t.2
     where
       by : (k : ℕ) → length b < k → whole ≡ parts_from k test items full before b → IsFault whole e r

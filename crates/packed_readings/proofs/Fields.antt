@@ -55,7 +55,7 @@ worth_below [] = omega arith
 worth_below (true ∷ b) = let h = worth_below b in let p : 2 ^ suc (length b) ≡ 2 * 2 ^ length b = pow-succ' 2 (length b) in omega (arith, h, p)
 worth_below (false ∷ b) = let h = worth_below b in let p : 2 ^ suc (length b) ≡ 2 * 2 ^ length b = pow-succ' 2 (length b) in omega (arith, h, p)
 
-worth_same : (a b : Bits) → length a ≡ length b → worth a ≡ worth b → a ≡ b
+pub worth_same : (a b : Bits) → length a ≡ length b → worth a ≡ worth b → a ≡ b
 worth_same [] [] l e = refl
 worth_same [] (y ∷ b) l e = absurd (omega arith)
 worth_same (x ∷ a) [] l e = absurd (omega arith)

@@ -337,6 +337,9 @@ module _ (a : List ℕ) where
   characters_of none_has = record { characters = no_character; members = tt; long = refl }
   characters_of (one_has p e) = let t = characters_of e in record { characters = character p t.characters; members = (is_member p, t.members); long = ap suc t.long }
 
+  pub are_members : {o : List ℕ} {xs : Items} → EachHas (Character a) o xs → AllByRecursion (λ x. IsMember x a) o
+  are_members e = (characters_of e).members
+
   of_characters : {o : List ℕ} {xs : Items} → Characters a o xs → EachHas (Character a) o xs
   of_characters no_character = none_has
   of_characters (character p e) = one_has p (of_characters e)

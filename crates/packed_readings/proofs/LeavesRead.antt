@@ -1,29 +1,33 @@
 -- Values of the kinds that hold no others are read as they stand.
-use Rattle.std.proofs.Common.{◌≡◌, ℕ, suc, Bool, true, false, List, [], ◌∷◌, ◌++◌, length, map, refl, sym, ap, subst, ◌∙◌}
+use Rattle.std.proofs.Common.{◌≡◌, ℕ, suc, Bool, true, false, List, [], ◌∷◌, ◌++◌, length, map, refl, sym, ap, subst, ◌∙◌, ◌<◌, zero, arith}
 use Rattle.std.specs.Prelude.{not, ◌&&◌, if◌then◌else◌, pos, chars, IsUtf8}
-use Rattle.std.specs.Str.{is_utf8}
-use Rattle.std.proofs.lemmas.Str.{IsUtf8-from_is_utf8, is_utf8-from_IsUtf8}
+use Rattle.std.specs.Str.{is_utf8, IsAscii}
+use Rattle.std.specs.List.{AllByRecursion}
+use Rattle.std.proofs.lemmas.Str.{IsUtf8-from_is_utf8, is_utf8-from_IsUtf8, IsUtf8-from_ascii}
 use Rattle.std.proofs.lemmas.List.{length-map}
 use Rattle.bits.specs.Words.{word}
 use Rattle.asn_base.specs.Abstract.{AbstractValue, boolean, bits, octets, text, null}
+use Rattle.asn_base.specs.Names.{IsMember, is_first, is_later}
 use Rattle.asn_base.specs.Types.{Constraint, NamedBit, Kind, a_boolean, an_integer, an_enumerated, a_bit_string, a_named_bit_string, an_octet_string, a_null, an_object_identifier, a_relative_oid, a_utf8_string, a_restricted_string, a_sequence, a_set, a_sequence_of, a_set_of, a_choice, Resolved}
 use Rattle.asn_base.specs.Typed.{IsAllowedSize, Fits, fits_boolean, fits_bits, fits_named_bits, fits_octets, fits_null, fits_utf8}
 use Rattle.asn_base.specs.Schemas.{AreBounds, IsSize, IsSound}
 use Rattle.encodings.specs.Contents.{EndsInOne}
 use Rattle.packed_encodings.specs.Lengths.{Bits, Counted, Sized, CountedOctets}
 use Rattle.packed_encodings.specs.Leaves.{singly, Leaf, of_boolean, of_bits, of_named_bits, of_octets, of_null, of_utf8}
+use Rattle.packed_readings.specs.declared.refusal.PackedFault.{PackedFault}
+use Rattle.packed_readings.specs.declared.refusal.PackedFault.TheVariants as packed_faults
 use Rattle.packed_readings.specs.declared.refusal.Refusal.TheVariants as why
-use Rattle.packed_readings.specs.Outcome.{found, stops, good, bad, bit_from, IsBit, IsReading, IsJudged, judging}
+use Rattle.packed_readings.specs.Outcome.{found, stops, good, bad, bit_from, IsBit, IsReading, IsJudged, judging, each_from, onward, IsFault}
 use Rattle.packed_readings.specs.Composing.{judged, same, stops_why, stops_where, not_both}
 use Rattle.packed_readings.specs.Counts.{AreSized, AreCounted, IsOctet, any_total, several_bits, several_octets, counted_from, sized_from, octets_from, is_allowed}
-use Rattle.packed_readings.specs.Leaves.{ends_in_zero, named_bits, utf8_text, leaf_from, IsLeafOf}
-use Rattle.packed_readings.proofs.Fields.{bit, nothing, bits_read, octets_read, singles, single_bits}
+use Rattle.packed_readings.specs.Leaves.{ends_in_zero, named_bits, utf8_text, leaf_from, IsLeafOf, character_from}
+use Rattle.packed_readings.proofs.Fields.{bit, each, nothing, bits_read, octets_read, singles, single_bits}
 use Rattle.packed_readings.proofs.Parts.{counted}
 use Rattle.packed_readings.proofs.Octets.{octets_of_items, items_of_octets, octets as octets_are}
 use Rattle.packed_readings.proofs.Ranges.{both_true, true_both, allowed_true, allowed_is, apart}
 use Rattle.packed_readings.proofs.Sizes.{good_is, not_good, sized_read}
 use Rattle.packed_readings.proofs.Numbers.{integers}
-use Rattle.packed_readings.proofs.Items.{enumerations, strings}
+use Rattle.packed_readings.proofs.Items.{enumerations, strings, a_character, are_members}
 use Rattle.packed_readings.proofs.Septets.{object_identifiers, relative_identifiers}
 
 single_length : (v : Bits) → length (singly v) ≡ length v
@@ -283,3 +287,57 @@ leaves s (a_set e cs) h = none (a_set e cs) (λ w x l. elim l [ ])
 leaves s (a_sequence_of c u) h = none (a_sequence_of c u) (λ w x l. elim l [ ])
 leaves s (a_set_of c u) h = none (a_set_of c u) (λ w x l. elim l [ ])
 leaves s (a_choice root e more) h = none (a_choice root e more) (λ w x l. elim l [ ])
+
+-- ---- texts, as calls read them
+
+pub utf8_good : (c : Constraint) (o : List ℕ) → IsUtf8 o → is_allowed c (pos (length (chars o))) ≡ true → utf8_text c o ≡ good (text o)
+utf8_good c o u a = ap (λ t. if t then good (text o) else bad why.Outside) (both_true (is_utf8 o) (is_allowed c (pos (length (chars o)))) (is_utf8-from_IsUtf8 o u) a)
+
+pub utf8_long : (c : Constraint) (o : List ℕ) → is_allowed c (pos (length (chars o))) ≡ false → utf8_text c o ≡ bad why.Outside
+utf8_long c o a = ap (λ t. if t then good (text o) else bad why.Outside) (by (is_utf8 o) (is_allowed c (pos (length (chars o)))) a)
+  where
+    by : (p q : Bool) → q ≡ false → (p && q) ≡ false
+    by true q e = e
+    by false q e = refl
+
+pub utf8_none : (c : Constraint) (o : List ℕ) → (IsUtf8 o → ⊥) → utf8_text c o ≡ bad why.Outside
+utf8_none c o n = ap (λ t. if t then good (text o) else bad why.Outside) (by (is_utf8 o) refl)
+  where
+    by : (p : Bool) → is_utf8 o ≡ p → (is_utf8 o && is_allowed c (pos (length (chars o)))) ≡ false
+    by true e = absurd (n (IsUtf8-from_is_utf8 o e))
+    by false e = ap (λ q. q && is_allowed c (pos (length (chars o)))) e
+
+pub utf8_read : (c : Constraint) (o s t : List ℕ) (b : Bool) → s ≡ o → IsUtf8 o → t ≡ s → b ≡ is_allowed c (pos (length (chars t))) → b ≡ true → utf8_text c o ≡ good (text s)
+utf8_read c o s t b e u f g h = utf8_good c o u (ap (λ q. is_allowed c (pos (length (chars q)))) (sym (f ∙ e)) ∙ sym g ∙ h) ∙ ap (λ q. good (text q)) (sym e)
+
+pub utf8_refused : (c : Constraint) (o s t : List ℕ) (b : Bool) → s ≡ o → t ≡ s → b ≡ is_allowed c (pos (length (chars t))) → b ≡ false → utf8_text c o ≡ bad why.Outside
+utf8_refused c o s t b e f g h = utf8_long c o (ap (λ q. is_allowed c (pos (length (chars q)))) (sym (f ∙ e)) ∙ sym g ∙ h)
+
+ascii_codes : (o : List ℕ) → AllByRecursion (λ c. c < 128) o → IsAscii o
+ascii_codes [] a i = omega arith
+ascii_codes (x ∷ o) a zero = a.0
+ascii_codes (x ∷ o) a (suc i) = ascii_codes o a.1 i
+
+pub ascii_text : (o : List ℕ) → AllByRecursion (λ c. c < 128) o → IsUtf8 o
+ascii_text o a = IsUtf8-from_ascii o (ascii_codes o a)
+
+member_below : (a : List ℕ) (c : ℕ) → IsMember c a → AllByRecursion (λ c. c < 128) a → c < 128
+member_below [] c m b = elim m [ ]
+member_below (d ∷ a) c is_first b = b.0
+member_below (d ∷ a) c (is_later m) b = member_below a c m b.1
+
+members_below : (a o : List ℕ) → AllByRecursion (λ x. IsMember x a) o → AllByRecursion (λ c. c < 128) a → AllByRecursion (λ c. c < 128) o
+members_below a [] m b = tt
+members_below a (c ∷ o) m b = (member_below a c m.0 b, members_below a o m.1 b)
+
+pub string_codes : (a : List ℕ) (c : Constraint) (b r : Bits) (o : List ℕ) → AreBounds IsSize c → AllByRecursion (λ c. c < 128) a → sized_from c (each_from (character_from a)) b ≡ found o r → AllByRecursion (λ c. c < 128) o
+string_codes a c b r o bounds below e =
+    let s = (sized_read c (each_from (character_from a)) (each (a_character a)) bounds).sound b r o e in
+    members_below a o (are_members a s.1.are) below
+
+pub text_answer : (a d : List ℕ) (c : Constraint) (b r : Bits) (o : List ℕ) (w : AbstractValue) → a ≡ d → sized_from c (each_from (character_from a)) b ≡ found o r → w ≡ text o → onward (sized_from c (each_from (character_from d)) b) (λ o r. found (text o) r) ≡ found w r
+text_answer a d c b r o w e f g = ap (λ q. onward (sized_from c (each_from (character_from q)) b) (λ o r. found (text o) r)) (sym e) ∙ ap (λ q. onward q (λ o r. found (text o) r)) f ∙ ap (λ q. found q r) (sym g)
+
+pub text_fault : (a d : List ℕ) (c : Constraint) (b r : Bits) (e : PackedFault) → a ≡ d → IsFault (sized_from c (each_from (character_from a)) b) e r → IsFault (onward (sized_from c (each_from (character_from d)) b) (λ o r. found (text o) r)) e r
+text_fault a d c b r packed_faults.Memory e f = tt
+text_fault a d c b r (packed_faults.Refused k) e f = ap (λ q. onward (sized_from c (each_from (character_from q)) b) (λ o r. found (text o) r)) (sym e) ∙ ap (λ q. onward q (λ o r. found (text o) r)) f

@@ -13,3 +13,6 @@ mod Widths
 mod Searched
 mod Steps
 mod Counted
+mod Judging
+mod Adding
+mod BitsRead

@@ -8,12 +8,19 @@ use Rattle.std.proofs.lemmas.Int.Digits.{digits_of_step, all_below_base_digits_o
 use Rattle.asn_base.specs.Abstract.{AbstractValue, oid, relative_oid}
 use Rattle.asn_base.specs.Typed.{IsObjectIdentifier, arcs, IsRelativeOid, Fits, fits_oid, fits_relative_oid}
 use Rattle.asn_base.specs.Types.{an_object_identifier, a_relative_oid}
-use Rattle.encodings.specs.Contents.{joined}
+use Rattle.encodings.specs.Contents.{Contents, joined, of_oid as contents_oid, of_relative_oid as contents_relative}
+use Rattle.encodings.specs.Rules.{Basic}
+use Rattle.codec_code.specs.declared.step.LeafKind.TheVariants as kinds
+use Rattle.leaf_readings.specs.declared.fault.LeafFault.TheVariants as leaf_faults
+use Rattle.leaf_readings.specs.declared.leaf.Leaf.{Leaf as ReadLeaf}
+use Rattle.leaf_readings.specs.Leaves.{Reads}
+use Rattle.leaf_readings.specs.Refused.{Stands, without_form, oid_past, relative_past}
+use Rattle.packed_readings.specs.Code.{judge_oid, judge_relative}
 use Rattle.encodings.specs.Header.{Octets, septets}
 use Rattle.packed_encodings.specs.Lengths.{Bits, CountedOctets}
 use Rattle.packed_encodings.specs.Leaves.{Leaf, of_oid, of_relative_oid}
 use Rattle.packed_readings.specs.declared.refusal.Refusal.TheVariants as why
-use Rattle.packed_readings.specs.Outcome.{Judged, good, bad, IsReading, IsJudged, judging}
+use Rattle.packed_readings.specs.Outcome.{good, bad, found, onward, verdict, IsReading, IsJudged, judging}
 use Rattle.packed_readings.specs.Composing.{judged, same}
 use Rattle.packed_readings.specs.Counts.{octets_from}
 use Rattle.packed_readings.specs.Leaves.{arcs_after, are_below, two_arcs, object_identifier, relative_identifier, IsLeafOf}
@@ -272,9 +279,6 @@ oid_of o ns w (arcs {x = x} {y = y} {zs = zs} a b c d f) e g =
 taken_oid : {w : AbstractValue} {b : Bits} → Leaf an_object_identifier w b → (o : Octets) × IsOid w o × CountedOctets o b
 taken_oid (of_oid {ns = ns} i c) = (flat_map septets (joined ns), record { numbers = ns; is = refl; identifier = i; contents = refl }, c)
 
-abbrev judge_oid : Octets → Judged AbstractValue
-judge_oid o = object_identifier (arcs_after None o)
-
 pub object_identifiers : IsReading (IsLeafOf an_object_identifier) (judging judge_oid octets_from)
 object_identifiers = same to from (judged judge_oid octets)
   where
@@ -330,9 +334,6 @@ relative_of o (n ∷ ns) w i e g =
 taken_relative : {w : AbstractValue} {b : Bits} → Leaf a_relative_oid w b → (o : Octets) × IsRelative w o × CountedOctets o b
 taken_relative (of_relative_oid {ns = ns} i c) = (flat_map septets ns, record { numbers = ns; is = refl; identifier = i; contents = refl }, c)
 
-abbrev judge_relative : Octets → Judged AbstractValue
-judge_relative o = relative_identifier (arcs_after None o)
-
 pub relative_identifiers : IsReading (IsLeafOf a_relative_oid) (judging judge_relative octets_from)
 relative_identifiers = same to from (judged judge_relative octets)
   where
@@ -348,3 +349,80 @@ relative_identifiers = same to from (judged judge_relative octets)
     from w b l =
         let t = taken_relative l.leaf in
         record { read = t.0; is_read = t.2; judged = relative_of t.0 t.1.numbers w t.1.identifier t.1.is t.1.contents }
+
+-- ---- as calls judge them
+
+numbers_of : {v : AbstractValue} {x : Octets} → Contents Basic an_object_identifier v false x → (ns : List ℕ) × IsObjectIdentifier ns × (x ≡ flat_map septets (joined ns))
+numbers_of (contents_oid {ns = ns} i) = (ns, i, refl)
+
+relative_numbers : {v : AbstractValue} {x : Octets} → Contents Basic a_relative_oid v false x → (ns : List ℕ) × IsRelativeOid ns × (x ≡ flat_map septets ns)
+relative_numbers (contents_relative {ns = ns} i) = (ns, i, refl)
+
+pub oid_there : (x : Octets) (l : ReadLeaf) → Reads kinds.ObjectIdentifier x l → (ns : List ℕ) × IsObjectIdentifier ns × (x ≡ flat_map septets (joined ns))
+oid_there x l r = numbers_of r.is_read.contents
+
+pub oid_outside : (x : Octets) → AllBelowBase 256 x → Stands leaf_faults.BadContents kinds.ObjectIdentifier x → judge_oid x ≡ bad why.Outside
+oid_outside x b (without_form h) = by (arcs_after None x) refl
+  where
+    by : (o : Option (List ℕ)) → arcs_after None x ≡ o → object_identifier o ≡ bad why.Outside
+    by None e = refl
+    by (Some []) e = refl
+    by (Some (n ∷ ns)) e = absurd (h (n ∷ ns, record { some = omega arith; whole = arcs_are x (n ∷ ns) b e }))
+
+some_arcs : (x : Octets) (ns : List ℕ) → x ≡ flat_map septets ns → arcs_after None x ≡ Some ns
+some_arcs x ns e = ap (arcs_after None) e ∙ are_arcs ns
+
+pub oid_limit : (x : Octets) → Stands leaf_faults.OidLimit kinds.ObjectIdentifier x → judge_oid x ≡ bad why.OidLimit
+oid_limit x (oid_past {ns = ns} a h) = ap object_identifier (some_arcs x ns a.whole) ∙ by ns a.some h
+  where
+    by : (ns : List ℕ) → 1 ≤ length ns → ((ms : List ℕ) → IsObjectIdentifier ms → joined ms ≡ ns → ⊥) → object_identifier (Some ns) ≡ bad why.OidLimit
+    by [] l h = absurd (omega (arith, l))
+    by (n ∷ ns) l h = small (small_oid n ns) refl
+      where
+        small : (t : Bool) → small_oid n ns ≡ t → (if t then good (oid (two_arcs n ns)) else bad why.OidLimit) ≡ bad why.OidLimit
+        small true g =
+            let p = true_both (nat_lt n (2 ^ 64 + 80)) (are_below (2 ^ 64) ns && nat_lt (length ns) 63) g in
+            let q = true_both (are_below (2 ^ 64) ns) (nat_lt (length ns) 63) p.1 in
+            let k = ltb-true (length ns) 63 q.1 in
+            let t = two n ns (ltb-true n (2 ^ 64 + 80) p.0) (below_is (2 ^ 64) ns q.0) (omega (arith, k)) in
+            absurd (h (two_arcs n ns) t.0 t.1)
+        small false g = refl
+
+pub oid_never : (x : Octets) → Stands leaf_faults.IntegerLimit kinds.ObjectIdentifier x → ⊥
+oid_never x s = elim s [ ]
+
+pub relative_there : (x : Octets) (l : ReadLeaf) → Reads kinds.RelativeOid x l → (ns : List ℕ) × IsRelativeOid ns × (x ≡ flat_map septets ns)
+relative_there x l r = relative_numbers r.is_read.contents
+
+pub relative_outside : (x : Octets) → AllBelowBase 256 x → Stands leaf_faults.BadContents kinds.RelativeOid x → judge_relative x ≡ bad why.Outside
+relative_outside x b (without_form h) = by (arcs_after None x) refl
+  where
+    by : (o : Option (List ℕ)) → arcs_after None x ≡ o → relative_identifier o ≡ bad why.Outside
+    by None e = refl
+    by (Some []) e = refl
+    by (Some (n ∷ ns)) e = absurd (h (n ∷ ns, record { some = omega arith; whole = arcs_are x (n ∷ ns) b e }))
+
+pub relative_limit : (x : Octets) → Stands leaf_faults.OidLimit kinds.RelativeOid x → judge_relative x ≡ bad why.OidLimit
+relative_limit x (relative_past {ns = ns} a h) = ap relative_identifier (some_arcs x ns a.whole) ∙ by ns a.some h
+  where
+    by : (ns : List ℕ) → 1 ≤ length ns → (IsRelativeOid ns → ⊥) → relative_identifier (Some ns) ≡ bad why.OidLimit
+    by [] l h = absurd (omega (arith, l))
+    by (n ∷ ns) l h = small (small_relative (n ∷ ns)) refl
+      where
+        small : (t : Bool) → small_relative (n ∷ ns) ≡ t → (if t then good (relative_oid (n ∷ ns)) else bad why.OidLimit) ≡ bad why.OidLimit
+        small true g =
+            let p = true_both (are_below (2 ^ 64) (n ∷ ns)) (nat_lt (length (n ∷ ns)) 65) g in
+            let k = ltb-true (length (n ∷ ns)) 65 p.1 in
+            absurd (h (record { some = omega arith; at_most = omega (arith, k); small = below_is (2 ^ 64) (n ∷ ns) p.0 }))
+        small false g = refl
+
+pub relative_never : (x : Octets) → Stands leaf_faults.IntegerLimit kinds.RelativeOid x → ⊥
+relative_never x s = elim s [ ]
+
+pub oid_answer : (b r : Bits) (o ns v : List ℕ) → octets_from b ≡ found o r → IsObjectIdentifier ns → o ≡ flat_map septets (joined ns) → v ≡ ns → judging judge_oid octets_from b ≡ found (oid v) r
+oid_answer b r o ns v e i g h =
+    ap (λ q. onward q (λ v s. verdict (judge_oid v) b s)) e ∙ ap (λ k. verdict k b r) (oid_of o ns (oid ns) i refl g) ∙ ap (λ q. found (oid q) r) (sym h)
+
+pub relative_answer : (b r : Bits) (o ns v : List ℕ) → octets_from b ≡ found o r → IsRelativeOid ns → o ≡ flat_map septets ns → v ≡ ns → judging judge_relative octets_from b ≡ found (relative_oid v) r
+relative_answer b r o ns v e i g h =
+    ap (λ q. onward q (λ v s. verdict (judge_relative v) b s)) e ∙ ap (λ k. verdict k b r) (relative_of o ns (relative_oid ns) i refl g) ∙ ap (λ q. found (relative_oid q) r) (sym h)

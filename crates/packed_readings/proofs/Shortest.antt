@@ -9,12 +9,11 @@ use Rattle.std.specs.Int.Digits.{number_from_digits, number_from_digits_after, A
 use Rattle.std.proofs.lemmas.Int.Digits.{number_after_ge, number_lt}
 use Rattle.asn_base.specs.Typed.{IsWithinLimit}
 use Rattle.encodings.specs.Contents.{TwosComplement, not_negative, negative, Number}
-use Rattle.encodings.specs.Header.{Octets}
 use Rattle.packed_encodings.specs.Numbers.{Unsigned, FewestUnsigned}
 use Rattle.packed_readings.specs.declared.refusal.Refusal.TheVariants as why
 use Rattle.packed_readings.specs.Outcome.{good, bad}
 use Rattle.packed_readings.specs.Leaves.{is_within_limit, signed_worth, signed_number, unsigned_number}
-use Rattle.packed_readings.specs.proving.Numbers.{IsShort, turned_after, IsNumber, limited}
+use Rattle.packed_readings.specs.proving.Numbers.{HasZeroFirst, IsShort, turned_after, IsNumber, limited}
 use Rattle.packed_readings.proofs.Fields.{if_true, if_false}
 use Rattle.packed_readings.proofs.Ranges.{bool_cases}
 use Rattle.packed_readings.proofs.Sizes.{good_is, not_good}
@@ -421,26 +420,30 @@ pub unsigned_none : (o : List ℕ) → length o ≡ 0 → unsigned_number o ≡ 
 unsigned_none [] e = refl
 unsigned_none (x ∷ o) e = absurd (omega (arith, e))
 
-pub unsigned_zero : (o : List ℕ) → 1 < length o → get_or o 0 0 ≡ 0 → unsigned_number o ≡ bad why.NotCanonical
-unsigned_zero [] l e = absurd (omega (arith, l))
-unsigned_zero (x ∷ []) l e = absurd (omega (arith, l))
-unsigned_zero (x ∷ y ∷ o) l e = if_true (x == 0) (bad why.NotCanonical) (good (number_from_digits 256 (x ∷ y ∷ o))) (eq-eqb x 0 e)
+pub unsigned_zero : (o : List ℕ) → HasZeroFirst o → unsigned_number o ≡ bad why.NotCanonical
+unsigned_zero [] e = absurd e
+unsigned_zero (x ∷ []) e = absurd e
+unsigned_zero (x ∷ y ∷ o) e = if_true (x == 0) (bad why.NotCanonical) (good (number_from_digits 256 (x ∷ y ∷ o))) (eq-eqb x 0 e)
 
-pub unsigned_good : (o : List ℕ) (n : ℕ) → (length o ≡ 0 → ⊥) → (1 < length o → get_or o 0 0 ≡ 0 → ⊥) → n ≡ number_from_digits_after 256 0 o → unsigned_number o ≡ good n
+pub unsigned_good : (o : List ℕ) (n : ℕ) → (length o ≡ 0 → ⊥) → (HasZeroFirst o → ⊥) → n ≡ number_from_digits_after 256 0 o → unsigned_number o ≡ good n
 unsigned_good [] n s h e = absurd (s refl)
 unsigned_good (x ∷ []) n s h e = ap good (omega (arith, e))
-unsigned_good (x ∷ y ∷ o) n s h e = if_false (x == 0) (bad why.NotCanonical) (good (number_from_digits 256 (x ∷ y ∷ o))) (false_from_ne_true (x == 0) (λ f. h (omega arith) (eqb-true x 0 f))) ∙ ap good (sym e)
+unsigned_good (x ∷ y ∷ o) n s h e = if_false (x == 0) (bad why.NotCanonical) (good (number_from_digits 256 (x ∷ y ∷ o))) (false_from_ne_true (x == 0) (λ f. h (eqb-true x 0 f))) ∙ ap good (sym e)
 
-pub unsigned_past : (o : List ℕ) → (1 < length o → get_or o 0 0 ≡ 0 → ⊥) → 17 ≤ length o → (n : ℕ) × (2 ^ 128 ≤ n) × (unsigned_number o ≡ good n)
+pub unsigned_past : (o : List ℕ) → (HasZeroFirst o → ⊥) → 17 ≤ length o → (n : ℕ) × (2 ^ 128 ≤ n) × (unsigned_number o ≡ good n)
 unsigned_past o h l = (number_from_digits 256 o, large o h l, unsigned_good o (number_from_digits 256 o) (λ e. omega (arith, e, l)) h refl)
   where
-    large : (o : List ℕ) → (1 < length o → get_or o 0 0 ≡ 0 → ⊥) → 17 ≤ length o → 2 ^ 128 ≤ number_from_digits 256 o
+    large : (o : List ℕ) → (HasZeroFirst o → ⊥) → 17 ≤ length o → 2 ^ 128 ≤ number_from_digits 256 o
     large [] h l = absurd (omega (arith, l))
-    large (x ∷ o) h l =
-        let some : 1 ≤ x = ⊎_elim (λ z. absurd (h (omega (arith, l)) (omega (arith, z)))) (λ g. g) (cases_lt x 1) in
-        let a = at_least x o some in
-        let m : 256 ^ 16 ≤ 256 ^ length o = pow-le-pow_right (omega arith) (let k : 16 ≤ length o = omega (arith, l) in k) in
+    large (x ∷ []) h l = absurd (omega (arith, l))
+    large (x ∷ y ∷ o) h l =
+        let some : 1 ≤ x = ⊎_elim (λ z. absurd (h (omega (arith, z)))) (λ g. g) (cases_lt x 1) in
+        let a = at_least x (y ∷ o) some in
+        let m : 256 ^ 16 ≤ 256 ^ length (y ∷ o) = pow-le-pow_right (omega arith) (let k : 16 ≤ length (y ∷ o) = omega (arith, l) in k) in
         omega (arith, a, m)
+
+pub never : false ≡ true → ⊥
+never e = absurd (cc)
 
 pub same_number : (x : List ℕ) (z : ℤ) → IsNumber z x → IsNumber (to_z w128 (of_z w128 z)) x
 same_number x z n = subst (λ q. IsNumber q x) (sym (same z n.within)) n

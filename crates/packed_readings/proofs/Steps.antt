@@ -1,14 +1,12 @@
 -- What code answers is what the functions compute.
-use Rattle.std.proofs.Common.{arith, ◌≡◌, ℕ, zero, suc, ◌+◌, ◌-◌, ◌*◌, ◌^◌, ◌<◌, ◌≤◌, Bool, true, false, List, [], ◌∷◌, ◌++◌, length, map, refl, sym, ap, subst, ◌∙◌, append_assoc}
+use Rattle.std.proofs.Common.{arith, ◌≡◌, ℕ, suc, ◌+◌, ◌-◌, ◌^◌, ◌<◌, List, [], ◌∷◌, ◌++◌, map, refl, sym, ap, subst, ◌∙◌, append_assoc}
 use Rattle.std.proofs.lemmas.List.{append-nil, length-map}
-use Rattle.std.specs.Prelude.{flat_map}
 use Rattle.std.specs.Int.Digits.{AllBelowBase}
 use Rattle.bits.specs.Words.{word, octet_bits}
 use Rattle.bits.specs.Left.{Took}
 use Rattle.packed_encodings.specs.Lengths.{Bits, all_bits}
 use Rattle.packed_readings.specs.declared.refusal.Refusal.{Refusal}
-use Rattle.packed_readings.specs.declared.refusal.PackedFault.TheVariants.{Refused}
-use Rattle.packed_readings.specs.Outcome.{Outcome, found, stops, onward, field_from, each_from, IsField, IsFault}
+use Rattle.packed_readings.specs.Outcome.{Outcome, found, stops, onward, field_from, each_from}
 use Rattle.packed_readings.specs.Counts.{several_octets}
 use Rattle.packed_readings.specs.Code.{Gained}
 use Rattle.packed_readings.proofs.Fields.{field, octets_read}

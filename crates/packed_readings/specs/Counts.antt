@@ -81,7 +81,8 @@ pub record AreSeveral {X : Type 0} (P : X → Bits → Type 0) (n : ℕ) (vs : L
   pub whole : b ≡ all_bits items
 
 -- values after their number, of which a test doesn't say that it is refused
-pub record AreCounted {X : Type 0} (P : X → Bits → Type 0) (test : ℕ → Option Refusal) (vs : List X) (b : Bits) : Type 0 where
+pub record AreCounted {X : Type 0} (P : X → Bits → Type 0) (test : ℕ → Option Refusal) (vs : List X) (b : Bits)
+    : Type 0 where
   pub items : Items
   pub are : EachHas P vs items
   pub passed : test (length items) ≡ None

@@ -48,7 +48,9 @@ other_number c z =
 abbrev pub signed_worth : Octets → ℤ
 signed_worth [] = pos 0
 signed_worth (x ∷ o) =
-    if nat_lt x 128 then pos (number_from_digits 256 (x ∷ o)) else negsuc (number_from_digits 256 (map (λ d. 255 - d) (x ∷ o)))
+    if nat_lt x 128
+    then pos (number_from_digits 256 (x ∷ o))
+    else negsuc (number_from_digits 256 (map (λ d. 255 - d) (x ∷ o)))
 
 -- in the fewest octets (11.4)
 abbrev pub signed_number : Octets → Judged ℤ

@@ -18,6 +18,10 @@ abbrev pub outcome : {X : Type 0} → Result X Refusal → (rest : Bits) → Out
 outcome (Ok v) r = found v r
 outcome (Err e) r = stops e r
 
+abbrev pub outcome_by : {X Y : Type 0} → (X → Y) → Result X Refusal → (rest : Bits) → Outcome Y
+outcome_by h (Ok v) r = found (h v) r
+outcome_by h (Err e) r = stops e r
+
 -- a call's fault: that of the bits, with those that are left then; or memory
 abbrev pub IsFault : {X : Type 0} → Outcome X → PackedFault → (rest : Bits) → Type 0
 IsFault o Memory r = Unit {0}

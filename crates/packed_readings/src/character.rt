@@ -97,7 +97,12 @@ fn character(alphabet: &[u8], by_code: bool, number: u64) -> Result<u8, Refusal>
 }
 
 /// Takes one character.
-fn read_character(alphabet: &[u8], width: usize, by_code: bool, bits: &mut Bits<'_>) -> Result<u8, Refusal>
+fn read_character(
+    alphabet: &[u8],
+    width: usize,
+    by_code: bool,
+    bits: &mut Bits<'_>,
+) -> Result<u8, Refusal>
     requires width { width ≡ place_width (length alphabet.now) }
     requires few { width ≤ 64 }
     requires by_code { by_code ≡ codes_below (2 ^ place_width (length alphabet.now)) alphabet.now }
@@ -124,8 +129,11 @@ pub(crate) fn read_characters(
     bits: &mut Bits<'_>,
     out: &mut Vec<u8>,
 ) -> Result<(), PackedFault>
-    ensures ok { OnOk result (Gained (each_from (character_from alphabet.now) count (bits_left bits.old)) out.old.items out.new.items (bits_left bits.new)) }
-    ensures err { IfErr result (λ e. IsFault (each_from (character_from alphabet.now) count (bits_left bits.old)) e (bits_left bits.new)) }
+    ensures ok { OnOk result
+        (Gained (each_from (character_from alphabet.now) count (bits_left bits.old))
+        out.old.items out.new.items (bits_left bits.new)) }
+    ensures err { IfErr result
+        (λ e. IsFault (each_from (character_from alphabet.now) count (bits_left bits.old)) e (bits_left bits.new)) }
 {
     let width = width_of_place(alphabet.len());
     let by_code = is_by_code(alphabet, width);

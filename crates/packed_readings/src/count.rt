@@ -79,8 +79,8 @@ fn canonical(told: ToldCount, full: bool) -> Result<Count, Refusal>
     }
 }
 
-/// Takes the number of the next items. Only where `full` holds they may be a part, after which others follow: before any
-/// item, and after a part of four times 16,384 items.
+/// Takes the number of the next items. Only where `full` holds they may be a part, after which others follow: before
+/// any item, and after a part of four times 16,384 items.
 ///
 /// `NotCanonical`: eight bits would be enough, or there is such a part where none may be, or one of no items or of more
 /// than four times 16,384. No bit is taken then. `Truncated`: the bits end before.

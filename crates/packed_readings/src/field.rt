@@ -47,3 +47,22 @@ pub fn read_small(bits: &mut Bits<'_>, refusal: Refusal) -> Result<u64, Refusal>
         Err(truncated) => Err(truncated),
     }
 }
+
+/// The same of at most 128 bits.
+pub(crate) fn read_wide(bits: &mut Bits<'_>, width: usize) -> Result<u128, Refusal>
+    requires { width ≤ 128 }
+    ensures { field_from width (bits_left bits.old) ≡ outcome result (bits_left bits.new) }
+{
+    if width <= 64 {
+        return match read_field(bits, width) {
+            Ok(number) => Ok(number as u128),
+            Err(truncated) => Err(truncated),
+        };
+    }
+    if bits.len() < width {
+        return Err(Refusal::Truncated);
+    }
+    let high = bits.take(width - 64);
+    let low = bits.take(64);
+    Ok(high as u128 * 18_446_744_073_709_551_616 + low as u128)
+}

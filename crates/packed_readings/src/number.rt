@@ -2,7 +2,7 @@
 
 ghost use Rattle.packed_readings.specs.Leaves.{signed_number, unsigned_number};
 ghost use Rattle.packed_readings.specs.Outcome.{bad, good};
-ghost use Rattle.packed_readings.specs.proving.Numbers.{IsNumber, IsShort, limited, turned_after};
+ghost use Rattle.packed_readings.specs.proving.Numbers.{HasZeroFirst, IsNumber, IsShort, limited, turned_after};
 ghost use Rattle.std.specs.Int.Digits.{AllBelowBase, number_from_digits_after};
 ghost use Rattle.std.specs.Prelude.{◌≡◌, ◌<◌, ◌≤◌, ◌^◌, ◌↔◌, IfErr, IfOk, IfSome, IfNone, IsTrue, ℕ, length, negsuc, pos};
 
@@ -98,6 +98,19 @@ fn turned_worth(octets: &[u8], high: u128) -> u128
     turned_worth(others, high * 256 + (255 - *octet) as u128)
 }
 
+/// Whether the first octet is 0 and others follow.
+fn has_zero_first(octets: &[u8]) -> bool
+    ensures { IsTrue result ↔ HasZeroFirst octets.now }
+{
+    let Some((first, others)) = octets.split_first() else {
+        return false;
+    };
+    if others.len() == 0 {
+        return false;
+    }
+    *first == 0
+}
+
 /// The number without a sign that octets are, in the fewest octets; None where it is 2^128 or greater. `Outside`: there
 /// are none. `NotCanonical`: fewer are enough.
 pub(crate) fn unsigned(octets: &[u8]) -> Result<Option<u128>, Refusal>
@@ -108,7 +121,7 @@ pub(crate) fn unsigned(octets: &[u8]) -> Result<Option<u128>, Refusal>
     if octets.is_empty() {
         return Err(Refusal::Outside);
     }
-    if octets.len() > 1 && octets[0] == 0 {
+    if has_zero_first(octets) {
         return Err(Refusal::NotCanonical);
     }
     are_octets(octets);

@@ -6,7 +6,7 @@ ghost use Rattle.bits.specs.Left.{bits_left};
 ghost use Rattle.packed_encodings.specs.Lengths.{fewest_bits};
 ghost use Rattle.packed_readings.specs.Counts.{root_size, size_fault, size_from, size_of};
 ghost use Rattle.packed_readings.specs.Outcome.{good, bad, judging, field_from, outcome};
-ghost use Rattle.std.specs.Prelude.{◌≡◌, ◌-◌, ◌<◌, ◌≤◌, IfErr, IfOk, Option, Some, pos};
+ghost use Rattle.std.specs.Prelude.{◌≡◌, ◌-◌, ◌^◌, ◌<◌, ◌≤◌, IfErr, IfOk, Option, Some, pos};
 
 use crate::field::{read_bit, read_field};
 use crate::range::{is_allowed, is_in_root};
@@ -24,9 +24,10 @@ pub enum Sizing {
 }
 
 /// Why so many items are refused that were told as outside the root of SIZE, or as a number of the root; None where
-/// they aren't. `NotCanonical`: the number is one of the root, and was told as outside. `Outside`: SIZE doesn't allow it,
-/// or it is outside the root, and was told as one of it.
-pub fn size_fault(constraint: &Constraint, outside: bool, count: usize) -> Option<Refusal>
+/// they aren't. `NotCanonical`: the number is one of the root, and was told as outside. `Outside`: SIZE doesn't allow
+/// it, or it is outside the root, and was told as one of it.
+pub fn size_fault(constraint: &Constraint, outside: bool, count: u128) -> Option<Refusal>
+    requires { count < 2 ^ 127 }
     ensures { result ≡ size_fault (constraint_of constraint.now) outside count }
 {
     let allowed = is_allowed(constraint, count as i128);
@@ -46,7 +47,12 @@ pub fn size_fault(constraint: &Constraint, outside: bool, count: usize) -> Optio
 }
 
 /// The size that is `over` more than the least one, where there are so many sizes above that.
-fn size_over(constraint: &Constraint, least: usize, above: usize, over: usize) -> Result<Sizing, Refusal>
+fn size_over(
+    constraint: &Constraint,
+    least: usize,
+    above: usize,
+    over: usize,
+) -> Result<Sizing, Refusal>
     requires few { least < 65536 }
     requires some { above < 65536 }
     ensures ok { IfOk result (λ z. size_of (constraint_of constraint.now) least above over ≡ good z) }
@@ -65,10 +71,16 @@ fn size_over(constraint: &Constraint, least: usize, above: usize, over: usize) -
 
 /// Takes a number of items from `least` to `greatest`.
 #[tactic(auto, using(crate::proofs::Widths::narrow))]
-fn read_narrow(constraint: &Constraint, least: usize, greatest: usize, bits: &mut Bits<'_>) -> Result<Sizing, Refusal>
+fn read_narrow(
+    constraint: &Constraint,
+    least: usize,
+    greatest: usize,
+    bits: &mut Bits<'_>,
+) -> Result<Sizing, Refusal>
     requires order { least ≤ greatest }
     requires few { greatest < 65536 }
-    ensures { judging (size_of (constraint_of constraint.now) least (greatest - least)) (field_from (fewest_bits (greatest - least))) (bits_left bits.old)
+    ensures { judging (size_of (constraint_of constraint.now) least (greatest - least))
+        (field_from (fewest_bits (greatest - least))) (bits_left bits.old)
         ≡ outcome result (bits_left bits.new) }
 {
     let start = *bits;
@@ -90,7 +102,8 @@ fn read_narrow(constraint: &Constraint, least: usize, greatest: usize, bits: &mu
 /// Takes what the root of SIZE tells before items.
 fn read_root_size(constraint: &Constraint, bits: &mut Bits<'_>) -> Result<Sizing, Refusal>
     requires { AreBounds IsSize (constraint_of constraint.now) }
-    ensures { root_size (constraint_of constraint.now) constraint.now.visible.least constraint.now.visible.greatest (bits_left bits.old)
+    ensures { root_size (constraint_of constraint.now)
+        constraint.now.visible.least constraint.now.visible.greatest (bits_left bits.old)
         ≡ outcome result (bits_left bits.new) }
 {
     let Some(least) = constraint.visible.least else {

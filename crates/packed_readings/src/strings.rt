@@ -6,7 +6,7 @@ ghost use Rattle.bits.specs.Left.{bits_left};
 ghost use Rattle.packed_readings.specs.Code.{Gained, IsFew, IsStep, several_of, test_of};
 ghost use Rattle.packed_readings.specs.Counts.{count_from, counted_from, octets_from, parts_from, several_octets, sized_from, total as total_of};
 ghost use Rattle.packed_readings.specs.Outcome.{IsFault, bad, found, good, judging, outcome};
-ghost use Rattle.std.specs.Prelude.{◌≡◌, ◌≤◌, ◌^◌, ℕ, suc, IfErr, IfOk, OnOk};
+ghost use Rattle.std.specs.Prelude.{◌≡◌, ◌≤◌, ◌^◌, ◌<◌, ℕ, suc, IfErr, IfOk, OnOk};
 
 use crate::character::{are_octets, read_characters};
 use crate::count::{Count, read_count};
@@ -25,7 +25,8 @@ pub(crate) enum Form<'a> {
 
 /// Takes so many octets.
 fn read_block(count: usize, bits: &mut Bits<'_>, out: &mut Vec<u8>) -> Result<(), PackedFault>
-    ensures ok { OnOk result (Gained (several_octets count (bits_left bits.old)) out.old.items out.new.items (bits_left bits.new)) }
+    ensures ok { OnOk result
+        (Gained (several_octets count (bits_left bits.old)) out.old.items out.new.items (bits_left bits.new)) }
     ensures err { IfErr result (λ e. IsFault (several_octets count (bits_left bits.old)) e (bits_left bits.new)) }
 {
     if bits.len() / 8 < count {
@@ -41,8 +42,14 @@ fn read_block(count: usize, bits: &mut Bits<'_>, out: &mut Vec<u8>) -> Result<()
 }
 
 /// Takes so many items.
-fn read_items(form: &Form<'_>, count: usize, bits: &mut Bits<'_>, out: &mut Vec<u8>) -> Result<(), PackedFault>
-    ensures ok { OnOk result (Gained (several_of form.now count (bits_left bits.old)) out.old.items out.new.items (bits_left bits.new)) }
+fn read_items(
+    form: &Form<'_>,
+    count: usize,
+    bits: &mut Bits<'_>,
+    out: &mut Vec<u8>,
+) -> Result<(), PackedFault>
+    ensures ok { OnOk result
+        (Gained (several_of form.now count (bits_left bits.old)) out.old.items out.new.items (bits_left bits.new)) }
     ensures err { IfErr result (λ e. IsFault (several_of form.now count (bits_left bits.old)) e (bits_left bits.new)) }
 {
     match form {
@@ -66,7 +73,8 @@ enum Next {
 }
 
 /// Why so many items are refused.
-fn total_fault(total: &Total<'_>, count: usize) -> Option<Refusal>
+fn total_fault(total: &Total<'_>, count: u128) -> Option<Refusal>
+    requires { count < 2 ^ 127 }
     ensures { result ≡ test_of total.now count }
 {
     match total {
@@ -76,10 +84,16 @@ fn total_fault(total: &Total<'_>, count: usize) -> Option<Refusal>
 }
 
 /// Takes the number of the next items, where so many were before.
-fn read_total(total: &Total<'_>, before: usize, full: bool, bits: &mut Bits<'_>) -> Result<Count, Refusal>
-    requires { before ≤ 2 ^ 63 }
+pub(crate) fn read_total(
+    total: &Total<'_>,
+    before: u128,
+    full: bool,
+    bits: &mut Bits<'_>,
+) -> Result<Count, Refusal>
+    requires { before ≤ 2 ^ 100 }
     ensures few { IfOk result IsFew }
-    ensures is { judging (total_of (test_of total.now) before) (count_from full) (bits_left bits.old) ≡ outcome result (bits_left bits.new) }
+    ensures is { judging (total_of (test_of total.now) before) (count_from full) (bits_left bits.old)
+        ≡ outcome result (bits_left bits.new) }
 {
     let start = *bits;
     let count = match read_count(bits, full) {
@@ -96,8 +110,8 @@ fn read_total(total: &Total<'_>, before: usize, full: bool, bits: &mut Bits<'_>)
 }
 
 /// The number, if that of all items is good.
-fn judged(total: &Total<'_>, before: usize, count: Count) -> Result<Count, Refusal>
-    requires before { before ≤ 2 ^ 63 }
+fn judged(total: &Total<'_>, before: u128, count: Count) -> Result<Count, Refusal>
+    requires before { before ≤ 2 ^ 100 }
     requires few { IsFew count }
     ensures few { IfOk result IsFew }
     ensures ok { IfOk result (λ c. total_of (test_of total.now) before count ≡ good c) }
@@ -105,7 +119,7 @@ fn judged(total: &Total<'_>, before: usize, count: Count) -> Result<Count, Refus
 {
     match count {
         Count::Part(times) => Ok(Count::Part(times)),
-        Count::Last(last) => match total_fault(total, before + last) {
+        Count::Last(last) => match total_fault(total, before + last as u128) {
             Some(refusal) => Err(refusal),
             None => Ok(Count::Last(last)),
         },
@@ -120,10 +134,14 @@ fn read_part(
     bits: &mut Bits<'_>,
     out: &mut Vec<u8>,
 ) -> Result<Next, PackedFault>
-    ensures ok { IfOk result (λ n. IsStep (test_of total.now) (several_of form.now) full out.old.items out.new.items n (bits_left bits.old) (bits_left bits.new)) }
-    ensures err { IfErr result (λ e. (k : ℕ) → IsFault (parts_from (suc k) (test_of total.now) (several_of form.now) full out.old.items (bits_left bits.old)) e (bits_left bits.new)) }
+    ensures ok { IfOk result
+        (λ n. IsStep (test_of total.now) (several_of form.now) full
+        out.old.items out.new.items n (bits_left bits.old) (bits_left bits.new)) }
+    ensures err { IfErr result
+        (λ e. (k : ℕ) → IsFault (parts_from (suc k) (test_of total.now) (several_of form.now) full
+        out.old.items (bits_left bits.old)) e (bits_left bits.new)) }
 {
-    let before = out.as_slice().len();
+    let before = out.as_slice().len() as u128;
     match read_total(total, before, full, bits) {
         Ok(Count::Last(count)) => match read_items(form, count, bits, out) {
             Ok(()) => Ok(Next::Nothing),
@@ -144,8 +162,12 @@ pub(crate) fn read_counted(
     form: &Form<'_>,
     bits: &mut Bits<'_>,
 ) -> Result<Vec<u8>, PackedFault>
-    ensures ok { IfOk result (λ v. counted_from (test_of total.now) (several_of form.now) (bits_left bits.old) ≡ found v.items (bits_left bits.new)) }
-    ensures err { IfErr result (λ e. IsFault (counted_from (test_of total.now) (several_of form.now) (bits_left bits.old)) e (bits_left bits.new)) }
+    ensures ok { IfOk result
+        (λ v. counted_from (test_of total.now) (several_of form.now) (bits_left bits.old)
+        ≡ found v.items (bits_left bits.new)) }
+    ensures err { IfErr result
+        (λ e. IsFault (counted_from (test_of total.now) (several_of form.now) (bits_left bits.old))
+        e (bits_left bits.new)) }
 {
     let mut out = Vec::new(alloc);
     let mut full = true;
@@ -168,8 +190,12 @@ pub(crate) fn read_sized(
     bits: &mut Bits<'_>,
 ) -> Result<Vec<u8>, PackedFault>
     requires { AreBounds IsSize (constraint_of constraint.now) }
-    ensures ok { IfOk result (λ v. sized_from (constraint_of constraint.now) (several_of form.now) (bits_left bits.old) ≡ found v.items (bits_left bits.new)) }
-    ensures err { IfErr result (λ e. IsFault (sized_from (constraint_of constraint.now) (several_of form.now) (bits_left bits.old)) e (bits_left bits.new)) }
+    ensures ok { IfOk result
+        (λ v. sized_from (constraint_of constraint.now) (several_of form.now) (bits_left bits.old)
+        ≡ found v.items (bits_left bits.new)) }
+    ensures err { IfErr result
+        (λ e. IsFault (sized_from (constraint_of constraint.now) (several_of form.now)
+        (bits_left bits.old)) e (bits_left bits.new)) }
 {
     match read_size(constraint, bits) {
         Ok(Sizing::AtOnce(count)) => {
@@ -187,7 +213,8 @@ pub(crate) fn read_sized(
     }
 }
 
-/// Takes octets after their number (X.691, 11.9), as those of an open type. Memory grows by as many octets as are there.
+/// Takes octets after their number (X.691, 11.9), as those of an open type. Memory grows by as many octets as are
+/// there.
 ///
 /// The faults are those of `read_count`, and `Truncated` where fewer octets are there than are told. The cursor is then
 /// at the place of the fault. `Memory`: more memory was asked for and refused, and the cursor may have moved on.
@@ -206,8 +233,12 @@ pub fn read_octet_string(
     bits: &mut Bits<'_>,
 ) -> Result<Vec<u8>, PackedFault>
     requires { AreBounds IsSize (constraint_of constraint.now) }
-    ensures ok { IfOk result (λ v. sized_from (constraint_of constraint.now) several_octets (bits_left bits.old) ≡ found v.items (bits_left bits.new)) }
-    ensures err { IfErr result (λ e. IsFault (sized_from (constraint_of constraint.now) several_octets (bits_left bits.old)) e (bits_left bits.new)) }
+    ensures ok { IfOk result
+        (λ v. sized_from (constraint_of constraint.now) several_octets (bits_left bits.old)
+        ≡ found v.items (bits_left bits.new)) }
+    ensures err { IfErr result
+        (λ e. IsFault (sized_from (constraint_of constraint.now) several_octets (bits_left bits.old))
+        e (bits_left bits.new)) }
 {
     read_sized(alloc, constraint, &Form::Octets, bits)
 }

@@ -14,6 +14,12 @@ IsShort [] = ⊥
 IsShort (x ∷ []) = Unit {0}
 IsShort (x ∷ y ∷ o) = (x ≡ 0 → 128 ≤ y) × (x ≡ 255 → y < 128)
 
+-- more octets than one, the first of which is 0 (X.691, 11.3.6)
+abbrev pub HasZeroFirst : Octets → Type 0
+HasZeroFirst [] = ⊥
+HasZeroFirst (x ∷ []) = ⊥
+HasZeroFirst (x ∷ y ∷ o) = x ≡ 0
+
 -- what octets are worth with each bit turned, after some that are worth `high`
 abbrev pub turned_after : ℕ → Octets → ℕ
 turned_after high o = number_from_digits_after 256 high (map (λ d. 255 - d) o)

@@ -1,4 +1,4 @@
-use Rattle.std.proofs.Common.{arith, length}
+use Rattle.std.proofs.Common.{length}
 use Rattle.bits.specs.Left.{bits_left}
 use Rattle.packed_readings.specs.Counts.{counted_from}
 use Rattle.packed_readings.specs.Code.{several_of, test_of}

@@ -15,7 +15,7 @@ returns-in-Ok-clause-ok c =
     let r = bits_left c.read_items.new.bits in
     let after = c.read_items.new.out.items in
     let n = c.in-Ok-Last.count in
-    let told = told_at test items c.args.full before (length c.as_slice-before.result.now) b m c.in-Ok-Last.field-0 (last n) (ap length c.as_slice-before.ensures.value) c.in-Ok-Last.field-0-is c.in-Ok-Last.ensures.is in
+    let told = told_at test items c.args.full before (length c.as_slice.result.now) b m c.in-Ok-Last.field-0 (last n) (ap length c.as_slice.ensures.value) c.in-Ok-Last.field-0-is c.in-Ok-Last.ensures.is in
     let g = c.in-Ok.ensures.ok in
     let s = told_shorter test items c.args.full before b m (last n) told in
     let t = items_shorter c.args.form.now n m r before after g in
@@ -29,7 +29,7 @@ returns-in-Err-read_items-clause-err c = λ k.
     let b = bits_left c.args.bits.now in
     let m = bits_left c.read_total.new.bits in
     let n = c.in-Ok-Last.count in
-    let told = told_at test items c.args.full before (length c.as_slice-before.result.now) b m c.in-Ok-Last.field-0 (last n) (ap length c.as_slice-before.ensures.value) c.in-Ok-Last.field-0-is c.in-Ok-Last.ensures.is in
+    let told = told_at test items c.args.full before (length c.as_slice.result.now) b m c.in-Ok-Last.field-0 (last n) (ap length c.as_slice.ensures.value) c.in-Ok-Last.field-0-is c.in-Ok-Last.ensures.is in
     stop_last test items c.args.full before b m (bits_left c.read_items.new.bits) n c.in-Err-read_items.fault k told c.in-Err-read_items.ensures.err
 
 pub returns-in-Ok-read_items-clause-ok : goal.returns-in-Ok-read_items-clause-ok
@@ -42,7 +42,7 @@ returns-in-Ok-read_items-clause-ok c =
     let r = bits_left c.read_items-in-Ok-Part.new.bits in
     let after = c.read_items-in-Ok-Part.new.out.items in
     let n = c.in-Ok-Part.times in
-    let told = told_at test items c.args.full before (length c.as_slice-before.result.now) b m c.in-Ok-Part.field-0 (part n) (ap length c.as_slice-before.ensures.value) c.in-Ok-Part.field-0-is c.in-Ok-Part.ensures.is in
+    let told = told_at test items c.args.full before (length c.as_slice.result.now) b m c.in-Ok-Part.field-0 (part n) (ap length c.as_slice.ensures.value) c.in-Ok-Part.field-0-is c.in-Ok-Part.ensures.is in
     let g = c.in-Ok-read_items.ensures.ok in
     let s = told_shorter test items c.args.full before b m (part n) told in
     let t = items_shorter c.args.form.now (16384 * n) m r before after g in
@@ -56,7 +56,7 @@ returns-in-Err-read_items-2-clause-err c = λ k.
     let b = bits_left c.args.bits.now in
     let m = bits_left c.read_total.new.bits in
     let n = c.in-Ok-Part.times in
-    let told = told_at test items c.args.full before (length c.as_slice-before.result.now) b m c.in-Ok-Part.field-0 (part n) (ap length c.as_slice-before.ensures.value) c.in-Ok-Part.field-0-is c.in-Ok-Part.ensures.is in
+    let told = told_at test items c.args.full before (length c.as_slice.result.now) b m c.in-Ok-Part.field-0 (part n) (ap length c.as_slice.ensures.value) c.in-Ok-Part.field-0-is c.in-Ok-Part.ensures.is in
     stop_part test items c.args.full before b m (bits_left c.read_items-in-Ok-Part.new.bits) n c.in-Err-read_items-2.fault k told c.in-Err-read_items-2.ensures.err
 
 pub returns-in-Err-clause-err : goal.returns-in-Err-clause-err
@@ -65,4 +65,4 @@ returns-in-Err-clause-err c = λ k.
     let items = several_of c.args.form.now in
     let b = bits_left c.args.bits.now in
     let r = bits_left c.read_total.new.bits in
-    stop_count test items c.args.full c.args.out.now.items b r c.in-Err.refusal k (stops_at test items c.args.full c.args.out.now.items (length c.as_slice-before.result.now) b r c.in-Err.refusal (ap length c.as_slice-before.ensures.value) c.in-Err.ensures.is)
+    stop_count test items c.args.full c.args.out.now.items b r c.in-Err.refusal k (stops_at test items c.args.full c.args.out.now.items (length c.as_slice.result.now) b r c.in-Err.refusal (ap length c.as_slice.ensures.value) c.in-Err.ensures.is)
