@@ -9,6 +9,9 @@ use Rattle.bits.specs.Words.{octet_bits, word}
 use Rattle.packed_encodings.specs.Lengths.{Bits}
 use Rattle.packed_readings.specs.declared.refusal.Refusal.TheVariants as why
 use Rattle.packed_readings.specs.Outcome.{Outcome, found, stops}
+use Rattle.packed_readings.specs.Counts.{count_from, size_from}
+use Rattle.packed_readings.specs.declared.count.Count.TheVariants.{Last as last, Part as part}
+use Rattle.packed_readings.specs.declared.size.Sizing.TheVariants.{AtOnce as at_once, Counted as counted}
 use Rattle.packed_readings.specs.Leaves.{leaf_from}
 
 -- the message's octets
@@ -175,6 +178,23 @@ no_parts = refl
 
 five_parts : reads (an_octet_string any_size) (197 ∷ 0 ∷ []) ≡ stops why.NotCanonical (octet_bits (197 ∷ 0 ∷ []))
 five_parts = refl
+
+-- C1 is 16,384 items before others, as the first number or after C4; after C1 come fewer than 16,384, here none
+first_part : count_from true (octet_bits (193 ∷ [])) ≡ found (part 1) []
+first_part = refl
+
+part_after_smaller : count_from false (octet_bits (193 ∷ [])) ≡ stops why.NotCanonical (octet_bits (193 ∷ []))
+part_after_smaller = refl
+
+none_after_parts : count_from false (octet_bits (0 ∷ [])) ≡ found (last 0) []
+none_after_parts = refl
+
+-- SIZE (1..2, ...): the bit 0 and one bit, or the bit 1
+size_told_outside : size_from (marked 1 2) (true ∷ (false ∷ [])) ≡ found (counted true) (false ∷ [])
+size_told_outside = refl
+
+size_in_root : size_from (marked 1 2) (false ∷ (true ∷ [])) ≡ found (at_once 2) []
+size_in_root = refl
 
 -- SIZE (0..3), (0..65535), (0..65536)
 sized_octets : reads (an_octet_string (from_to 0 3)) (64 ∷ 64 ∷ []) ≡ found (octets (1 ∷ [])) (zeros 6)
