@@ -39,7 +39,7 @@ pub(crate) fn relative_arcs(alloc: Global, octets: &[u8]) -> Result<Vec<u64>, Al
         → octets.now ≡ flat_map septets ns
         → IfOk result (λ v. v.items ≡ ns) }
 {
-    let mut arcs = Vec::new(alloc);
+    let mut arcs = Vec::with_capacity(alloc, octets.len())?;
     push_arcs(&mut arcs, octets)?;
     Ok(arcs)
 }
@@ -52,7 +52,7 @@ pub(crate) fn object_arcs(alloc: Global, octets: &[u8]) -> Result<Vec<u64>, Allo
         → octets.now ≡ flat_map septets (joined ns)
         → IfOk result (λ v. v.items ≡ ns) }
 {
-    let mut arcs = Vec::new(alloc);
+    let mut arcs = Vec::with_capacity(alloc, octets.len().saturating_add(1))?;
     match read_arc(octets) {
         Some((Some(number), behind)) => {
             let (first, second) = parted(number);

@@ -82,10 +82,14 @@ fn push_bits(
 }
 
 /// Adds a number in septets, or nothing.
+#[tactic(auto, using(crate::proofs::Digits::one_septet))]
 fn push_arc(number: u128, out: &mut Vec<u8>) -> Result<(), AllocError>
     ensures ok { OnOk result (out.new.items ≡ out.old.items ++ septets number) }
     ensures behind { StartsWith out.new.items out.old.items }
 {
+    if number < 128 {
+        return out.extend_from_slice(&[number as u8]);
+    }
     let mut few = ArrayVec::new();
     push_septets(&mut few, number);
     out.extend_from_slice(few.as_slice())

@@ -1,7 +1,8 @@
-pub mod Spelling
-pub mod Shortest
-pub mod Lists
-pub mod Told
 pub mod Characters
 pub mod Exact
+pub mod Lists
+pub mod OneOctet
+pub mod Shortest
+pub mod Spelling
+pub mod Told
 pub mod Zeroes

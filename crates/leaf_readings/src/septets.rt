@@ -10,6 +10,7 @@ const GREAT: u128 = 18_446_744_073_709_551_616;
 
 /// The number in septets at the front of octets, without zeros first, and what follows it. None stands for a number of
 /// 2^64 + 80 or greater.
+#[tactic(auto, using(crate::proofs::OneOctet::one_front))]
 pub fn read_arc(octets: &[u8]) -> Option<(Option<u128>, &[u8])>
     ensures some { IfSome result (λ r. Front r.0 r.1.now octets.now) }
     ensures shorter { IfSome result (λ r. length r.1.now < length octets.now) }
@@ -18,7 +19,11 @@ pub fn read_arc(octets: &[u8]) -> Option<(Option<u128>, &[u8])>
     if octets.len() == 0 {
         return None;
     }
-    if octets[0] == 128 {
+    let first = octets[0];
+    if first < 128 {
+        return Some((Some(first as u128), &octets[1..]));
+    }
+    if first == 128 {
         return None;
     }
     match read_septets(octets, 0) {
