@@ -24,6 +24,7 @@ use next_tags::{
 use octet_answers::law::one_unit;
 
 /// Tells one token more.
+#[inline(always)]
 fn tell<'c, 'a, T: Teller<'a>>(place: &mut Place<'c, 'a, T>, mark: Mark) -> Result<(), ReadFault>
     requires { IsWithin T.suits place.old }
     ensures within { IsWithin T.suits place.new }
@@ -44,6 +45,7 @@ pub fn has_more<'c, 'a, T: Teller<'a>>(place: &Place<'c, 'a, T>) -> bool
 }
 
 /// Whether the component of a SEQUENCE stands next.
+#[inline(always)]
 pub fn stands_next<'c, 'a, T: Teller<'a>>(
     place: &mut Place<'c, 'a, T>,
     field: Field,

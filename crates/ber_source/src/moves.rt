@@ -90,6 +90,7 @@ fn told_segments(fault: SegmentsFault) -> Bad
     }
 }
 
+#[inline(always)]
 fn push_value(list: &mut Vec<TypeId>, one: TypeId) -> Result<(), ReadFault>
     ensures ok { OnOk result (list.new.items ≡ list.old.items ++ one ∷ []) }
     ensures err { IfErr result (λ e. e ≡ Memory) }
@@ -98,6 +99,7 @@ fn push_value(list: &mut Vec<TypeId>, one: TypeId) -> Result<(), ReadFault>
     Ok(())
 }
 
+#[inline(always)]
 fn push_window<'a>(list: &mut Vec<Window<'a>>, one: Window<'a>) -> Result<(), ReadFault>
     ensures ok { OnOk result (list.new.items ≡ list.old.items ++ one.entry ∷ []) }
     ensures err { IfErr result (λ e. e ≡ Memory) }
@@ -108,6 +110,7 @@ fn push_window<'a>(list: &mut Vec<Window<'a>>, one: Window<'a>) -> Result<(), Re
 }
 
 /// A value of the type begins.
+#[inline(always)]
 pub fn begin<'c, 'a, T: Teller<'a>>(
     place: &mut Place<'c, 'a, T>,
     id: TypeId,
@@ -134,6 +137,7 @@ pub fn begin<'c, 'a, T: Teller<'a>>(
 }
 
 /// The value that began last ends.
+#[inline(always)]
 pub fn end<'c, 'a, T: Teller<'a>>(place: &mut Place<'c, 'a, T>) -> Result<(), ReadFault>
     requires { IsWithin T.suits place.old }
     ensures within { IsWithin T.suits place.new }
@@ -151,6 +155,7 @@ pub fn end<'c, 'a, T: Teller<'a>>(place: &mut Place<'c, 'a, T>) -> Result<(), Re
 }
 
 /// Opens the header that stands next, which has this tag, and is constructed where it must be.
+#[inline(always)]
 pub fn open<'c, 'a, T: Teller<'a>>(
     place: &mut Place<'c, 'a, T>,
     head: Head,
@@ -180,6 +185,7 @@ pub fn open<'c, 'a, T: Teller<'a>>(
 }
 
 /// Goes into the contents of the encoding that stands next.
+#[inline(always)]
 fn enter<'c, 'a, T: Teller<'a>>(
     place: &mut Place<'c, 'a, T>,
     unit: Unit<'a>,
@@ -213,6 +219,7 @@ fn enter<'c, 'a, T: Teller<'a>>(
 }
 
 /// Closes the nearest open header, whose contents were read to their end.
+#[inline(always)]
 pub fn close<'c, 'a, T: Teller<'a>>(place: &mut Place<'c, 'a, T>) -> Result<(), ReadFault>
     requires { IsWithin T.suits place.old }
     ensures within { IsWithin T.suits place.new }
@@ -234,6 +241,7 @@ pub fn close<'c, 'a, T: Teller<'a>>(place: &mut Place<'c, 'a, T>) -> Result<(), 
 }
 
 /// Reads the contents octets of a value that holds no others.
+#[inline(always)]
 pub fn hold<'c, 'a, T: Teller<'a>>(
     place: &mut Place<'c, 'a, T>,
     kind: LeafKind,
@@ -287,6 +295,7 @@ fn stand_at<'c, 'a, T: Teller<'a>>(place: &mut Place<'c, 'a, T>, count: usize)
 }
 
 /// What the octets hold as contents of this kind, where so many levels of headers may stand in them.
+#[inline(always)]
 fn judge<'a>(
     alloc: Global,
     kind: LeafKind,
@@ -321,6 +330,7 @@ fn judge<'a>(
 }
 
 /// Goes behind the contents, and tells them.
+#[inline(always)]
 fn pass_contents<'c, 'a, T: Teller<'a>>(
     place: &mut Place<'c, 'a, T>,
     kind: LeafKind,

@@ -27,6 +27,7 @@ pub struct Build<'a> {
 }
 
 /// A value of the type begins.
+#[inline(always)]
 fn begin<'a>(code: &Code, build: &mut Build<'a>, id: TypeId) -> Result<(), AllocError>
     ensures { (m : Reading) (w : AbstractValue) (ts : List Token')
         → IsBefore code.now m w (begun' id ∷ ts) build.old
@@ -48,6 +49,7 @@ fn begin<'a>(code: &Code, build: &mut Build<'a>, id: TypeId) -> Result<(), Alloc
 }
 
 /// The value that began last ends.
+#[inline(always)]
 fn end(build: &mut Build<'_>, code: &Code)
     ensures { (m : Reading) (w : AbstractValue) (ts : List Token')
         → IsBefore code.now m w (ended ∷ ts) build.old
@@ -76,6 +78,7 @@ fn choose(code: &Code, build: &mut Build<'_>, index: usize) -> Result<(), AllocE
 }
 
 /// A component is told, which has a place below 2^32.
+#[inline(always)]
 fn name(code: &Code, build: &mut Build<'_>, place: usize)
     ensures { (m : Reading) (w : AbstractValue) (ts : List Token')
         → IsBefore code.now m w (component place ∷ ts) build.old
@@ -97,6 +100,7 @@ fn number_of(place: usize) -> u32
 }
 
 /// A value that holds no others is told.
+#[inline(always)]
 pub(crate) fn hold<'a>(
     alloc: Global,
     code: &Code,
@@ -116,6 +120,7 @@ pub(crate) fn hold<'a>(
 }
 
 /// One token more, which tells no contents octets.
+#[inline(always)]
 pub(crate) fn take(code: &Code, build: &mut Build<'_>, mark: Mark) -> Result<(), AllocError>
     ensures { (m : Reading) (w : AbstractValue) (ts : List Token')
         → IsBefore code.now m w (mark_of mark ∷ ts) build.old

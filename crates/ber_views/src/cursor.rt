@@ -88,26 +88,31 @@ impl<'c, 'a> Source for Viewer<'c, 'a> {
 
     ghost room = { λ a. a.room };
 
+    #[inline(always)]
     fn begin(&mut self, id: TypeId) -> Result<(), ReadFault> {
         one_answer();
         begin(&mut self.place, id)
     }
 
+    #[inline(always)]
     fn end(&mut self) -> Result<(), ReadFault> {
         one_answer();
         end(&mut self.place)
     }
 
+    #[inline(always)]
     fn open(&mut self, head: Head) -> Result<(), ReadFault> {
         one_answer();
         open(&mut self.place, head)
     }
 
+    #[inline(always)]
     fn close(&mut self) -> Result<(), ReadFault> {
         one_answer();
         close(&mut self.place)
     }
 
+    #[inline(always)]
     fn leaf(&mut self, kind: LeafKind) -> Result<(), ReadFault> {
         one_answer();
         hold(&mut self.place, kind)
@@ -118,6 +123,7 @@ impl<'c, 'a> Source for Viewer<'c, 'a> {
         skip(&mut self.place)
     }
 
+    #[inline(always)]
     fn has_component(&mut self, field: Field) -> Result<bool, ReadFault> {
         one_answer();
         stands_next(&mut self.place, field)

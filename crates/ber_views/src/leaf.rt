@@ -23,6 +23,7 @@ use std::alloc::{AllocError, Global};
 use views::Builder;
 
 /// Adds the value that contents octets hold, as the component with a number.
+#[inline(always)]
 pub(crate) fn push_held<'a>(
     alloc: Global,
     builder: &mut Builder<'a>,
@@ -47,6 +48,7 @@ pub(crate) fn push_held<'a>(
 }
 
 /// Those of primitive contents octets, which were read as this.
+#[inline(always)]
 fn push_whole<'a>(
     alloc: Global,
     builder: &mut Builder<'a>,

@@ -89,6 +89,7 @@ fn marked<'a>(mark: Mark) -> Token<'a>
 }
 
 /// One is added where an addition was skipped.
+#[inline(always)]
 fn count(skipped: &mut Vec<u8>, mark: Mark) -> Result<(), AllocError>
     ensures { OnOk result (length skipped.new.items ≡ length skipped.old.items + passes (mark_of mark ∷ [])) }
 {
@@ -105,6 +106,7 @@ fn count(skipped: &mut Vec<u8>, mark: Mark) -> Result<(), AllocError>
 }
 
 /// One token more, which tells no contents octets.
+#[inline(always)]
 fn add_mark<'c, 'a>(telling: &mut Telling<'c, 'a>, mark: Mark) -> Result<(), AllocError>
     ensures ok { OnOk result (logged telling.new.log ≡ logged telling.old.log ++ mark_of mark ∷ []) }
     ensures suits { OnOk result ((s : List Resolved) → IsTelling telling.old s → IsTelling telling.new s) }
@@ -117,6 +119,7 @@ fn add_mark<'c, 'a>(telling: &mut Telling<'c, 'a>, mark: Mark) -> Result<(), All
 }
 
 /// The contents octets of a value that holds no others.
+#[inline(always)]
 fn add_held<'c, 'a>(
     telling: &mut Telling<'c, 'a>,
     held: Held<'a>,
@@ -151,6 +154,7 @@ impl<'c, 'a> Teller<'a> for Telling<'c, 'a> {
 
     ghost suits = { IsTelling };
 
+    #[inline(always)]
     fn tell(&mut self, mark: Mark) -> Result<(), ReadFault> {
         match add_mark(self, mark) {
             Ok(()) => Ok(()),
@@ -161,6 +165,7 @@ impl<'c, 'a> Teller<'a> for Telling<'c, 'a> {
         }
     }
 
+    #[inline(always)]
     fn hold(&mut self, held: Held<'a>, holding: Holding<'a>) -> Result<(), ReadFault> {
         match add_held(self, held, holding) {
             Ok(()) => Ok(()),

@@ -19,6 +19,7 @@ pub(crate) struct Answer<'a> {
 }
 
 /// Takes what the first step asks for; `all` has the step and the rest.
+#[inline(always)]
 pub(crate) fn ask<'a, S: Source>(
     step: Step,
     rest: &'a [Step],
@@ -47,6 +48,7 @@ pub(crate) fn ask<'a, S: Source>(
     }
 }
 
+#[inline(always)]
 fn ask_head<'a, S: Source>(
     head: Head,
     rest: &'a [Step],
@@ -65,6 +67,7 @@ fn ask_head<'a, S: Source>(
     }
 }
 
+#[inline(always)]
 fn ask_end<'a, S: Source>(rest: &'a [Step], source: &mut S) -> Result<Answer<'a>, ReadFault>
     ensures ok { IfOk result (λ a. Asks S.takes (End ∷ rest.now) source.old a.behind.now a.value source.new) }
     ensures err { IfRefused result (AsksNothing S.takes (End ∷ rest.now) source.old) }
@@ -111,6 +114,7 @@ fn ask_rest<'a, S: Source>(rest: &'a [Step], source: &mut S) -> Result<Answer<'a
     }
 }
 
+#[inline(always)]
 fn ask_field<'a, S: Source>(
     field: Field,
     rest: &'a [Step],

@@ -71,6 +71,7 @@ fn add<'a>(frames: &mut Vec<Frame<'a>>, frame: Frame<'a>) -> Result<(), ReadFaul
 }
 
 /// One step of a frame above those that wait, and the frame that goes on then, where it isn't the last of these.
+#[inline(always)]
 fn turn<'a, S: Source>(
     code: &'a Code,
     frame: Frame<'a>,
@@ -116,6 +117,7 @@ fn turn<'a, S: Source>(
 }
 
 /// A value of the type begins, behind which these steps go on. It is read at once where it holds no others.
+#[inline(always)]
 fn call<'a, S: Source>(
     code: &'a Code,
     id: TypeId,

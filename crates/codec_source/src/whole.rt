@@ -13,6 +13,7 @@ use codec_code::{Head, LeafKind, Step};
 
 /// The header and the kind of contents, where the steps are a header, contents and the end: those of a type with one
 /// tag that holds no others.
+#[inline(always)]
 pub(crate) fn leaf_routine(steps: &[Step]) -> Option<(Head, LeafKind)>
     ensures { IfSome result (λ p. steps.now ≡ Head' p.0 ∷ Leaf p.1 ∷ End ∷ []) }
 {
@@ -33,6 +34,7 @@ pub(crate) fn leaf_routine(steps: &[Step]) -> Option<(Head, LeafKind)>
 
 /// Takes what these three steps and the end of their value ask for: whatever frames wait behind it, they go on where
 /// they would behind the steps, whatever routines types have.
+#[inline(always)]
 pub(crate) fn read_whole<S: Source>(
     head: Head,
     kind: LeafKind,

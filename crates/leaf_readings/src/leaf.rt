@@ -39,6 +39,7 @@ pub enum Leaf<'a> {
 /// `BadContents` is told where the octets haven't the form of such contents: a number longer than its shortest form,
 /// more than seven unused bits, a text of other characters than its type's. Where they have it, `IntegerLimit` is told
 /// of a number that 16 octets don't hold, and `OidLimit` of more than 64 numbers or one that is 2^64 or greater.
+#[inline(always)]
 pub fn read_leaf(kind: LeafKind, contents: &[u8]) -> Result<Leaf<'_>, LeafFault>
     ensures ok { IfOk result (λ l. Reads kind contents.now l) }
     ensures err { IfErr result (λ e. Stands e kind contents.now) }
@@ -50,6 +51,7 @@ pub fn read_leaf(kind: LeafKind, contents: &[u8]) -> Result<Leaf<'_>, LeafFault>
 }
 
 /// The same, by the kind.
+#[inline(always)]
 fn read_kind(kind: LeafKind, contents: &[u8]) -> Result<Leaf<'_>, LeafFault>
     ensures ok { IfOk result (λ l. Reads kind contents.now l) }
     ensures err { IfErr result (λ e. Stands e kind contents.now) }
@@ -70,6 +72,7 @@ fn read_kind(kind: LeafKind, contents: &[u8]) -> Result<Leaf<'_>, LeafFault>
 }
 
 /// No bit is set for FALSE, some are for TRUE (8.2.2).
+#[inline(always)]
 fn as_boolean(contents: &[u8]) -> Result<Leaf<'_>, LeafFault>
     ensures ok { IfOk result (λ l. Reads Boolean contents.now l) }
     ensures err { IfErr result (λ e. Stands e Boolean contents.now) }
@@ -88,6 +91,7 @@ fn as_boolean(contents: &[u8]) -> Result<Leaf<'_>, LeafFault>
     }
 }
 
+#[inline(always)]
 fn as_integer(contents: &[u8]) -> Result<Leaf<'_>, LeafFault>
     ensures ok { IfOk result (λ l. Reads Integer contents.now l) }
     ensures err { IfErr result (λ e. Stands e Integer contents.now) }

@@ -10,6 +10,7 @@ use crate::fault::LeafFault;
 const MOST: usize = 16;
 
 /// The number that octets are in two's complement, in the fewest octets.
+#[inline(always)]
 pub(crate) fn read_number(octets: &[u8]) -> Result<i128, LeafFault>
     ensures ok { IfOk result (λ z. IsNumber z octets.now) }
     ensures err { IfErr result (λ e. IsNone e octets.now) }
@@ -25,6 +26,7 @@ pub(crate) fn read_number(octets: &[u8]) -> Result<i128, LeafFault>
 }
 
 /// Whether there are octets, the first nine bits of which aren't all alike (8.3.2).
+#[inline(always)]
 fn is_shortest(octets: &[u8]) -> bool
     ensures { IsTrue result ↔ IsShort octets.now }
 {
@@ -41,6 +43,7 @@ fn is_shortest(octets: &[u8]) -> bool
 }
 
 /// The number that octets are in two's complement.
+#[inline(always)]
 fn number_of(octets: &[u8]) -> i128
     requires short { IsShort octets.now }
     requires few { length octets.now ≤ 16 }

@@ -22,6 +22,7 @@ pub struct Unit<'a> {
 
 /// The encoding at the front of octets (X.690, 8.1.1), or why none stands there: as `read_header`, which it takes the
 /// header by. It takes no memory.
+#[inline(always)]
 pub fn next_unit(octets: &[u8]) -> Result<Unit<'_>, HeaderFault>
     ensures ok { IfOk result (λ u. UnitAt u.tag (is_constructed u.form) u.count u.contents.now u.rest.now octets.now) }
     ensures none { IfErr result (λ e. (g : Tag') (c : Bool) (k : ℕ) (x r : List ℕ) → UnitAt g c k x r octets.now → ⊥) }
@@ -35,6 +36,7 @@ pub fn next_unit(octets: &[u8]) -> Result<Unit<'_>, HeaderFault>
 }
 
 /// The contents that a header tells, and what follows them.
+#[inline(always)]
 fn parted(octets: &[u8], header: Header) -> Unit<'_>
     requires { HeaderAt header.tag (is_constructed header.form) header.contents header.octets octets.now }
     ensures { UnitAt result.tag (is_constructed result.form) result.count result.contents.now result.rest.now octets.now }

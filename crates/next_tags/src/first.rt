@@ -11,6 +11,7 @@ use codec_code::{Code, Coding, Step};
 
 /// Whether the tags are equal.
 #[tactic(auto, using(crate::proofs::Tags::tag_same))]
+#[inline(always)]
 pub fn same_tag(left: Tag, right: Tag) -> bool
     ensures { IsTrue result ↔ (left ≡ right) }
 {
@@ -95,6 +96,7 @@ fn begins_call(code: &Code, step: Step, tag: Tag) -> bool
 }
 
 /// Whether a step, before others, begins with the tag: the header, or one of the calls of a CHOICE.
+#[inline(always)]
 fn begins_step(code: &Code, step: Step, behind: &[Step], tag: Tag) -> bool
     ensures { IsTrue result ↔ BeginsBy code.now tag step behind.now }
 {
@@ -113,6 +115,7 @@ fn begins_step(code: &Code, step: Step, behind: &[Step], tag: Tag) -> bool
 }
 
 /// Whether steps begin with the tag.
+#[inline(always)]
 fn begins_with(code: &Code, steps: &[Step], tag: Tag) -> bool
     ensures { IsTrue result ↔ BeginsWith code.now tag steps.now }
 {
@@ -124,6 +127,7 @@ fn begins_with(code: &Code, steps: &[Step], tag: Tag) -> bool
 
 /// Whether the tag can stand first before a value of the type: its outermost one, or of an untagged CHOICE that of an
 /// alternative.
+#[inline(always)]
 pub fn can_begin(code: &Code, id: TypeId, tag: Tag) -> bool
     ensures { IsTrue result ↔ First code.now id.index tag }
 {

@@ -31,6 +31,7 @@ pub struct Header {
 /// `BadTag` is told where the octets begin with what is no tag's identifier. Behind an identifier `Indefinite` is told
 /// of the octet `80`, and `BadLength` of the octet `FF` and of a length above 16,777,216, once its octets are there.
 /// `Truncated` is told where the octets end within a header, or before the contents that it tells.
+#[inline(always)]
 pub fn read_header(octets: &[u8]) -> Result<Header, HeaderFault>
     ensures ok { IfOk result (λ h. HeaderAt h.tag (is_constructed h.form) h.contents h.octets octets.now) }
     ensures err { IfErr result (λ e. Stands e octets.now) }
@@ -43,6 +44,7 @@ pub fn read_header(octets: &[u8]) -> Result<Header, HeaderFault>
 }
 
 /// The header at the front of octets, or why none stands there.
+#[inline(always)]
 fn header_at(octets: &[u8]) -> Result<Header, HeaderFault>
     ensures ok { IfOk result (λ h. HeaderAt h.tag (is_constructed h.form) h.contents h.octets octets.now) }
     ensures err { IfErr result (λ e. Stands e octets.now) }
@@ -67,6 +69,7 @@ fn header_at(octets: &[u8]) -> Result<Header, HeaderFault>
 }
 
 /// The class and form of a first identifier octet, and its last five bits.
+#[inline(always)]
 fn first_octet(octet: u8) -> (Class, Form, u8)
     ensures low { result.2 < 32 }
     ensures octet { octet ≡ class_bits result.0 + form_bit (is_constructed result.1) + result.2 }
@@ -87,6 +90,7 @@ fn first_octet(octet: u8) -> (Class, Form, u8)
 
 /// Reads the identifier octets.
 #[tactic(auto, using(crate::proofs::Identified::none_there))]
+#[inline(always)]
 fn read_identifier(octets: &[u8]) -> Result<(Tag, Form, &[u8]), HeaderFault>
     ensures ok { IfOk result (λ r. IdentifierAt r.0 (is_constructed r.1) r.2.now octets.now) }
     ensures err { IfErr result (λ e. NoIdentifier octets.now e) }
@@ -163,6 +167,7 @@ fn read_septets(octets: &[u8], high: u32) -> Result<(u32, &[u8]), HeaderFault>
 
 /// Reads the length octets.
 #[tactic(auto, using(crate::proofs::Sizes::size_none, crate::proofs::Sizes::size_short))]
+#[inline(always)]
 fn read_size(octets: &[u8]) -> Result<(usize, &[u8]), HeaderFault>
     ensures ok { IfOk result (λ r. SizeAt r.0 r.1.now octets.now) }
     ensures err { IfErr result (λ e. NoSize octets.now e) }
