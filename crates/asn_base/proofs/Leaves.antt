@@ -118,6 +118,9 @@ in_integer (fits_integer l a) = a
 pub integer_fits : {k : Kind} {v : AbstractValue} {c : Constraint} {z : ℤ} {r : Bool} → k ≡ an_integer c → v ≡ integer z → IsWithinLimit z → IsTrue r ↔ IsAllowed c z → IsTrue r ↔ Fits k v
 integer_fits e f l a = moved e f (onward a (fits_integer l) in_integer)
 
+pub integer_fits_if : {k : Kind} {v : AbstractValue} {c : Constraint} {z : ℤ} → k ≡ an_integer c → v ≡ integer z → IsWithinLimit z → IsAllowed c z → Fits k v
+integer_fits_if e f l a = (moved e f (yes (fits_integer l a))).0 refl
+
 in_enumerated : {root more : List Item} {e : Bool} {z : ℤ} → Fits (an_enumerated root e more) (enumerated z) → HasNumber (root ++ more) z
 in_enumerated (fits_enumerated l a) = a
 

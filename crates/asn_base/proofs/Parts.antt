@@ -1,10 +1,10 @@
 -- Whether values that hold others are of a kind, part by part.
 use Rattle.std.proofs.Common.{arith, ◌≡◌, ℕ, zero, suc, ◌+◌, ◌-◌, ◌<◌, ◌≤◌, Bool, true, false, not, List, [], ◌∷◌, ◌++◌, length, map, drop, get_or, inl, inr, refl, sym, subst, ap, ◌∙◌}
 use Rattle.std.specs.Prelude.{◌↔◌, ◌⊎◌, IsTrue, Option, Some, None, slice_get}
-use Rattle.asn_base.specs.Abstract.{AbstractValue, fields, list, alternative, Row, absent, present, row_of_options, row_of_list}
-use Rattle.asn_base.specs.Decided.{Holds, IsChosen, IsComponent, GroupsOfAreWhole, IsDue, IsPresentOf}
+use Rattle.asn_base.specs.Abstract.{AbstractValue, boolean, integer, enumerated, bits, octets, text, null, oid, relative_oid, fields, list, alternative, Row, absent, present, row_of_options, row_of_list}
+use Rattle.asn_base.specs.Decided.{Holds, IsChosen, IsComponent, GroupsOfAreWhole, IsDue, IsPresentOf, nodes_of}
 use Rattle.asn_base.specs.Types.{Alternative, Kind, a_sequence, a_set, a_sequence_of, a_set_of, a_choice, Presence, mandatory, optional, default, addition, Component, Resolved, Is}
-use Rattle.asn_base.specs.Typed.{members, nodes, row_nodes, Fits, HasOfGroup, LacksOfGroup, GroupsAreWhole, ValueIn, value_in, ValueOf, of_leaf, of_sequence, of_set, of_sequence_of, of_set_of, of_choice, MayBeAbsent, where_optional, where_default, where_addition, AreComponents, no_component, component_absent, component_present, AreElements, no_element, one_element}
+use Rattle.asn_base.specs.Typed.{members, nodes, row_nodes, Fits, fits_boolean, fits_integer, fits_enumerated, fits_bits, fits_named_bits, fits_octets, fits_null, fits_oid, fits_relative_oid, fits_utf8, fits_restricted, HasOfGroup, LacksOfGroup, GroupsAreWhole, ValueIn, value_in, ValueOf, of_leaf, of_sequence, of_set, of_sequence_of, of_set_of, of_choice, MayBeAbsent, where_optional, where_default, where_addition, AreComponents, no_component, component_absent, component_present, AreElements, no_element, one_element}
 use Rattle.asn_base.proofs.Leaves.{onward, without}
 use Rattle.asn_base.proofs.Sameness.{same_kind}
 use Rattle.asn_base.proofs.Levels.{value_of_at}
@@ -54,6 +54,9 @@ one_more n l = omega arith
 
 pub in_leaf : {s : List Resolved} {t : ℕ} {r : Resolved} {v : AbstractValue} {b : Bool} (n : ℕ) → 0 < n → slice_get s t ≡ Some r → IsTrue b ↔ Fits r.kind v → b ≡ Bool.true → IsTrue b ↔ ValueIn s n t v
 in_leaf {s} {t} {v = v} n l e f is = (λ x. subst (λ q. ValueIn s q t v) (one_more n l) (of_kind e (of_leaf (f.0 x))), λ y. is)
+
+pub in_leaf_yes : {s : List Resolved} {t : ℕ} {r : Resolved} {v : AbstractValue} (n : ℕ) → 0 < n → slice_get s t ≡ Some r → Fits r.kind v → ValueIn s n t v
+in_leaf_yes {s} {t} {v = v} n l e f = subst (λ q. ValueIn s q t v) (one_more n l) (of_kind e (of_leaf f))
 
 pub in_holder : {s : List Resolved} {t : ℕ} {r : Resolved} {v : AbstractValue} {b : Bool} (n : ℕ) → 0 < n → slice_get s t ≡ Some r → (Fits r.kind v → ⊥) → IsTrue b ↔ Holds s (n - 1) r.kind v → IsTrue b ↔ ValueIn s n t v
 in_holder {s} {t} {r} {v} n l e f h = (
@@ -245,34 +248,44 @@ kept_none P S e = (λ t h s p. let same : None ≡ Some h = (e h).1 s in cc, λ 
 
 -- ---- nodes
 
-pub row_at : (os : List (Option AbstractValue)) (i : ℕ) {o : Option AbstractValue} {os' : List (Option AbstractValue)} → drop i os ≡ o ∷ os' → row_nodes (row_of_options (drop i os)) ≡ row_nodes (row_of_options (o ∷ os'))
-row_at os i e = ap (λ q. row_nodes (row_of_options q)) e
+pub some_nodes : (v : AbstractValue) → 1 ≤ nodes v
+some_nodes (boolean b) = omega arith
+some_nodes (integer z) = omega arith
+some_nodes (enumerated z) = omega arith
+some_nodes (bits s) = omega arith
+some_nodes (octets o) = omega arith
+some_nodes (text o) = omega arith
+some_nodes null = omega arith
+some_nodes (oid ns) = omega arith
+some_nodes (relative_oid ns) = omega arith
+some_nodes (fields vs) = omega arith
+some_nodes (list vs) = omega arith
+some_nodes (alternative i v) = omega arith
+
+-- a value that holds no others is one node
+pub one_node : {k : Kind} {v : AbstractValue} → Fits k v → nodes v ≡ 1
+one_node fits_boolean = refl
+one_node (fits_integer w a) = refl
+one_node (fits_enumerated w a) = refl
+one_node (fits_bits a) = refl
+one_node fits_named_bits = refl
+one_node (fits_octets b a) = refl
+one_node fits_null = refl
+one_node (fits_oid a) = refl
+one_node (fits_relative_oid a) = refl
+one_node (fits_utf8 u a) = refl
+one_node (fits_restricted c a) = refl
+
+-- the nodes of components from a place on are those of the one there and of those behind it
+pub row_at : (os : List (Option AbstractValue)) (i : ℕ) {o : Option AbstractValue} {os' : List (Option AbstractValue)} → drop i os ≡ o ∷ os' → row_nodes (row_of_options (drop i os)) ≡ nodes_of o + row_nodes (row_of_options os')
+row_at os i {o = None} {os' = os'} e =
+    let h : row_nodes (row_of_options (drop i os)) ≡ row_nodes (row_of_options os') = ap (λ q. row_nodes (row_of_options q)) e in
+    omega (arith, h)
+row_at os i {o = Some v} e = ap (λ q. row_nodes (row_of_options q)) e
 
 pub list_at : (vs : List AbstractValue) (i : ℕ) {v : AbstractValue} {vs' : List AbstractValue} → drop i vs ≡ v ∷ vs' → row_nodes (row_of_list (drop i vs)) ≡ nodes v + row_nodes (row_of_list vs')
 list_at vs i e = ap (λ q. row_nodes (row_of_list q)) e
 
-dropped : (os : List (Option AbstractValue)) (i : ℕ) → row_nodes (row_of_options (drop i os)) ≤ row_nodes (row_of_options os)
-dropped [] zero = omega arith
-dropped [] (suc i) = omega arith
-dropped (o ∷ os) zero = omega arith
-dropped (None ∷ os) (suc i) = dropped os i
-dropped (Some v ∷ os) (suc i) = let h = dropped os i in omega arith
-
-dropped_list : (vs : List AbstractValue) (i : ℕ) → row_nodes (row_of_list (drop i vs)) ≤ row_nodes (row_of_list vs)
-dropped_list [] zero = omega arith
-dropped_list [] (suc i) = omega arith
-dropped_list (v ∷ vs) zero = omega arith
-dropped_list (v ∷ vs) (suc i) = let h = dropped_list vs i in omega arith
-
--- less is left than this one's nodes, so less was left than all have
-pub too_few : (os : List (Option AbstractValue)) (i left rest : ℕ) {v : AbstractValue} {os' : List (Option AbstractValue)} → drop i os ≡ Some v ∷ os' → rest + row_nodes (row_of_options os) ≡ left + row_nodes (row_of_options (drop i os)) → rest < nodes v → left < row_nodes (row_of_options os)
-too_few os i left rest {v = v} {os' = os'} e a l =
-    let b : row_nodes (row_of_options (drop i os)) ≡ nodes v + row_nodes (row_of_options os') = row_at os i e in
-    let d = dropped os i in
-    omega arith
-
-pub too_few_left : (vs : List AbstractValue) (i left rest : ℕ) {v : AbstractValue} {vs' : List AbstractValue} → drop i vs ≡ v ∷ vs' → rest + row_nodes (row_of_list vs) ≡ left + row_nodes (row_of_list (drop i vs)) → rest < nodes v → left < row_nodes (row_of_list vs)
-too_few_left vs i left rest {v = v} {vs' = vs'} e a l =
-    let b : row_nodes (row_of_list (drop i vs)) ≡ nodes v + row_nodes (row_of_list vs') = list_at vs i e in
-    let d = dropped_list vs i in
-    omega arith
+-- what is left behind one more of them
+pub left_behind : (before after one rest all : ℕ) → after ≡ before - one → before - (one + rest) ≡ all → after - rest ≡ all
+left_behind before after one rest all e f = omega arith

@@ -1,9 +1,9 @@
 -- Worked rows of sameness: a SET OF of bit strings with a named bit, and one with another number of members.
-use Rattle.std.proofs.Common.{arith, ◌≡◌, ℕ, suc, true, false, List, [], ◌∷◌, refl, ap}
-use Rattle.asn_base.specs.Abstract.{AbstractValue, Row, bits, list, end, present}
-use Rattle.asn_base.specs.Types.{any_size, a_named_bit_string, a_set_of, Kind, Resolved}
-use Rattle.asn_base.specs.Typed.{members, fits_named_bits, ValueIn, value_in, of_leaf, of_set_of, no_element, one_element}
-use Rattle.asn_base.specs.Same.{here, there, Alike, alike, AlikeBy, equal, zeros, alike_set_of, none_left, pair, Same}
+use Rattle.std.proofs.Common.{arith, ℕ, suc, true, false, List, [], ◌∷◌, refl}
+use Rattle.asn_base.specs.Abstract.{AbstractValue, bits, list, end, present}
+use Rattle.asn_base.specs.Types.{any_size, a_named_bit_string, a_set_of, Resolved}
+use Rattle.asn_base.specs.Typed.{fits_named_bits, ValueIn, value_in, of_leaf, of_set_of, no_element, one_element}
+use Rattle.asn_base.specs.Same.{here, there, Alike, alike, equal, zeros, alike_set_of, none_left, pair, Same}
 use Rattle.asn_base.proofs.AlikeOrNot.{back, un_set_of}
 use Rattle.asn_base.proofs.Counts.{as_many_members}
 

@@ -5,7 +5,7 @@ use Rattle.asn_base.specs.Abstract.{AbstractValue, fields, list, alternative, Ro
 use Rattle.asn_base.specs.Types.{Alternative, Kind, a_sequence, a_set, a_sequence_of, a_set_of, a_choice, default, addition}
 use Rattle.asn_base.specs.Types.{Component, Resolved}
 use Rattle.asn_base.specs.Typed.{IsAllowedSize, members, IsOfGroup, HasOfGroup, LacksOfGroup, GroupsAreWhole, ValueIn, MayBeAbsent}
-use Rattle.asn_base.specs.Typed.{AreComponents, AreElements}
+use Rattle.asn_base.specs.Typed.{AreComponents, AreElements, nodes}
 use Rattle.asn_base.specs.Same.{Alike}
 
 -- the value is that of the alternative with its number
@@ -25,6 +25,11 @@ Holds s n k v = ⊥
 abbrev pub IsComponent : List Resolved → ℕ → Component → Option AbstractValue → Type 0
 IsComponent s n c None = MayBeAbsent s n c.type c.presence
 IsComponent s n c (Some v) = ValueIn s n c.type v
+
+-- the nodes of a value that may be absent
+abbrev pub nodes_of : Option AbstractValue → ℕ
+nodes_of None = 0
+nodes_of (Some v) = nodes v
 
 -- where some of these components are present, their groups are whole among all
 abbrev pub GroupsOfAreWhole : List Component → Row → List Component → Row → Type 0

@@ -1,19 +1,18 @@
 //! Whether a value is one of a type.
 
 ghost use Rattle.asn_base.specs.Abstract.{abstract, row_of_list, row_of_options};
-ghost use Rattle.asn_base.specs.Decided.{Holds, IsChosen, IsComponent};
-ghost use Rattle.asn_base.specs.Depths.{AreKnown, AreOf, IsDepth, IsOf};
+ghost use Rattle.asn_base.specs.Decided.{Holds, IsChosen, IsComponent, nodes_of};
+ghost use Rattle.asn_base.specs.Depths.{AreKnown, AreOf, IsDepth, IsOf, depth_at, rows_of};
 ghost use Rattle.asn_base.specs.Seen.{alternative_of, component_of, constraint_of, kind_of};
-ghost use Rattle.asn_base.specs.Typed.{AreComponents, AreElements, GroupsAreWhole, IsAllowedSize, IsValue, IsValueWithoutNodes, ValueIn, members};
+ghost use Rattle.asn_base.specs.Typed.{AreComponents, AreElements, GroupsAreWhole, IsAllowedSize, IsValue, IsValueWithoutNodes, ValueIn, members, nodes, row_nodes};
 ghost use Rattle.asn_base.specs.Types.{Alternative};
-ghost use Rattle.std.specs.Prelude.{◌≡◌, ◌↔◌, ◌++◌, ◌-◌, IfSome, IsTrue, MatchOption, None, Some, length, map, option_map, slice_get};
+ghost use Rattle.std.specs.Prelude.{◌≡◌, ◌<◌, ◌↔◌, ◌++◌, ◌-◌, IfSome, IsTrue, MatchOption, None, Some, length, map, option_map, slice_get};
 
 use crate::constraint::Constraint;
 use crate::depths::depth_of;
-use crate::groups::are_whole;
+use crate::groups::is_kept;
 use crate::law::abstract_values;
-use crate::leaf::{fits, is_allowed_size};
-use crate::nodes::nodes_left;
+use crate::leaf::{fits, fits_at_once, is_allowed_size};
 use crate::schema::{Alternatives, Component, Core, Presence, Schema, TypeId};
 use crate::value::Value;
 use limits::{MAX_LEVELS, MAX_NODES};
@@ -23,7 +22,8 @@ use limits::{MAX_LEVELS, MAX_NODES};
 pub fn is_value(value: &Value, schema: &Schema, id: TypeId) -> bool
     ensures { IsTrue result ↔ IsValue schema.now id.index (abstract value.now) }
 {
-    is_value_without_nodes(value, schema, id) && nodes_left(value, MAX_NODES).is_some()
+    let mut left = MAX_NODES + 1;
+    is_judged(value, schema, schema.depths(), MAX_LEVELS, id, &mut left) && left > 0
 }
 
 /// Whether it is a value of the type, the limit on nodes apart. A value of any depth may be asked of: what lies below
@@ -35,7 +35,6 @@ pub fn is_value_without_nodes(value: &Value, schema: &Schema, id: TypeId) -> boo
 }
 
 /// Whether it is a value of the type with at most this many levels, the limit on nodes apart.
-#[cycle(within)]
 pub(crate) fn is_within(
     value: &Value,
     schema: &Schema,
@@ -46,15 +45,61 @@ pub(crate) fn is_within(
     requires { AreKnown schema.now (levels - 1) depths.now }
     ensures { IsTrue result ↔ ValueIn schema.now levels id.index (abstract value.now) }
 {
+    let mut left = 0;
+    is_judged(value, schema, depths, levels, id, &mut left)
+}
+
+/// Whether it is a value of the type with at most this many levels. Its nodes are taken from `left`, of which none is
+/// left where it has as many or more.
+#[cycle(within)]
+#[inline(always)]
+fn is_judged(
+    value: &Value,
+    schema: &Schema,
+    depths: &Option<Vec<Vec<u8>>>,
+    levels: u8,
+    id: TypeId,
+    left: &mut u32,
+) -> bool
+    requires { AreKnown schema.now (levels - 1) depths.now }
+    ensures is { IsTrue result ↔ ValueIn schema.now levels id.index (abstract value.now) }
+    ensures nodes { IsTrue result → left.new ≡ left.old - nodes (abstract value.now) }
+{
     if levels == 0 || !schema.has(id) {
         return false;
     }
-    let core = &schema.get(id).core;
-    fits(core, value) || holds(core, value, schema, depths, levels - 1, id)
+    if fits_at_once(&schema.get(id).core, value) {
+        *left = left.saturating_sub(1);
+        return true;
+    }
+    is_any(value, schema, depths, levels, id, left)
 }
 
-/// Whether it is a value of the kind that holds others, each with at most this many levels.
+/// The same of a type that the schema has, whatever its kind.
 #[cycle(within)]
+fn is_any(
+    value: &Value,
+    schema: &Schema,
+    depths: &Option<Vec<Vec<u8>>>,
+    levels: u8,
+    id: TypeId,
+    left: &mut u32,
+) -> bool
+    requires some { 0 < levels }
+    requires has { id.index < length schema.now }
+    requires known { AreKnown schema.now (levels - 1) depths.now }
+    ensures is { IsTrue result ↔ ValueIn schema.now levels id.index (abstract value.now) }
+    ensures nodes { IsTrue result → left.new ≡ left.old - nodes (abstract value.now) }
+{
+    *left = left.saturating_sub(1);
+    let core = &schema.get(id).core;
+    fits(core, value) || holds(core, value, schema, depths, levels - 1, id, left)
+}
+
+/// Whether it is a value of the kind that holds others, each with at most this many levels. The nodes in it are taken
+/// from `left`.
+#[cycle(within)]
+#[inline(always)]
 fn holds(
     core: &Core,
     value: &Value,
@@ -62,10 +107,12 @@ fn holds(
     depths: &Option<Vec<Vec<u8>>>,
     levels: u8,
     id: TypeId,
+    left: &mut u32,
 ) -> bool
     requires known { AreKnown schema.now levels depths.now }
     requires of { IsOf schema.now id.index (kind_of core.now) }
-    ensures { IsTrue result ↔ Holds schema.now levels (kind_of core.now) (abstract value.now) }
+    ensures is { IsTrue result ↔ Holds schema.now levels (kind_of core.now) (abstract value.now) }
+    ensures nodes { IsTrue result → left.new ≡ left.old - (nodes (abstract value.now) - 1) }
 {
     abstract_values();
     match core {
@@ -77,6 +124,7 @@ fn holds(
                 depths,
                 levels,
                 id,
+                left,
             ),
             _ => false,
         },
@@ -88,6 +136,7 @@ fn holds(
                 depths,
                 levels,
                 id,
+                left,
             ),
             _ => false,
         },
@@ -99,6 +148,7 @@ fn holds(
                 schema,
                 depths,
                 levels,
+                left,
             ),
             _ => false,
         },
@@ -110,6 +160,7 @@ fn holds(
                 schema,
                 depths,
                 levels,
+                left,
             ),
             _ => false,
         },
@@ -121,6 +172,7 @@ fn holds(
                 schema,
                 depths,
                 levels,
+                left,
             ),
             _ => false,
         },
@@ -137,67 +189,63 @@ fn are_fields(
     depths: &Option<Vec<Vec<u8>>>,
     levels: u8,
     id: TypeId,
+    left: &mut u32,
 ) -> bool
     requires known { AreKnown schema.now levels depths.now }
     requires of { AreOf schema.now id.index (map component_of components.now) }
-    ensures { IsTrue result
+    ensures is { IsTrue result
         ↔ AreComponents schema.now levels (map component_of components.now) (row_of_options (map (option_map abstract) values.now))
         × GroupsAreWhole (map component_of components.now) (row_of_options (map (option_map abstract) values.now)) }
+    ensures nodes { IsTrue result
+        → left.new ≡ left.old - row_nodes (row_of_options (map (option_map abstract) values.now)) }
 {
     if components.len() != values.len() {
         return false;
     }
-    are_components(components, values, schema, depths, levels, id) && are_whole(components, values)
-}
-
-/// Whether these are the components of a value, of whole groups or not.
-#[cycle(within)]
-fn are_components(
-    components: &[Component],
-    values: &[Option<Value>],
-    schema: &Schema,
-    depths: &Option<Vec<Vec<u8>>>,
-    levels: u8,
-    id: TypeId,
-) -> bool
-    requires long { length components.now ≡ length values.now }
-    requires known { AreKnown schema.now levels depths.now }
-    requires of { AreOf schema.now id.index (map component_of components.now) }
-    ensures { IsTrue result
-        ↔ AreComponents schema.now levels (map component_of components.now) (row_of_options (map (option_map abstract) values.now)) }
-{
     for i in 0..components.len() {
-        let depth = depth_of(depths, id, i);
-        if !is_component(&components[i], &values[i], schema, depths, levels, depth) {
+        let component = &components[i];
+        let value = &values[i];
+        if !is_component(component, value, schema, depths, levels, id, i, left) {
+            return false;
+        }
+        if !is_kept(component, value, components, values) {
             return false;
         }
     }
     true
 }
 
-/// Whether it is a value of the component, or none where that may be.
+/// Whether it is a value of the component at this place, or none where that may be.
 #[cycle(within)]
+#[inline(always)]
 fn is_component(
     component: &Component,
     value: &Option<Value>,
     schema: &Schema,
     depths: &Option<Vec<Vec<u8>>>,
     levels: u8,
-    depth: Option<u8>,
+    id: TypeId,
+    place: usize,
+    left: &mut u32,
 ) -> bool
     requires known { AreKnown schema.now levels depths.now }
-    requires depth { IfSome depth (IsDepth schema.now levels (component_of component.now)) }
-    ensures { IsTrue result
+    requires depth { IfSome (option_map (λ v. depth_at (rows_of v.items) id.index place) depths.now)
+        (IsDepth schema.now levels (component_of component.now)) }
+    ensures is { IsTrue result
         ↔ IsComponent schema.now levels (component_of component.now) (option_map abstract value.now) }
+    ensures nodes { IsTrue result → left.new ≡ left.old - nodes_of (option_map abstract value.now) }
 {
     match value {
-        Some(value) => is_within(value, schema, depths, levels, component.ty),
+        Some(value) => is_judged(value, schema, depths, levels, component.ty, left),
         None => match &component.presence {
             Presence::Mandatory => false,
             Presence::Optional => true,
-            Presence::Default(default) => match depth {
+            Presence::Default(default) => match depth_of(depths, id, place) {
                 Some(least) => least <= levels,
-                None => is_within(default, schema, depths, levels, component.ty),
+                None => {
+                    let mut others = 0;
+                    is_judged(default, schema, depths, levels, component.ty, &mut others)
+                }
             },
             Presence::Addition(_) => true,
         },
@@ -213,17 +261,19 @@ fn are_elements(
     schema: &Schema,
     depths: &Option<Vec<Vec<u8>>>,
     levels: u8,
+    left: &mut u32,
 ) -> bool
     requires known { AreKnown schema.now levels depths.now }
-    ensures { IsTrue result
+    ensures is { IsTrue result
         ↔ AreElements schema.now levels element.index (row_of_list (map abstract values.now))
         × IsAllowedSize (constraint_of size.now) (members (row_of_list (map abstract values.now))) }
+    ensures nodes { IsTrue result → left.new ≡ left.old - row_nodes (row_of_list (map abstract values.now)) }
 {
     if !is_allowed_size(size, values.len() as u128) {
         return false;
     }
     for i in 0..values.len() {
-        if !is_within(&values[i], schema, depths, levels, element) {
+        if !is_judged(&values[i], schema, depths, levels, element, left) {
             return false;
         }
     }
@@ -239,15 +289,17 @@ fn is_chosen(
     schema: &Schema,
     depths: &Option<Vec<Vec<u8>>>,
     levels: u8,
+    left: &mut u32,
 ) -> bool
     requires known { AreKnown schema.now levels depths.now }
-    ensures { IsTrue result
+    ensures is { IsTrue result
         ↔ IsChosen schema.now levels
         (map alternative_of alternatives.now.root.items ++ map alternative_of alternatives.now.additions.items)
         index (abstract value.now) }
+    ensures nodes { IsTrue result → left.new ≡ left.old - nodes (abstract value.now) }
 {
     match chosen_type(alternatives, index) {
-        Some(id) => is_within(value, schema, depths, levels, id),
+        Some(id) => is_judged(value, schema, depths, levels, id, left),
         None => false,
     }
 }

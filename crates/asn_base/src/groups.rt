@@ -3,7 +3,7 @@
 ghost use Rattle.asn_base.specs.Abstract.{abstract, row_of_options};
 ghost use Rattle.asn_base.specs.Decided.{IsDue, IsPresentOf};
 ghost use Rattle.asn_base.specs.Seen.{component_of, presence_of};
-ghost use Rattle.asn_base.specs.Typed.{GroupsAreWhole, LacksOfGroup, group_of};
+ghost use Rattle.asn_base.specs.Typed.{LacksOfGroup, group_of};
 ghost use Rattle.asn_base.specs.Types.{addition};
 ghost use Rattle.std.specs.Prelude.{◌≡◌, ◌↔◌, ℕ, IsTrue, Some, false, length, map, option_map};
 
@@ -11,6 +11,7 @@ use crate::schema::{Component, Presence};
 use crate::value::Value;
 
 /// The group of a component, if it has one.
+#[inline(always)]
 fn group(presence: &Presence) -> Option<usize>
     ensures { result ≡ group_of (presence_of presence.now) }
 {
@@ -58,6 +59,7 @@ fn lacks(group: usize, components: &[Component], values: &[Option<Value>]) -> bo
 }
 
 /// The group of a component that is present.
+#[inline(always)]
 fn standing_group(component: &Component, value: &Option<Value>) -> Option<usize>
     ensures { (g : ℕ) → (result ≡ Some g ↔ IsPresentOf g (component_of component.now) (option_map abstract value.now)) }
 {
@@ -67,8 +69,10 @@ fn standing_group(component: &Component, value: &Option<Value>) -> Option<usize>
     }
 }
 
-/// Whether no component of this one's group is missing, if it is present.
-fn is_kept(
+/// Whether no component of this one's group is missing, if it is present: groups are whole where this holds of each
+/// component. One of a group that is present costs a look at all components.
+#[inline(always)]
+pub(crate) fn is_kept(
     component: &Component,
     value: &Option<Value>,
     components: &[Component],
@@ -85,19 +89,4 @@ fn is_kept(
         Some(group) => !lacks(group, components, values),
         None => true,
     }
-}
-
-/// Whether groups are whole: where a component of one is present, all of it that are not OPTIONAL are. Each component
-/// of a group that is present costs one look at all components.
-pub(crate) fn are_whole(components: &[Component], values: &[Option<Value>]) -> bool
-    requires { length components.now ≡ length values.now }
-    ensures { IsTrue result
-        ↔ GroupsAreWhole (map component_of components.now) (row_of_options (map (option_map abstract) values.now)) }
-{
-    for i in 0..components.len() {
-        if !is_kept(&components[i], &values[i], components, values) {
-            return false;
-        }
-    }
-    true
 }

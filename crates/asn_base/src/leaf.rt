@@ -16,6 +16,7 @@ use crate::value::Value;
 use limits::MAX_ARCS;
 
 /// Whether the range has the number.
+#[inline(always)]
 fn is_in_range(range: &Range, number: i128) -> bool
     ensures { IsTrue result ↔ IsInRange number (range_of range.now) }
 {
@@ -221,6 +222,47 @@ fn is_relative_oid(numbers: &[u64]) -> bool
     ensures { IsTrue result ↔ IsRelativeOid numbers.now }
 {
     !numbers.is_empty() && numbers.len() <= MAX_ARCS
+}
+
+/// Whether the constraint allows every number, or its first range has this one.
+#[inline(always)]
+fn is_in_first(constraint: &Constraint, number: i128) -> bool
+    ensures { IsTrue result → IsAllowed (constraint_of constraint.now) number }
+{
+    match &constraint.allowed {
+        Some(ranges) => match ranges.as_slice().get(0) {
+            Some(range) => is_in_range(range, number),
+            None => false,
+        },
+        None => true,
+    }
+}
+
+/// Whether the value is surely a truth, NULL, or a number or octets that the constraint's first range allows, and the
+/// kind is such a one: of most values that hold no others, it says so at once.
+#[inline(always)]
+pub(crate) fn fits_at_once(core: &Core, value: &Value) -> bool
+    ensures { IsTrue result → Fits (kind_of core.now) (abstract value.now) }
+{
+    abstract_values();
+    match core {
+        Core::Boolean => match value {
+            Value::Bool(_) => true,
+            _ => false,
+        },
+        Core::Integer(constraint) => match value {
+            Value::Int(number) => {
+                integer_within_limit(*number);
+                is_in_first(constraint, *number)
+            }
+            _ => false,
+        },
+        Core::Null => match value {
+            Value::Null => true,
+            _ => false,
+        },
+        _ => false,
+    }
 }
 
 /// Whether the value is one of a kind that holds no other values.

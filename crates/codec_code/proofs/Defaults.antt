@@ -3,10 +3,11 @@ use Rattle.std.proofs.Common.{◌≡◌, ℕ, zero, suc, Bool, false, List, [], 
 use Rattle.std.specs.List.{AllByRecursion}
 use Rattle.std.specs.Prelude.{◌↔◌, IsTrue, Option, Some, None, slice_get}
 use Rattle.asn_base.specs.Abstract.{AbstractValue, null}
-use Rattle.asn_base.specs.Types.{Presence, mandatory, optional, default, addition, Component, Resolved, Is, Kind, a_sequence, a_set}
-use Rattle.asn_base.specs.Same.{Same}
+use Rattle.asn_base.specs.Types.{Presence, mandatory, optional, default, addition, Component, Resolved, Kind, a_sequence, a_set}
+use Rattle.asn_base.specs.Same.{Same, IsLeaf, Alike, alike, AlikeBy, equal, zeros, alike_sequence, alike_set, alike_sequence_of, alike_set_of, alike_choice}
 use Rattle.asn_base.specs.Schemas.{HasValue, IsSchema, IsSound, components}
-use Rattle.asn_base.specs.Typed.{IsValueWithoutNodes}
+use Rattle.asn_base.specs.Typed.{IsValueWithoutNodes, Fits, fits_boolean, fits_integer, ValueIn, value_in as in_type, ValueOf, of_leaf, of_sequence, of_set, of_sequence_of, of_set_of, of_choice}
+use Rattle.codec_code.specs.Plain.{IsPlain}
 use Rattle.codec_code.specs.Routines.{component_in}
 use Rattle.codec_code.specs.Steps.{IsDefaultAt, IsTheDefault}
 
@@ -84,3 +85,39 @@ is_known s c d h e = (h d e).shaped
 
 pub not_of_type : (b : Bool) (s : List Resolved) (t : ℕ) (v w : AbstractValue) → b ≡ false → IsTrue b ↔ IsValueWithoutNodes s t v → IsTrue false ↔ Same s t v w
 not_of_type b s t v w e h = ((λ z. absurd (never z)), λ a. absurd (never (subst IsTrue e (h.1 a.first))))
+
+-- ---- a truth or a number is the same as an equal one alone
+
+plain_leaf : {k : Kind} {w : AbstractValue} → IsPlain w → Fits k w → IsLeaf k
+plain_leaf p fits_boolean = tt
+plain_leaf p (fits_integer l a) = tt
+plain_leaf p f = absurd p
+
+plain_by : {s : List Resolved} {n : ℕ} {k : Kind} {w : AbstractValue} → IsPlain w → ValueOf s n k w → AlikeBy s k w w
+plain_by p (of_leaf f) = equal (plain_leaf p f)
+plain_by p (of_sequence a g) = absurd p
+plain_by p (of_set a g) = absurd p
+plain_by p (of_sequence_of a g) = absurd p
+plain_by p (of_set_of a g) = absurd p
+plain_by p (of_choice a g) = absurd p
+
+plain_alike : {s : List Resolved} {n t : ℕ} {w : AbstractValue} → IsPlain w → ValueIn s n t w → Alike s t w w
+plain_alike p (in_type i a) = alike i (plain_by p a)
+
+equal_by : {s : List Resolved} {k : Kind} {v w : AbstractValue} → IsPlain w → AlikeBy s k v w → v ≡ w
+equal_by p (equal l) = refl
+equal_by p (zeros m n e) = absurd p
+equal_by p (alike_sequence a) = absurd p
+equal_by p (alike_set a) = absurd p
+equal_by p (alike_sequence_of a) = absurd p
+equal_by p (alike_set_of a) = absurd p
+equal_by p (alike_choice g a) = absurd p
+
+plain_equal : {s : List Resolved} {t : ℕ} {v w : AbstractValue} → IsPlain w → Alike s t v w → v ≡ w
+plain_equal p (alike i a) = equal_by p a
+
+pub plain_same : (b : Bool) (s : List Resolved) (t : ℕ) (v w : AbstractValue) → IsValueWithoutNodes s t w → IsPlain w → IsTrue b ↔ (v ≡ w) → IsTrue b ↔ Same s t v w
+plain_same b s t v w k p h = (
+  (λ z. subst (λ q. Same s t q w) (sym (h.0 z)) (record { first = k; second = k; are_alike = plain_alike p k })),
+  λ a. h.1 (plain_equal p a.are_alike),
+)

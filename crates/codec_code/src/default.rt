@@ -5,11 +5,13 @@ ghost use Rattle.asn_base.specs.Same.{Same};
 ghost use Rattle.asn_base.specs.Schemas.{HasValue, components};
 ghost use Rattle.asn_base.specs.Seen.{component_of, kind_of};
 ghost use Rattle.asn_base.specs.Typed.{IsValueWithoutNodes};
+ghost use Rattle.codec_code.specs.Plain.{IsPlain};
 ghost use Rattle.codec_code.specs.Routines.{component_in};
 ghost use Rattle.codec_code.specs.Steps.{IsDefaultAt, IsTheDefault};
-ghost use Rattle.std.specs.Prelude.{◌≡◌, ◌↔◌, IsTrue, MatchOption, None, Some, map};
+ghost use Rattle.std.specs.Prelude.{◌≡◌, ◌↔◌, IfSome, IsTrue, MatchOption, None, Some, map};
 
 use asn_base::decide::is_value_without_nodes;
+use asn_base::law::abstract_values;
 use asn_base::same::same_values;
 use asn_base::schema::{Component, Core, Presence, Schema, TypeId};
 use asn_base::value::Value;
@@ -72,11 +74,34 @@ fn is_the_default(schema: &Schema, component: &Component, value: &Value) -> bool
     }
 }
 
+/// Whether two truths or two numbers are equal; None of all other values.
+#[inline(always)]
+fn equal_at_once(value: &Value, known: &Value) -> Option<bool>
+    ensures plain { IfSome result (λ equal. IsPlain (abstract known.now)) }
+    ensures equal { IfSome result (λ equal. IsTrue equal ↔ (abstract value.now ≡ abstract known.now)) }
+{
+    abstract_values();
+    match value {
+        Value::Bool(one) => match known {
+            Value::Bool(other) => Some(one == other),
+            _ => None,
+        },
+        Value::Int(one) => match known {
+            Value::Int(other) => Some(one == other),
+            _ => None,
+        },
+        _ => None,
+    }
+}
+
 /// Whether a value is the same as one that is known to be of the type.
 #[tactic(auto, using(crate::proofs::Defaults::not_of_type))]
 fn is_the_same(schema: &Schema, id: TypeId, value: &Value, known: &Value) -> bool
     requires { IsValueWithoutNodes schema.now id.index (abstract known.now) }
     ensures { IsTrue result ↔ Same schema.now id.index (abstract value.now) (abstract known.now) }
 {
-    is_value_without_nodes(value, schema, id) && same_values(value, known, schema, id)
+    match equal_at_once(value, known) {
+        Some(equal) => equal,
+        None => is_value_without_nodes(value, schema, id) && same_values(value, known, schema, id),
+    }
 }

@@ -8,14 +8,18 @@ ghost use Rattle.asn_base.specs.Typed.{Fits, IsAllowed, IsAllowedSize, IsInRange
 ghost use Rattle.std.specs.Int.Digits.{AllBelowBase};
 ghost use Rattle.std.specs.List.{AllByRecursion};
 ghost use Rattle.std.specs.Prelude.{◌≡◌, ◌-◌, ◌*◌, ◌<◌, ◌^◌, ◌↔◌, IsTrue, IsUtf8, chars, length, map};
-ghost use Rattle.views.specs.Tree.{bits_in};
+ghost use Rattle.asn_base.specs.Types.{a_boolean, an_integer};
+ghost use Rattle.views.specs.Seen.{IsPart};
+ghost use Rattle.views.specs.Tree.{Tree, bits_in, value_of};
 
 use asn_base::constraint::{Constraint, Range};
 use asn_base::law::integer_within_limit;
 use asn_base::schema::Core;
 use limits::MAX_ARCS;
+use views::Part;
 
 /// Whether the range has the number.
+#[inline(always)]
 fn is_in_range(range: &Range, number: i128) -> bool
     ensures { IsTrue result ↔ IsInRange number (range_of range.now) }
 {
@@ -173,6 +177,64 @@ pub(crate) fn fits_null(core: &Core) -> bool
 {
     match core {
         Core::Null => true,
+        _ => false,
+    }
+}
+
+/// Whether the constraint allows every number, or its first range has this one.
+#[inline(always)]
+fn is_in_first(constraint: &Constraint, number: i128) -> bool
+    ensures { IsTrue result → IsAllowed (constraint_of constraint.now) number }
+{
+    match &constraint.allowed {
+        Some(ranges) => match ranges.as_slice().get(0) {
+            Some(range) => is_in_range(range, number),
+            None => false,
+        },
+        None => true,
+    }
+}
+
+/// Whether a truth is shown.
+#[inline(always)]
+fn shows_truth(part: &Part<'_, '_>) -> bool
+    requires { (t : Tree) × IsPart part.now t }
+    ensures { (t : Tree) → IsPart part.now t → IsTrue result → Fits a_boolean (value_of t) }
+{
+    match part.as_bool() {
+        Some(_) => true,
+        None => false,
+    }
+}
+
+/// Whether a number is shown that the constraint's first range has.
+#[inline(always)]
+fn shows_number(constraint: &Constraint, part: &Part<'_, '_>) -> bool
+    requires { (t : Tree) × IsPart part.now t }
+    ensures { (t : Tree)
+        → IsPart part.now t
+        → IsTrue result
+        → Fits (an_integer (constraint_of constraint.now)) (value_of t) }
+{
+    match part.as_int() {
+        Some(number) => {
+            integer_within_limit(number);
+            is_in_first(constraint, number)
+        }
+        None => false,
+    }
+}
+
+/// Whether the part surely shows a truth, or a number that the constraint's first range has, and the kind is such a
+/// one: of most values that hold no others, it says so at once.
+#[inline(always)]
+pub(crate) fn fits_at_once(core: &Core, part: &Part<'_, '_>) -> bool
+    requires { (t : Tree) × IsPart part.now t }
+    ensures { (t : Tree) → IsPart part.now t → IsTrue result → Fits (kind_of core.now) (value_of t) }
+{
+    match core {
+        Core::Boolean => shows_truth(part),
+        Core::Integer(constraint) => shows_number(constraint, part),
         _ => false,
     }
 }

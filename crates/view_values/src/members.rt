@@ -10,6 +10,7 @@ use views::{Part, Parts};
 /// The component with a number, None where it is absent, and members among which those with greater numbers are found.
 /// Where it is the first of the members, as all are in the order of a SEQUENCE, it is found at once, else in time with
 /// the number of the members.
+#[inline(always)]
 pub(crate) fn taken<'v, 'a>(
     members: &Parts<'v, 'a>,
     number: u32,

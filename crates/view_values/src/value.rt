@@ -4,14 +4,14 @@ ghost use Rattle.asn_base.specs.Abstract.{abstract, row_of_options};
 ghost use Rattle.asn_base.specs.Decided.{IsComponent, IsFlat};
 ghost use Rattle.asn_base.specs.Seen.{component_of, constraint_of, presence_of};
 ghost use Rattle.asn_base.specs.Typed.{AreComponents, AreElements, GroupsAreWhole, IsAllowedSize, IsValueWithoutNodes, MayBeAbsent, ValueIn, members as members'};
-ghost use Rattle.std.specs.Prelude.{◌≡◌, ◌≤◌, IfSome, IsTrue, MatchOption, None, Option as Option', Some, length, map, option_map};
+ghost use Rattle.std.specs.Prelude.{◌≡◌, ◌<◌, ◌≤◌, IfSome, IsTrue, MatchOption, None, Option as Option', Some, length, map, option_map};
 ghost use Rattle.views.specs.Seen.{AreParts, IsPart};
 ghost use Rattle.views.specs.Tree.{Members, Tree, component_value, element_values, placed, value_of};
 
 use crate::groups::have_no_groups;
 use crate::leaf::{
-    allows_size, fits_bits, fits_boolean, fits_integer, fits_null, fits_octets, fits_oid,
-    fits_relative_oid, fits_text,
+    allows_size, fits_at_once, fits_bits, fits_boolean, fits_integer, fits_null, fits_octets,
+    fits_oid, fits_relative_oid, fits_text,
 };
 use crate::members::taken;
 use asn_base::constraint::Constraint;
@@ -42,14 +42,26 @@ fn is_small_value(value: &Value, schema: &Schema, id: TypeId) -> bool
 
 /// Whether it is surely one of the type with at most this many levels.
 #[cycle(within)]
+#[inline(always)]
 fn is_within(part: &Part<'_, '_>, schema: &Schema, levels: u8, id: TypeId) -> bool
     requires { (t : Tree) × IsPart part.now t }
     ensures { (t : Tree) → IsPart part.now t → IsTrue result → ValueIn schema.now levels id.index (value_of t) }
 {
-    abstract_values();
     if levels == 0 || !schema.has(id) {
         return false;
     }
+    fits_at_once(&schema.get(id).core, part) || is_any(part, schema, levels, id)
+}
+
+/// The same of a type that the schema has, whatever its kind.
+#[cycle(within)]
+fn is_any(part: &Part<'_, '_>, schema: &Schema, levels: u8, id: TypeId) -> bool
+    requires some { 0 < levels }
+    requires has { id.index < length schema.now }
+    requires part { (t : Tree) × IsPart part.now t }
+    ensures { (t : Tree) → IsPart part.now t → IsTrue result → ValueIn schema.now levels id.index (value_of t) }
+{
+    abstract_values();
     let core = &schema.get(id).core;
     match part.shown() {
         Shown::Bool(truth) => fits_boolean(core, truth),
@@ -142,6 +154,7 @@ fn are_components(
 
 /// Whether it is surely a value of the component, or none where that may be.
 #[cycle(within)]
+#[inline(always)]
 fn is_component(
     component: &Component,
     found: &Option<Part<'_, '_>>,

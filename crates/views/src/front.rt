@@ -8,6 +8,7 @@ ghost use Rattle.views.specs.Tree.{Members, Tree};
 use crate::node::{Lists, Node, Told};
 
 /// What the first node of a tree tells.
+#[inline(always)]
 pub(crate) fn first_of<'a>(lists: &Lists, nodes: &[Node<'a>]) -> Told<'a>
     requires { (k : ℕ) × (t : Tree) × Spell (beside_of lists.now) nodes.now k t }
     ensures some { 1 ≤ length nodes.now }
@@ -42,6 +43,7 @@ fn span_of(lists: &Lists, nodes: &[Node<'_>], at: usize) -> (u32, usize)
 }
 
 /// The number of the member whose first node stands at a place, and where its nodes end.
+#[inline(always)]
 pub(crate) fn next_of(lists: &Lists, nodes: &[Node<'_>], at: usize) -> (u32, usize)
     requires left { (ms : Members) × Left (beside_of lists.now) nodes.now at ms }
     requires there { at < length nodes.now }
@@ -56,6 +58,7 @@ pub(crate) fn next_of(lists: &Lists, nodes: &[Node<'_>], at: usize) -> (u32, usi
 }
 
 /// The nodes from a place up to another one.
+#[inline(always)]
 pub(crate) fn between<'v, 'a>(nodes: &'v [Node<'a>], from: usize, to: usize) -> &'v [Node<'a>]
     requires ordered { from ≤ to }
     requires within { to ≤ length nodes.now }

@@ -26,6 +26,7 @@ impl Halves {
     }
 
     /// The number of these halves.
+    #[inline(always)]
     pub(crate) fn number(self) -> i128
         ensures { result ≡ number_of self }
     {

@@ -24,6 +24,7 @@ pub struct Parts<'v, 'a> {
 
 impl<'v, 'a> Part<'v, 'a> {
     /// The truth of a BOOLEAN, None of any other value.
+    #[inline(always)]
     pub fn as_bool(&self) -> Option<bool>
         requires { (t : Tree) × IsPart self.now t }
         ensures { (t : Tree) → IsPart self.now t → result ≡ boolean_in t }
@@ -35,6 +36,7 @@ impl<'v, 'a> Part<'v, 'a> {
     }
 
     /// The number of an INTEGER, None of any other value.
+    #[inline(always)]
     pub fn as_int(&self) -> Option<i128>
         requires { (t : Tree) × IsPart self.now t }
         ensures { (t : Tree) → IsPart self.now t → result ≡ integer_in t }
@@ -216,6 +218,7 @@ impl<'v, 'a> Part<'v, 'a> {
 
 impl<'v, 'a> Parts<'v, 'a> {
     /// The next member with the number of the component that it is, and those behind it; None where none is left.
+    #[inline(always)]
     pub fn split(&self) -> Option<(u32, Part<'v, 'a>, Parts<'v, 'a>)>
         requires { (ms : Members) × AreParts self.now ms }
         ensures next { (ms : Members)

@@ -1,6 +1,6 @@
 use mir.Syntax.{w128}
-use mir.Val.{SFits, to_z, of_z}
-use Rattle.std.proofs.Common.{rules, ◌≡◌, sym, ap, ◌∙◌}
+use mir.Val.{SFits, to_z}
+use Rattle.std.proofs.Common.{rules, sym, ap, ◌∙◌}
 use Rattle.std.proofs.lemmas.Int.{to_z-of_z}
 use Rattle.std.proofs.lemmas.Bool.{eqb-true}
 use Rattle.asn_base.proofs.Searched.{item_found}

@@ -5,19 +5,22 @@ use Rattle.view_values.proofs.Rows.{Judged, Listed}
 use Rattle.view_values.proofs.value.+within.Given as goal
 
 abbrev pub decreases-is_within : goal.decreases-is_within
-decreases-is_within l = 5 * l.levels
+decreases-is_within l = 5 * l.levels + 1
+
+abbrev pub decreases-is_any : goal.decreases-is_any
+decreases-is_any l = 5 * l.levels
 
 abbrev pub decreases-are_fields : goal.decreases-are_fields
-decreases-are_fields l = 5 * l.levels + 3
+decreases-are_fields l = 5 * l.levels + 4
 
 abbrev pub decreases-are_components : goal.decreases-are_components
-decreases-are_components l = 5 * l.levels + 2
+decreases-are_components l = 5 * l.levels + 3
 
 abbrev pub decreases-is_component : goal.decreases-is_component
-decreases-is_component l = 5 * l.levels + 1
+decreases-is_component l = 5 * l.levels + 2
 
 abbrev pub decreases-are_elements : goal.decreases-are_elements
-decreases-are_elements l = 5 * l.levels + 1
+decreases-are_elements l = 5 * l.levels + 2
 
 abbrev pub invariant-are_components-loop-i : goal.invariant-are_components-loop-i
 invariant-are_components-loop-i l = (ms : Members) → AreParts l.members ms → Judged l.schema l.levels l.components l.size ms l.i l.left
