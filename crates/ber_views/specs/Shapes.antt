@@ -1,9 +1,10 @@
 -- What node of a view stands for a value of each type, as its routine tells it.
-use Rattle.std.specs.Prelude.{ℕ, suc, List, [], ◌∷◌, length}
+use Rattle.std.specs.Prelude.{suc, List, [], ◌∷◌, length}
 use Rattle.asn_base.specs.Types.{Kind, a_sequence, a_set, a_sequence_of, a_set_of}
 use Rattle.codec_code.specs.declared.step.Step.{Step}
 use Rattle.codec_code.specs.declared.step.Step.TheVariants.{Head, Leaf, Field, Ranked, Each, EachSorted, Pick}
 use Rattle.codec_code.specs.declared.step.Step.TheVariants.{Call, Rest, End}
+use Rattle.codec_code.specs.Briefs.{fields_in}
 use Rattle.ber_views.specs.declared.shape.Shape.{Shape}
 use Rattle.ber_views.specs.declared.shape.Shape.TheVariants as shapes
 
@@ -14,13 +15,6 @@ shape_of (a_set e cs) = shapes.Row (length cs)
 shape_of (a_sequence_of c u) = shapes.List
 shape_of (a_set_of c u) = shapes.List
 shape_of k = shapes.Bare
-
--- how many components steps read
-abbrev pub fields_in : List Step → ℕ
-fields_in [] = 0
-fields_in (Field f ∷ ss) = suc (fields_in ss)
-fields_in (Ranked f r ∷ ss) = suc (fields_in ss)
-fields_in (s ∷ ss) = fields_in ss
 
 -- the same by the steps of a routine
 abbrev pub shape_in : List Step → Shape

@@ -10,10 +10,10 @@ ghost use Rattle.views.specs.Building.{begun};
 ghost use Rattle.views.specs.Seen.{Holds};
 
 use crate::leaf::push_held;
-use crate::shape::{Shape, shape_of};
+use crate::shape::{Shape, shape_at};
 use asn_base::schema::TypeId;
 use ber_source::{Held, Holding, Mark};
-use codec_code::{Code, Coding};
+use codec_code::Code;
 use std::alloc::{AllocError, Global};
 use views::Builder;
 
@@ -33,7 +33,7 @@ fn begin<'a>(code: &Code, build: &mut Build<'a>, id: TypeId) -> Result<(), Alloc
         → IsBefore code.now m w (begun' id ∷ ts) build.old
         → OnOk result (IsBefore code.now m w ts build.new) }
 {
-    match shape_of(code.steps(id, Coding::Tagged)) {
+    match shape_at(code, id) {
         Shape::Row(size) => {
             build.builder.open_fields(build.number, size)?;
             build.number = 0;

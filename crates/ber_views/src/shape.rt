@@ -1,9 +1,12 @@
 //! What node of a view stands for a value of each type.
 
-ghost use Rattle.ber_views.specs.Shapes.{fields_in as fields_in', shape_in};
+ghost use Rattle.ber_views.specs.Shapes.{shape_in};
+ghost use Rattle.codec_code.specs.Briefs.{fields_in as fields_in'};
+ghost use Rattle.codec_code.specs.Routines.{routine_at};
 ghost use Rattle.std.specs.Prelude.{◌≡◌, ◌≤◌, length};
 
-use codec_code::Step;
+use asn_base::schema::TypeId;
+use codec_code::{Brief, Code, Coding, Step};
 
 /// A row of so many components, a list of elements, or none of its own: a value that holds no others, or an
 /// alternative, whose number is told behind its begin.
@@ -45,5 +48,18 @@ pub(crate) fn shape_of(steps: &[Step]) -> Shape
         Step::Ranked(_, _) => Shape::Row(fields_in(steps)),
         Step::Rest => Shape::Row(0),
         Step::End => Shape::Row(0),
+    }
+}
+
+/// The node of a value of the type, without a walk over its routine where few words say what that is.
+#[inline(always)]
+pub(crate) fn shape_at(code: &Code, id: TypeId) -> Shape
+    ensures { result ≡ shape_in (routine_at code.now id.index) }
+{
+    match code.brief(id) {
+        Brief::Leaf(_, _) => Shape::Bare,
+        Brief::Components(_, count) => Shape::Row(count),
+        Brief::Elements(_) => Shape::List,
+        Brief::Any => shape_of(code.steps(id, Coding::Tagged)),
     }
 }

@@ -9,3 +9,4 @@ pub mod Told
 pub mod Stands
 pub mod Some
 pub mod Defaults
+pub mod BriefLists

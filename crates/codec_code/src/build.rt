@@ -1,14 +1,16 @@
 //! From a schema to its routines.
 
 ghost use Rattle.asn_base.specs.Seen.{types_of};
+ghost use Rattle.codec_code.specs.Briefs.{AreBriefs};
 ghost use Rattle.codec_code.specs.Routines.{starts_of, table_of};
 ghost use Rattle.std.specs.Prelude.{◌≡◌, IfOk};
 
-use crate::code::Code;
+use crate::brief::{Brief, brief_of};
+use crate::code::{Code, routine};
 use crate::fault::Fault;
 use crate::routine::push_routine;
 use crate::step::Step;
-use asn_base::schema::{Resolved, Schema};
+use asn_base::schema::{Resolved, Schema, TypeId};
 use std::alloc::Global;
 
 /// All routines in one table, and where each begins.
@@ -23,7 +25,32 @@ pub fn compile(alloc: Global, schema: &Schema) -> Result<Code, Fault>
     ensures { IfOk result (λ code. code ≡ schema.now) }
 {
     let table = all_routines(alloc, schema.types())?;
-    Ok(Code::of(schema.copy(alloc)?, table))
+    let briefs = all_briefs(
+        alloc,
+        schema,
+        table.steps.as_slice(),
+        table.starts.as_slice(),
+    )?;
+    Ok(Code::of(schema.copy(alloc)?, table, briefs))
+}
+
+/// What is said in few words of the routine of each type.
+fn all_briefs(
+    alloc: Global,
+    schema: &Schema,
+    steps: &[Step],
+    starts: &[usize],
+) -> Result<Vec<Brief>, Fault>
+    requires steps { steps.now ≡ table_of schema.now }
+    requires starts { starts.now ≡ starts_of schema.now }
+    ensures { IfOk result (λ bs. AreBriefs schema.now bs.items) }
+{
+    let mut briefs = Vec::new(alloc);
+    for i in 0..schema.types().len() {
+        let id = TypeId { index: i };
+        briefs.push(brief_of(routine(schema, steps, starts, id)))?;
+    }
+    Ok(briefs)
 }
 
 fn all_routines(alloc: Global, types: &[Resolved]) -> Result<Table, Fault>

@@ -3,12 +3,14 @@
 ghost use Rattle.asn_base.specs.Abstract.{abstract};
 ghost use Rattle.asn_base.specs.Schemas.{IsSchema};
 ghost use Rattle.asn_base.specs.Typed.{IsValue, IsValueWithoutNodes};
+ghost use Rattle.codec_code.specs.Briefs.{AreBriefs, IsBrief};
 ghost use Rattle.codec_code.specs.Routines.{routine_at, starts_of, steps_at, table_of};
 ghost use Rattle.codec_code.specs.Steps.{IsDefaultAt};
 ghost use Rattle.std.specs.Prelude.{◌≡◌, ◌-◌, ◌<◌, ◌≤◌, ◌↔◌, IsTrue, drop, length, slice_get, take};
 ghost use Rattle.views.specs.Seen.{IsPart};
 ghost use Rattle.views.specs.Tree.{Tree, value_of};
 
+use crate::brief::{Brief, brief_in};
 use crate::build::Table;
 use crate::default::is_default_at;
 use crate::step::{Coding, Step};
@@ -26,6 +28,7 @@ pub struct Code {
     schema: Schema,
     steps: Vec<Step>,
     starts: Vec<usize>,
+    briefs: Vec<Brief>,
 }
 
 impl Model for Code {
@@ -40,21 +43,25 @@ impl Model for Code {
 
     ghost view = { λ c. c.schema };
 
+    ghost use Rattle.codec_code.specs.Briefs.{AreBriefs};
     ghost use Rattle.codec_code.specs.Routines.{starts_of, table_of};
 
-    ghost invariant = { λ c. (c.steps.items ≡ table_of c.schema) × (c.starts.items ≡ starts_of c.schema) };
+    ghost invariant = { λ c. (c.steps.items ≡ table_of c.schema) × (c.starts.items ≡ starts_of c.schema)
+        × AreBriefs c.schema c.briefs.items };
 }
 
 impl Code {
-    pub(crate) fn of(schema: Schema, table: Table) -> Self
+    pub(crate) fn of(schema: Schema, table: Table, briefs: Vec<Brief>) -> Self
         requires steps { table.steps.items ≡ table_of schema }
         requires starts { table.starts.items ≡ starts_of schema }
+        requires briefs { AreBriefs schema briefs.items }
         ensures { result ≡ schema }
     {
         Code {
             schema,
             steps: table.steps,
             starts: table.starts,
+            briefs,
         }
     }
 
@@ -106,6 +113,15 @@ impl Code {
         is_default_at(&self.schema, id, place, value)
     }
 
+    /// What the routine of the type for encodings with tags is, where few words say it: no walk over its steps is needed
+    /// then.
+    #[inline(always)]
+    pub fn brief(&self, id: TypeId) -> Brief
+        ensures { IsBrief result (routine_at self.now id.index) }
+    {
+        brief_in(&self.schema, self.briefs.as_slice(), id)
+    }
+
     /// The routine of the type, for encodings with tags. There are no steps where there is no such type; for the packed
     /// encodings there are none yet.
     pub fn steps(&self, id: TypeId, coding: Coding) -> &[Step]
@@ -125,7 +141,12 @@ impl Code {
 
 /// The routine of the type, in the table.
 #[tactic(auto, using(crate::proofs::Table::is_order, crate::proofs::Table::is_within, crate::proofs::Table::is_routine, crate::proofs::Table::no_start, crate::proofs::Table::no_end))]
-fn routine<'a>(schema: &Schema, steps: &'a [Step], starts: &[usize], id: TypeId) -> &'a [Step]
+pub(crate) fn routine<'a>(
+    schema: &Schema,
+    steps: &'a [Step],
+    starts: &[usize],
+    id: TypeId,
+) -> &'a [Step]
     requires steps { steps.now ≡ table_of schema.now }
     requires starts { starts.now ≡ starts_of schema.now }
     ensures { result.now ≡ routine_at schema.now id.index }

@@ -1,6 +1,7 @@
 //! Codec programs: for each type of a schema a routine of steps, which writers and readers run.
 #![tactic(auto)]
 
+mod brief;
 mod build;
 mod code;
 mod default;
@@ -11,6 +12,7 @@ mod order;
 mod routine;
 mod step;
 
+pub use brief::Brief;
 pub use build::compile;
 pub use code::Code;
 pub use fault::Fault;

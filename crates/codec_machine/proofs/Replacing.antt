@@ -99,36 +99,33 @@ module _ (s : List Resolved) (id : TypeId) (olds : List Frame) where
     }
 
     -- a component that holds no others, told at once
-    pub field_whole : (f : Field') (news : List Frame) (ss : Bor (List Step)) (w : Bor Value) (h : Head') (k : LeafKind)
-        (x : List ℕ)
+    pub field_whole : (f : Field') (news : List Frame) (w : Bor Value) (h : Head') (k : LeafKind) (x : List ℕ)
         → WritesIt s id.index f (abstract v.now) (abstract w.now)
-        → ss.now ≡ routine_at s f.ty.index
-        → ss.now ≡ Head h ∷ Leaf k ∷ End ∷ []
+        → routine_at s f.ty.index ≡ Head h ∷ Leaf k ∷ End ∷ []
         → HasContents k (abstract w.now) x
         → news ≡ olds ++ Routine id rest v ∷ []
         → ReplacedBy s id.index (Field f ∷ rest.now) (abstract v.now)
         (opens h.tag h.constructed h.row ∷ puts x ∷ closes ∷ []) olds news
-    field_whole f news ss w h k x o e d has is = record {
+    field_whole f news w h k x o e has is = record {
       pushed = Routine id rest v ∷ [];
       is = is;
       left = λ es l.
           let told = opens h.tag h.constructed h.row ∷ puts x ∷ closes ∷ [] in
           subst (λ q. Steps s id.index (Field f ∷ rest.now) q (told ++ es)) (sym o.is)
-          (written o.written (subst (λ q. Steps s f.ty.index q (abstract w.now) told) (sym d ∙ e) (head (leaf has (ending finished)))) (subst (λ q. Steps s id.index rest.now q es) o.is (one_left s (Routine id rest v) es l)) refl);
+          (written o.written (subst (λ q. Steps s f.ty.index q (abstract w.now) told) (sym e) (head (leaf has (ending finished)))) (subst (λ q. Steps s id.index rest.now q es) o.is (one_left s (Routine id rest v) es l)) refl);
       stays = λ es t. let p = behind_field (of_field t) in tell_more s (Routine id rest v) [] p.events p.told (tell_none s);
       less = (let h' = room (total s) (Field f) rest.now (abstract v.now) 0 (omega arith) in omega arith);
     }
 
     -- where it has no contents
-    pub field_untold : (f : Field') (ss : Bor (List Step)) (w : Bor Value) (h : Head') (k : LeafKind) (fault : RunFault)
+    pub field_untold : (f : Field') (w : Bor Value) (h : Head') (k : LeafKind) (fault : RunFault)
         → WritesIt s id.index f (abstract v.now) (abstract w.now)
-        → ss.now ≡ routine_at s f.ty.index
-        → ss.now ≡ Head h ∷ Leaf k ∷ End ∷ []
+        → routine_at s f.ty.index ≡ Head h ∷ Leaf k ∷ End ∷ []
         → (fault ≡ NotOfType → HasNoContents k (abstract w.now))
         → IsUntold s id.index (Field f ∷ rest.now) (abstract v.now) fault
-    field_untold f ss w h k fault o e d none = λ n es t.
+    field_untold f w h k fault o e none = λ n es t.
         let held' = held_field (abstract w.now) o (of_field t) in
-        let p = behind_head (subst (λ q. Steps s f.ty.index q (abstract w.now) held'.events) (sym e ∙ d) held'.told) in
+        let p = behind_head (subst (λ q. Steps s f.ty.index q (abstract w.now) held'.events) e held'.told) in
         let q = contents_of_leaf p.told in none n q.0 q.1
 
     pub ranked_in : (f : Field') (r : ℕ) (mids lates news : List Frame) (ss : Bor (List Step)) (w : Bor Value)

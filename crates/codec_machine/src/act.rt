@@ -8,7 +8,7 @@ ghost use Rattle.std.specs.Prelude.{◌++◌, ◌∷◌, [], IfErr, IfOk};
 use crate::backend::Backend;
 use crate::fault::RunFault;
 use crate::frame::Frame;
-use crate::part::{first_step, has_default, leaf_routine, written_value};
+use crate::part::{first_step, has_default, leaf_of, leaf_routine, written_value};
 use crate::push::{add, push_choice, push_each, push_elements, push_parts, push_sorted};
 use asn_base::schema::TypeId;
 use asn_base::value::Value;
@@ -126,19 +126,17 @@ fn field_step<'a, B: Backend<'a>>(
             backend.leave_out(has_default(field.need))?;
             Ok(Frame::Routine(id, rest, value))
         }
-        Some(component) => {
-            let steps = code.steps(field.ty, Coding::Tagged);
-            match leaf_routine(steps) {
-                None => {
-                    add(frames, Frame::Routine(id, rest, value))?;
-                    Ok(Frame::Routine(field.ty, steps, component))
-                }
-                Some((head, kind)) => match backend.whole(head, kind, component) {
-                    Ok(()) => Ok(Frame::Routine(id, rest, value)),
-                    Err(fault) => Err(fault),
-                },
+        Some(component) => match leaf_of(code, field.ty) {
+            None => {
+                let steps = code.steps(field.ty, Coding::Tagged);
+                add(frames, Frame::Routine(id, rest, value))?;
+                Ok(Frame::Routine(field.ty, steps, component))
             }
-        }
+            Some((head, kind)) => match backend.whole(head, kind, component) {
+                Ok(()) => Ok(Frame::Routine(id, rest, value)),
+                Err(fault) => Err(fault),
+            },
+        },
     }
 }
 

@@ -1,6 +1,7 @@
 //! Parts of values, as steps ask for them.
 
 ghost use Rattle.asn_base.specs.Abstract.{AbstractValue, abstract, alternative, fields, list, row_of_list, row_of_options, Row};
+ghost use Rattle.codec_code.specs.Routines.{routine_at};
 ghost use Rattle.codec_code.specs.Steps.{component_at, IsDefaultAt};
 ghost use Rattle.codec_code.specs.Steps as steps;
 ghost use Rattle.codec_code.specs.declared.step.RowKind.TheVariants.{Leaf as LeafRow};
@@ -13,7 +14,7 @@ use crate::fault::RunFault;
 use asn_base::law::abstract_values;
 use asn_base::schema::TypeId;
 use asn_base::value::Value;
-use codec_code::{Code, Field, Head, LeafKind, Need, RowKind, Step};
+use codec_code::{Brief, Code, Field, Head, LeafKind, Need, RowKind, Step};
 
 fn may_be_absent(need: Need) -> bool
     ensures { result ≡ steps.may_be_absent need }
@@ -213,6 +214,19 @@ pub(crate) fn first_step(steps: &[Step]) -> Option<(Step, &[Step])>
         None
     } else {
         Some((steps[0], &steps[1..]))
+    }
+}
+
+/// The header and the kind of contents, where the routine of the type is a header of a value that holds no others, its
+/// contents and the end: that of a type with one tag.
+#[inline(always)]
+pub(crate) fn leaf_of(code: &Code, id: TypeId) -> Option<(Head, LeafKind)>
+    ensures steps { IfSome result (λ p. routine_at code.now id.index ≡ HeadStep p.0 ∷ Leaf p.1 ∷ End ∷ []) }
+    ensures row { IfSome result (λ p. p.0.row ≡ LeafRow) }
+{
+    match code.brief(id) {
+        Brief::Leaf(head, kind) => Some((head, kind)),
+        Brief::Components(_, _) | Brief::Elements(_) | Brief::Any => None,
     }
 }
 

@@ -144,13 +144,13 @@ fn call<'a, S: Source>(
         Ok(()) => {}
         Err(fault) => return Err(fault),
     }
-    let steps = code.steps(id, Coding::Tagged);
-    match leaf_routine(steps) {
+    match leaf_routine(code, id) {
         Some((head, kind)) => match read_whole(head, kind, source) {
             Ok(()) => Ok(Frame { steps: behind }),
             Err(fault) => Err(fault),
         },
         None => {
+            let steps = code.steps(id, Coding::Tagged);
             add(frames, Frame { steps: behind })?;
             Ok(Frame { steps })
         }

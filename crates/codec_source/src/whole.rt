@@ -1,5 +1,6 @@
 //! Values that hold no others, read at once.
 
+ghost use Rattle.codec_code.specs.Routines.{routine_at};
 ghost use Rattle.codec_code.specs.declared.step.Step.{Step as Step'};
 ghost use Rattle.codec_code.specs.declared.step.Step.TheVariants.{End, Head as Head', Leaf};
 ghost use Rattle.codec_source.specs.declared.fault.ReadFault.{ReadFault as ReadFault'};
@@ -9,26 +10,18 @@ ghost use Rattle.std.specs.Prelude.{◌≡◌, ◌≤◌, ◌∷◌, [], IfSome,
 
 use crate::fault::ReadFault;
 use crate::source::Source;
-use codec_code::{Head, LeafKind, Step};
+use asn_base::schema::TypeId;
+use codec_code::{Brief, Code, Head, LeafKind};
 
-/// The header and the kind of contents, where the steps are a header, contents and the end: those of a type with one
-/// tag that holds no others.
+/// The header and the kind of contents, where the routine of the type is a header, contents and the end: that of a type
+/// with one tag that holds no others.
 #[inline(always)]
-pub(crate) fn leaf_routine(steps: &[Step]) -> Option<(Head, LeafKind)>
-    ensures { IfSome result (λ p. steps.now ≡ Head' p.0 ∷ Leaf p.1 ∷ End ∷ []) }
+pub(crate) fn leaf_routine(code: &Code, id: TypeId) -> Option<(Head, LeafKind)>
+    ensures { IfSome result (λ p. routine_at code.now id.index ≡ Head' p.0 ∷ Leaf p.1 ∷ End ∷ []) }
 {
-    if steps.len() != 3 {
-        return None;
-    }
-    match steps[0] {
-        Step::Head(head) => match steps[1] {
-            Step::Leaf(kind) => match steps[2] {
-                Step::End => Some((head, kind)),
-                _ => None,
-            },
-            _ => None,
-        },
-        _ => None,
+    match code.brief(id) {
+        Brief::Leaf(head, kind) => Some((head, kind)),
+        Brief::Components(_, _) | Brief::Elements(_) | Brief::Any => None,
     }
 }
 

@@ -1,6 +1,6 @@
 -- A type's routine begins with the first tags of the type.
 use Rattle.std.proofs.Common.{arith, ◌≡◌, ℕ, zero, suc, ◌<◌, true, false, List, [], ◌∷◌, ◌++◌, length, refl, sym, ap, subst, ◌∙◌}
-use Rattle.std.specs.Prelude.{Option, Some, None, slice_get, IsSomeAnd}
+use Rattle.std.specs.Prelude.{◌↔◌, Option, Some, None, slice_get, IsSomeAnd}
 use Rattle.std.specs.List.{AllByRecursion}
 use Rattle.asn_base.specs.declared.tag.Tag.{Tag}
 use Rattle.asn_base.specs.Schemas.{IsSchema, HasTag}
@@ -8,7 +8,7 @@ use Rattle.asn_base.specs.Tags.{First, first_tag, first_of_choice}
 use Rattle.asn_base.specs.Types.{Alternative, Kind, a_boolean, an_integer, an_enumerated, a_bit_string, a_named_bit_string, an_octet_string, a_null, an_object_identifier, a_relative_oid, a_utf8_string, a_restricted_string, a_sequence, a_set, a_sequence_of, a_set_of, a_choice, Resolved, Is}
 use Rattle.asn_base.specs.declared.schema.TypeId.{TypeId}
 use Rattle.codec_code.specs.declared.step.Step.{Step}
-use Rattle.codec_code.specs.declared.step.Step.TheVariants.{Call}
+use Rattle.codec_code.specs.declared.step.Step.TheVariants.{Head, Leaf, Field, Ranked, Each, EachSorted, Pick, Call, Rest, End}
 use Rattle.codec_code.specs.Routines.{row_of, heads, ends, outermost, tags_at, calls, body, routine_of, routine_at}
 use Rattle.next_tags.specs.Firsts.{head_tag, Begins, begins, AnyBegins, this_begins, later_begins, BeginsWith}
 
@@ -150,3 +150,20 @@ first_begun s t g sc (first_tag {ts = ts} {k = k} i) = subst (BeginsWith s g) (s
 first_begun s t g sc (first_of_choice {e = e} {root = root} {more = more} {a = a} n i get f) =
     let has : HasTag s a.type = all_get (λ a. HasTag s a.type) (root ++ more) n a (sc.sound t [] (a_choice root e more) i).types get in
     subst (BeginsWith s g) (sym (routine_found s t [] (a_choice root e more) i)) (any_of s g (root ++ more) [] n a get (first_tagged s a.type g has f))
+
+tag_same : {g f : Tag} → Some g ≡ Some f → g ≡ f
+tag_same e = cc
+
+-- steps that begin with a header begin with its tag alone
+pub headed : (s : List Resolved) (ss : List Step) (g f : Tag) → head_tag ss ≡ Some f → BeginsWith s g ss ↔ (f ≡ g)
+headed s [] g f e = absurd (none_some e)
+headed s (Head h ∷ ss) g f e = let t = tag_same e in (λ x. sym t ∙ x, λ y. t ∙ y)
+headed s (Leaf k ∷ ss) g f e = absurd (none_some e)
+headed s (Field p ∷ ss) g f e = absurd (none_some e)
+headed s (Ranked p r ∷ ss) g f e = absurd (none_some e)
+headed s (Each t ∷ ss) g f e = absurd (none_some e)
+headed s (EachSorted t ∷ ss) g f e = absurd (none_some e)
+headed s (Pick n ∷ ss) g f e = absurd (none_some e)
+headed s (Call t ∷ ss) g f e = absurd (none_some e)
+headed s (Rest ∷ ss) g f e = absurd (none_some e)
+headed s (End ∷ ss) g f e = absurd (none_some e)

@@ -2,12 +2,12 @@
 
 ghost use Rattle.asn_base.specs.Tags.{First};
 ghost use Rattle.next_tags.specs.Firsts.{AnyBegins, Begins, BeginsBy, BeginsWith, head_tag, tag_in as tag_in'};
-ghost use Rattle.codec_code.specs.Routines.{tags_at};
-ghost use Rattle.std.specs.Prelude.{◌≡◌, ◌↔◌, IsTrue, Some};
+ghost use Rattle.codec_code.specs.Routines.{routine_at, tags_at};
+ghost use Rattle.std.specs.Prelude.{◌≡◌, ◌↔◌, IfSome, IsTrue, Some};
 
 use asn_base::schema::TypeId;
 use asn_base::tag::Tag;
-use codec_code::{Code, Coding, Step};
+use codec_code::{Brief, Code, Coding, Step};
 
 /// Whether the tags are equal.
 #[tactic(auto, using(crate::proofs::Tags::tag_same))]
@@ -125,6 +125,19 @@ fn begins_with(code: &Code, steps: &[Step], tag: Tag) -> bool
     }
 }
 
+/// The tag of the header that the routine of the type begins with, where few words say it.
+#[inline(always)]
+fn first_tag(code: &Code, id: TypeId) -> Option<Tag>
+    ensures { IfSome result (λ g. head_tag (routine_at code.now id.index) ≡ Some g) }
+{
+    match code.brief(id) {
+        Brief::Leaf(head, _) => Some(head.tag),
+        Brief::Components(head, _) => Some(head.tag),
+        Brief::Elements(head) => Some(head.tag),
+        Brief::Any => None,
+    }
+}
+
 /// Whether the tag can stand first before a value of the type: its outermost one, or of an untagged CHOICE that of an
 /// alternative.
 #[inline(always)]
@@ -132,5 +145,8 @@ pub fn can_begin(code: &Code, id: TypeId, tag: Tag) -> bool
     ensures { IsTrue result ↔ First code.now id.index tag }
 {
     code.accepted();
-    begins_with(code, code.steps(id, Coding::Tagged), tag)
+    match first_tag(code, id) {
+        Some(first) => same_tag(first, tag),
+        None => begins_with(code, code.steps(id, Coding::Tagged), tag),
+    }
 }

@@ -20,13 +20,13 @@ returns-in_ok-leave_out-in-None-clause-ok g c = record {
       (c.args.frames.now.items ++ Routine c.args.id c.args.rest c.args.value ∷ []) (match_none (λ w. WritesIt c.args.code.now c.args.id.index c.args.field (abstract c.args.value.now) (abstract w.now)) c.in-Ok.written c.in-Ok.ensures.ok c.in-None.is) refl;
 }
 
-pub returns-in_ok-add-in-None-leaf_routine-clause-ok : goal.returns-in_ok-add-in-None-leaf_routine-clause-ok
-returns-in_ok-add-in-None-leaf_routine-clause-ok g c = record {
+pub returns-in_ok-add-in-None-leaf_of-clause-ok : goal.returns-in_ok-add-in-None-leaf_of-clause-ok
+returns-in_ok-add-in-None-leaf_of-clause-ok g c = record {
   events = [];
   added = (search rules);
   replaced = r.field_in c.args.code.now c.args.id c.args.frames.now.items c.args.rest c.args.value c.args.field c.add.new.frames.items
       (c.add.new.frames.items ++ Routine c.args.field.ty c.steps-steps.result c.in-Some.component ∷ []) c.steps-steps.result c.in-Some.component
-      (match_some (LeavesOut c.args.code.now c.args.id.index c.args.field (abstract c.args.value.now)) (λ w. WritesIt c.args.code.now c.args.id.index c.args.field (abstract c.args.value.now) (abstract w.now)) c.in-Ok.written c.in-Some.component c.in-Ok.ensures.ok c.in-Some.is) c.steps-steps.ensures c.in_ok-add-in-None-leaf_routine.ensures refl;
+      (match_some (LeavesOut c.args.code.now c.args.id.index c.args.field (abstract c.args.value.now)) (λ w. WritesIt c.args.code.now c.args.id.index c.args.field (abstract c.args.value.now) (abstract w.now)) c.in-Ok.written c.in-Some.component c.in-Ok.ensures.ok c.in-Some.is) c.steps-steps.ensures c.in_ok-add-in-None-leaf_of.ensures refl;
 }
 
 pub returns-in-Ok-whole-clause-ok : goal.returns-in-Ok-whole-clause-ok
@@ -35,12 +35,12 @@ returns-in-Ok-whole-clause-ok g c =
       events = _;
       added = h.2;
       replaced = r.field_whole c.args.code.now c.args.id c.args.frames.now.items c.args.rest c.args.value c.args.field
-          (c.args.frames.now.items ++ Routine c.args.id c.args.rest c.args.value ∷ []) c.steps-steps.result c.in-Some.component
-          c.in-Some-leaf_routine.head c.in-Some-leaf_routine.kind h.0 (match_some (LeavesOut c.args.code.now c.args.id.index c.args.field (abstract c.args.value.now)) (λ w. WritesIt c.args.code.now c.args.id.index c.args.field (abstract c.args.value.now) (abstract w.now)) c.in-Ok.written c.in-Some.component c.in-Ok.ensures.ok c.in-Some.is) c.steps-steps.ensures c.in-Some-leaf_routine.ensures.steps h.1 refl;
+          (c.args.frames.now.items ++ Routine c.args.id c.args.rest c.args.value ∷ []) c.in-Some.component
+          c.in-Some-leaf_of.head c.in-Some-leaf_of.kind h.0 (match_some (LeavesOut c.args.code.now c.args.id.index c.args.field (abstract c.args.value.now)) (λ w. WritesIt c.args.code.now c.args.id.index c.args.field (abstract c.args.value.now) (abstract w.now)) c.in-Ok.written c.in-Some.component c.in-Ok.ensures.ok c.in-Some.is) c.in-Some-leaf_of.ensures.steps h.1 refl;
     }
 
 pub returns-in-Err-whole-clause-refused : goal.returns-in-Err-whole-clause-refused
 returns-in-Err-whole-clause-refused g c =
-    r.field_untold c.args.code.now c.args.id c.args.frames.now.items c.args.rest c.args.value c.args.field c.steps-steps.result c.in-Some.component
-    c.in-Some-leaf_routine.head c.in-Some-leaf_routine.kind c.in-Err-whole.fault (match_some (LeavesOut c.args.code.now c.args.id.index c.args.field (abstract c.args.value.now)) (λ w. WritesIt c.args.code.now c.args.id.index c.args.field (abstract c.args.value.now) (abstract w.now)) c.in-Ok.written c.in-Some.component c.in-Ok.ensures.ok c.in-Some.is) c.steps-steps.ensures c.in-Some-leaf_routine.ensures.steps
+    r.field_untold c.args.code.now c.args.id c.args.frames.now.items c.args.rest c.args.value c.args.field c.in-Some.component
+    c.in-Some-leaf_of.head c.in-Some-leaf_of.kind c.in-Err-whole.fault (match_some (LeavesOut c.args.code.now c.args.id.index c.args.field (abstract c.args.value.now)) (λ w. WritesIt c.args.code.now c.args.id.index c.args.field (abstract c.args.value.now) (abstract w.now)) c.in-Ok.written c.in-Some.component c.in-Ok.ensures.ok c.in-Some.is) c.in-Some-leaf_of.ensures.steps
     c.in-Err-whole.ensures.not_of_type

@@ -1,4 +1,4 @@
-use Rattle.std.proofs.Common.{arith, ◌≤◌, ◌<◌, ◌++◌, ◌∷◌, [], length, refl, sym, subst, ◌∙◌}
+use Rattle.std.proofs.Common.{arith, ◌≤◌, ◌<◌, ◌++◌, ◌∷◌, [], length, refl, sym, subst}
 use Rattle.codec_code.specs.Routines.{routine_at, table_of}
 use Rattle.codec_source.specs.declared.frame.Frame.{Frame}
 use Rattle.codec_source.proofs.Running.{same_then, never_begun, called, called_before, less_two, less_whole, within_table}
@@ -29,7 +29,7 @@ returns-in-Ok-read_whole-clause-ok g c =
     let f : Frame = record { steps = c.args.behind } in
     let mids = c.args.frames.now.items ++ f ∷ [] in
     same_then
-    (called_before r g.S.Source.takes g.met.S.Source.one_answer c.args.id c.args.behind.now _ c.args.frames.now.items mids f c.args.source.now c.begin.new.self refl refl (sym c.in-Some.ensures ∙ c.steps-steps.ensures) c.in-Ok.ensures.ok)
+    (called_before r g.S.Source.takes g.met.S.Source.one_answer c.args.id c.args.behind.now _ c.args.frames.now.items mids f c.args.source.now c.begin.new.self refl refl (sym c.in-Some.ensures) c.in-Ok.ensures.ok)
     (c.in-Ok-read_whole.ensures.ok r mids)
 
 pub returns-in-Ok-read_whole-clause-less : goal.returns-in-Ok-read_whole-clause-less
@@ -44,7 +44,7 @@ returns-in-Ok-read_whole-clause-on g c = λ e z s.
     let r = routine_at c.args.code.now in
     let f : Frame = record { steps = c.args.behind } in
     let mids = c.args.frames.now.items ++ f ∷ [] in
-    called_stops_before r g.S.Source.takes (λ a q b. g.S.Source.leaves a q b e) c.args.id c.args.behind.now _ c.args.frames.now.items mids f c.args.source.now c.begin.new.self z refl refl (sym c.in-Some.ensures ∙ c.steps-steps.ensures) c.in-Ok.ensures.ok
+    called_stops_before r g.S.Source.takes (λ a q b. g.S.Source.leaves a q b e) c.args.id c.args.behind.now _ c.args.frames.now.items mids f c.args.source.now c.begin.new.self z refl refl (sym c.in-Some.ensures) c.in-Ok.ensures.ok
     (c.in-Ok-read_whole.ensures.on r mids e z s)
 
 pub returns-in-Err-read_whole-clause-err : goal.returns-in-Err-read_whole-clause-err
@@ -53,12 +53,12 @@ returns-in-Err-read_whole-clause-err g c = λ other z p.
     let f : Frame = record { steps = c.args.behind } in
     let mids = c.args.frames.now.items ++ f ∷ [] in
     c.in-Err-read_whole.ensures.err other r mids z
-    ((called_before r g.S.Source.takes g.met.S.Source.one_answer c.args.id c.args.behind.now _ c.args.frames.now.items mids f c.args.source.now c.begin.new.self refl refl (sym c.in-Some.ensures ∙ c.steps-steps.ensures) c.in-Ok.ensures.ok).to z p)
+    ((called_before r g.S.Source.takes g.met.S.Source.one_answer c.args.id c.args.behind.now _ c.args.frames.now.items mids f c.args.source.now c.begin.new.self refl refl (sym c.in-Some.ensures) c.in-Ok.ensures.ok).to z p)
 
 pub returns-in-Err-read_whole-clause-stopped : goal.returns-in-Err-read_whole-clause-stopped
 returns-in-Err-read_whole-clause-stopped g c = λ other.
     let r = routine_at c.args.code.now in
     let f : Frame = record { steps = c.args.behind } in
     let mids = c.args.frames.now.items ++ f ∷ [] in
-    called_stops_before r g.S.Source.takes (λ a q b. g.S.Source.leaves a q b c.in-Err-read_whole.fault) c.args.id c.args.behind.now _ c.args.frames.now.items mids f c.args.source.now c.begin.new.self c.read_whole.new.source refl refl (sym c.in-Some.ensures ∙ c.steps-steps.ensures) c.in-Ok.ensures.ok
+    called_stops_before r g.S.Source.takes (λ a q b. g.S.Source.leaves a q b c.in-Err-read_whole.fault) c.args.id c.args.behind.now _ c.args.frames.now.items mids f c.args.source.now c.begin.new.self c.read_whole.new.source refl refl (sym c.in-Some.ensures) c.in-Ok.ensures.ok
     (c.in-Err-read_whole.ensures.stopped other r mids)

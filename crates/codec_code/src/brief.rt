@@ -1,0 +1,95 @@
+//! What is known of a routine without a walk over its steps.
+
+ghost use Rattle.codec_code.specs.Briefs.{AreBriefs, IsBrief, fields_in as fields_in'};
+ghost use Rattle.codec_code.specs.Routines.{routine_at};
+ghost use Rattle.codec_code.specs.declared.step.Step.TheVariants.{Head as HeadStep, Leaf as LeafStep};
+ghost use Rattle.std.specs.Prelude.{◌≡◌, ◌≤◌, ◌∷◌, length, slice_get};
+
+use crate::step::{Head, LeafKind, RowKind, Step};
+use asn_base::schema::{Schema, TypeId};
+
+/// What steps are, where few words say it: a header, contents that hold no others, and the end; a header round so many
+/// components of a SEQUENCE; a header round elements in their order; or any steps.
+#[derive(Clone, Copy, Debug)]
+pub enum Brief {
+    Leaf(Head, LeafKind),
+    Components(Head, usize),
+    Elements(Head),
+    Any,
+}
+
+/// How many of the steps are components.
+fn fields_in(steps: &[Step]) -> usize
+    ensures few { result ≤ length steps.now }
+    ensures as_many { result ≡ fields_in' steps.now }
+{
+    match steps.split_first() {
+        Some((Step::Field(_), behind)) => 1 + fields_in(behind),
+        Some((Step::Ranked(_, _), behind)) => 1 + fields_in(behind),
+        Some((_, behind)) => fields_in(behind),
+        None => 0,
+    }
+}
+
+/// What a header and contents that hold no others are with the steps behind them.
+fn with_contents(head: Head, kind: LeafKind, behind: &[Step]) -> Brief
+    ensures { IsBrief result (HeadStep head ∷ LeafStep kind ∷ behind.now) }
+{
+    if head.row != RowKind::Leaf {
+        return Brief::Any;
+    }
+    match behind.split_first() {
+        Some((Step::End, last)) => if last.is_empty() {
+            Brief::Leaf(head, kind)
+        } else {
+            Brief::Any
+        },
+        _ => Brief::Any,
+    }
+}
+
+/// What a header is with the steps behind it.
+fn with_header(head: Head, behind: &[Step]) -> Brief
+    ensures { IsBrief result (HeadStep head ∷ behind.now) }
+{
+    match behind.split_first() {
+        Some((Step::Leaf(kind), last)) => with_contents(head, *kind, last),
+        Some((Step::Field(_), _)) => Brief::Components(head, fields_in(behind)),
+        Some((Step::Each(_), _)) => Brief::Elements(head),
+        _ => Brief::Any,
+    }
+}
+
+/// What steps are, in few words.
+pub(crate) fn brief_of(steps: &[Step]) -> Brief
+    ensures { IsBrief result steps.now }
+{
+    match steps.split_first() {
+        Some((Step::Head(head), behind)) => with_header(*head, behind),
+        _ => Brief::Any,
+    }
+}
+
+/// What is said at a place, if anything is.
+#[inline(always)]
+fn brief_at(briefs: &[Brief], at: usize) -> Option<Brief>
+    ensures { result ≡ slice_get briefs.now at }
+{
+    if at < briefs.len() {
+        Some(briefs[at])
+    } else {
+        None
+    }
+}
+
+/// What is said of the routine of the type.
+#[inline(always)]
+pub(crate) fn brief_in(schema: &Schema, briefs: &[Brief], id: TypeId) -> Brief
+    requires { AreBriefs schema.now briefs.now }
+    ensures { IsBrief result (routine_at schema.now id.index) }
+{
+    match brief_at(briefs, id.index) {
+        Some(brief) => brief,
+        None => Brief::Any,
+    }
+}
