@@ -2,7 +2,9 @@
 //! `specs` compute it, or the first fault with its place and the part of the value that it is in.
 #![tactic(auto)]
 
+mod call;
 pub mod law;
 mod part;
 
+pub use call::{Call, read_call};
 pub use part::Part;
