@@ -155,13 +155,17 @@ fn meant(kinds: &[TokenKind], name: &str) -> Option<&'static str> {
     None
 }
 
-/// What can stand at a place, in words, and what the token there may have been meant for.
+/// What can stand at a place, in words, and what the token there may have been meant for. At the front of a text only the
+/// name of a module can.
 pub fn wanted(
     alloc: Global,
     tokens: &[Token],
     place: usize,
     found: &str,
 ) -> Result<String, AllocError> {
+    if place == 0 {
+        return String::from_str(alloc, ", expected a module, which begins with its name");
+    }
     let front = tokens.get(..place).unwrap_or(tokens);
     let kinds = expected(alloc, front)?;
     let mut words = list(alloc, kinds.as_slice())?;

@@ -60,7 +60,7 @@ x
 2 1 error 2 Limit(Items): m.asn:1:39: an enumeration has at most 1024 items and 64 additions | error 2 Limit(Items): M.w
 2 1 error 2 Limit(NamedBit): m.asn:1:39: a named bit here stands past place 65535 | error 2 Limit(NamedBit): M.w
 2 1 error 2 Limit(Integer): m.asn:1:39: numbers are from -2^127 to 2^127 - 1 | error 2 Limit(Integer): M.w
-30 1 error 30 Twice: m.asn:1:39: the name w, or its number, is given a second time here | error 30 Twice: M.w
+30 1 error 30 Twice: m.asn:1:39: the name w is given a second time here | error 30 Twice: M.w
 31 1 error 31 UnknownName: m.asn:1:39: w has no meaning in the module M that it needs here | error 31 UnknownName: M.w
 32 1 error 32 NotExported: m.asn:1:39: w is not exported by the module that it is imported from | error 32 NotExported: M.w
 33 1 error 33 Circular: m.asn:1:39: the reference to w in the type w leads round in a circle | error 33 Circular: M.w

@@ -2,8 +2,9 @@
 
 use hints::did_you_mean;
 use names::{Limit, NameFault};
-use shown_texts::{shown, word_at};
+use shown_texts::{shown, spelled_at, tokens_in, word_at};
 use std::alloc::{AllocError, Global};
+use text::Token;
 use trees::Spot;
 
 /// A limit that is passed.
@@ -44,6 +45,43 @@ fn of_unknown(alloc: Global, texts: &[Vec<u8>], spot: &Spot) -> Result<String, A
     format!(in alloc; "{name} has no meaning in the module {module} that it needs here{hint}")
 }
 
+/// The place of the token that begins at an octet; behind the last one where none does.
+fn place_of(tokens: &[Token], octet: usize) -> usize {
+    tokens
+        .iter()
+        .position(|token| token.span.start == octet)
+        .unwrap_or(tokens.len())
+}
+
+/// Whether an item at a place has a name of its own in the braces where it stands: a brace opens before it, and not the
+/// same name.
+fn is_alone(text: &[u8], tokens: &[Token], place: usize) -> bool {
+    let name = spelled_at(text, tokens, place);
+    let mut depth: usize = 0;
+    for back in 1..place.saturating_add(1) {
+        let before = place.saturating_sub(back);
+        match spelled_at(text, tokens, before) {
+            "}" | ")" | "]" => depth = depth.saturating_add(1),
+            "{" if depth == 0 => return true,
+            "{" | "(" | "[" => depth = depth.saturating_sub(1),
+            spelled if depth == 0 && spelled == name => return false,
+            _ => {}
+        }
+    }
+    false
+}
+
+/// A name, or the number behind it, that is given twice.
+fn of_twice(alloc: Global, text: &[u8], spot: &Spot) -> Result<String, AllocError> {
+    let name = shown(alloc, spot.name.as_str())?;
+    let tokens = tokens_in(alloc, text)?;
+    let place = place_of(&tokens, spot.at);
+    if place < tokens.len() && is_alone(text, &tokens, place) {
+        return format!(in alloc; "the number of {name} is given a second time here");
+    }
+    format!(in alloc; "the name {name} is given a second time here")
+}
+
 /// A fault of names.
 pub(crate) fn of_names(
     alloc: Global,
@@ -54,10 +92,7 @@ pub(crate) fn of_names(
     match fault {
         NameFault::Memory => String::from_str(alloc, "out of memory"),
         NameFault::Limit(limit, _) => String::from_str(alloc, of_limit(*limit)),
-        NameFault::Twice(spot) => {
-            let name = shown(alloc, spot.name.as_str())?;
-            format!(in alloc; "the name {name}, or its number, is given a second time here")
-        }
+        NameFault::Twice(spot) => of_twice(alloc, text, spot),
         NameFault::UnknownName(spot) => of_unknown(alloc, texts, spot),
         NameFault::NotExported(spot) => {
             let name = shown(alloc, spot.name.as_str())?;

@@ -58,6 +58,19 @@ fn line_from(text: &[u8], from: usize) -> &[u8] {
     }
 }
 
+/// Whether an octet is a hexadecimal digit, in upper or lower case, or white space.
+fn is_digit_or_space(octet: &u8) -> bool {
+    octet.is_ascii_hexdigit() || octet.is_ascii_whitespace()
+}
+
+/// Which mistake digits have that are not those of a hexadecimal string.
+fn wrong_hex(digits: &[u8]) -> &'static str {
+    if digits.iter().all(is_digit_or_space) {
+        return "the digits A to F of a text with H behind it are written in upper case";
+    }
+    "a text with H behind it has the digits 0 to 9 and A to F alone"
+}
+
 /// Which mistake a string has that begins at a place with no token: a text in quotes, or digits between apostrophes.
 pub fn open_string(text: &[u8], place: usize) -> &'static str {
     if text.get(place) == Some(&b'"') {
@@ -69,7 +82,7 @@ pub fn open_string(text: &[u8], place: usize) -> &'static str {
     };
     match digits.get(close.saturating_add(1)) {
         Some(b'B') => "a text with B behind it has the digits 0 and 1 alone",
-        Some(b'H') => "a text with H behind it has the digits 0 to 9 and A to F alone",
+        Some(b'H') => wrong_hex(digits.get(..close).unwrap_or(digits)),
         _ => "neither B nor H stands behind these apostrophes",
     }
 }
