@@ -90,7 +90,7 @@ bounds_are = refl
 optional_is : presence_of Optional ≡ optional
 optional_is = refl
 
-default_is : (v : Value) → presence_of (Default v) ≡ default (abstract v)
+default_is : (v : _) → presence_of (Default v) ≡ default (abstract v.value)
 default_is v = refl
 
 addition_is : presence_of (Addition (record { optional = true; group = Some 3 })) ≡ addition true (Some 3)

@@ -49,7 +49,7 @@ pub(crate) fn is_within(
     if levels == 0 || !schema.has(id) {
         return false;
     }
-    let core = &schema.get(id).core;
+    let core: &Core = &schema.get(id).core;
     fits(core, value) || holds(core, value, schema, depths, levels - 1, id)
 }
 

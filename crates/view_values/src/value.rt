@@ -50,7 +50,7 @@ fn is_within(part: &Part<'_, '_>, schema: &Schema, levels: u8, id: TypeId) -> bo
     if levels == 0 || !schema.has(id) {
         return false;
     }
-    let core = &schema.get(id).core;
+    let core = schema.core(id);
     match part.shown() {
         Shown::Bool(truth) => fits_boolean(core, truth),
         Shown::Int(number) => fits_integer(core, number),

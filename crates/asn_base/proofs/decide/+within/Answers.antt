@@ -1,14 +1,15 @@
 use Rattle.std.proofs.Common.{arith, ◌<◌, ◌≤◌, length, map, sym, subst, ap, ◌∙◌}
 use Rattle.std.proofs.Common.{rules}
-use Rattle.std.specs.Prelude.{IfSome, option_map}
+use Rattle.std.specs.Prelude.{◌↔◌, IfSome, IsTrue, option_map}
+use Rattle.asn_base.specs.declared.value.Value.{Value}
 use Rattle.asn_base.specs.Abstract.{abstract}
 use Rattle.asn_base.specs.Seen.{component_of}
 use Rattle.asn_base.proofs.Leaves.{drop_is, drop_end, yes, no}
 use Rattle.asn_base.specs.Seen.{presence_of, constraint_of}
 use Rattle.asn_base.specs.Depths.{IsDepth}
-use Rattle.asn_base.specs.Typed.{IsAllowedSize}
+use Rattle.asn_base.specs.Typed.{IsAllowedSize, ValueIn}
 use Rattle.asn_base.proofs.DepthLaws.{component_at, known_at, by_depth, at_most}
-use Rattle.asn_base.proofs.Parts.{opened, next_component, no_first, all_components, opened_elements, all_elements, as_many, length_mapped, member_count, absent_at, may_optional, may_addition, by_default, in_leaf, in_holder}
+use Rattle.asn_base.proofs.Parts.{opened, next_component, no_first, all_components, opened_elements, all_elements, as_many, length_mapped, member_count, absent_at, may_optional, may_addition, by_default, in_leaf, in_holder, with_core}
 use Rattle.asn_base.proofs.decide.+within.Goals as goal
 
 pub are_components-returns-then-not-is_component : goal.are_components-returns-then-not-is_component
@@ -69,13 +70,13 @@ is_component-returns-in-Some-depth t c =
     (by_depth c.args.schema.now c.args.levels (component_of c.args.component.now) c.in-Some-depth.least (ap presence_of c.in-Default.is) k (at_most c.in-Some-depth.least c.args.levels))
 
 pub is_component-returns-in-None-depth : goal.is_component-returns-in-None-depth
-is_component-returns-in-None-depth t c = absent_at c.args.schema.now c.args.levels (component_of c.args.component.now) (ap (option_map abstract) c.in-None.is) (by_default (ap presence_of c.in-Default.is) c.is_within-in-None-depth.ensures)
+is_component-returns-in-None-depth t c = absent_at c.args.schema.now c.args.levels (component_of c.args.component.now) (ap (option_map abstract) c.in-None.is) (by_default (ap presence_of c.in-Default.is) (subst (λ (v : Value). IsTrue c.is_within-in-None-depth.result ↔ ValueIn c.args.schema.now c.args.levels c.args.component.now.ty.index (abstract v)) c.deref.ensures c.is_within-in-None-depth.ensures))
 
 pub is_component-returns-in-Addition : goal.is_component-returns-in-Addition
 is_component-returns-in-Addition t c = absent_at c.args.schema.now c.args.levels (component_of c.args.component.now) (ap (option_map abstract) c.in-None.is) (yes (may_addition (ap presence_of c.in-Addition.is)))
 
 pub is_within-returns-then-fits : goal.is_within-returns-then-fits
-is_within-returns-then-fits t c = in_leaf c.args.levels (omega arith) c.get.ensures.is c.fits.ensures c.if-fits.true
+is_within-returns-then-fits t c = in_leaf c.args.levels (omega arith) (with_core c.args.schema.now c.args.id.index c.get.result.now c.get.ensures.is c.deref-core.ensures) c.fits.ensures c.if-fits.true
 
 pub is_within-returns-else-fits : goal.is_within-returns-else-fits
-is_within-returns-else-fits t c = in_holder c.args.levels (omega arith) c.get.ensures.is (λ f. let e = c.fits.ensures.1 f in cc) c.holds.ensures
+is_within-returns-else-fits t c = in_holder c.args.levels (omega arith) (with_core c.args.schema.now c.args.id.index c.get.result.now c.get.ensures.is c.deref-core.ensures) (λ f. let e = c.fits.ensures.1 f in cc) c.holds.ensures

@@ -16,11 +16,11 @@ use Rattle.view_values.proofs.value.+within.Goals as goal
 
 pub is_within-returns-in-Bool : goal.is_within-returns-in-Bool
 is_within-returns-in-Bool t c u p y =
-    leaf_as c.args.schema.now c.args.levels c.args.id.index c.get.result.now _ _ (omega arith) c.get.ensures.is (ap value_of (c.in-Bool.ensures.is u p)) (c.fits_boolean.ensures y)
+    leaf_as c.args.schema.now c.args.levels c.args.id.index c.core-core.result.now _ _ (omega arith) c.core-core.ensures.is (ap value_of (c.in-Bool.ensures.is u p)) (c.fits_boolean.ensures y)
 
 pub is_within-returns-in-Int : goal.is_within-returns-in-Int
 is_within-returns-in-Int t c u p y =
-    leaf_as c.args.schema.now c.args.levels c.args.id.index c.get.result.now _ _ (omega arith) c.get.ensures.is (ap value_of (c.in-Int.ensures.is u p)) (subst (λ z. Fits (kind_of c.get.result.now.core) (integer z)) (to_z-of_z w128 c.in-Int.number (let f : SFits w128 c.in-Int.number = search rules in f)) (c.fits_integer.ensures y))
+    leaf_as c.args.schema.now c.args.levels c.args.id.index c.core-core.result.now _ _ (omega arith) c.core-core.ensures.is (ap value_of (c.in-Int.ensures.is u p)) (subst (λ z. Fits (kind_of c.core-core.result.now) (integer z)) (to_z-of_z w128 c.in-Int.number (let f : SFits w128 c.in-Int.number = search rules in f)) (c.fits_integer.ensures y))
 
 pub is_within-returns-in-Enum : goal.is_within-returns-in-Enum
 is_within-returns-in-Enum t c u p y =
@@ -28,27 +28,27 @@ is_within-returns-in-Enum t c u p y =
 
 pub is_within-returns-in-Null : goal.is_within-returns-in-Null
 is_within-returns-in-Null t c u p y =
-    leaf_as c.args.schema.now c.args.levels c.args.id.index c.get.result.now _ _ (omega arith) c.get.ensures.is (ap value_of (c.in-Null.ensures.is u p)) (c.fits_null.ensures y)
+    leaf_as c.args.schema.now c.args.levels c.args.id.index c.core-core.result.now _ _ (omega arith) c.core-core.ensures.is (ap value_of (c.in-Null.ensures.is u p)) (c.fits_null.ensures y)
 
 pub is_within-returns-in-Bits : goal.is_within-returns-in-Bits
 is_within-returns-in-Bits t c u p y =
-    leaf_as c.args.schema.now c.args.levels c.args.id.index c.get.result.now _ _ (omega arith) c.get.ensures.is (ap value_of (c.in-Bits.ensures.is u p).1) (c.fits_bits.ensures y)
+    leaf_as c.args.schema.now c.args.levels c.args.id.index c.core-core.result.now _ _ (omega arith) c.core-core.ensures.is (ap value_of (c.in-Bits.ensures.is u p).1) (c.fits_bits.ensures y)
 
 pub is_within-returns-in-Octets : goal.is_within-returns-in-Octets
 is_within-returns-in-Octets t c u p y =
-    leaf_as c.args.schema.now c.args.levels c.args.id.index c.get.result.now _ _ (omega arith) c.get.ensures.is (ap value_of (c.in-Octets.ensures.is u p).1) (c.fits_octets.ensures y)
+    leaf_as c.args.schema.now c.args.levels c.args.id.index c.core-core.result.now _ _ (omega arith) c.core-core.ensures.is (ap value_of (c.in-Octets.ensures.is u p).1) (c.fits_octets.ensures y)
 
 pub is_within-returns-in-Text : goal.is_within-returns-in-Text
 is_within-returns-in-Text t c u p y =
-    leaf_as c.args.schema.now c.args.levels c.args.id.index c.get.result.now _ _ (omega arith) c.get.ensures.is (ap value_of (c.in-Text.ensures.is u p).1) (c.fits_text.ensures y)
+    leaf_as c.args.schema.now c.args.levels c.args.id.index c.core-core.result.now _ _ (omega arith) c.core-core.ensures.is (ap value_of (c.in-Text.ensures.is u p).1) (c.fits_text.ensures y)
 
 pub is_within-returns-in-Oid : goal.is_within-returns-in-Oid
 is_within-returns-in-Oid t c u p y =
-    leaf_as c.args.schema.now c.args.levels c.args.id.index c.get.result.now _ _ (omega arith) c.get.ensures.is (ap value_of (c.in-Oid.ensures.is u p)) (c.fits_oid.ensures y)
+    leaf_as c.args.schema.now c.args.levels c.args.id.index c.core-core.result.now _ _ (omega arith) c.core-core.ensures.is (ap value_of (c.in-Oid.ensures.is u p)) (c.fits_oid.ensures y)
 
 pub is_within-returns-in-RelativeOid : goal.is_within-returns-in-RelativeOid
 is_within-returns-in-RelativeOid t c u p y =
-    leaf_as c.args.schema.now c.args.levels c.args.id.index c.get.result.now _ _ (omega arith) c.get.ensures.is (ap value_of (c.in-RelativeOid.ensures.is u p)) (c.fits_relative_oid.ensures y)
+    leaf_as c.args.schema.now c.args.levels c.args.id.index c.core-core.result.now _ _ (omega arith) c.core-core.ensures.is (ap value_of (c.in-RelativeOid.ensures.is u p)) (c.fits_relative_oid.ensures y)
 
 pub is_within-are_fields-requires : goal.is_within-are_fields-requires
 is_within-are_fields-requires t c =
@@ -62,7 +62,7 @@ is_within-returns-in-Sequence t c u p y =
     let s = c.args.schema.now in
     let row = row_of_options (placed c.in-Fields.size (λ i. component_value m.0 i)) in
     let b = subst (λ q. AreComponents s (c.args.levels - 1) (map component_of q) row × GroupsAreWhole (map component_of q) row) c.as_slice.ensures.value a in
-    held_as s c.args.levels c.args.id.index c.get.result.now _ _ _ (omega arith) c.get.ensures.is (ap kind_of c.in-Sequence.is) (ap value_of m.1) (of_sequence b.0 b.1)
+    held_as s c.args.levels c.args.id.index c.core-core.result.now _ _ _ (omega arith) c.core-core.ensures.is (ap kind_of c.in-Sequence.is) (ap value_of m.1) (of_sequence b.0 b.1)
 
 pub is_within-are_fields-requires-in-Set : goal.is_within-are_fields-requires-in-Set
 is_within-are_fields-requires-in-Set t c =
@@ -76,7 +76,7 @@ is_within-returns-in-Set t c u p y =
     let s = c.args.schema.now in
     let row = row_of_options (placed c.in-Fields.size (λ i. component_value m.0 i)) in
     let b = subst (λ q. AreComponents s (c.args.levels - 1) (map component_of q) row × GroupsAreWhole (map component_of q) row) c.as_slice-in-Set.ensures.value a in
-    held_as s c.args.levels c.args.id.index c.get.result.now _ _ _ (omega arith) c.get.ensures.is (ap kind_of c.in-Set.is) (ap value_of m.1) (of_set b.0 b.1)
+    held_as s c.args.levels c.args.id.index c.core-core.result.now _ _ _ (omega arith) c.core-core.ensures.is (ap kind_of c.in-Set.is) (ap value_of m.1) (of_set b.0 b.1)
 
 pub is_within-are_elements-requires : goal.is_within-are_elements-requires
 is_within-are_elements-requires t c =
@@ -87,7 +87,7 @@ pub is_within-returns-in-SequenceOf : goal.is_within-returns-in-SequenceOf
 is_within-returns-in-SequenceOf t c u p y =
     let m = c.in-List.ensures.is u p in
     let a = c.are_elements.ensures m.0 m.2 y in
-    held_as c.args.schema.now c.args.levels c.args.id.index c.get.result.now _ _ _ (omega arith) c.get.ensures.is (ap kind_of c.in-SequenceOf.is) (ap value_of m.1) (of_sequence_of a.0 a.1)
+    held_as c.args.schema.now c.args.levels c.args.id.index c.core-core.result.now _ _ _ (omega arith) c.core-core.ensures.is (ap kind_of c.in-SequenceOf.is) (ap value_of m.1) (of_sequence_of a.0 a.1)
 
 pub is_within-are_elements-requires-in-SetOf : goal.is_within-are_elements-requires-in-SetOf
 is_within-are_elements-requires-in-SetOf t c =
@@ -98,7 +98,7 @@ pub is_within-returns-in-SetOf : goal.is_within-returns-in-SetOf
 is_within-returns-in-SetOf t c u p y =
     let m = c.in-List.ensures.is u p in
     let a = c.are_elements-in-SetOf.ensures m.0 m.2 y in
-    held_as c.args.schema.now c.args.levels c.args.id.index c.get.result.now _ _ _ (omega arith) c.get.ensures.is (ap kind_of c.in-SetOf.is) (ap value_of m.1) (of_set_of a.0 a.1)
+    held_as c.args.schema.now c.args.levels c.args.id.index c.core-core.result.now _ _ _ (omega arith) c.core-core.ensures.is (ap kind_of c.in-SetOf.is) (ap value_of m.1) (of_set_of a.0 a.1)
 
 pub is_within-is_within-requires : goal.is_within-is_within-requires
 is_within-is_within-requires t c =
@@ -109,8 +109,8 @@ pub is_within-returns-in-Some : goal.is_within-returns-in-Some
 is_within-returns-in-Some t c u p y =
     let m = c.in-Alternative.ensures.is u p in
     let s = c.args.schema.now in
-    held_as s c.args.levels c.args.id.index c.get.result.now (kind_of c.get.result.now.core) _ _ (omega arith) c.get.ensures.is refl (ap value_of m.1)
-    (choice_of s (c.args.levels - 1) c.in-Alternative.number (kind_of c.get.result.now.core) _ (value_of m.0) c.in-Some.ensures (c.is_within.ensures m.0 m.2 y))
+    held_as s c.args.levels c.args.id.index c.core-core.result.now (kind_of c.core-core.result.now) _ _ (omega arith) c.core-core.ensures.is refl (ap value_of m.1)
+    (choice_of s (c.args.levels - 1) c.in-Alternative.number (kind_of c.core-core.result.now) _ (value_of m.0) c.in-Some.ensures (c.is_within.ensures m.0 m.2 y))
 
 pub are_components-loop-i-init : goal.are_components-loop-i-init
 are_components-loop-i-init t c = λ ms p. record { rest = ms; are = p; same = λ j l. refl; whole = λ h. h }
