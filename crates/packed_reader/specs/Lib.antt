@@ -4,3 +4,4 @@ pub mod Structures
 pub mod Lists
 pub mod Values
 pub mod Steps
+pub mod Code
