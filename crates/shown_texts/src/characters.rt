@@ -68,8 +68,8 @@ pub fn open_string(text: &[u8], place: usize) -> &'static str {
         return "this apostrophe is not closed on its line";
     };
     match digits.get(close.saturating_add(1)) {
-        Some(b'B') => "a text with B behind it has the digits 0 and 1 alone",
-        Some(b'H') => "a text with H behind it has the digits 0 to 9 and A to F alone",
+        Some(b'B') => "the digits before B are 0 and 1",
+        Some(b'H') => "the digits before H are 0 to 9 and A to F, in upper case",
         _ => "neither B nor H stands behind these apostrophes",
     }
 }
