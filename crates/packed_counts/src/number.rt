@@ -1,7 +1,7 @@
 //! Numbers as bits.
 
 ghost use Rattle.bits.specs.Words.{word};
-ghost use Rattle.std.specs.Prelude.{◌≡◌, ◌≤◌, ◌++◌, OnOk};
+ghost use Rattle.std.specs.Prelude.{◌≡◌, ◌/◌, ◌%◌, ◌^◌, ◌==◌, ◌++◌, OnOk};
 
 use bits::buffer::BitBuf;
 use std::alloc::AllocError;
@@ -9,7 +9,6 @@ use std::alloc::AllocError;
 /// Adds the low `width` bits of a number, the highest first. `AllocError`: more memory was asked for and refused.
 #[tactic(auto, using(crate::proofs::Numbers::one_bit))]
 pub fn push_number(out: &mut BitBuf, number: u128, width: usize) -> Result<(), AllocError>
-    requires { width ≤ 128 }
     ensures { OnOk result (out.new ≡ out.old ++ word width number) }
 {
     if width == 0 {
@@ -19,7 +18,18 @@ pub fn push_number(out: &mut BitBuf, number: u128, width: usize) -> Result<(), A
         out.push_word(number as u64, width)?;
         return Ok(());
     }
-    out.push((number >> (width - 1)) % 2 == 1)?;
+    out.push(bit_at(number, width - 1))?;
     push_number(out, number, width - 1)?;
     Ok(())
+}
+
+/// The bit of a number at a place, from the lowest one.
+#[tactic(auto, using(crate::proofs::Numbers::none_high))]
+fn bit_at(number: u128, place: usize) -> bool
+    ensures { result ≡ (number / 2 ^ place % 2 == 1) }
+{
+    if place >= 128 {
+        return false;
+    }
+    (number >> place) % 2 == 1
 }

@@ -144,7 +144,8 @@ pub(crate) fn push_named_bits(
 /// All bits of octets but the last unused ones, after their number.
 fn push_filled(out: &mut BitBuf, octets: &[u8], unused: u8) -> Result<(), AllocError>
     requires { unused ≤ 8 * length octets.now }
-    ensures { OnOk result (Adds (Counted (singly (take (8 * length octets.now - unused) (octet_bits octets.now)))) out.old out.new) }
+    ensures { OnOk result (Adds (Counted (singly (take (8 * length octets.now - unused) (octet_bits octets.now))))
+        out.old out.new) }
 {
     if octets.len() > MOST_OCTETS {
         return Err(AllocError);

@@ -86,7 +86,8 @@ fn push_added(out: &mut BitBuf, place: usize) -> Result<(), AllocError>
 
 /// The item with this number.
 fn push_item(out: &mut BitBuf, items: &Items, number: i128) -> Result<(), AllocError>
-    requires items { AreItems items.now.extensible (map item_of items.now.root.items) (map item_of items.now.additions.items) }
+    requires items { AreItems items.now.extensible (map item_of items.now.root.items)
+        (map item_of items.now.additions.items) }
     requires has { HasNumber (map item_of items.now.root.items ++ map item_of items.now.additions.items) number }
     ensures { OnOk result (Adds (ItemBits (map item_of items.now.root.items) items.now.extensible
         (map item_of items.now.additions.items) number) out.old out.new) }
@@ -122,7 +123,8 @@ pub(crate) fn push_enumerated(
     items: &Items,
     value: &Value,
 ) -> Result<(), AllocError>
-    requires items { AreItems items.now.extensible (map item_of items.now.root.items) (map item_of items.now.additions.items) }
+    requires items { AreItems items.now.extensible (map item_of items.now.root.items)
+        (map item_of items.now.additions.items) }
     requires fits { Fits (an_enumerated (map item_of items.now.root.items) items.now.extensible
         (map item_of items.now.additions.items)) (abstract value.now) }
     ensures { OnOk result (out.new ≡ out.old ++ leaf_bits (an_enumerated (map item_of items.now.root.items)

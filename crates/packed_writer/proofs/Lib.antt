@@ -1,0 +1,11 @@
+mod Additions
+mod Below
+mod Components
+mod Counting
+mod Defaults
+mod Filling
+mod Fitting
+mod Inside
+mod Rows
+mod Steps
+mod Messages

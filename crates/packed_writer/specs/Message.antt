@@ -1,0 +1,19 @@
+-- What is promised of the octets that are written of a value.
+use Rattle.std.specs.Prelude.{◌≡◌, ◌≤◌, length}
+use Rattle.asn_base.specs.Abstract.{AbstractValue}
+use Rattle.asn_base.specs.Typed.{IsValue}
+use Rattle.asn_base.specs.Types.{TypeNumber, Resolved}
+use Rattle.std.specs.Prelude.{List}
+use Rattle.encodings.specs.Header.{Octets}
+use Rattle.packed_encodings.specs.Lengths.{Bits}
+use Rattle.packed_encodings.specs.Packing.{Packed}
+use Rattle.packed_encodings.specs.Padding.{Padded}
+
+-- they are the bits of a value of the type, filled to octets, and no others are
+pub record IsMessage (s : List Resolved) (t : TypeNumber) (v : AbstractValue) (o : Octets) : Type 0 where
+  pub value : IsValue s t v
+  pub bits : Bits
+  pub packed : Packed s t v bits
+  pub filled : Padded bits o  -- X.691, 11.1
+  pub only : (b : Bits) (p : Octets) → Packed s t v b → Padded b p → p ≡ o
+  pub not_too_long : length o ≤ 16777216

@@ -1,0 +1,27 @@
+//! Why a value was not written.
+
+ghost use Rattle.packed_writer.specs.declared.fault.WriteFault.TheVariants.{Memory};
+ghost use Rattle.std.specs.Prelude.{◌≡◌};
+
+use std::alloc::AllocError;
+use thiserror::Error;
+
+/// Why a value was not written: `Memory`, where more memory was asked for and refused; `NotOfType`, where it is no
+/// value of the type; `TooLong`, where its encoding has more than 16,777,216 octets.
+#[derive(Clone, Copy, Debug, PartialEq, Eq, Error)]
+pub enum WriteFault {
+    #[error("1 Memory")]
+    Memory,
+    #[error("70 NotOfType")]
+    NotOfType,
+    #[error("71 TooLong")]
+    TooLong,
+}
+
+impl From<AllocError> for WriteFault {
+    ghost from_gives = { λ _ e. e ≡ Memory };
+
+    fn from(_error: AllocError) -> WriteFault {
+        WriteFault::Memory
+    }
+}

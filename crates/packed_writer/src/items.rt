@@ -1,0 +1,110 @@
+//! Encodings of elements as items after their number, and their order in a SET OF (X.691, 20 and 22).
+
+ghost use Rattle.asn_base.specs.Seen.{bounds_of};
+ghost use Rattle.packed_counts.specs.Counts.{Adds, HasLeast};
+ghost use Rattle.packed_encodings.specs.Computed as computed;
+ghost use Rattle.packed_encodings.specs.Computed.{sized_bits};
+ghost use Rattle.packed_encodings.specs.Lengths.{Counted, IsInRoot, all_bits};
+ghost use Rattle.packed_encodings.specs.Orders.{Ascending};
+ghost use Rattle.std.specs.List.Sorted.{IsPermutation};
+ghost use Rattle.std.specs.Ordering.{is_lt};
+ghost use Rattle.std.specs.Prelude.{◌≡◌, ◌++◌, OnOk, false, get_or, length, pos};
+
+use asn_base::constraint::Bounds;
+use bits::buffer::BitBuf;
+use packed_counts::law::count_laws;
+use packed_counts::{push_count, push_size};
+use packed_encodings::{function_laws, order_laws};
+use std::alloc::AllocError;
+use std::cmp::Ordering;
+
+/// The bit at a place, 0 past the end.
+fn bit_at(bits: &BitBuf, place: usize) -> bool
+    ensures { result ≡ get_or bits.now place false }
+{
+    match bits.get(place) {
+        Some(bit) => bit,
+        None => false,
+    }
+}
+
+/// Whether the first bits are below the second, where the shorter ones are filled with zeros (22.1).
+fn is_below(first: &BitBuf, second: &BitBuf) -> bool
+    ensures { result ≡ computed.is_below first.now second.now }
+{
+    for place in 0..first.len().max(second.len()) {
+        let one = bit_at(first, place);
+        let two = bit_at(second, place);
+        if one != two {
+            return two;
+        }
+    }
+    false
+}
+
+fn compare(first: &BitBuf, second: &BitBuf) -> Ordering
+    ensures { is_lt result ≡ computed.is_below first.now second.now }
+{
+    if is_below(first, second) {
+        Ordering::Less
+    } else {
+        Ordering::Greater
+    }
+}
+
+/// Items in ascending order.
+pub(crate) fn sort(items: &mut Vec<BitBuf>) -> Result<(), AllocError>
+    ensures same { IsPermutation items.old.items items.new.items }
+    ensures order { OnOk result (Ascending items.new.items) }
+{
+    order_laws();
+    items.sort_by(|first, second| compare(first, second))?;
+    Ok(())
+}
+
+/// All items, one after the other.
+fn push_all(out: &mut BitBuf, items: &[BitBuf]) -> Result<(), AllocError>
+    ensures { OnOk result (out.new ≡ out.old ++ all_bits items.now) }
+{
+    for i in 0..items.len() {
+        out.push_bits(&items[i])?;
+    }
+    Ok(())
+}
+
+/// Items after their number.
+fn push_counted(out: &mut BitBuf, items: &[BitBuf]) -> Result<(), AllocError>
+    ensures { OnOk result (Adds (Counted items.now) out.old out.new) }
+{
+    count_laws();
+    let next = push_count(out, items.len())?;
+    if items.len() < 16384 {
+        push_all(out, items)?;
+        return Ok(());
+    }
+    let (first, rest) = items.split_at(next);
+    push_all(out, first)?;
+    push_counted(out, rest)?;
+    Ok(())
+}
+
+/// Items after their number, as SIZE bounds it.
+pub(crate) fn push_items(
+    out: &mut BitBuf,
+    bounds: &Bounds,
+    items: &[BitBuf],
+) -> Result<(), AllocError>
+    requires least { HasLeast (bounds_of bounds.now) }
+    requires allowed { bounds.now.extensible ≡ false → IsInRoot (bounds_of bounds.now) (pos (length items.now)) }
+    ensures { OnOk result (out.new ≡ out.old ++ sized_bits (bounds_of bounds.now) items.now) }
+{
+    function_laws();
+    let once = push_size(out, bounds, items.len())?;
+    if once {
+        push_all(out, items)?;
+        Ok(())
+    } else {
+        push_counted(out, items)?;
+        Ok(())
+    }
+}

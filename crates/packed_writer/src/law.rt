@@ -1,0 +1,26 @@
+//! What routines are, and what is written.
+
+ghost use Rattle.asn_base.specs.Abstract.{AbstractValue};
+ghost use Rattle.asn_base.specs.Same.{Same};
+ghost use Rattle.asn_base.specs.Types.{Resolved};
+ghost use Rattle.packed_code.specs.Routines.{routine_at};
+ghost use Rattle.packed_encodings.specs.Packing.{Reads};
+ghost use Rattle.packed_writer.specs.Message.{IsMessage};
+ghost use Rattle.packed_writer.specs.proving.Values.{StepsFit};
+ghost use Rattle.std.specs.Prelude.{List, ℕ};
+
+use packed_encodings::writing_laws;
+
+/// The steps of a type's routine are those of its components, elements and alternatives.
+pub(crate) fn routines_fit()
+    ensures { (s : List Resolved) (t : ℕ) → StepsFit s t (routine_at s t) }
+{}
+
+/// What is written of a value is read as a value that is the same, with no additions that the type lacks.
+pub fn written_is_read()
+    ensures { (s : List Resolved) (t : ℕ) (v : AbstractValue) (o : List ℕ)
+        → IsMessage s t v o
+        → (w : AbstractValue) × Same s t v w × Reads s t w 0 o }
+{
+    writing_laws();
+}
