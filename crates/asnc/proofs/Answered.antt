@@ -5,6 +5,7 @@ use Rattle.asn_base.specs.Types.{Resolved}
 use Rattle.encodings.specs.Account.{Account}
 use Rattle.encodings.specs.Encoding.{Der}
 use Rattle.encodings.specs.Rules.{Rules}
+use Rattle.packed_encodings.specs.Packing.{Packed}
 use Rattle.resolve.specs.Program.{Program}
 use Rattle.front_end.specs.Accepted.{AreAccepted, Keeps}
 use Rattle.front_end.specs.Faults.{Stands}
@@ -14,6 +15,7 @@ use Rattle.codec_source.specs.declared.fault.ReadFault.{ReadFault}
 use Rattle.messages.specs.declared.fault.Fault.{Fault}
 use Rattle.messages.specs.declared.fault.Fault.TheVariants as faults
 use Rattle.asnc.specs.Kits.{IsNotOpened}
+use Rattle.asnc.specs.Packing.{HasLongBits, IsNotPacked, IsPacked}
 use Rattle.asnc.specs.Reading.{IsNotReadAs, IsReadAs, IsUnread}
 use Rattle.asnc.specs.Writing.{IsEncoded, IsNotEncoded, StandsForLong}
 use Rattle.named_values.specs.Meant.{IsMeant, IsNotMeant}
@@ -61,6 +63,21 @@ pub written : OneMeaning → Refuses → (p : Program) (s : List Resolved) (firs
     IsEncoded p s first second o a → IsNotEncoded p s first second e → e ≡ faults.Memory
 written one no p s first second o a e kept m (inl h) = no p first second m.type m.value e kept m.meant h
 written one no p s first second o a e kept m (inr h) = absurd (not_long one kept m h.1)
+
+not_long_bits : {p : Program} {s : List Resolved} {first second o : List ℕ} → OneMeaning → Keeps p →
+    IsPacked p s first second o → HasLongBits p s first second → ⊥
+not_long_bits {p} {s} {first} {second} {o} one kept m n =
+    let e = one p first second m.type n.type m.value n.value kept m.meant n.meant in
+    let b = m.message.bits in
+    let d = subst (λ w. Packed s n.type w b) e.1 (subst (λ t. Packed s t m.value b) e.0 m.message.packed) in
+    let g = n.longer b o d m.message.filled in
+    let z = m.message.not_too_long in
+    absurd (omega (arith, g, z))
+
+pub packed : OneMeaning → Refuses → (p : Program) (s : List Resolved) (first second o : List ℕ) (e : Fault) → Keeps p →
+    IsPacked p s first second o → IsNotPacked p s first second e → e ≡ faults.Memory
+packed one no p s first second o e kept m (inl h) = no p first second m.type m.value e kept m.meant h
+packed one no p s first second o e kept m (inr h) = absurd (not_long_bits one kept m h.1)
 
 -- ---- octets
 

@@ -10,6 +10,9 @@ use Rattle.value_text.specs.Print.{print}
 use Rattle.encodings.specs.Encoding.{Ber, Der, EncodesBy, Shortest}
 use Rattle.encodings.specs.Levels.{levels}
 use Rattle.encodings.specs.Rules.{Rules}
+use Rattle.packed_encodings.specs.Lengths.{Bits}
+use Rattle.packed_encodings.specs.Packing.{Packed, Reads}
+use Rattle.packed_encodings.specs.Padding.{Padded}
 use Rattle.trees.specs.Values.{Name, Tree}
 use Rattle.resolve.specs.Program.{Program}
 use Rattle.front_end.specs.Accepted.{Accepted}
@@ -42,6 +45,34 @@ pub record IsRight (texts : List (List ℕ)) (first second o : List ℕ) (a : Ac
   pub account : Tells types type value o a
   -- and the checker says yes to it
   pub checked : IsRightBesideIt types type value o a
+
+-- For these texts of modules, the name of a type and the name of a value, the octets are as they have to be in canonical
+-- PER, unaligned.
+pub record IsRightlyPacked (texts : List (List ℕ)) (first second o : List ℕ) : Type 0 where
+  -- the texts are accepted, as this program with these types
+  pub program : Program
+  pub types : List Resolved
+  pub accepted : Accepted texts program types
+  -- the first name is that of this type; the value of the second name has this notation in this module
+  pub type : ℕ
+  pub within : Name
+  pub notation : Tree
+  pub named : AreNamed program first second type within notation
+  -- the notation stands for this value under the type, and it is one of the type
+  pub value : AbstractValue
+  pub stands : StandsFor program within type notation value
+  pub is : IsValue types type value
+  -- the octets are the bits of the value, filled up, and the only ones
+  pub bits : Bits
+  pub packed : Packed types type value bits
+  pub filled : Padded bits o
+  pub only : (b : Bits) (q : List ℕ) → Packed types type value b → Padded b q → q ≡ o
+  -- they are read as a value that is the same, with no additions that the type lacks
+  pub back : AbstractValue
+  pub same : Same types type value back
+  pub reads : Reads types type back 0 o
+  -- and as no other one
+  pub sole : (w : AbstractValue) (k : ℕ) → Reads types type w k o → (w ≡ back) × (k ≡ 0)
 
 -- For these texts of modules, the name of a type and octets, which are read by these rules, the printed text and the
 -- number are as they have to be.

@@ -10,6 +10,7 @@ ghost use Rattle.front_end.specs.declared.fault.FrontFault.TheVariants.{Memory a
 ghost use Rattle.sinks.specs.Sent.{state};
 ghost use Rattle.messages.specs.declared.fault.Fault.TheVariants.{Device, Front, Memory};
 ghost use Rattle.asnc.specs.Kits.{IsNotOpened};
+ghost use Rattle.asnc.specs.Packing.{IsNotPacked, IsPacked};
 ghost use Rattle.asnc.specs.Reading.{IsNotReadAs, IsReadAs, rules_of};
 ghost use Rattle.asnc.specs.Writing.{IsAccountOf, IsEncoded, IsNotEncoded, IsSent, IsSentInPart};
 ghost use Rattle.named_values.specs.Meant.{IsMeant, IsNotMeant};
@@ -25,6 +26,8 @@ use front_end::{FrontFault, Modules};
 use messages::Fault;
 use named_values::meant;
 use octet_account::account::Account;
+use packed_code::{PackedCode, compile_packed};
+use packed_writer::write_uper;
 use resolve::Linked;
 use sinks::Sink;
 use std::alloc::Global;
@@ -37,6 +40,7 @@ pub struct Kit {
     modules: Modules,
     schema: Schema,
     code: Code,
+    packed: PackedCode,
 }
 
 impl Model for Kit {
@@ -54,7 +58,7 @@ impl Model for Kit {
     ghost use Rattle.std.specs.Prelude.{◌≡◌};
     ghost use Rattle.front_end.specs.Accepted.{HasTypes};
 
-    ghost invariant = { λ k. HasTypes k.modules k.code × (k.schema ≡ k.code) };
+    ghost invariant = { λ k. HasTypes k.modules k.code × (k.schema ≡ k.code) × (k.packed ≡ k.code) };
 }
 
 /// What a fault of texts is to a user.
@@ -78,14 +82,20 @@ fn kit_of(alloc: Global, linked: Linked, schema: Schema) -> Result<Kit, Fault>
     ensures types { IfOk result (λ k. k.types ≡ schema) }
     ensures memory { IfErr result (λ e. e ≡ Memory) }
 {
-    match compile(alloc, &schema) {
-        Ok(code) => Ok(Kit {
-            modules: Modules::of(linked),
-            schema,
-            code,
-        }),
-        Err(codec_code::Fault::Memory) => Err(Fault::Memory),
-    }
+    let code = match compile(alloc, &schema) {
+        Ok(code) => code,
+        Err(codec_code::Fault::Memory) => return Err(Fault::Memory),
+    };
+    let packed = match compile_packed(alloc, &schema) {
+        Ok(packed) => packed,
+        Err(packed_code::Fault::Memory) => return Err(Fault::Memory),
+    };
+    Ok(Kit {
+        modules: Modules::of(linked),
+        schema,
+        code,
+        packed,
+    })
 }
 
 impl Kit {
@@ -208,6 +218,30 @@ impl Kit {
             Err(WriteFault::TooLong) => Err(Fault::TooLong),
             Err(WriteFault::Device(count)) => Err(Fault::Device(count)),
             Err(WriteFault::NotOfType) => unreachable!(),
+        }
+    }
+
+    /// The octets of a value of a type in canonical PER, unaligned: its bits, filled to octets (X.691, 11.1). Both are
+    /// named as for [`Kit::der`], and the value's notation is read under this type.
+    ///
+    /// `NoType` where the first name is no type's, else `NoValue` where the second is no value's; `Value` where the
+    /// value's notation stands for no value of the type; `TooLong` where there are more than 16,777,216 octets; `Memory`.
+    pub fn uper(&self, alloc: Global, ty: &str, value: &str) -> Result<Vec<u8>, Fault>
+        // The octets are the bits of what the value's notation stands for under the type, and the only ones.
+        ensures packed { IfOk result (λ o.
+            IsPacked self.now.program self.now.types ty.now value.now o.items) }
+        // A refusal stands.
+        ensures refused { IfErr result (IsNotPacked self.now.program self.now.types ty.now value.now) }
+    {
+        let (id, typed) = match self.value_of(alloc, ty, value) {
+            Ok(found) => found,
+            Err(fault) => return Err(fault),
+        };
+        match write_uper(alloc, &self.packed, id, &typed) {
+            Ok(octets) => Ok(octets),
+            Err(packed_writer::WriteFault::Memory) => Err(Fault::Memory),
+            Err(packed_writer::WriteFault::TooLong) => Err(Fault::TooLong),
+            Err(packed_writer::WriteFault::NotOfType) => unreachable!(),
         }
     }
 

@@ -11,8 +11,9 @@ ghost use Rattle.messages.specs.declared.fault.Fault.{Fault};
 ghost use Rattle.messages.specs.declared.fault.Fault.TheVariants.{Memory, NoType, Unread};
 ghost use Rattle.messages.specs.declared.fault.Unread.{Unread as Unread'};
 ghost use Rattle.asn_base.specs.Abstract.{AbstractValue};
-ghost use Rattle.asnc.specs.Headline.{IsAnswer, IsMessageOf, IsRight, IsRightlyRead};
+ghost use Rattle.asnc.specs.Headline.{IsAnswer, IsMessageOf, IsRight, IsRightlyPacked, IsRightlyRead};
 ghost use Rattle.asnc.specs.Kits.{IsNotOpened};
+ghost use Rattle.asnc.specs.Packing.{IsNotPacked, IsPacked};
 ghost use Rattle.asnc.specs.Reading.{IsNotReadAs, IsReadAs, rules_of};
 ghost use Rattle.asnc.specs.Writing.{IsAccountOf, IsEncoded, IsNotEncoded};
 ghost use Rattle.account_checker.specs.declared.reason.Verdict.TheVariants.{Yes};
@@ -23,6 +24,7 @@ use asn_base::law::sameness;
 use encodings::{der_laws, level_laws, message_laws};
 use front_end::law::{accepted_keep, faults_exclude};
 use named_values::law::one_meaning;
+use packed_encodings::{message_laws as packed_message_laws, writing_laws};
 
 /// What [`crate::Kit::der`] answers of texts that [`crate::Kit::open`] took is right, from the texts to the octets.
 pub fn headline()
@@ -31,6 +33,18 @@ pub fn headline()
         IsEncoded p s first second o a →
         IsRight xs first second o a }
 {}
+
+/// What [`crate::Kit::uper`] answers of texts that [`crate::Kit::open`] took is right, from the texts to the octets: they
+/// are the bits of the value, the only ones, and are read as a value that is the same, and as no other.
+pub fn packed()
+    ensures { (xs : List (List ℕ)) (p : Program) (s : List Resolved) (first second o : List ℕ) →
+        Accepted xs p s →
+        IsPacked p s first second o →
+        IsRightlyPacked xs first second o }
+{
+    packed_message_laws();
+    writing_laws();
+}
 
 /// What [`crate::Kit::der`] answers of texts that [`crate::Kit::open`] took gets a yes from [`judging::judge`], by the text
 /// of the account beside it, in whatever JSON spelling; and so by what [`crate::Kit::account`] answers.
@@ -98,6 +112,12 @@ pub fn one_answer()
         Accepted xs p s →
         IsEncoded p s first second o a →
         IsNotEncoded p s first second e →
+        e ≡ Memory }
+    // What is packed stands for a value of the type, and its bits are not too long.
+    ensures packed { (xs : List (List ℕ)) (p : Program) (s : List Resolved) (first second o : List ℕ) (e : Fault) →
+        Accepted xs p s →
+        IsPacked p s first second o →
+        IsNotPacked p s first second e →
         e ≡ Memory }
     // What is read encodes a value by the rules.
     ensures read { (p : Program) (s : List Resolved) (r : Rules) (name o printed : List ℕ) (k : ℕ) (e : Fault) →

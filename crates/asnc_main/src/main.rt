@@ -23,6 +23,14 @@ fn write_hex(rt: &HostRuntime, job: &Job, kit: &Kit) -> Result<(), Fault> {
     write(rt, line.as_str())
 }
 
+/// Writes the octets of canonical PER that a job asks for in hexadecimal, with a line end.
+fn write_packed(rt: &HostRuntime, job: &Job, kit: &Kit) -> Result<(), Fault> {
+    let octets = kit.uper(rt.alloc(), job.ty.as_str(), job.value.as_str())?;
+    let mut line = hex::encode_upper(rt.alloc(), octets.as_slice())?;
+    line.push('\n')?;
+    write(rt, line.as_str())
+}
+
 /// Writes the account that a job asks for, with a line end.
 fn write_account(rt: &HostRuntime, job: &Job, kit: &Kit) -> Result<(), Fault> {
     let mut line = kit.account(rt.alloc(), job.ty.as_str(), job.value.as_str())?;
@@ -46,6 +54,7 @@ fn work(rt: &HostRuntime, job: &Job, texts: &[Vec<u8>], octets: &[u8]) -> Result
         Verb::Der if job.raw => write_raw(rt, job, &kit),
         Verb::Der => write_hex(rt, job, &kit),
         Verb::Ber => write_value(rt, job, &kit, octets),
+        Verb::Uper => write_packed(rt, job, &kit),
         Verb::Account => write_account(rt, job, &kit),
         Verb::List => write(rt, kit.list(rt.alloc())?.as_str()),
         Verb::Check => {

@@ -74,11 +74,12 @@ bare_app = record (new_app (codes "asnc")) {
   };
 }
 
--- the commands `der` and `ber`
+-- the commands `der`, `ber` and `uper`
 abbrev pub octets_app : App
-octets_app = with_subcommand (with_subcommand bare_app der_app.top) ber_app.top
+octets_app =
+    with_subcommand (with_subcommand (with_subcommand bare_app der_app.top) ber_app.top) (value_app (codes "uper")).top
 
--- the commands `der`, `ber`, `account` and `list`
+-- the commands `der`, `ber`, `uper`, `account` and `list`
 abbrev pub asnc_app : App
 asnc_app = with_subcommand (with_subcommand octets_app (value_app (codes "account")).top) list_app.top
 
@@ -199,13 +200,15 @@ pub record IsCheckOf (rows : List Row) (job : Job) : Type 0 where
   pub not_raw : job.raw ≡ false
   pub not_strict : job.strict ≡ false
 
--- the job is that of the command of this name, `list`, `ber`, `account` or else `der`
+-- the job is that of the command of this name, `list`, `ber`, `uper`, `account` or else `der`
 pub record IsJobOf (command : Text) (rows : List Row) (job : Job) : Type 0 where
   pub list : command ≡ codes "list" → IsListOf rows job
   pub ber : command ≡ codes "ber" → IsBerOf rows job
+  pub uper : command ≡ codes "uper" → IsValueJobOf verbs.Uper rows job
   pub account : command ≡ codes "account" → IsValueJobOf verbs.Account rows job
   pub der : (command ≡ codes "list" → ⊥)
       → (command ≡ codes "ber" → ⊥)
+      → (command ≡ codes "uper" → ⊥)
       → (command ≡ codes "account" → ⊥)
       → IsDerOf rows job
 

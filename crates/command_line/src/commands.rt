@@ -13,6 +13,7 @@ const AFTER_HELP: &str = "\
 Examples:
   asnc der --type M.T --value M.v m.asn
   asnc ber --type M.T --hex 020105 m.asn
+  asnc uper --type M.T --value M.v m.asn
   asnc account --type M.T --value M.v m.asn
   asnc list m.asn
 
@@ -32,6 +33,12 @@ const BER_EXAMPLES: &str = "\
 Examples:
   asnc ber --type M.T --hex 020105 m.asn
   asnc ber --strict --type M.T --hex @v.der m.asn";
+
+/// What the help of `uper` shows at its end.
+const UPER_EXAMPLES: &str = "\
+Examples:
+  asnc uper --type M.T --value M.v m.asn
+  cat m.asn | asnc uper --context --type M.T --value M.v -";
 
 /// What the help of `account` shows at its end.
 const ACCOUNT_EXAMPLES: &str = "\
@@ -204,6 +211,14 @@ fn ber_command<'a>(alloc: Global) -> Result<Command<'a>, AllocError>
     ber_flags(alloc)?.arg(files_arg(alloc))
 }
 
+fn uper_command<'a>(alloc: Global) -> Result<Command<'a>, AllocError>
+    ensures shape { IfOk result (λ c. app_of c ≡ value_app (codes "uper")) }
+    ensures local { IfOk result (λ c. (out-Command c).has_globals ≡ false) }
+{
+    let about = "Write a value that a module names in canonical PER, unaligned";
+    value_command(alloc, "uper", about, UPER_EXAMPLES)
+}
+
 fn account_command<'a>(alloc: Global) -> Result<Command<'a>, AllocError>
     ensures shape { IfOk result (λ c. app_of c ≡ value_app (codes "account")) }
     ensures local { IfOk result (λ c. (out-Command c).has_globals ≡ false) }
@@ -236,7 +251,8 @@ fn octets_command<'a>(alloc: Global) -> Result<Command<'a>, AllocError>
         .subcommand_required(true)
         .disable_help_subcommand(true)
         .subcommand(der_command(alloc)?)?
-        .subcommand(ber_command(alloc)?)
+        .subcommand(ber_command(alloc)?)?
+        .subcommand(uper_command(alloc)?)
 }
 
 /// The program asnc.

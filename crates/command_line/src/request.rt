@@ -18,6 +18,8 @@ pub enum Verb {
     Der,
     /// To read octets as a value, by the basic encoding rules or by the distinguished ones.
     Ber,
+    /// To write a value by the canonical packed encoding rules, unaligned.
+    Uper,
     /// To write how the distinguished encoding of a value is made up, header by header.
     Account,
     /// To list the types, with what is written of each.

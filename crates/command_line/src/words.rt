@@ -179,6 +179,8 @@ fn job_of(alloc: Global, command: &str, found: &ArgMatches<'_>) -> Result<Job, F
         Ok(list_job(alloc, found)?)
     } else if command == "ber" {
         ber_job(alloc, found)
+    } else if command == "uper" {
+        Ok(value_job(alloc, found, Verb::Uper)?)
     } else if command == "account" {
         Ok(value_job(alloc, found, Verb::Account)?)
     } else {

@@ -58,6 +58,10 @@ fn kit_work(alloc: Global, job: &Job, texts: &[Vec<u8>], octets: &[u8]) -> Resul
             Ok(hex::encode_upper(alloc, octets.as_slice())?)
         }
         Verb::Ber => value_of(alloc, job, &kit, octets),
+        Verb::Uper => {
+            let octets = kit.uper(alloc, job.ty.as_str(), job.value.as_str())?;
+            Ok(hex::encode_upper(alloc, octets.as_slice())?)
+        }
         Verb::Account => kit.account(alloc, job.ty.as_str(), job.value.as_str()),
         Verb::List | Verb::Check => kit.list(alloc),
     }
@@ -222,6 +226,7 @@ pub fn job_of(alloc: Global, row: &Row, program: &str) -> Result<String, Refusal
     let verb = match job.verb {
         Verb::Der => "der",
         Verb::Ber => "ber",
+        Verb::Uper => "uper",
         Verb::Account => "account",
         Verb::List => "list",
         Verb::Check => "check",
