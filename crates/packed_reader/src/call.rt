@@ -59,7 +59,7 @@ fn numbered(calls: &[PackedStep], number: usize) -> Option<Call>
 /// Takes the bits that tell which of a CHOICE's alternatives follows (X.691, 23). The calls are the steps of its routine
 /// after `PackedStep::Pick`.
 ///
-/// `Outside`: the root has no alternative at the place that is told. `UnknownAlternative`: there is no such addition, or its
+/// `Outside`: the root has no alternative at the place that is sent. `UnknownAlternative`: there is no such addition, or its
 /// number is not in the small form. The bits of the place or of the number are not taken then. `Truncated`: the bits end
 /// before.
 pub fn read_call(bits: &mut Bits<'_>, calls: &[PackedStep]) -> Result<Call, Refusal>

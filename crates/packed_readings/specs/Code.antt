@@ -53,7 +53,7 @@ IsStep test items full before after (nexts.More f) b r =
 
 -- ---- numbers
 
--- octets of a number that was told as one of the root, as one outside, and as so far above the least one
+-- octets of a number that is given as one of the root, as one outside, and as so far above the least one
 abbrev pub root_judge : Constraint → Octets → Judged AbstractValue
 root_judge c o = and_then (signed_number o) (root_number c)
 

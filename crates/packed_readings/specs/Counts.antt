@@ -173,7 +173,7 @@ size_from c b =
     else root_size c c.visible.least c.visible.greatest r)
     else root_size c c.visible.least c.visible.greatest b
 
--- why a number of items is refused where it was told as one of the root, or as one outside
+-- why a number of items is refused where it is given as one of the root, or as one outside
 abbrev pub size_fault : Constraint → Bool → ℕ → Option Refusal
 size_fault c outside n =
     if is_in_root c.visible (pos n)

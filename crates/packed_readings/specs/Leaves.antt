@@ -28,14 +28,14 @@ abbrev pub is_within_limit : ℤ → Bool
 is_within_limit (pos n) = nat_lt n (2 ^ 127)
 is_within_limit (negsuc n) = nat_lt n (2 ^ 127)
 
--- a number that was told as one of the root
+-- a number that is given as one of the root
 abbrev pub root_number : Constraint → ℤ → Judged AbstractValue
 root_number c z =
     if is_within_limit z
     then (if is_in_root c.visible z && is_allowed c z then good (integer z) else bad why.Outside)
     else bad why.IntegerLimit
 
--- one that was told as outside the root
+-- one that is given as outside the root
 abbrev pub other_number : Constraint → ℤ → Judged AbstractValue
 other_number c z =
     if is_within_limit z

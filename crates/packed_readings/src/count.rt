@@ -18,7 +18,7 @@ pub enum Count {
     Part(usize),
 }
 
-/// A number of items as it is told, in its canonical form or not.
+/// A number of items as it is sent, in its canonical form or not.
 #[derive(Clone, Copy, Debug)]
 pub(crate) enum ToldCount {
     In7Bits(usize),
@@ -57,7 +57,7 @@ fn read_longer(bits: &mut Bits<'_>) -> Result<ToldCount, Refusal>
     }
 }
 
-/// The number of items, if it is told in its canonical form.
+/// The number of items, if it is sent in its canonical form.
 fn canonical(told: ToldCount, full: bool) -> Result<Count, Refusal>
     ensures ok { IfOk result (λ c. canonical_count full told ≡ good c) }
     ensures err { IfErr result (λ e. canonical_count full told ≡ bad e) }

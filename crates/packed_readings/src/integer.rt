@@ -21,7 +21,7 @@ use asn_base::law::integer_within_limit;
 use bits::cursor::Bits;
 use std::alloc::Global;
 
-/// What a number was told as, in octets: so far above the least one, one of the root, or one outside.
+/// What a number is given as, in octets: so far above the least one, one of the root, or one outside.
 #[derive(Clone, Copy)]
 pub(crate) enum Told {
     Above(i128),
@@ -223,7 +223,7 @@ fn read_root_integer(
 
 /// Takes an INTEGER as its constraint bounds it (X.691, 13).
 ///
-/// `NotCanonical`: more octets than needed, or a number of the root that was told as outside. `Outside`: the constraint
+/// `NotCanonical`: more octets than needed, or a number of the root that is given as outside. `Outside`: the constraint
 /// doesn't allow the number, or there are no octets. `IntegerLimit`: the number is none from -2^127 to 2^127 - 1.
 /// Further faults are those of `read_octets`. The cursor is then at the place of the fault. `Memory`: more memory was
 /// asked for and refused, and the cursor may have moved on.

@@ -24,8 +24,8 @@ pub enum Sizing {
 }
 
 /// Why so many items are refused that were told as outside the root of SIZE, or as a number of the root; None where
-/// they aren't. `NotCanonical`: the number is one of the root, and was told as outside. `Outside`: SIZE doesn't allow
-/// it, or it is outside the root, and was told as one of it.
+/// they aren't. `NotCanonical`: the number is one of the root, and is given as outside. `Outside`: SIZE doesn't allow
+/// it, or it is outside the root, and is given as one of it.
 pub fn size_fault(constraint: &Constraint, outside: bool, count: u128) -> Option<Refusal>
     requires { count < 2 ^ 127 }
     ensures { result ≡ size_fault (constraint_of constraint.now) outside count }
@@ -120,7 +120,7 @@ fn read_root_size(constraint: &Constraint, bits: &mut Bits<'_>) -> Result<Sizing
 
 /// Takes what SIZE tells before items. What the constraint keeps is what it keeps in a schema.
 ///
-/// `Outside`: the number that is told is none that SIZE allows. No bit of it is taken then. `Truncated`: the bits end
+/// `Outside`: the number that is sent is none that SIZE allows. No bit of it is taken then. `Truncated`: the bits end
 /// before.
 pub fn read_size(constraint: &Constraint, bits: &mut Bits<'_>) -> Result<Sizing, Refusal>
     requires { AreBounds IsSize (constraint_of constraint.now) }

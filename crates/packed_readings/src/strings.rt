@@ -58,7 +58,7 @@ fn read_items(
     }
 }
 
-/// What the number of all items is judged by: any may be; or SIZE, where it was told as outside its root or not.
+/// What the number of all items is judged by: any may be; or SIZE, where it is given as outside its root or not.
 #[derive(Clone, Copy)]
 pub(crate) enum Total<'a> {
     Any,
@@ -216,7 +216,7 @@ pub(crate) fn read_sized(
 /// Takes octets after their number (X.691, 11.9), as those of an open type. Memory grows by as many octets as are
 /// there.
 ///
-/// The faults are those of `read_count`, and `Truncated` where fewer octets are there than are told. The cursor is then
+/// The faults are those of `read_count`, and `Truncated` where fewer octets are there than are said. The cursor is then
 /// at the place of the fault. `Memory`: more memory was asked for and refused, and the cursor may have moved on.
 pub fn read_octets(alloc: Global, bits: &mut Bits<'_>) -> Result<Vec<u8>, PackedFault>
     ensures ok { IfOk result (λ v. octets_from (bits_left bits.old) ≡ found v.items (bits_left bits.new)) }
