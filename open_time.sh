@@ -1,7 +1,7 @@
 #!/usr/bin/env bash
 # Says how long the program takes to open modules of growing size, ordinary ones and those that cost a careless front end
-# more than their length: the least processor time of five runs each, in milliseconds. The time grows as the text does. Where
-# the program bound_bench is built, it says too how long constraints take, one of 60,000 numbers among them, in microseconds, and how long
+# more than their length: the least processor time of five runs each, in milliseconds, and the most memory that one more run
+# had resident, in megabytes (where /usr/bin/time tells it). Both grow as the text does. Where the program bound_bench is built, it says too how long constraints take, one of 60,000 numbers among them, in microseconds, and how long
 # the notation of a long value takes to be typed, and its value to be printed: one run each, in milliseconds. Where
 # module_rows is built, it says how long modules full of types, values and DEFAULTs take to be opened and to be settled, and
 # how long two of their types take to be compared: one run each, in milliseconds.
@@ -19,7 +19,8 @@ here=$(dirname "$(readlink -f "${BASH_SOURCE[0]}")")
 "$here/asnc" --help >/dev/null
 program=$here/crates/asnc_main/out/asnc_main
 file=$(mktemp)
-trap 'rm -f "$file"' EXIT
+most=$(mktemp)
+trap 'rm -f "$file" "$most"' EXIT
 
 # in_module: the lines of standard input, as a module of a text.
 in_module() {
@@ -111,6 +112,56 @@ referred_items() {
     print "}" }' | in_module
 }
 
+# referred_union N: an INTEGER with a union of N numbers, and N/5 components of its type, 200 in a list.
+referred_union() {
+  awk -v n="$1" 'BEGIN {
+    printf "U ::= INTEGER (0"
+    for (i = 1; i < n; i++) printf " | %d", 2 * i
+    print ")"
+    for (i = 0; i < n / 5; i++) {
+      if (i % 200 == 0) printf "%sL%d ::= SEQUENCE {", (i ? "}\n" : ""), i / 200; else printf ", "
+      printf "c%d [%d] U", i % 200, i % 200
+    }
+    print "}" }' | in_module
+}
+
+# long_default N: a value of N numbers, and N/20 components with that DEFAULT, 200 in a list.
+long_default() {
+  awk -v n="$1" 'BEGIN {
+    print "Numbers ::= SEQUENCE OF INTEGER"
+    printf "long Numbers ::= {1"
+    for (i = 1; i < n; i++) printf ", 1"
+    print "}"
+    for (i = 0; i < n / 20; i++) {
+      if (i % 200 == 0) printf "%sL%d ::= SEQUENCE {", (i ? "}\n" : ""), i / 200; else printf ", "
+      printf "c%d [%d] Numbers DEFAULT long", i % 200, i % 200
+    }
+    print "}" }' | in_module
+}
+
+# doubled_values N: lists of lists, each value naming the one before twice, N levels of them.
+doubled_values() {
+  awk -v n="$1" 'BEGIN {
+    print "T0 ::= NULL"
+    for (i = 1; i <= n; i++) print "T" i " ::= SEQUENCE OF T" i - 1
+    print "v0 T0 ::= NULL"
+    for (i = 1; i <= n; i++) print "v" i " T" i " ::= {v" i - 1 ", v" i - 1 "}" }' | in_module
+}
+
+# doubled_defaults N: such a value of 17 levels, as the DEFAULT of N components, 200 in a list.
+doubled_defaults() {
+  awk -v n="$1" 'BEGIN {
+    print "T0 ::= NULL"
+    for (i = 1; i <= 17; i++) print "T" i " ::= SEQUENCE OF T" i - 1
+    print "v0 T0 ::= NULL"
+    for (i = 1; i <= 17; i++) print "v" i " T" i " ::= {v" i - 1 ", v" i - 1 "}"
+    for (i = 0; i < n; i++) {
+      if (i % 200 == 0) printf "%sL%d ::= SEQUENCE {", (i ? "}\n" : ""), i / 200; else printf ", "
+      printf "c%d [%d] T17 DEFAULT v17", i % 200, i % 200
+    }
+    print "}" }' | in_module
+}
+
 # record_values N: N values of a SEQUENCE of three, one of them constrained.
 record_values() {
   awk -v n="$1" 'BEGIN {
@@ -130,6 +181,13 @@ long_name() {
   awk -v n="$1" 'BEGIN { printf "M DEFINITIONS ::= BEGIN "; for (i = 0; i < n * 1000; i++) printf "%01000d", 0 }' | tr 0 a
 }
 
+# resident: the most memory that the program had resident over the file, in megabytes; nothing where no tool tells it.
+resident() {
+  [[ -x /usr/bin/time ]] || return 0
+  /usr/bin/time -f ' %M' -o "$most" "$program" der --type M.Record1 --value M.v "$file" >/dev/null 2>&1 || true
+  awk 'END { printf "%7.1f MB", $NF / 1024 }' "$most"
+}
+
 # measure SHAPE SIZE..: the least times of a shape at these sizes, a line each.
 measure() {
   local shape=$1 size took least TIMEFORMAT='%3U %3S'
@@ -142,7 +200,7 @@ measure() {
       took=$(awk '{ printf "%d", ($1 + $2) * 1000000 }' <<<"$took")
       [[ -n $least && $least -le $took ]] || least=$took
     done
-    printf '%-16s %6d %9d octets %6d.%d ms\n' "$shape" "$size" "$(stat -c %s "$file")" $((least / 1000)) $((least % 1000 / 100))
+    printf '%-16s %6d %9d octets %6d.%d ms%s\n' "$shape" "$size" "$(stat -c %s "$file")" $((least / 1000)) $((least % 1000 / 100)) "$(resident)"
   done
 }
 
@@ -153,6 +211,10 @@ measure referred_members 7000 14000 28000
 measure alike_numbers 16000 32000 64000
 measure defaulted_chain 1000 2000 4000
 measure referred_items 1000 2000 4000
+measure referred_union 5000 10000 20000
+measure long_default 5000 10000 20000
+measure doubled_values 16 17 18
+measure doubled_defaults 5 10 20
 measure record_values 10000 20000 40000
 measure endless 180 360 720
 measure long_name 1 2 4

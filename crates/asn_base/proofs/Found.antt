@@ -11,7 +11,7 @@ mapped_found f [] i d h = absurd (omega arith)
 mapped_found f (x ∷ xs) zero d h = refl
 mapped_found f (x ∷ xs) (suc i) d h = mapped_found f xs i d (omega arith)
 
-pub sound_at : (xs : List Resolved') (now : List Resolved) (i : ℕ) (d : Resolved') → map resolved_of xs ≡ now → d ≡ get_or xs i d → i < length now → IsSchema (map resolved_of xs) → IsSound now (kind_of d.core)
+pub sound_at : (xs : List Resolved') (now : List Resolved) (i : ℕ) (d : Resolved') → map resolved_of xs ≡ now → d ≡ get_or xs i d → i < length now → IsSchema (map resolved_of xs) → IsSound now (kind_of d.core.value)
 sound_at xs now i d e g h a =
     let lt : i < length (map resolved_of xs) = subst (λ q. i < length q) (sym e) h in
-    subst (λ q. IsSound q (kind_of d.core)) e (subst (λ q. IsSound (map resolved_of xs) (kind_of q.core)) (sym g) (a.sound i _ _ (record { found = mapped_found resolved_of xs i d lt })))
+    subst (λ q. IsSound q (kind_of d.core.value)) e (subst (λ q. IsSound (map resolved_of xs) (kind_of q.core.value)) (sym g) (a.sound i _ _ (record { found = mapped_found resolved_of xs i d lt })))

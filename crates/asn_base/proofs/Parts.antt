@@ -3,6 +3,9 @@ use Rattle.std.proofs.Common.{arith, ◌≡◌, ℕ, zero, suc, ◌+◌, ◌-◌
 use Rattle.std.specs.Prelude.{◌↔◌, ◌⊎◌, IsTrue, Option, Some, None, slice_get}
 use Rattle.asn_base.specs.Abstract.{AbstractValue, boolean, integer, enumerated, bits, octets, text, null, oid, relative_oid, fields, list, alternative, Row, absent, present, row_of_options, row_of_list}
 use Rattle.asn_base.specs.Decided.{Holds, IsChosen, IsComponent, GroupsOfAreWhole, IsDue, IsPresentOf, nodes_of}
+use Rattle.asn_base.specs.declared.schema.Core.{Core}
+use Rattle.asn_base.specs.declared.schema.Resolved.{Resolved as Resolved'}
+use Rattle.asn_base.specs.Seen.{kind_of, resolved_of}
 use Rattle.asn_base.specs.Types.{Alternative, Kind, a_sequence, a_set, a_sequence_of, a_set_of, a_choice, Presence, mandatory, optional, default, addition, Component, Resolved, Is}
 use Rattle.asn_base.specs.Typed.{members, nodes, row_nodes, Fits, fits_boolean, fits_integer, fits_enumerated, fits_bits, fits_named_bits, fits_octets, fits_null, fits_oid, fits_relative_oid, fits_utf8, fits_restricted, HasOfGroup, LacksOfGroup, GroupsAreWhole, ValueIn, value_in, ValueOf, of_leaf, of_sequence, of_set, of_sequence_of, of_set_of, of_choice, MayBeAbsent, where_optional, where_default, where_addition, AreComponents, no_component, component_absent, component_present, AreElements, no_element, one_element}
 use Rattle.asn_base.proofs.Leaves.{onward, without}
@@ -47,6 +50,11 @@ beyond (x ∷ s) (suc t) r e l = beyond s t r e (omega arith)
 
 pub no_type : {s : List Resolved} {n t : ℕ} {v : AbstractValue} → length s ≤ t → ValueIn s n t v → ⊥
 no_type {s} {t = t} l (value_in i a) = beyond s t _ i.found l
+
+-- a type whose core is shared
+pub with_core : (s : List Resolved) (t : ℕ) (r : Resolved') {k : Core} → slice_get s t ≡ Some (resolved_of r) → k ≡ r.core.value →
+    slice_get s t ≡ Some (record { tags = r.tags.items; kind = kind_of k })
+with_core s t r {k} e h = e ∙ ap (λ (c : Core). Some (record { tags = r.tags.items; kind = kind_of c })) (sym h)
 
 -- one level more
 one_more : (n : ℕ) → 0 < n → suc (n - 1) ≡ n

@@ -6,7 +6,6 @@ use Rattle.asn_base.specs.declared.tag.Class.TheVariants.{Universal}
 use Rattle.asn_base.specs.declared.tag.Tag.{Tag}
 use Rattle.asn_base.specs.declared.value.BitString.{BitString}
 use Rattle.asn_base.specs.declared.constraint.Constraint.{Constraint as Constraint'}
-use Rattle.asn_base.specs.declared.value.Value.{Value}
 use Rattle.asn_base.specs.declared.schema.Presence.TheVariants.{Optional, Default, Addition}
 use Rattle.asn_base.specs.declared.schema.Component.{Component as Component'}
 use Rattle.asn_base.specs.declared.schema.Alternative.{Alternative as Alternative'}
@@ -90,7 +89,7 @@ bounds_are = refl
 optional_is : presence_of Optional ≡ optional
 optional_is = refl
 
-default_is : (v : Value) → presence_of (Default v) ≡ default (abstract v)
+default_is : (v : _) → presence_of (Default v) ≡ default (abstract v.value)
 default_is v = refl
 
 addition_is : presence_of (Addition (record { optional = true; group = Some 3 })) ≡ addition true (Some 3)

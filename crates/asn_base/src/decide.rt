@@ -68,7 +68,8 @@ fn is_judged(
     if levels == 0 || !schema.has(id) {
         return false;
     }
-    if fits_at_once(&schema.get(id).core, value) {
+    let core: &Core = &schema.get(id).core;
+    if fits_at_once(core, value) {
         *left = left.saturating_sub(1);
         return true;
     }
@@ -92,7 +93,7 @@ fn is_any(
     ensures nodes { IsTrue result → left.new ≡ left.old - nodes (abstract value.now) }
 {
     *left = left.saturating_sub(1);
-    let core = &schema.get(id).core;
+    let core: &Core = &schema.get(id).core;
     fits(core, value) || holds(core, value, schema, depths, levels - 1, id, left)
 }
 

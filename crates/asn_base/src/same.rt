@@ -46,7 +46,7 @@ fn are_alike(first: &Value, second: &Value, schema: &Schema, levels: u8, id: Typ
     if levels == 0 || !schema.has(id) {
         return false;
     }
-    let core = &schema.get(id).core;
+    let core: &Core = &schema.get(id).core;
     are_alike_by(core, first, second, schema, levels - 1)
 }
 

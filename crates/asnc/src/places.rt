@@ -16,7 +16,7 @@ fn component_at(schema: &Schema, id: TypeId, place: usize) -> &str
     if !schema.has(id) {
         return "";
     }
-    match components(&schema.get(id).core).get(place) {
+    match components(schema.core(id)).get(place) {
         Some(component) => component.name.as_str(),
         None => "",
     }
@@ -29,7 +29,7 @@ fn alternative(schema: &Schema, id: TypeId, number: usize) -> &str
     if !schema.has(id) {
         return "";
     }
-    match alternative_at(&schema.get(id).core, number) {
+    match alternative_at(schema.core(id), number) {
         Some(alternative) => alternative.name.as_str(),
         None => "",
     }

@@ -1,7 +1,7 @@
 -- What is answered of types for which limits are noted.
 use Rattle.std.proofs.Common.{◌≡◌, ◌⊎◌, ◌↔◌, inl, inr, ℕ, zero, suc, ◌<◌, ◌≤◌, ℤ, List, [], ◌∷◌, Option, Some, None, Bool, true, false, length, refl, sym, ap, ◌∙◌, subst, arith, option_map}
-use Rattle.std.specs.Prelude.{IsSomeAnd, MatchOption}
-use Rattle.std.proofs.lemmas.Option.{slice_get_within, slice_get_past}
+use Rattle.std.specs.Prelude.{IsSomeAnd, MatchOption, slice_get}
+use Rattle.std.proofs.lemmas.Option.{same_Some, slice_get_within, slice_get_past}
 use Rattle.std.specs.Borrow.{Bor}
 use Rattle.asn_base.specs.Names.{IsMember, is_first, is_later}
 use Rattle.asn_base.specs.Schemas.{IsNumber, IsSize, IsLeast, IsGreatest, AreBounds, CodesAscend, is_character}
@@ -18,10 +18,10 @@ use Rattle.type_table.specs.Table.{Type', Kind, simple, walk, next, behind_of}
 use Rattle.resolve.specs.Program.{Program}
 use Rattle.range_ends.specs.Ends.{IsOfKind}
 use Rattle.constraints.specs.Constraints.{has_alphabet, has_size}
-use Rattle.constraints.specs.Allowed.{IsCounted, IsInRoot, IsAllowed, AreVisible, AreCharacters, IsConstraintOf, AreCodesOf}
+use Rattle.constraints.specs.Allowed.{IsCounted, IsInRoot, IsAllowed, AreVisible, AreCharacters, IsConstraintOf, AreCodesOf, LeaveTheSame, HaveOneAlphabet}
 use Rattle.constraints.specs.Bounded.{AreBounded, HasCharacters}
 use Rattle.constraints.specs.declared.limit.Limit.{Limit}
-use Rattle.constraints.specs.proving.Columns.{AreAllowed, IsLeft, IsLimitOf, AreAllNoted, limit_noted}
+use Rattle.constraints.specs.proving.Columns.{AreAllowed, IsLeft, IsLimitOf, AreAllNoted, limit_noted, number_in, number_noted}
 use Rattle.asn_base.specs.declared.constraint.Bounds.{Bounds as Bounds'}
 use Rattle.asn_base.specs.Seen.{bounds_of, constraint_of}
 use Rattle.constraints.proofs.Noting.{noted_is}
@@ -78,6 +78,40 @@ bounded_by p at limits a = record {
       let m = limit_there p at limits i a (kind_there p.types i k u) in
       characters_by p k i m.0 (m.2.left k u));
 }
+
+-- ---- types with one limit
+
+number_there : (o : Option (Option ℕ)) (a : ℕ) → number_in o ≡ Some a → o ≡ Some (Some a)
+number_there None a e = absurd cc
+number_there (Some None) a e = absurd cc
+number_there (Some (Some b)) a e = ap Some e
+
+one_alphabet : (p : Program) (k : Kind) (i j : ℕ) (l : Limit) → IsLeft p k i l → IsLeft p k j l → HaveOneAlphabet p k i j
+one_alphabet p (simple (a_restricted_string s)) i j l f g =
+    λ c. (λ h. (g.codes c).0 ((f.codes c).1 h), λ h. (f.codes c).0 ((g.codes c).1 h))
+one_alphabet p k i j l f g = tt
+
+leave_by : (p : Program) (k : Kind) (i j : ℕ) (l : Limit) → IsLeft p k i l → IsLeft p k j l → LeaveTheSame p k i j
+leave_by p k i j l f g = record {
+  root = λ z. (λ h. (g.numbers z).0 ((f.numbers z).1 h), λ h. (f.numbers z).0 ((g.numbers z).1 h));
+  extensible = (λ h. g.extensible.0 (f.extensible.1 h), λ h. f.extensible.0 (g.extensible.1 h));
+  alphabet = one_alphabet p k i j l f g;
+}
+
+pub one_limit : (p : Program) (at : List (Option ℕ)) (limits : List Limit) (i j a b : ℕ) →
+    AreAllNoted p at limits →
+    number_noted at i ≡ Some a →
+    number_noted at j ≡ Some b →
+    a ≡ b →
+    (k : Kind) →
+    IsOfKind p.types i k →
+    IsOfKind p.types j k →
+    LeaveTheSame p k i j
+one_limit p at limits i j a b n e f q k u v =
+    let x = n.noted.each i a (number_there (slice_get at i) a e) in
+    let y = n.noted.each j a (number_there (slice_get at j) a (f ∙ ap Some (sym q))) in
+    let same : y.0 ≡ x.0 = same_Some y.0 x.0 (sym y.1 ∙ x.1) in
+    leave_by p k i j x.0 (x.2.left k u) (subst (λ (l : Limit). IsLeft p k j l) same (y.2.left k v))
 
 -- ---- what is seen
 

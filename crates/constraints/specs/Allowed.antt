@@ -77,3 +77,13 @@ pub record IsConstraintOf (p : Program) (k : Kind) (i : ℕ) (c : Constraint) : 
 pub record AreCodesOf (p : Program) (s : StringKind) (i : ℕ) (codes : List ℕ) : Type 0 where
   pub alphabet : IsAlphabet s codes
   pub same : (c : ℕ) → (IsMember c codes ↔ IsInAlphabet p s i c)
+
+abbrev pub HaveOneAlphabet : Program → Kind → (i j : ℕ) → Type 0
+HaveOneAlphabet p (simple (a_restricted_string s)) i j = (c : ℕ) → (IsInAlphabet p s i c ↔ IsInAlphabet p s j c)
+HaveOneAlphabet p k i j = Unit {0}
+
+-- the constraints of types i and j, which are both of kind k, leave the same
+pub record LeaveTheSame (p : Program) (k : Kind) (i j : ℕ) : Type 0 where
+  pub root : (z : ℤ) → (IsInRoot p k i z ↔ IsInRoot p k j z)
+  pub extensible : IsExtensible p i ↔ IsExtensible p j
+  pub alphabet : HaveOneAlphabet p k i j

@@ -10,7 +10,7 @@ ghost use Rattle.type_table.specs.Seen.{kind_of};
 ghost use Rattle.type_table.specs.Table.{Kind, simple};
 ghost use Rattle.range_ends.specs.Ends.{IsOfKind};
 ghost use Rattle.constraints.specs.Constraints.{is_integer as is_integer', has_alphabet as has_alphabet', has_visible_size as has_visible_size'};
-ghost use Rattle.constraints.specs.Allowed.{IsAllowed, IsCounted, IsInAlphabet, AreVisible, AreCharacters};
+ghost use Rattle.constraints.specs.Allowed.{IsAllowed, IsCounted, IsInAlphabet, AreVisible, AreCharacters, LeaveTheSame};
 ghost use Rattle.constraints.specs.Bounded.{AreBounded};
 ghost use Rattle.constraints.specs.Faults.{Stands};
 ghost use Rattle.constraints.specs.First.{TellsFirst};
@@ -90,6 +90,27 @@ impl<'a> Bounded<'a> {
         ensures { IsSomeAnd result (λ l. (k : Kind) → IsOfKind self.now.types ty k → IsLeft self.now k ty l.now) }
     {
         self.column.limit(ty)
+    }
+
+    /// A number that types have in common where [`Bounded::leave_the_same`] tells so: types that are references to one
+    /// type, or tags before it, without constraints of their own. It is below the number of types.
+    pub fn limit_number(&self, ty: TypeId) -> Option<usize> {
+        self.column.number(ty.index)
+    }
+
+    /// Whether the constraints of two types are known to leave the same, if both are of one kind behind references and
+    /// tags. It takes no memory.
+    pub fn leave_the_same(&self, one: TypeId, other: TypeId) -> bool
+        ensures { result ≡ true → (k : Kind) → IsOfKind self.now.types one.index k → IsOfKind self.now.types other.index k
+            → LeaveTheSame self.now k one.index other.index }
+    {
+        match self.column.number(one.index) {
+            None => false,
+            Some(number) => match self.column.number(other.index) {
+                None => false,
+                Some(same) => number == same,
+            },
+        }
     }
 
     /// What a type is behind its references and tags.

@@ -85,7 +85,7 @@ fn fault_at(wrong: Wrong, ty: usize) -> Fault
 
 impl Column {
     /// The number of the limit of a type, where it is noted.
-    fn number(&self, ty: usize) -> Option<usize>
+    pub(crate) fn number(&self, ty: usize) -> Option<usize>
         ensures { result ≡ number_noted self.now.at.items ty }
     {
         match self.at.get(ty) {

@@ -7,3 +7,5 @@ mod Roots
 mod CoreKinds
 mod Parts
 mod Whole
+mod Alike
+mod EqualLists

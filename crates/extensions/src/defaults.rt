@@ -1,17 +1,16 @@
 //! The values of DEFAULTs.
 
 ghost use Rattle.std.specs.Prelude.{◌≡◌, ◌++◌, ◌∷◌, [], ◌<◌, IfOk, IfErr, OnOk, length, map, option_map, slice_get, Some};
-ghost use Rattle.asn_base.specs.Abstract.{abstract};
 ghost use Rattle.type_table.specs.Lists.{AreSound};
 ghost use Rattle.type_table.specs.Seen.{part_of, type_of, types_of};
 ghost use Rattle.typed_values.specs.Known.{AreKnown};
 ghost use Rattle.extensions.specs.proving.Defaults.{AreDefaultsOf, IsDefaultOf};
 ghost use Rattle.extensions.specs.Faults.{IsFirstDefault, IsFirstIn, IsWrongDefault};
-ghost use Rattle.extensions.specs.proving.Tables.{AreDefaultsAt, AreTabled, HaveTypes, IsFirstAt, Tells, defaults_seen, table_seen};
+ghost use Rattle.extensions.specs.proving.Tables.{AreDefaultsAt, AreTabled, HaveTypes, IsFirstAt, Tells, defaults_seen, shared_seen, table_seen};
 
+use crate::pool::{Pool, Shared};
 use crate::wrong::{Wrong, value_of};
 use asn_base::schema::TypeId;
-use asn_base::value::Value;
 use constraints::Bounded;
 use std::alloc::{AllocError, Global};
 use trees::PresenceSyntax;
@@ -23,13 +22,14 @@ fn default_of<'a>(
     alloc: Global,
     bounded: &Bounded<'a>,
     defaults: &mut Defaults,
+    pool: &mut Pool,
     within: &'a str,
     component: &'a ListMember,
-) -> Result<Option<Value>, Wrong<'a>>
+) -> Result<Option<Shared>, Wrong<'a>>
     requires there { component.now.ty < length bounded.now.types }
     requires sound { AreSound bounded.now.types }
     requires known { AreKnown bounded.now defaults.old }
-    ensures value { IfOk result (λ v. IsDefaultOf bounded.now within.now (part_of component.now) (option_map abstract v)) }
+    ensures value { IfOk result (λ v. IsDefaultOf bounded.now within.now (part_of component.now) (option_map shared_seen v)) }
     ensures fault { IfErr result (Tells (IsWrongDefault bounded.now within.now (part_of component.now))) }
     ensures known { AreKnown bounded.now defaults.new }
 {
@@ -41,7 +41,10 @@ fn default_of<'a>(
         PresenceSyntax::Optional => Ok(None),
         PresenceSyntax::Default(notation) => {
             match value_of(alloc, bounded, defaults, ty, within, notation) {
-                Ok(value) => Ok(Some(value)),
+                Ok(value) => match pool.place(alloc, bounded.linked(), within, notation, value) {
+                    Ok(shared) => Ok(Some(shared)),
+                    Err(_) => Err(Wrong::Memory),
+                },
                 Err(wrong) => Err(wrong),
             }
         }
@@ -49,8 +52,8 @@ fn default_of<'a>(
 }
 
 /// Adds a value, or that there is none.
-fn add(values: &mut Vec<Option<Value>>, value: Option<Value>) -> Result<(), AllocError>
-    ensures { OnOk result (defaults_seen values.new.items ≡ defaults_seen values.old.items ++ option_map abstract value ∷ []) }
+fn add(values: &mut Vec<Option<Shared>>, value: Option<Shared>) -> Result<(), AllocError>
+    ensures { OnOk result (defaults_seen values.new.items ≡ defaults_seen values.old.items ++ option_map shared_seen value ∷ []) }
 {
     values.push(value)?;
     Ok(())
@@ -61,9 +64,10 @@ fn defaults_in<'a>(
     alloc: Global,
     bounded: &Bounded<'a>,
     defaults: &mut Defaults,
+    pool: &mut Pool,
     within: &'a str,
     components: &'a [ListMember],
-) -> Result<Vec<Option<Value>>, Wrong<'a>>
+) -> Result<Vec<Option<Shared>>, Wrong<'a>>
     requires there { HaveTypes (length bounded.now.types) (map part_of components.now) }
     requires sound { AreSound bounded.now.types }
     requires known { AreKnown bounded.now defaults.old }
@@ -73,7 +77,7 @@ fn defaults_in<'a>(
 {
     let mut values = Vec::new(alloc);
     for at in 0..components.len() {
-        match default_of(alloc, bounded, defaults, within, &components[at]) {
+        match default_of(alloc, bounded, defaults, pool, within, &components[at]) {
             Ok(value) => match add(&mut values, value) {
                 Ok(()) => {}
                 Err(_) => return Err(Wrong::Memory),
@@ -89,9 +93,10 @@ fn defaults_at<'a>(
     alloc: Global,
     bounded: &Bounded<'a>,
     defaults: &mut Defaults,
+    pool: &mut Pool,
     ty: usize,
     written: &'a Written,
-) -> Result<Vec<Option<Value>>, Wrong<'a>>
+) -> Result<Vec<Option<Shared>>, Wrong<'a>>
     requires there { ty < length bounded.now.types }
     requires is { slice_get bounded.now.types ty ≡ Some (type_of written.now) }
     requires sound { AreSound bounded.now.types }
@@ -108,6 +113,7 @@ fn defaults_at<'a>(
             alloc,
             bounded,
             defaults,
+            pool,
             home.module,
             components,
         ),
@@ -119,7 +125,7 @@ fn defaults_at<'a>(
 }
 
 /// Adds a list of values.
-fn put(table: &mut Vec<Vec<Option<Value>>>, values: Vec<Option<Value>>) -> Result<(), AllocError>
+fn put(table: &mut Vec<Vec<Option<Shared>>>, values: Vec<Option<Shared>>) -> Result<(), AllocError>
     ensures { OnOk result (table_seen table.new.items ≡ table_seen table.old.items ++ defaults_seen values.items ∷ []) }
 {
     table.push(values)?;
@@ -133,7 +139,7 @@ pub(crate) fn all_defaults<'a>(
     bounded: &Bounded<'a>,
     defaults: &mut Defaults,
     types: &'a [Written],
-) -> Result<Vec<Vec<Option<Value>>>, Wrong<'a>>
+) -> Result<Vec<Vec<Option<Shared>>>, Wrong<'a>>
     requires types { types_of types.now ≡ bounded.now.types }
     requires sound { AreSound bounded.now.types }
     requires known { AreKnown bounded.now defaults.old }
@@ -141,9 +147,13 @@ pub(crate) fn all_defaults<'a>(
     ensures fault { IfErr result (Tells (IsFirstDefault bounded.now)) }
     ensures known { AreKnown bounded.now defaults.new }
 {
+    let mut pool = match Pool::of(alloc, bounded.linked().values().len()) {
+        Ok(pool) => pool,
+        Err(_) => return Err(Wrong::Memory),
+    };
     let mut table = Vec::new(alloc);
     for ty in 0..types.len() {
-        match defaults_at(alloc, bounded, defaults, ty, &types[ty]) {
+        match defaults_at(alloc, bounded, defaults, &mut pool, ty, &types[ty]) {
             Ok(values) => match put(&mut table, values) {
                 Ok(()) => {}
                 Err(_) => return Err(Wrong::Memory),

@@ -1,24 +1,97 @@
 //! The types of the schema.
 
-ghost use Rattle.std.specs.Prelude.{◌≡◌, ◌++◌, ◌∷◌, [], ◌<◌, IfOk, OnOk, length};
+ghost use Rattle.std.specs.Prelude.{◌≡◌, ◌++◌, ◌∷◌, [], ◌<◌, ◌≤◌, IfOk, IfSome, OnOk, length, true};
 ghost use Rattle.asn_base.specs.Seen.{resolved_of, types_of};
 ghost use Rattle.type_table.specs.Lists.{AreSound};
 ghost use Rattle.additions.specs.Additions.{KeepAdditions};
 ghost use Rattle.settled.specs.Settled.{IsSettled};
-ghost use Rattle.extensions.specs.proving.Tables.{AreTabled, IsResolved, table_seen};
+ghost use Rattle.extensions.specs.proving.Cores.{AreAlike};
+ghost use Rattle.extensions.specs.proving.Tables.{AreEach, AreTabled, IsResolved, table_seen};
 
-use crate::types::resolved;
+use crate::pool::Shared;
+use crate::types::{resolved, shared};
 use asn_base::schema::{Resolved, TypeId};
-use asn_base::value::Value;
 use constraints::Bounded;
 use std::alloc::{AllocError, Global};
 
-/// The type of this number.
-fn type_of(
+/// The numbers of types that are made already, by the number of what their constraints leave: the first one of each.
+#[derive(Drop)]
+struct Firsts {
+    numbers: Vec<Option<usize>>,
+}
+
+impl Firsts {
+    /// Of so many types none is made.
+    fn none(alloc: Global, count: usize) -> Result<Self, AllocError> {
+        Ok(Firsts {
+            numbers: vec![in alloc; None; count]?,
+        })
+    }
+
+    /// The type that was made first with this number.
+    fn first(&self, number: Option<usize>) -> Option<usize> {
+        match number {
+            None => None,
+            Some(number) => match self.numbers.get(number) {
+                None => None,
+                Some(first) => *first,
+            },
+        }
+    }
+
+    /// Notes that a type is made with this number, unless one was before.
+    fn note(&mut self, number: Option<usize>, ty: usize) {
+        let Some(number) = number else {
+            return;
+        };
+        if number < self.numbers.len() && self.numbers[number].is_none() {
+            self.numbers[number] = Some(ty);
+        }
+    }
+}
+
+/// Whether two types are known to be the same behind references and tags, with constraints that leave the same.
+fn are_alike(bounded: &Bounded<'_>, one: TypeId, other: TypeId) -> bool
+    requires one { one.index < length bounded.now.types }
+    requires other { other.index < length bounded.now.types }
+    ensures { result ≡ true → AreAlike bounded.now one.index other.index }
+{
+    let linked = bounded.linked();
+    let first = linked.core(one).index;
+    let second = linked.core(other).index;
+    if first == second {
+        bounded.leave_the_same(one, other)
+    } else {
+        false
+    }
+}
+
+/// A type that was made already, and is known to be the same behind references and tags as this one, which is not made.
+fn earlier(bounded: &Bounded<'_>, types: &[Resolved], firsts: &Firsts, ty: TypeId) -> Option<usize>
+    requires there { ty.index < length bounded.now.types }
+    requires few { length types.now ≤ ty.index }
+    ensures made { IfSome result (λ j. j < length types.now) }
+    ensures alike { IfSome result (λ j. AreAlike bounded.now j ty.index) }
+{
+    let Some(first) = firsts.first(bounded.limit_number(ty)) else {
+        return None;
+    };
+    if first >= types.len() {
+        return None;
+    }
+    if are_alike(bounded, TypeId { index: first }, ty) {
+        Some(first)
+    } else {
+        None
+    }
+}
+
+/// The type of this number, of which only this is known.
+fn new_type(
     alloc: Global,
     bounded: &Bounded<'_>,
     ty: TypeId,
-    table: &[Vec<Option<Value>>],
+    table: &[Vec<Option<Shared>>],
 ) -> Result<Resolved, AllocError>
     requires there { ty.index < length bounded.now.types }
     requires sound { AreSound bounded.now.types }
@@ -33,6 +106,34 @@ fn type_of(
     }
 }
 
+/// The type of this number, behind those that are made.
+fn type_of(
+    alloc: Global,
+    bounded: &Bounded<'_>,
+    types: &[Resolved],
+    firsts: &Firsts,
+    ty: TypeId,
+    table: &[Vec<Option<Shared>>],
+) -> Result<Resolved, AllocError>
+    requires there { ty.index < length bounded.now.types }
+    requires sound { AreSound bounded.now.types }
+    requires additions { KeepAdditions bounded.now.types }
+    requires table { AreTabled bounded.now (length bounded.now.types) (table_seen table.now) }
+    requires types { AreEach (IsResolved bounded.now) ty.index (types_of types.now) }
+    ensures { IfOk result (λ r. IsResolved bounded.now ty.index (resolved_of r)) }
+{
+    match earlier(bounded, types, firsts, ty) {
+        Some(first) => match shared(alloc, bounded, ty, first, &types[first]) {
+            Ok(one) => Ok(one),
+            Err(fault) => Err(fault),
+        },
+        None => match new_type(alloc, bounded, ty, table) {
+            Ok(one) => Ok(one),
+            Err(fault) => Err(fault),
+        },
+    }
+}
+
 /// Adds a type.
 fn add(types: &mut Vec<Resolved>, one: Resolved) -> Result<(), AllocError>
     ensures { OnOk result (types_of types.new.items ≡ types_of types.old.items ++ resolved_of one ∷ []) }
@@ -41,11 +142,12 @@ fn add(types: &mut Vec<Resolved>, one: Resolved) -> Result<(), AllocError>
     Ok(())
 }
 
-/// A type for each written one, by the same numbers.
+/// A type for each written one, by the same numbers. Those that are the same behind references and tags share what they
+/// are there.
 pub(crate) fn all_types(
     alloc: Global,
     bounded: &Bounded<'_>,
-    table: &[Vec<Option<Value>>],
+    table: &[Vec<Option<Shared>>],
 ) -> Result<Vec<Resolved>, AllocError>
     requires sound { AreSound bounded.now.types }
     requires additions { KeepAdditions bounded.now.types }
@@ -53,9 +155,12 @@ pub(crate) fn all_types(
     ensures { IfOk result (λ v. IsSettled bounded.now (types_of v.items)) }
 {
     let count = bounded.linked().types().len();
+    let mut firsts = Firsts::none(alloc, count)?;
     let mut types = Vec::new(alloc);
     for index in 0..count {
-        let one = type_of(alloc, bounded, TypeId { index }, table)?;
+        let ty = TypeId { index };
+        let one = type_of(alloc, bounded, &types, &firsts, ty, table)?;
+        firsts.note(bounded.limit_number(ty), index);
         add(&mut types, one)?;
     }
     Ok(types)

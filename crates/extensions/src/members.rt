@@ -1,7 +1,7 @@
 //! The components and alternatives of a list.
 
 ghost use Rattle.std.specs.Prelude.{◌≡◌, ◌++◌, ◌∷◌, [], ℕ, List, false, None, Some, IfOk, OnOk, length, map, option_map, slice_get};
-ghost use Rattle.asn_base.specs.Abstract.{AbstractValue, abstract};
+ghost use Rattle.asn_base.specs.Abstract.{AbstractValue};
 ghost use Rattle.asn_base.specs.Types as types;
 ghost use Rattle.asn_base.specs.Seen.{alternative_of, component_of, kind_of, presence_of as presence_seen};
 ghost use Rattle.trees.specs.declared.types.Standing.TheVariants.{Root};
@@ -13,10 +13,11 @@ ghost use Rattle.resolve.specs.Program.{Program};
 ghost use Rattle.additions.specs.Additions.{IsAdded, has_default};
 ghost use Rattle.schema_of.specs.SchemaOf.{AreAlternativesOf, AreComponentsOf, IsAlternativeOf, IsComponentOf, IsPresenceOf};
 ghost use Rattle.extensions.specs.proving.Defaults.{AreDefaultsOf, IsDefaultOf};
+ghost use Rattle.extensions.specs.proving.Tables.{defaults_seen, shared_seen};
 ghost use Rattle.extensions.specs.proving.Cores.{AreBehind, HaveNoDefaultBehind, IsCoreOf, IsGiven, is_optional as is_optional'};
 
+use crate::pool::Shared;
 use asn_base::schema::{Addition, Alternative, Alternatives, Component, Core, Presence, TypeId};
-use asn_base::value::Value;
 use std::alloc::{AllocError, Global};
 use trees::{ListKind, PresenceSyntax, Standing};
 use type_table::ListMember as Part;
@@ -32,46 +33,46 @@ fn is_optional(part: &Part) -> bool
     }
 }
 
-/// A copy of the value of a DEFAULT.
-fn default_value(alloc: Global, default: &Option<Value>) -> Result<Presence, AllocError>
+/// A DEFAULT that shares its value.
+fn default_value(default: &Option<Shared>) -> Result<Presence, AllocError>
     requires { default.now ≡ None → ⊥ }
-    ensures { IfOk result (λ r. (v : AbstractValue) → option_map abstract default.now ≡ Some v
+    ensures { IfOk result (λ r. (v : AbstractValue) → option_map shared_seen default.now ≡ Some v
         → presence_seen r ≡ types.default v) }
 {
     match default {
         None => unreachable!(),
-        Some(value) => match value.copy(alloc) {
-            Ok(copy) => Ok(Presence::Default(copy)),
+        Some(value) => match value.held.clone() {
+            Ok(shared) => Ok(Presence::Default(shared)),
             Err(fault) => Err(fault),
         },
     }
 }
 
 /// Whether a component of the root may be absent; its DEFAULT is this value.
-fn in_root(alloc: Global, part: &Part, default: &Option<Value>) -> Result<Presence, AllocError>
-    requires given { IsGiven (part_of part.now) (option_map abstract default.now) }
+fn in_root(part: &Part, default: &Option<Shared>) -> Result<Presence, AllocError>
+    requires given { IsGiven (part_of part.now) (option_map shared_seen default.now) }
     ensures { (p : Program) (M : Name) →
         (part_of part.now).standing ≡ Root →
-        IsDefaultOf p M (part_of part.now) (option_map abstract default.now) →
+        IsDefaultOf p M (part_of part.now) (option_map shared_seen default.now) →
         IfOk result (λ r. IsPresenceOf p M (part_of part.now) (presence_seen r)) }
 {
     match &part.presence {
         PresenceSyntax::Mandatory => Ok(Presence::Mandatory),
         PresenceSyntax::Optional => Ok(Presence::Optional),
-        PresenceSyntax::Default(_) => default_value(alloc, default),
+        PresenceSyntax::Default(_) => default_value(default),
     }
 }
 
 /// Whether a component may be absent.
-fn presence(alloc: Global, part: &Part, default: &Option<Value>) -> Result<Presence, AllocError>
-    requires given { IsGiven (part_of part.now) (option_map abstract default.now) }
+fn presence(part: &Part, default: &Option<Shared>) -> Result<Presence, AllocError>
+    requires given { IsGiven (part_of part.now) (option_map shared_seen default.now) }
     requires plain { IsAdded (part_of part.now) → has_default (part_of part.now).presence ≡ false }
     ensures { (p : Program) (M : Name) →
-        IsDefaultOf p M (part_of part.now) (option_map abstract default.now) →
+        IsDefaultOf p M (part_of part.now) (option_map shared_seen default.now) →
         IfOk result (λ r. IsPresenceOf p M (part_of part.now) (presence_seen r)) }
 {
     match part.standing {
-        Standing::Root => in_root(alloc, part, default),
+        Standing::Root => in_root(part, default),
         Standing::Addition(group) => {
             let optional = is_optional(part);
             Ok(Presence::Addition(Addition { optional, group }))
@@ -80,18 +81,18 @@ fn presence(alloc: Global, part: &Part, default: &Option<Value>) -> Result<Prese
 }
 
 /// A component.
-fn component(alloc: Global, part: &Part, default: &Option<Value>) -> Result<Component, AllocError>
-    requires given { IsGiven (part_of part.now) (option_map abstract default.now) }
+fn component(part: &Part, default: &Option<Shared>) -> Result<Component, AllocError>
+    requires given { IsGiven (part_of part.now) (option_map shared_seen default.now) }
     requires plain { IsAdded (part_of part.now) → has_default (part_of part.now).presence ≡ false }
     ensures { (p : Program) (M : Name) →
-        IsDefaultOf p M (part_of part.now) (option_map abstract default.now) →
+        IsDefaultOf p M (part_of part.now) (option_map shared_seen default.now) →
         IfOk result (λ c. IsComponentOf p M (part_of part.now) (component_of c)) }
 {
     let name = match part.name.it.clone() {
         Ok(name) => name,
         Err(fault) => return Err(fault),
     };
-    match presence(alloc, part, default) {
+    match presence(part, default) {
         Ok(presence) => Ok(Component {
             name,
             ty: TypeId { index: part.ty },
@@ -105,18 +106,18 @@ fn component(alloc: Global, part: &Part, default: &Option<Value>) -> Result<Comp
 fn components(
     alloc: Global,
     parts: &[Part],
-    defaults: &[Option<Value>],
+    defaults: &[Option<Shared>],
 ) -> Result<Vec<Component>, AllocError>
     requires given { (p : Program) × (M : Name) ×
-        AreDefaultsOf p M (map part_of parts.now) (map (option_map abstract) defaults.now) }
+        AreDefaultsOf p M (map part_of parts.now) (defaults_seen defaults.now) }
     requires plain { HaveNoDefaultBehind (map part_of parts.now) }
     ensures { (p : Program) (M : Name) →
-        AreDefaultsOf p M (map part_of parts.now) (map (option_map abstract) defaults.now) →
+        AreDefaultsOf p M (map part_of parts.now) (defaults_seen defaults.now) →
         IfOk result (λ v. AreComponentsOf p M (map part_of parts.now) (map component_of v.items)) }
 {
     let mut all = Vec::new(alloc);
     for at in 0..parts.len() {
-        match component(alloc, &parts[at], &defaults[at]) {
+        match component(&parts[at], &defaults[at]) {
             Ok(one) => match all.push(one) {
                 Ok(()) => {}
                 Err(_) => return Err(AllocError),
@@ -192,14 +193,14 @@ pub(crate) fn list_core(
     kind: ListKind,
     marker: bool,
     parts: &[Part],
-    defaults: &[Option<Value>],
+    defaults: &[Option<Shared>],
 ) -> Result<Core, AllocError>
     requires given { (p : Program) × (M : Name) ×
-        AreDefaultsOf p M (map part_of parts.now) (map (option_map abstract) defaults.now) }
+        AreDefaultsOf p M (map part_of parts.now) (defaults_seen defaults.now) }
     requires plain { HaveNoDefaultBehind (map part_of parts.now) }
     requires behind { AreBehind (map part_of parts.now) }
     ensures { (p : Program) (i : ℕ) (M : Name) →
-        AreDefaultsOf p M (map part_of parts.now) (map (option_map abstract) defaults.now) →
+        AreDefaultsOf p M (map part_of parts.now) (defaults_seen defaults.now) →
         IfOk result (λ c. IsCoreOf p i M (members kind marker (map part_of parts.now)) (kind_of c)) }
 {
     match kind {

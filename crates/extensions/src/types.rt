@@ -1,25 +1,22 @@
 //! Resolved types.
 
-ghost use Rattle.std.specs.Prelude.{◌≡◌, ◌<◌, ℕ, IfOk, length, map, option_map};
-ghost use Rattle.asn_base.specs.Abstract.{abstract};
+ghost use Rattle.std.specs.Prelude.{◌<◌, IfOk, length};
 ghost use Rattle.asn_base.specs.Seen.{kind_of as resolved_kind, resolved_of};
 ghost use Rattle.trees.specs.Values.{Name};
 ghost use Rattle.type_table.specs.Lists.{AreSound};
 ghost use Rattle.type_table.specs.Seen.{kind_of};
 ghost use Rattle.type_table.specs.Table.{elements};
 ghost use Rattle.range_ends.specs.Ends.{IsOfKind};
-ghost use Rattle.values.specs.Allowing.{Allows, AllowsCode};
-ghost use Rattle.schema_of.specs.SchemaOf.{IsTypeOf};
 ghost use Rattle.additions.specs.Additions.{KeepAdditions};
-ghost use Rattle.settled.specs.Settled.{IsSettledType};
 ghost use Rattle.extensions.specs.proving.Defaults.{HasDefaults};
-ghost use Rattle.extensions.specs.proving.Cores.{IsCoreIn, IsCoreOf, IsCoreType};
+ghost use Rattle.extensions.specs.proving.Cores.{AreAlike, IsCoreIn, IsCoreOf, IsCoreType};
+ghost use Rattle.extensions.specs.proving.Tables.{IsResolved, defaults_seen};
 
 use crate::members::list_core;
+use crate::pool::Shared;
 use crate::simple::simple_core;
 use crate::tags::tags;
 use asn_base::schema::{Core, Resolved, TypeId};
-use asn_base::value::Value;
 use constraints::{Bounded, constraint};
 use resolve::Linked;
 use std::alloc::{AllocError, Global};
@@ -64,12 +61,12 @@ fn core(
     alloc: Global,
     bounded: &Bounded<'_>,
     ty: TypeId,
-    defaults: &[Option<Value>],
+    defaults: &[Option<Shared>],
 ) -> Result<Core, AllocError>
     requires there { ty.index < length bounded.now.types }
     requires sound { AreSound bounded.now.types }
     requires additions { KeepAdditions bounded.now.types }
-    requires defaults { HasDefaults bounded.now ty.index (map (option_map abstract) defaults.now) }
+    requires defaults { HasDefaults bounded.now ty.index (defaults_seen defaults.now) }
     ensures { IfOk result (λ c. IsCoreIn bounded.now ty.index (resolved_kind c)) }
 {
     match behind(bounded.linked(), ty) {
@@ -89,20 +86,46 @@ pub(crate) fn resolved(
     alloc: Global,
     bounded: &Bounded<'_>,
     ty: TypeId,
-    defaults: &[Option<Value>],
+    defaults: &[Option<Shared>],
 ) -> Result<Resolved, AllocError>
     requires there { ty.index < length bounded.now.types }
     requires sound { AreSound bounded.now.types }
     requires additions { KeepAdditions bounded.now.types }
-    requires defaults { HasDefaults bounded.now ty.index (map (option_map abstract) defaults.now) }
-    ensures is { IfOk result (λ r. IsTypeOf bounded.now (Allows bounded.now) (AllowsCode bounded.now) ty.index (resolved_kind r.core)) }
-    ensures settled { IfOk result (λ r. IsSettledType bounded.now ty.index (resolved_of r)) }
+    requires defaults { HasDefaults bounded.now ty.index (defaults_seen defaults.now) }
+    ensures { IfOk result (λ r. IsResolved bounded.now ty.index (resolved_of r)) }
 {
     let tags = match tags(alloc, bounded, ty) {
         Ok(tags) => tags,
         Err(fault) => return Err(fault),
     };
     match core(alloc, bounded, ty, defaults) {
+        Ok(core) => match Resolved::of(alloc, tags, core) {
+            Ok(one) => Ok(one),
+            Err(fault) => Err(fault),
+        },
+        Err(fault) => Err(fault),
+    }
+}
+
+/// The resolved type of a written one that shares what another one is behind its tags: both are the same behind
+/// references and tags, and their constraints leave the same. It refuses for want of memory alone.
+pub(crate) fn shared(
+    alloc: Global,
+    bounded: &Bounded<'_>,
+    ty: TypeId,
+    other: usize,
+    made: &Resolved,
+) -> Result<Resolved, AllocError>
+    requires there { ty.index < length bounded.now.types }
+    requires alike { AreAlike bounded.now other ty.index }
+    requires made { IsResolved bounded.now other (resolved_of made.now) }
+    ensures { IfOk result (λ r. IsResolved bounded.now ty.index (resolved_of r)) }
+{
+    let tags = match tags(alloc, bounded, ty) {
+        Ok(tags) => tags,
+        Err(fault) => return Err(fault),
+    };
+    match made.core.clone() {
         Ok(core) => Ok(Resolved { tags, core }),
         Err(fault) => Err(fault),
     }

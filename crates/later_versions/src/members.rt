@@ -64,7 +64,7 @@ pub(crate) fn member_at(schema: &Schema, id: TypeId, place: usize) -> Option<Typ
     ensures { option_map (λ t. t.index) result ≡ slice_get (members_of schema.now id.index) place }
 {
     if schema.has(id) {
-        return member(&schema.get(id).core, place);
+        return member(schema.core(id), place);
     }
     None
 }

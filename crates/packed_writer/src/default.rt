@@ -33,7 +33,7 @@ fn component_at(schema: &Schema, id: TypeId, place: usize) -> &Component
     ensures is { HasComponent schema.now id.index place (component_of result.now) }
     ensures value { HasValue schema.now (component_of result.now) }
 {
-    let core = &schema.get(id).core;
+    let core = schema.core(id);
     &components_of(core)[place]
 }
 

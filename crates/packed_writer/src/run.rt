@@ -124,7 +124,7 @@ fn push_contents(
     ensures { OnOk result (out.new ≡ out.old
         ++ leaf_bits (kind_at code.now typed.entry.id.index) (abstract typed.entry.value.now)) }
 {
-    let core = &code.schema().get(typed.id).core;
+    let core = code.schema().core(typed.id);
     push_leaf(alloc, out, core, typed.value)?;
     Ok(())
 }
@@ -290,7 +290,7 @@ fn size_of(schema: &Schema, id: TypeId) -> &Constraint
     requires { IsList schema.now id.index }
     ensures { IsListOf schema.now id.index (constraint_of result.now) }
 {
-    match &schema.get(id).core {
+    match schema.core(id) {
         Core::SequenceOf(size, _) => size,
         Core::SetOf(size, _) => size,
         Core::Boolean | Core::Integer(_) | Core::Enumerated(_) | Core::BitString(_) =>

@@ -47,6 +47,7 @@ fn application(alloc: Global, number: u32) -> Result<Vec<Tag>, AllocError>
 
 /// Adds a type behind those that are there, at its number.
 fn add(
+    alloc: Global,
     types: &mut Vec<Resolved>,
     number: usize,
     tags: Vec<Tag>,
@@ -57,7 +58,7 @@ fn add(
         ≡ Some (record { numbers = numbers_of tags.items; kind = kind_of core }) }
     ensures { OnOk result (AreTold (take (number + 1) all_told) (types_of types.new.items)) }
 {
-    types.push(Resolved { tags, core })?;
+    types.push(Resolved::of(alloc, tags, core)?)?;
     Ok(())
 }
 
@@ -245,7 +246,7 @@ fn three_members(alloc: Global) -> Result<Vec<Component>, AllocError>
     abstract_values();
     let a = member(alloc, "a", 1, Presence::Mandatory)?;
     let b = member(alloc, "b", 0, Presence::Optional)?;
-    let c = member(alloc, "c", 1, Presence::Default(Value::Int(5)))?;
+    let c = member(alloc, "c", 1, Presence::default(alloc, Value::Int(5))?)?;
     Ok(vec![in alloc; a, b, c]?)
 }
 
@@ -273,7 +274,12 @@ fn set_member(alloc: Global) -> Result<Vec<Component>, AllocError>
 {
     abstract_values();
     let numbers = vec![in alloc; Value::Int(1), Value::Int(2)]?;
-    let a = member(alloc, "a", 16, Presence::Default(Value::List(numbers)))?;
+    let a = member(
+        alloc,
+        "a",
+        16,
+        Presence::default(alloc, Value::List(numbers))?,
+    )?;
     Ok(vec![in alloc; a]?)
 }
 
@@ -348,7 +354,12 @@ fn newer_member(alloc: Global) -> Result<Vec<Component>, AllocError>
 {
     abstract_values();
     let fields = vec![in alloc; Some(Value::Int(1)), None]?;
-    let s = member(alloc, "s", 42, Presence::Default(Value::Fields(fields)))?;
+    let s = member(
+        alloc,
+        "s",
+        42,
+        Presence::default(alloc, Value::Fields(fields))?,
+    )?;
     Ok(vec![in alloc; s]?)
 }
 
@@ -359,7 +370,7 @@ fn mixed_members(alloc: Global) -> Result<Vec<Component>, AllocError>
     abstract_values();
     let a = member(alloc, "a", 34, Presence::Optional)?;
     let b = member(alloc, "b", 48, Presence::Mandatory)?;
-    let c = member(alloc, "c", 37, Presence::Default(Value::Int(5)))?;
+    let c = member(alloc, "c", 37, Presence::default(alloc, Value::Int(5))?)?;
     let d = member(alloc, "d", 28, Presence::Addition(due()))?;
     Ok(vec![in alloc; a, b, c, d]?)
 }
@@ -479,14 +490,14 @@ fn first_types(alloc: Global, types: &mut Vec<Resolved>) -> Result<(), AllocErro
     requires { types_of types.old.items ≡ [] }
     ensures { OnOk result (AreTold (take 6 all_told) (types_of types.new.items)) }
 {
-    add(types, 0, universal(alloc, 1)?, Core::Boolean)?;
+    add(alloc, types, 0, universal(alloc, 1)?, Core::Boolean)?;
     let number = Core::Integer(Constraint::any_number());
-    add(types, 1, universal(alloc, 2)?, number)?;
-    add(types, 2, universal(alloc, 2)?, ranged(alloc)?)?;
-    add(types, 3, universal(alloc, 10)?, items(alloc)?)?;
+    add(alloc, types, 1, universal(alloc, 2)?, number)?;
+    add(alloc, types, 2, universal(alloc, 2)?, ranged(alloc)?)?;
+    add(alloc, types, 3, universal(alloc, 10)?, items(alloc)?)?;
     let bits = Core::BitString(Constraint::any_size());
-    add(types, 4, universal(alloc, 3)?, bits)?;
-    add(types, 5, universal(alloc, 3)?, named(alloc)?)
+    add(alloc, types, 4, universal(alloc, 3)?, bits)?;
+    add(alloc, types, 5, universal(alloc, 3)?, named(alloc)?)
 }
 
 /// Types 6 to 12.
@@ -495,14 +506,20 @@ fn more_leaves(alloc: Global, types: &mut Vec<Resolved>) -> Result<(), AllocErro
     ensures { OnOk result (AreTold (take 13 all_told) (types_of types.new.items)) }
 {
     let octets = Core::OctetString(Constraint::any_size());
-    add(types, 6, universal(alloc, 4)?, octets)?;
-    add(types, 7, universal(alloc, 5)?, Core::Null)?;
-    add(types, 8, universal(alloc, 6)?, Core::ObjectIdentifier)?;
-    add(types, 9, universal(alloc, 13)?, Core::RelativeOid)?;
+    add(alloc, types, 6, universal(alloc, 4)?, octets)?;
+    add(alloc, types, 7, universal(alloc, 5)?, Core::Null)?;
+    add(
+        alloc,
+        types,
+        8,
+        universal(alloc, 6)?,
+        Core::ObjectIdentifier,
+    )?;
+    add(alloc, types, 9, universal(alloc, 13)?, Core::RelativeOid)?;
     let text = Core::Utf8String(Constraint::any_size());
-    add(types, 10, universal(alloc, 12)?, text)?;
-    add(types, 11, universal(alloc, 12)?, short(alloc)?)?;
-    add(types, 12, universal(alloc, 18)?, digits(alloc)?)
+    add(alloc, types, 10, universal(alloc, 12)?, text)?;
+    add(alloc, types, 11, universal(alloc, 12)?, short(alloc)?)?;
+    add(alloc, types, 12, universal(alloc, 18)?, digits(alloc)?)
 }
 
 /// Types 13 to 17.
@@ -511,15 +528,15 @@ fn lists(alloc: Global, types: &mut Vec<Resolved>) -> Result<(), AllocError>
     ensures { OnOk result (AreTold (take 18 all_told) (types_of types.new.items)) }
 {
     let none = Core::Sequence(false, Vec::new(alloc));
-    add(types, 13, universal(alloc, 16)?, none)?;
+    add(alloc, types, 13, universal(alloc, 16)?, none)?;
     let three = Core::Sequence(false, three_members(alloc)?);
-    add(types, 14, universal(alloc, 16)?, three)?;
+    add(alloc, types, 14, universal(alloc, 16)?, three)?;
     let numbers = Core::SequenceOf(Constraint::any_size(), TypeId { index: 1 });
-    add(types, 15, universal(alloc, 16)?, numbers)?;
+    add(alloc, types, 15, universal(alloc, 16)?, numbers)?;
     let bag = Core::SetOf(Constraint::any_size(), TypeId { index: 1 });
-    add(types, 16, universal(alloc, 17)?, bag)?;
+    add(alloc, types, 16, universal(alloc, 17)?, bag)?;
     let named = Core::SetOf(Constraint::any_size(), TypeId { index: 5 });
-    add(types, 17, universal(alloc, 17)?, named)
+    add(alloc, types, 17, universal(alloc, 17)?, named)
 }
 
 /// Types 18 to 20.
@@ -533,15 +550,15 @@ fn choices(alloc: Global, types: &mut Vec<Resolved>) -> Result<(), AllocError>
         additions: Vec::new(alloc),
     });
     let tags = vec![in alloc; Tag::of(Class::Context, 0)]?;
-    add(types, 18, tags, inner)?;
+    add(alloc, types, 18, tags, inner)?;
     let outer = Core::Choice(Alternatives {
         root: outer_alternatives(alloc)?,
         extensible: true,
         additions: new_alternatives(alloc)?,
     });
-    add(types, 19, Vec::new(alloc), outer)?;
+    add(alloc, types, 19, Vec::new(alloc), outer)?;
     let grouped = Core::Sequence(true, grouped_members(alloc)?);
-    add(types, 20, universal(alloc, 16)?, grouped)
+    add(alloc, types, 20, universal(alloc, 16)?, grouped)
 }
 
 /// Types 21 to 23.
@@ -550,11 +567,11 @@ fn more_types(alloc: Global, types: &mut Vec<Resolved>) -> Result<(), AllocError
     ensures { OnOk result (AreTold (take 24 all_told) (types_of types.new.items)) }
 {
     let levels = Core::SequenceOf(Constraint::any_size(), TypeId { index: 21 });
-    add(types, 21, universal(alloc, 16)?, levels)?;
+    add(alloc, types, 21, universal(alloc, 16)?, levels)?;
     let tags = vec![in alloc; Tag::of(Class::Context, 0), Tag::of(Class::Universal, 1)]?;
-    add(types, 22, tags, Core::Boolean)?;
+    add(alloc, types, 22, tags, Core::Boolean)?;
     let set = Core::Sequence(false, set_member(alloc)?);
-    add(types, 23, universal(alloc, 16)?, set)
+    add(alloc, types, 23, universal(alloc, 16)?, set)
 }
 
 /// Types 24 to 30.
@@ -562,15 +579,15 @@ fn tagged_types(alloc: Global, types: &mut Vec<Resolved>) -> Result<(), AllocErr
     requires { AreTold (take 24 all_told) (types_of types.old.items) }
     ensures { OnOk result (AreTold (take 31 all_told) (types_of types.new.items)) }
 {
-    add(types, 24, application(alloc, 30)?, Core::Null)?;
-    add(types, 25, application(alloc, 31)?, Core::Null)?;
-    add(types, 26, context(alloc, 128)?, Core::Null)?;
-    add(types, 27, context(alloc, 0)?, Core::Boolean)?;
-    add(types, 28, context(alloc, 1)?, Core::Boolean)?;
+    add(alloc, types, 24, application(alloc, 30)?, Core::Null)?;
+    add(alloc, types, 25, application(alloc, 31)?, Core::Null)?;
+    add(alloc, types, 26, context(alloc, 128)?, Core::Null)?;
+    add(alloc, types, 27, context(alloc, 0)?, Core::Boolean)?;
+    add(alloc, types, 28, context(alloc, 1)?, Core::Boolean)?;
     let set = Core::Set(false, turned_members(alloc)?);
-    add(types, 29, universal(alloc, 17)?, set)?;
+    add(alloc, types, 29, universal(alloc, 17)?, set)?;
     let truths = Core::SequenceOf(Constraint::any_size(), TypeId { index: 0 });
-    add(types, 30, universal(alloc, 16)?, truths)
+    add(alloc, types, 30, universal(alloc, 16)?, truths)
 }
 
 /// Types 31 to 36.
@@ -579,15 +596,15 @@ fn added_types(alloc: Global, types: &mut Vec<Resolved>) -> Result<(), AllocErro
     ensures { OnOk result (AreTold (take 37 all_told) (types_of types.new.items)) }
 {
     let truths = Core::SetOf(Constraint::any_size(), TypeId { index: 0 });
-    add(types, 31, universal(alloc, 17)?, truths)?;
+    add(alloc, types, 31, universal(alloc, 17)?, truths)?;
     let strings = Core::SetOf(Constraint::any_size(), TypeId { index: 6 });
-    add(types, 32, universal(alloc, 17)?, strings)?;
-    add(types, 33, context(alloc, 1)?, small_number(alloc)?)?;
-    add(types, 34, context(alloc, 2)?, Core::Null)?;
+    add(alloc, types, 32, universal(alloc, 17)?, strings)?;
+    add(alloc, types, 33, context(alloc, 1)?, small_number(alloc)?)?;
+    add(alloc, types, 34, context(alloc, 2)?, Core::Null)?;
     let added = Core::Sequence(true, added_members(alloc)?);
-    add(types, 35, universal(alloc, 16)?, added)?;
+    add(alloc, types, 35, universal(alloc, 16)?, added)?;
     let bracketed = Core::Sequence(true, bracketed_members(alloc)?);
-    add(types, 36, universal(alloc, 16)?, bracketed)
+    add(alloc, types, 36, universal(alloc, 16)?, bracketed)
 }
 
 /// Types 37 to 43.
@@ -596,21 +613,21 @@ fn newer_types(alloc: Global, types: &mut Vec<Resolved>) -> Result<(), AllocErro
     ensures { OnOk result (AreTold (take 44 all_told) (types_of types.new.items)) }
 {
     let number = Core::Integer(Constraint::any_number());
-    add(types, 37, context(alloc, 0)?, number)?;
+    add(alloc, types, 37, context(alloc, 0)?, number)?;
     let optional = Core::Sequence(false, optional_members(alloc)?);
-    add(types, 38, universal(alloc, 16)?, optional)?;
-    add(types, 39, context(alloc, 1)?, Core::Null)?;
+    add(alloc, types, 38, universal(alloc, 16)?, optional)?;
+    add(alloc, types, 39, context(alloc, 1)?, Core::Null)?;
     let choice = Core::Choice(Alternatives {
         root: unordered_alternatives(alloc)?,
         extensible: true,
         additions: Vec::new(alloc),
     });
-    add(types, 40, Vec::new(alloc), choice)?;
-    add(types, 41, universal(alloc, 10)?, numbered(alloc)?)?;
+    add(alloc, types, 40, Vec::new(alloc), choice)?;
+    add(alloc, types, 41, universal(alloc, 10)?, numbered(alloc)?)?;
     let newer = Core::Sequence(true, newer_members(alloc)?);
-    add(types, 42, context(alloc, 0)?, newer)?;
+    add(alloc, types, 42, context(alloc, 0)?, newer)?;
     let with_newer = Core::Sequence(false, newer_member(alloc)?);
-    add(types, 43, universal(alloc, 16)?, with_newer)
+    add(alloc, types, 43, universal(alloc, 16)?, with_newer)
 }
 
 /// Types 44 to 49.
@@ -619,15 +636,21 @@ fn mixed_types(alloc: Global, types: &mut Vec<Resolved>) -> Result<(), AllocErro
     ensures { OnOk result (AreTold (take 50 all_told) (types_of types.new.items)) }
 {
     let tags = vec![in alloc; Tag::of(Class::Context, 1), Tag::of(Class::Context, 2)]?;
-    add(types, 44, tags, Core::Boolean)?;
-    add(types, 45, universal(alloc, 18)?, three_digits(alloc)?)?;
-    add(types, 46, universal(alloc, 4)?, extensible_size())?;
+    add(alloc, types, 44, tags, Core::Boolean)?;
+    add(
+        alloc,
+        types,
+        45,
+        universal(alloc, 18)?,
+        three_digits(alloc)?,
+    )?;
+    add(alloc, types, 46, universal(alloc, 4)?, extensible_size())?;
     let rows = Core::SequenceOf(Constraint::any_size(), TypeId { index: 14 });
-    add(types, 47, universal(alloc, 16)?, rows)?;
+    add(alloc, types, 47, universal(alloc, 16)?, rows)?;
     let sets = Core::SetOf(Constraint::any_size(), TypeId { index: 16 });
-    add(types, 48, universal(alloc, 17)?, sets)?;
+    add(alloc, types, 48, universal(alloc, 17)?, sets)?;
     let mixed = Core::Set(true, mixed_members(alloc)?);
-    add(types, 49, universal(alloc, 17)?, mixed)
+    add(alloc, types, 49, universal(alloc, 17)?, mixed)
 }
 
 /// Types 50 to 54.
@@ -635,15 +658,15 @@ fn short_lists(alloc: Global, types: &mut Vec<Resolved>) -> Result<(), AllocErro
     requires { AreTold (take 50 all_told) (types_of types.old.items) }
     ensures { OnOk result (AreTold (take 55 all_told) (types_of types.new.items)) }
 {
-    add(types, 50, context(alloc, 0)?, Core::Null)?;
+    add(alloc, types, 50, context(alloc, 0)?, Core::Null)?;
     let open = Core::Set(true, null_member(alloc)?);
-    add(types, 51, universal(alloc, 17)?, open)?;
+    add(alloc, types, 51, universal(alloc, 17)?, open)?;
     let closed = Core::Set(false, optional_null_member(alloc)?);
-    add(types, 52, universal(alloc, 17)?, closed)?;
+    add(alloc, types, 52, universal(alloc, 17)?, closed)?;
     let numbers = Core::Sequence(true, number_members(alloc)?);
-    add(types, 53, universal(alloc, 16)?, numbers)?;
+    add(alloc, types, 53, universal(alloc, 16)?, numbers)?;
     let strings = Core::Sequence(false, string_members(alloc)?);
-    add(types, 54, universal(alloc, 16)?, strings)
+    add(alloc, types, 54, universal(alloc, 16)?, strings)
 }
 
 /// Types 55 to 60.
@@ -652,21 +675,21 @@ fn earlier_types(alloc: Global, types: &mut Vec<Resolved>) -> Result<(), AllocEr
     ensures { OnOk result (AreTold all_told (types_of types.new.items)) }
 {
     let sequence = Core::Sequence(true, truth_member(alloc)?);
-    add(types, 55, universal(alloc, 16)?, sequence)?;
+    add(alloc, types, 55, universal(alloc, 16)?, sequence)?;
     let set = Core::Set(true, truth_member(alloc)?);
-    add(types, 56, universal(alloc, 17)?, set)?;
+    add(alloc, types, 56, universal(alloc, 17)?, set)?;
     let nested = Core::Sequence(true, nested_member(alloc)?);
-    add(types, 57, universal(alloc, 16)?, nested)?;
+    add(alloc, types, 57, universal(alloc, 16)?, nested)?;
     let choice = Core::Choice(Alternatives {
         root: newer_alternatives(alloc)?,
         extensible: true,
         additions: Vec::new(alloc),
     });
-    add(types, 58, Vec::new(alloc), choice)?;
+    add(alloc, types, 58, Vec::new(alloc), choice)?;
     let choices = Core::SequenceOf(Constraint::any_size(), TypeId { index: 58 });
-    add(types, 59, universal(alloc, 16)?, choices)?;
+    add(alloc, types, 59, universal(alloc, 16)?, choices)?;
     let optional = Core::Sequence(true, optional_number_member(alloc)?);
-    add(types, 60, universal(alloc, 16)?, optional)
+    add(alloc, types, 60, universal(alloc, 16)?, optional)
 }
 
 /// The schema of all these types, or `AllocError` for want of memory alone.

@@ -32,7 +32,7 @@ fn print_value(
     ensures { IfOk result (λ _. Adds out.old out.new (print schema.now id.index (abstract value.now))) }
 {
     abstract_values();
-    let core = &schema.get(id).core;
+    let core = schema.core(id);
     match value {
         Value::Bool(truth) => append_truth(out, *truth),
         Value::Int(number) => append_number(out, *number),

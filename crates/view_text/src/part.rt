@@ -33,7 +33,7 @@ pub(crate) fn print_part(
         → IsPart part.now t
         → IfOk result (λ _. Adds out.old out.new (print schema.now id.index (value_of t))) }
 {
-    let core = &schema.get(id).core;
+    let core = schema.core(id);
     match part.shown() {
         Shown::Bool(truth) => append_truth(out, truth),
         Shown::Int(number) => append_number(out, number),

@@ -1,10 +1,11 @@
 -- Values of a kind, as values of a type.
 use Rattle.std.proofs.Common.{arith, ◌≡◌, ℕ, suc, ◌-◌, ◌<◌, List, refl, sym, subst}
 use Rattle.std.specs.Prelude.{Option, Some, None, MatchOption, IfSome, slice_get}
-use Rattle.asn_base.specs.declared.schema.Resolved.{Resolved as Resolved'}
+use Rattle.asn_base.specs.declared.schema.Core.{Core}
+use Rattle.asn_base.specs.declared.tag.Tag.{Tag}
 use Rattle.asn_base.specs.Abstract.{AbstractValue, alternative}
 use Rattle.asn_base.specs.Decided.{IsFlat}
-use Rattle.asn_base.specs.Seen.{kind_of, resolved_of}
+use Rattle.asn_base.specs.Seen.{kind_of}
 use Rattle.asn_base.specs.Types.{Alternative, Kind, a_choice, Resolved}
 use Rattle.asn_base.specs.Typed.{Fits, ValueIn, value_in, ValueOf, of_leaf, of_sequence, of_set, of_sequence_of, of_set_of, of_choice}
 use Rattle.value_text.specs.Print.{alternatives_in}
@@ -18,13 +19,17 @@ one_more n l = omega arith
 of_kind : {s : List Resolved} {n t : ℕ} {r : Resolved} {v : AbstractValue} → slice_get s t ≡ Some r → ValueOf s n r.kind v → ValueIn s (suc n) t v
 of_kind {r = r} e a = value_in {tags = r.tags} (record { found = e }) a
 
--- a value of the type's kind
-pub held_as : (s : List Resolved) (n t : ℕ) (r : Resolved') (k : Kind) (v w : AbstractValue) → 0 < n → slice_get s t ≡ Some (resolved_of r) → kind_of r.core ≡ k → v ≡ w → ValueOf s (n - 1) k w → ValueIn s n t v
-held_as s n t r k v w l e f g h =
-    subst (λ q. ValueIn s q t v) (one_more n l) (of_kind e (subst (λ q. ValueOf s (n - 1) q v) (sym f) (subst (λ q. ValueOf s (n - 1) k q) (sym g) h)))
+-- type t is, behind its tags, of this kind
+abbrev HasCore : List Resolved → ℕ → Core → Type 0
+HasCore s t r = (tags : List Tag) × (slice_get s t ≡ Some (record { tags = tags; kind = kind_of r }))
 
-pub leaf_as : (s : List Resolved) (n t : ℕ) (r : Resolved') (v w : AbstractValue) → 0 < n → slice_get s t ≡ Some (resolved_of r) → v ≡ w → Fits (kind_of r.core) w → ValueIn s n t v
-leaf_as s n t r v w l e g h = held_as s n t r (kind_of r.core) v w l e refl g (of_leaf h)
+-- a value of the type's kind
+pub held_as : (s : List Resolved) (n t : ℕ) (r : Core) (k : Kind) (v w : AbstractValue) → 0 < n → HasCore s t r → kind_of r ≡ k → v ≡ w → ValueOf s (n - 1) k w → ValueIn s n t v
+held_as s n t r k v w l e f g h =
+    subst (λ q. ValueIn s q t v) (one_more n l) (of_kind e.1 (subst (λ q. ValueOf s (n - 1) q v) (sym f) (subst (λ q. ValueOf s (n - 1) k q) (sym g) h)))
+
+pub leaf_as : (s : List Resolved) (n t : ℕ) (r : Core) (v w : AbstractValue) → 0 < n → HasCore s t r → v ≡ w → Fits (kind_of r) w → ValueIn s n t v
+leaf_as s n t r v w l e g h = held_as s n t r (kind_of r) v w l e refl g (of_leaf h)
 
 flat_of : {s : List Resolved} {m : ℕ} (n : ℕ) {k : Kind} {v : AbstractValue} → IsFlat v → ValueOf s m k v → ValueOf s n k v
 flat_of n f (of_leaf h) = of_leaf h

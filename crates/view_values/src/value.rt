@@ -50,7 +50,7 @@ fn is_within(part: &Part<'_, '_>, schema: &Schema, levels: u8, id: TypeId) -> bo
     if levels == 0 || !schema.has(id) {
         return false;
     }
-    fits_at_once(&schema.get(id).core, part) || is_any(part, schema, levels, id)
+    fits_at_once(schema.core(id), part) || is_any(part, schema, levels, id)
 }
 
 /// The same of a type that the schema has, whatever its kind.
@@ -62,7 +62,7 @@ fn is_any(part: &Part<'_, '_>, schema: &Schema, levels: u8, id: TypeId) -> bool
     ensures { (t : Tree) → IsPart part.now t → IsTrue result → ValueIn schema.now levels id.index (value_of t) }
 {
     abstract_values();
-    let core = &schema.get(id).core;
+    let core = schema.core(id);
     match part.shown() {
         Shown::Bool(truth) => fits_boolean(core, truth),
         Shown::Int(number) => fits_integer(core, number),

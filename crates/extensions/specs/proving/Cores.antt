@@ -9,6 +9,8 @@ use Rattle.resolve.specs.Program.{Program, IsAssignment}
 use Rattle.tagging.specs.declared.path.TagForm.{TagForm}
 use Rattle.tagging.specs.declared.path.TagForm.TheVariants.{Implicit, Explicit}
 use Rattle.tagging.specs.Tags.{Label, Path}
+use Rattle.range_ends.specs.Ends.{IsOfKind}
+use Rattle.constraints.specs.Allowed.{LeaveTheSame}
 use Rattle.values.specs.Allowing.{Allows, AllowsCode}
 use Rattle.schema_of.specs.SchemaOf.{IsKindOf}
 use Rattle.additions.specs.Additions.{IsAdded, has_default}
@@ -81,3 +83,10 @@ pub record IsCoreIn (p : Program) (i : ℕ) (r : types.Kind) : Type 0 where
   pub kind : Kind
   pub is : IsCoreType p i kind
   pub such : IsCoreOf p i is.within kind r
+
+-- types i and j are the same behind references and tags, and their constraints leave the same
+pub record AreAlike (p : Program) (i j : ℕ) : Type 0 where
+  pub core : ℕ
+  pub one : IsCore p.types i core
+  pub other : IsCore p.types j core
+  pub same : (k : Kind) → IsOfKind p.types i k → IsOfKind p.types j k → LeaveTheSame p k i j

@@ -1,6 +1,7 @@
 -- The values of all DEFAULTs, by the numbers of the types that they are written in, and what parts of the walk tell.
 use Rattle.std.specs.Prelude.{◌≡◌, ◌<◌, ℕ, List, Option, Some, length, map, option_map, slice_get, Vec}
 use Rattle.std.specs.declared.alloc.Global.{Global}
+use Rattle.extensions.specs.declared.pool.Shared.{Shared}
 use Rattle.asn_base.specs.Abstract.{AbstractValue, abstract}
 use Rattle.asn_base.specs.declared.value.Value.{Value}
 use Rattle.asn_base.specs.Types.{Resolved}
@@ -27,13 +28,17 @@ pub record AreEach {B : Type 0} (R : ℕ → B → Type 0) (n : ℕ) (bs : List 
   pub as_many : length bs ≡ n
   pub each : (i : ℕ) (b : B) → slice_get bs i ≡ Some b → R i b
 
-abbrev pub defaults_seen : List (Option Value) → List (Option AbstractValue)
-defaults_seen = map (option_map abstract)
+-- a value that is shared
+abbrev pub shared_seen : Shared → AbstractValue
+shared_seen s = abstract s.held.value
 
-abbrev pub row_seen : Vec (Option Value) Global → List (Option AbstractValue)
+abbrev pub defaults_seen : List (Option Shared) → List (Option AbstractValue)
+defaults_seen = map (option_map shared_seen)
+
+abbrev pub row_seen : Vec (Option Shared) Global → List (Option AbstractValue)
 row_seen v = defaults_seen v.items
 
-abbrev pub table_seen : List (Vec (Option Value) Global) → List (List (Option AbstractValue))
+abbrev pub table_seen : List (Vec (Option Shared) Global) → List (List (Option AbstractValue))
 table_seen = map row_seen
 
 -- the types of these components are below n

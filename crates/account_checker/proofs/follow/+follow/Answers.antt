@@ -1,8 +1,9 @@
 use Rattle.std.proofs.Common.{rules, arith, ap, sym, subst, refl, ◌≡◌, ◌∙◌, ◌++◌, ◌+◌, ◌-◌, ◌<◌, length, map, drop}
-use Rattle.std.specs.Prelude.{option_map}
+use Rattle.std.specs.Prelude.{Some, option_map}
+use Rattle.asn_base.specs.declared.schema.Core.{Core}
 use Rattle.asn_base.specs.Abstract.{abstract}
 use Rattle.asn_base.specs.Schemas.{HasValue}
-use Rattle.asn_base.specs.Seen.{component_of, kind_of, presence_of, resolved_of}
+use Rattle.asn_base.specs.Seen.{component_of, kind_of, presence_of}
 use Rattle.octet_account.specs.Flat.{rows_of}
 use Rattle.octet_account.specs.Seen.{flat, numbers_of}
 use Rattle.octet_account.specs.declared.row.Told.TheVariants as told
@@ -15,17 +16,18 @@ use Rattle.octet_account.specs.Flat.{member_rows}
 use Rattle.account_checker.proofs.Rows.{row_eq, row_eq_any}
 use Rattle.account_checker.proofs.ByKind.{type_made, type_opened, choice_value, bare_made, bare_opened, bare_choice, core_choice, tag_made, tag_opened, tag_within, choice_within, choice_parts, sequence_within, sequence_parts, list_within, list_parts, leaf_parts, core_leaf, sequence_value, list_value, sequence_same, list_same, choice_same}
 use Rattle.account_checker.proofs.Told.{to_header, from_header, told_at, no_leaf, no_wrap_row, no_seq, no_seqof, is_account, chosen_value, defaults_of}
-use Rattle.asn_base.specs.Types.{a_sequence, a_set}
+use Rattle.asn_base.specs.Types.{a_sequence, a_set, default}
+use Rattle.asn_base.specs.declared.value.Value.{Value}
 use Rattle.account_checker.proofs.Sets.{IsPlaced, set_within, set_same, set_parts, set_of_within, set_of_same, set_of_parts, set_value, set_of_value, set_defaults, no_set, no_set_of}
 use Rattle.asn_base.specs.Typed.{ValueIn, members}
 use Rattle.encodings.specs.Account.{header}
 use Rattle.account_checker.proofs.follow.+follow.Goals as goal
 
 pub follows-returns-in-Some : goal.follows-returns-in-Some
-follows-returns-in-Some t c = λ a rest e. (type_made (resolved_of c.get-resolved.result.now) c.get-resolved.ensures.is c.as_slice.ensures.value (c.in-Some.ensures a rest e).0, (c.in-Some.ensures a rest e).1)
+follows-returns-in-Some t c = λ a rest e. (type_made (record { tags = c.get-resolved.result.now.tags.items; kind = kind_of c.deref.result.now }) (c.get-resolved.ensures.is ∙ ap (λ (q : Core). Some (record { tags = c.get-resolved.result.now.tags.items; kind = kind_of q })) (sym c.deref.ensures)) c.as_slice.ensures.value (c.in-Some.ensures a rest e).0, (c.in-Some.ensures a rest e).1)
 
 pub follows-returns-in-None : goal.follows-returns-in-None
-follows-returns-in-None t c = λ a rest e d. c.in-None.ensures a rest e (type_opened (resolved_of c.get-resolved.result.now) c.get-resolved.ensures.is c.as_slice.ensures.value d)
+follows-returns-in-None t c = λ a rest e d. c.in-None.ensures a rest e (type_opened (record { tags = c.get-resolved.result.now.tags.items; kind = kind_of c.deref.result.now }) (c.get-resolved.ensures.is ∙ ap (λ (q : Core). Some (record { tags = c.get-resolved.result.now.tags.items; kind = kind_of q })) (sym c.deref.ensures)) c.as_slice.ensures.value d)
 
 pub bare-chosen-requires : goal.bare-chosen-requires
 bare-chosen-requires t c = (search rules, (choice_value (ap kind_of c.in-Choice.is) c.requires.value, c.requires.few))
@@ -265,14 +267,14 @@ member-returns-in-Some-written-2 t c = λ m rest e.
     let a = is_account m c.in-Some.row.now.told (flat c.in-Some.behind.now) rest f c.in_default-told.not-Absent c.in_default-told.not-Default in
     let g = e ∙ ap (λ w. rows_in w ++ rest) a.1 in
     let r = c.in-Some-written-2.ensures a.0 rest g in
-    (lacking_made c.args.place (component_of c.args.component.now) c.args.octets.now m a.0 (abstract c.in-Default-presence.default) a.1 (ap (option_map abstract) c.in-None.is) (ap presence_of c.in-Default-presence.is) c.if-asked.false r.0, r.1, r.2 ∙ sym (ap size_in a.1))
+    (lacking_made c.args.place (component_of c.args.component.now) c.args.octets.now m a.0 (abstract c.deref.result.now) a.1 (ap (option_map abstract) c.in-None.is) (ap presence_of c.in-Default-presence.is ∙ ap (λ (v : Value). default (abstract v)) (sym c.deref.ensures)) c.if-asked.false r.0, r.1, r.2 ∙ sym (ap size_in a.1))
 
 pub member-returns-in-None-written-2 : goal.member-returns-in-None-written-2
 member-returns-in-None-written-2 t c = λ m rest e d.
     let f = row_eq_any c.args.rows.now c.in-Some.row.now c.in-Some.behind.now (rows_in m ++ rest) c.in-Some.ensures.cases.0 e in
     let a = is_account m c.in-Some.row.now.told (flat c.in-Some.behind.now) rest f c.in_default-told.not-Absent c.in_default-told.not-Default in
     let g = e ∙ ap (λ w. rows_in w ++ rest) a.1 in
-    c.in-None-written-2.ensures a.0 rest g (lacking_same c.args.place (component_of c.args.component.now) c.args.octets.now m a.0 (abstract c.in-Default-presence.default) a.1 (ap (option_map abstract) c.in-None.is) (ap presence_of c.in-Default-presence.is) d)
+    c.in-None-written-2.ensures a.0 rest g (lacking_same c.args.place (component_of c.args.component.now) c.args.octets.now m a.0 (abstract c.deref.result.now) a.1 (ap (option_map abstract) c.in-None.is) (ap presence_of c.in-Default-presence.is ∙ ap (λ (v : Value). default (abstract v)) (sym c.deref.ensures)) d)
 
 pub one_element-returns-in-Some-written : goal.one_element-returns-in-Some-written
 one_element-returns-in-Some-written t c = λ m rest e.

@@ -1,15 +1,16 @@
 use Rattle.std.proofs.Common.{arith, ◌<◌, ◌≤◌, ◌-◌, length, map, sym, subst, ap, ◌∙◌}
 use Rattle.std.proofs.Common.{rules}
-use Rattle.std.specs.Prelude.{IfSome, option_map}
+use Rattle.std.specs.Prelude.{◌↔◌, IfSome, IsTrue, option_map}
+use Rattle.asn_base.specs.declared.value.Value.{Value}
 use Rattle.asn_base.specs.Abstract.{abstract, row_of_options, row_of_list}
 use Rattle.asn_base.specs.Decided.{nodes_of}
 use Rattle.asn_base.specs.Seen.{component_of}
 use Rattle.asn_base.proofs.Leaves.{drop_is, drop_end, yes, no}
 use Rattle.asn_base.specs.Seen.{presence_of, constraint_of}
 use Rattle.asn_base.specs.Depths.{IsDepth}
-use Rattle.asn_base.specs.Typed.{IsAllowedSize, nodes, row_nodes}
+use Rattle.asn_base.specs.Typed.{IsAllowedSize, ValueIn, nodes, row_nodes}
 use Rattle.asn_base.proofs.DepthLaws.{component_at, known_at, by_depth, at_most}
-use Rattle.asn_base.proofs.Parts.{opened, next_component, no_first, all_components, groups_at, groups_all, opened_elements, all_elements, as_many, length_mapped, member_count, absent_at, may_optional, may_addition, by_default, in_leaf, in_holder, in_leaf_yes, some_nodes, one_node, row_at, list_at, left_behind}
+use Rattle.asn_base.proofs.Parts.{opened, next_component, no_first, all_components, groups_at, groups_all, opened_elements, all_elements, as_many, length_mapped, member_count, absent_at, may_optional, may_addition, by_default, in_leaf, in_holder, in_leaf_yes, some_nodes, one_node, row_at, list_at, left_behind, with_core}
 use Rattle.asn_base.proofs.decide.+within.Goals as goal
 
 pub are_fields-returns-then-not-is_component-clause-is : goal.are_fields-returns-then-not-is_component-clause-is
@@ -100,25 +101,25 @@ is_component-returns-in-Some-depth_of-clause-is t c =
     (by_depth c.args.schema.now c.args.levels (component_of c.args.component.now) c.in-Some-depth_of.least (ap presence_of c.in-Default.is) k (at_most c.in-Some-depth_of.least c.args.levels))
 
 pub is_component-returns-in-None-depth_of-clause-is : goal.is_component-returns-in-None-depth_of-clause-is
-is_component-returns-in-None-depth_of-clause-is t c = absent_at c.args.schema.now c.args.levels (component_of c.args.component.now) (ap (option_map abstract) c.in-None.is) (by_default (ap presence_of c.in-Default.is) c.is_judged-in-None-depth_of.ensures.is)
+is_component-returns-in-None-depth_of-clause-is t c = absent_at c.args.schema.now c.args.levels (component_of c.args.component.now) (ap (option_map abstract) c.in-None.is) (by_default (ap presence_of c.in-Default.is) (subst (λ (v : Value). IsTrue c.is_judged-in-None-depth_of.result ↔ ValueIn c.args.schema.now c.args.levels c.args.component.now.ty.index (abstract v)) c.deref.ensures c.is_judged-in-None-depth_of.ensures.is))
 
 pub is_component-returns-in-Addition-clause-is : goal.is_component-returns-in-Addition-clause-is
 is_component-returns-in-Addition-clause-is t c = absent_at c.args.schema.now c.args.levels (component_of c.args.component.now) (ap (option_map abstract) c.in-None.is) (yes (may_addition (ap presence_of c.in-Addition.is)))
 
 pub is_judged-returns-then-fits_at_once-clause-is : goal.is_judged-returns-then-fits_at_once-clause-is
-is_judged-returns-then-fits_at_once-clause-is t c = yes (in_leaf_yes c.args.levels (omega arith) c.get.ensures.is (c.fits_at_once.ensures c.if-fits_at_once.true))
+is_judged-returns-then-fits_at_once-clause-is t c = yes (in_leaf_yes c.args.levels (omega arith) (with_core c.args.schema.now c.args.id.index c.get.result.now c.get.ensures.is c.deref-core.ensures) (c.fits_at_once.ensures c.if-fits_at_once.true))
 
 pub is_judged-returns-then-fits_at_once-clause-nodes : goal.is_judged-returns-then-fits_at_once-clause-nodes
 is_judged-returns-then-fits_at_once-clause-nodes t c = λ yes'. let e = one_node (c.fits_at_once.ensures c.if-fits_at_once.true) in omega (arith, e)
 
 pub is_any-returns-then-fits-clause-is : goal.is_any-returns-then-fits-clause-is
-is_any-returns-then-fits-clause-is t c = in_leaf c.args.levels (omega arith) c.get.ensures.is c.fits.ensures c.if-fits.true
+is_any-returns-then-fits-clause-is t c = in_leaf c.args.levels (omega arith) (with_core c.args.schema.now c.args.id.index c.get.result.now c.get.ensures.is c.deref-core.ensures) c.fits.ensures c.if-fits.true
 
 pub is_any-returns-then-fits-clause-nodes : goal.is_any-returns-then-fits-clause-nodes
 is_any-returns-then-fits-clause-nodes t c = λ yes'. let e = one_node (c.fits.ensures.0 c.if-fits.true) in omega (arith, e)
 
 pub is_any-returns-else-fits-clause-is : goal.is_any-returns-else-fits-clause-is
-is_any-returns-else-fits-clause-is t c = in_holder c.args.levels (omega arith) c.get.ensures.is (λ f. let e = c.fits.ensures.1 f in cc) c.holds.ensures.is
+is_any-returns-else-fits-clause-is t c = in_holder c.args.levels (omega arith) (with_core c.args.schema.now c.args.id.index c.get.result.now c.get.ensures.is c.deref-core.ensures) (λ f. let e = c.fits.ensures.1 f in cc) c.holds.ensures.is
 
 pub is_any-returns-else-fits-clause-nodes : goal.is_any-returns-else-fits-clause-nodes
 is_any-returns-else-fits-clause-nodes t c = λ yes'. let e = c.holds.ensures.nodes yes' in let m = some_nodes (abstract c.args.value.now) in omega (arith, e, m)

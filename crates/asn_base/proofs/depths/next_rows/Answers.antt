@@ -10,14 +10,14 @@ use Rattle.asn_base.proofs.depths.next_rows.Goals as goal
 pub next_row-requires-clause-of : goal.next_row-requires-clause-of
 next_row-requires-clause-of c =
     let there = type_at c.types-types.result.now c.loop-i.i c.index-types-i.result c.loop-i-test.true c.index-types-i.is in
-    (resolved_of c.index-types-i.result, subst (λ q. slice_get q c.loop-i.i ≡ Some (resolved_of c.index-types-i.result)) c.types-types.ensures there, sym (c.components_of-components.ensures ∙ ap (λ r. components (kind_of r.core)) (sym c.index-types-i.is)))
+    (resolved_of c.index-types-i.result, subst (λ q. slice_get q c.loop-i.i ≡ Some (resolved_of c.index-types-i.result)) c.types-types.ensures there, sym (c.components_of-components.ensures ∙ ap (λ r. components (kind_of r)) c.deref.ensures ∙ ap (λ r. components (kind_of r.core.value)) (sym c.index-types-i.is)))
 
 pub loop-i-preserved : goal.loop-i-preserved
 loop-i-preserved c =
     let there = type_at c.types-types.result.now c.loop-i.i c.index-types-i.result c.loop-i-test.true c.index-types-i.is in
     rows_step c.args.schema.now (c.args.levels + 1) (rows_of c.loop-i.rows.items) (rows_of c.add.new.list.items) c.loop-i.i c.in_ok-one.one.items (resolved_of c.index-types-i.result)
     (subst (λ q. slice_get q c.loop-i.i ≡ Some (resolved_of c.index-types-i.result)) c.types-types.ensures there)
-    (subst (λ q. IsDepthRow c.args.schema.now (c.args.levels + 1) q c.in_ok-one.one.items) (c.components_of-components.ensures ∙ ap (λ r. components (kind_of r.core)) (sym c.index-types-i.is)) c.in_ok-one.ensures)
+    (subst (λ q. IsDepthRow c.args.schema.now (c.args.levels + 1) q c.in_ok-one.one.items) (c.components_of-components.ensures ∙ ap (λ r. components (kind_of r)) c.deref.ensures ∙ ap (λ r. components (kind_of r.core.value)) (sym c.index-types-i.is)) c.in_ok-one.ensures)
     (rows_more c.loop-i.rows.items c.add.new.list.items c.in_ok-one.one c.in_ok-add.ensures) c.loop-i.invariant
 
 pub returns : goal.returns

@@ -19,10 +19,10 @@ defaults_at-requires-clause-is c =
     sym (ap (λ l. slice_get l c.loop-ty.ty) c.requires.types)
     ∙ item_at type_of c.args.types.now c.loop-ty.ty c.index-types-ty.result c.loop-ty-test.true c.index-types-ty.is
 
-pub returns-in-Err-clause-fault : goal.returns-in-Err-clause-fault
-returns-in-Err-clause-fault c =
+pub returns-in-Err-defaults_at-clause-fault : goal.returns-in-Err-defaults_at-clause-fault
+returns-in-Err-defaults_at-clause-fault c =
     let p = c.args.bounded.now in
-    tells_more (IsFirstAt p c.loop-ty.ty) (IsFirstDefault p) c.in-Err.wrong
+    tells_more (IsFirstAt p c.loop-ty.ty) (IsFirstDefault p) c.in-Err-defaults_at.wrong
     (λ f w. record {
       number = c.loop-ty.ty;
       within = w.within;
@@ -31,11 +31,11 @@ returns-in-Err-clause-fault c =
       first = w.first;
       before = λ j l. tabled_typed p c.loop-ty.ty j (table_seen c.loop-ty.table.items) c.loop-ty.invariant.0 l;
     })
-    c.in-Err.ensures.fault
+    c.in-Err-defaults_at.ensures.fault
 
 pub loop-ty-preserved : goal.loop-ty-preserved
 loop-ty-preserved c = (
   one_more (AreDefaultsAt c.args.bounded.now) c.loop-ty.ty (table_seen c.loop-ty.table.items) (table_seen c.put.new.table.items)
-      (defaults_seen c.in-Ok.values.items) c.loop-ty.invariant.0 c.in-Ok-put.ensures c.in-Ok.ensures.values,
+      (defaults_seen c.in-Ok-defaults_at.values.items) c.loop-ty.invariant.0 c.in-Ok-put.ensures c.in-Ok-defaults_at.ensures.values,
   c.defaults_at.ensures.known,
 )

@@ -1,12 +1,11 @@
 use Rattle.std.proofs.Common.{◌≡◌, map, option_map}
 use Rattle.std.specs.Prelude.{Some, slice_get}
-use Rattle.asn_base.specs.Abstract.{abstract}
 use Rattle.names.specs.proving.Distinct.{item_at}
 use Rattle.type_table.specs.Seen.{part_of}
 use Rattle.type_table.specs.Table.{Part}
 use Rattle.extensions.specs.proving.Defaults.{IsDefaultOf}
 use Rattle.extensions.specs.Faults.{IsFirstIn, IsWrongDefault}
-use Rattle.extensions.specs.proving.Tables.{defaults_seen}
+use Rattle.extensions.specs.proving.Tables.{defaults_seen, shared_seen}
 use Rattle.extensions.proofs.Each.{one_more, one_default, tells_more, typed_before}
 use Rattle.extensions.proofs.defaults.defaults_in.Goals as goal
 
@@ -40,8 +39,8 @@ loop-at-preserved c =
     let part = part_of c.index-components-at.result in
     let there = item_at part_of c.args.components.now c.loop-at.at c.index-components-at.result c.loop-at-test.true c.index-components-at.is in (
       one_more (λ m v. (d : Part) → slice_get cs m ≡ Some d → IsDefaultOf p M d v) c.loop-at.at
-          (defaults_seen c.loop-at.values.items) (defaults_seen c.add.new.values.items) (option_map abstract c.in-Ok.value)
+          (defaults_seen c.loop-at.values.items) (defaults_seen c.add.new.values.items) (option_map shared_seen c.in-Ok.value)
           c.loop-at.invariant.0 c.in-Ok-add.ensures
-          (one_default p M cs c.loop-at.at part (option_map abstract c.in-Ok.value) there c.in-Ok.ensures.value),
+          (one_default p M cs c.loop-at.at part (option_map shared_seen c.in-Ok.value) there c.in-Ok.ensures.value),
       c.default_of.ensures.known,
     )

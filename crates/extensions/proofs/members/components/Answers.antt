@@ -1,6 +1,6 @@
 use Rattle.std.proofs.Common.{arith, map, option_map, length, subst, sym, refl, []}
 use Rattle.std.proofs.lemmas.List.{length-map}
-use Rattle.asn_base.specs.Abstract.{abstract}
+use Rattle.extensions.specs.proving.Tables.{shared_seen}
 use Rattle.names.specs.proving.Distinct.{item_at}
 use Rattle.asn_base.specs.Seen.{component_of}
 use Rattle.schema_of.specs.SchemaOf.{AreComponentsOf, no_component}
@@ -12,14 +12,14 @@ use Rattle.extensions.proofs.members.components.Goals as goal
 pub component-requires-clause-given : goal.component-requires-clause-given
 component-requires-clause-given c =
     let cs = map part_of c.args.parts.now in
-    let vs = map (option_map abstract) c.args.defaults.now in
+    let vs = map (option_map shared_seen) c.args.defaults.now in
     let g = c.requires.given in
     let m = g.2.as_many in
     let a = length-map c.args.parts.now part_of in
-    let b = length-map c.args.defaults.now (option_map abstract) in
-    given_at g.0 g.1 cs vs c.loop-at.at (part_of c.index-parts-at.result) (option_map abstract c.index-defaults-at.result) g.2
+    let b = length-map c.args.defaults.now (option_map shared_seen) in
+    given_at g.0 g.1 cs vs c.loop-at.at (part_of c.index-parts-at.result) (option_map shared_seen c.index-defaults-at.result) g.2
     (item_at part_of c.args.parts.now c.loop-at.at c.index-parts-at.result c.loop-at-test.true c.index-parts-at.is)
-    (item_at (option_map abstract) c.args.defaults.now c.loop-at.at c.index-defaults-at.result (omega (arith, m, a, b, c.loop-at-test.true)) c.index-defaults-at.is)
+    (item_at (option_map shared_seen) c.args.defaults.now c.loop-at.at c.index-defaults-at.result (omega (arith, m, a, b, c.loop-at-test.true)) c.index-defaults-at.is)
 
 pub component-requires-clause-plain : goal.component-requires-clause-plain
 component-requires-clause-plain c =
@@ -33,13 +33,13 @@ loop-at-init c p M d =
 pub loop-at-preserved : goal.loop-at-preserved
 loop-at-preserved c p M d =
     let cs = map part_of c.args.parts.now in
-    let vs = map (option_map abstract) c.args.defaults.now in
+    let vs = map (option_map shared_seen) c.args.defaults.now in
     let m = d.as_many in
     let a = length-map c.args.parts.now part_of in
-    let b = length-map c.args.defaults.now (option_map abstract) in
+    let b = length-map c.args.defaults.now (option_map shared_seen) in
     let there = item_at part_of c.args.parts.now c.loop-at.at c.index-parts-at.result c.loop-at-test.true c.index-parts-at.is in
-    let value = item_at (option_map abstract) c.args.defaults.now c.loop-at.at c.index-defaults-at.result (omega (arith, m, a, b, c.loop-at-test.true)) c.index-defaults-at.is in
-    let is = d.each c.loop-at.at (part_of c.index-parts-at.result) (option_map abstract c.index-defaults-at.result) there value in
+    let value = item_at (option_map shared_seen) c.args.defaults.now c.loop-at.at c.index-defaults-at.result (omega (arith, m, a, b, c.loop-at-test.true)) c.index-defaults-at.is in
+    let is = d.each c.loop-at.at (part_of c.index-parts-at.result) (option_map shared_seen c.index-defaults-at.result) there value in
     next_component p M cs c.loop-at.at (part_of c.index-parts-at.result) (map component_of c.loop-at.all.items)
     (map component_of c.push.new.self.items) (component_of c.in-Ok.one) there
     (pushed component_of c.loop-at.all.items c.push.new.self.items c.in-Ok.one (map component_of c.loop-at.all.items) (component_of c.in-Ok.one) c.in-Ok-push.ensures.items refl refl)

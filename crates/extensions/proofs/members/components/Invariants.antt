@@ -1,5 +1,5 @@
 use Rattle.std.proofs.Common.{map, option_map, take}
-use Rattle.asn_base.specs.Abstract.{abstract}
+use Rattle.extensions.specs.proving.Tables.{shared_seen}
 use Rattle.asn_base.specs.Seen.{component_of}
 use Rattle.resolve.specs.Program.{Program}
 use Rattle.schema_of.specs.SchemaOf.{AreComponentsOf}
@@ -10,5 +10,5 @@ use Rattle.extensions.proofs.members.components.Given as goal
 
 abbrev pub invariant-loop-at : goal.invariant-loop-at
 invariant-loop-at l = (p : Program) (M : Name) →
-    AreDefaultsOf p M (map part_of l.parts) (map (option_map abstract) l.defaults) →
+    AreDefaultsOf p M (map part_of l.parts) (map (option_map shared_seen) l.defaults) →
     AreComponentsOf p M (take l.at (map part_of l.parts)) (map component_of l.all.items)

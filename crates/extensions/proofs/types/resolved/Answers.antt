@@ -1,10 +1,15 @@
+use Rattle.std.proofs.Common.{sym, subst}
 use Rattle.asn_base.specs.Seen.{kind_of}
+use Rattle.asn_base.specs.Types.{Resolved}
+use Rattle.extensions.specs.proving.Tables.{IsResolved}
 use Rattle.extensions.proofs.Whole.{is_type, is_settled}
 use Rattle.extensions.proofs.types.resolved.Goals as goal
 
-pub returns-in-Ok-core-clause-is : goal.returns-in-Ok-core-clause-is
-returns-in-Ok-core-clause-is c = is_type c.args.bounded.now c.args.ty.index (kind_of c.in-Ok-core.core) c.in-Ok-core.ensures
-
-pub returns-in-Ok-core-clause-settled : goal.returns-in-Ok-core-clause-settled
-returns-in-Ok-core-clause-settled c =
-    is_settled c.args.bounded.now c.args.ty.index c.in-Ok.tags.items (kind_of c.in-Ok-core.core) c.in-Ok.ensures c.in-Ok-core.ensures
+pub returns-in-Ok-of : goal.returns-in-Ok-of
+returns-in-Ok-of c =
+    let p = c.args.bounded.now in
+    let k = kind_of c.in-Ok-core.core in
+    subst (λ (r : Resolved). IsResolved p c.args.ty.index r) (sym c.in-Ok-of.ensures) (record {
+      is = is_type p c.args.ty.index k c.in-Ok-core.ensures;
+      settled = is_settled p c.args.ty.index c.in-Ok.tags.items k c.in-Ok.ensures c.in-Ok-core.ensures;
+    })

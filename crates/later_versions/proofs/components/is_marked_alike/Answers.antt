@@ -1,5 +1,7 @@
-use Rattle.std.proofs.Common.{ap}
+use Rattle.std.proofs.Common.{ap, sym, ◌∙◌}
+use Rattle.asn_base.specs.declared.value.Value.{Value}
 use Rattle.asn_base.specs.Abstract.{abstract}
+use Rattle.asn_base.specs.Types.{default}
 use Rattle.asn_base.specs.Seen.{presence_of}
 use Rattle.later_versions.proofs.Marks.{alike_additions, alike_default, alike_mandatory, alike_optional}
 use Rattle.later_versions.proofs.Fronts.{beq_same}
@@ -15,8 +17,9 @@ returns-in-Optional-other c =
 
 pub returns-in-Ok : goal.returns-in-Ok
 returns-in-Ok c =
-    alike_default c.args.schema.now c.args.id.index (presence_of c.args.one.now) (presence_of c.args.other.now) (abstract c.in-Default.value) (abstract c.in-Default-other.later)
-    (ap presence_of c.in-Default.is) (ap presence_of c.in-Default-other.is) c.in-Ok.ensures
+    alike_default c.args.schema.now c.args.id.index (presence_of c.args.one.now) (presence_of c.args.other.now) (abstract c.deref.result.now) (abstract c.deref-in-Default-other.result.now)
+    (ap presence_of c.in-Default.is ∙ ap (λ (v : Value). default (abstract v)) (sym c.deref.ensures))
+    (ap presence_of c.in-Default-other.is ∙ ap (λ (v : Value). default (abstract v)) (sym c.deref-in-Default-other.ensures)) c.in-Ok.ensures
 
 pub returns-in-Addition-other : goal.returns-in-Addition-other
 returns-in-Addition-other c =

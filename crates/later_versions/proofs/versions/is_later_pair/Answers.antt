@@ -1,5 +1,7 @@
-use Rattle.std.proofs.Common.{sym, ◌∙◌}
-use Rattle.asn_base.specs.Seen.{resolved_of}
+use Rattle.std.proofs.Common.{ap, sym, ◌∙◌}
+use Rattle.std.specs.Prelude.{Some}
+use Rattle.asn_base.specs.declared.schema.Core.{Core}
+use Rattle.asn_base.specs.Seen.{kind_of, resolved_of}
 use Rattle.later_versions.proofs.Fronts.{no}
 use Rattle.later_versions.proofs.Pairing.{fine_pair, fine_tags}
 use Rattle.later_versions.proofs.versions.is_later_pair.Goals as goal
@@ -14,5 +16,9 @@ returns-then-not-are_same_tags c =
 
 pub returns-in-Ok : goal.returns-in-Ok
 returns-in-Ok c =
-    fine_pair c.args.first.now c.args.second.now _ (resolved_of c.get-one.result.now) (resolved_of c.get-other.result.now) c.get-one.ensures.is c.get-other.ensures.is
+    fine_pair c.args.first.now c.args.second.now _
+    (record { tags = c.get-one.result.now.tags.items; kind = kind_of c.deref.result.now })
+    (record { tags = c.get-other.result.now.tags.items; kind = kind_of c.deref-2.result.now })
+    (c.get-one.ensures.is ∙ ap (λ (q : Core). Some (record { tags = c.get-one.result.now.tags.items; kind = kind_of q })) (sym c.deref.ensures))
+    (c.get-other.ensures.is ∙ ap (λ (q : Core). Some (record { tags = c.get-other.result.now.tags.items; kind = kind_of q })) (sym c.deref-2.ensures))
     (sym c.as_slice.ensures.value ∙ c.are_same_tags.ensures.0 c.if-not-are_same_tags.false ∙ c.as_slice-2.ensures.value) c.in-Ok.ensures

@@ -19,28 +19,28 @@ pub print_part-print_fields-requires : goal.print_part-print_fields-requires
 print_part-print_fields-requires t c =
     let m = c.in-Fields.ensures.is c.requires.tree.0 c.requires.tree.1 in (
       below_whole (nodes_left c.in-Fields.members) (nodes_in c.args.part.now) t c.decreases c.in-Fields.ensures.smaller,
-      (types_there _ _ _ c.get.ensures.sound c.components.ensures, (few_there _ _ _ c.get.ensures.sound c.components.ensures, (m.0, m.2))),
+      (types_there _ _ _ c.core-core.ensures.sound c.components.ensures, (few_there _ _ _ c.core-core.ensures.sound c.components.ensures, (m.0, m.2))),
     )
 
 pub print_part-print_elements-requires : goal.print_part-print_elements-requires
 print_part-print_elements-requires t c =
     let m = c.in-List.ensures.is c.requires.tree.0 c.requires.tree.1 in (
       below_whole (nodes_left c.in-List.members) (nodes_in c.args.part.now) t c.decreases c.in-List.ensures.smaller,
-      ((subst (λ q. IsSound c.args.schema.now (kind_of q)) c.in-SequenceOf.is c.get.ensures.sound).type, (m.0, m.2)),
+      ((subst (λ q. IsSound c.args.schema.now (kind_of q)) c.in-SequenceOf.is c.core-core.ensures.sound).type, (m.0, m.2)),
     )
 
 pub print_part-print_elements-requires-in-SetOf : goal.print_part-print_elements-requires-in-SetOf
 print_part-print_elements-requires-in-SetOf t c =
     let m = c.in-List.ensures.is c.requires.tree.0 c.requires.tree.1 in (
       below_whole (nodes_left c.in-List.members) (nodes_in c.args.part.now) t c.decreases c.in-List.ensures.smaller,
-      ((subst (λ q. IsSound c.args.schema.now (kind_of q)) c.in-SetOf.is c.get.ensures.sound).type, (m.0, m.2)),
+      ((subst (λ q. IsSound c.args.schema.now (kind_of q)) c.in-SetOf.is c.core-core.ensures.sound).type, (m.0, m.2)),
     )
 
 pub print_part-print_part-requires : goal.print_part-print_part-requires
 print_part-print_part-requires t c =
     let m = c.in-Alternative.ensures.is c.requires.tree.0 c.requires.tree.1 in (
       below_part (nodes_in c.in-Alternative.inner) (nodes_in c.args.part.now) t c.decreases c.in-Alternative.ensures.smaller,
-      (alternative_there _ _ _ _ c.get.ensures.sound c.in-Some-alternative_at.ensures, (m.0, m.2)),
+      (alternative_there _ _ _ _ c.core-core.ensures.sound c.in-Some-alternative_at.ensures, (m.0, m.2)),
     )
 
 pub print_part-returns-in-Bool : goal.print_part-returns-in-Bool
@@ -108,7 +108,7 @@ print_part-returns-in_ok-print_part-in-Some-alternative_at t c u p =
     let name = c.in_ok-append-in-Some-alternative_at.ensures ∙ ap (λ l. out ++ l) c.as_str.ensures.value in
     added_three _ _ _ _ _ _ _ name c.in_ok-append-in-Some-alternative_at-2.ensures (c.in_ok-print_part-in-Some-alternative_at.ensures m.0 m.2)
     ∙ ap (λ l. out ++ l)
-    (sym (ap (λ q. print c.args.schema.now c.args.id.index (value_of q)) m.1 ∙ alternative_text c.args.schema.now c.args.id.index c.in-Alternative.number (value_of m.0) _ _ c.get.ensures.is c.in-Some-alternative_at.ensures))
+    (sym (ap (λ q. print c.args.schema.now c.args.id.index (value_of q)) m.1 ∙ alternative_text c.args.schema.now c.args.id.index c.in-Alternative.number (value_of m.0) _ _ c.core-core.ensures.is.1 c.in-Some-alternative_at.ensures))
 
 pub print_elements-loop-part-init : goal.print_elements-loop-part-init
 print_elements-loop-part-init t c = (omega arith, λ ms p. record { rest = ms; are = p; text = opened _ _ _ c.in_ok-append.ensures })

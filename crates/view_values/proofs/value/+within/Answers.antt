@@ -16,15 +16,15 @@ use Rattle.view_values.proofs.value.+within.Goals as goal
 
 pub is_within-returns-then-fits_at_once : goal.is_within-returns-then-fits_at_once
 is_within-returns-then-fits_at_once t c u p y =
-    leaf_as c.args.schema.now c.args.levels c.args.id.index c.get.result.now _ _ (omega arith) c.get.ensures.is refl (c.fits_at_once.ensures u p c.if-fits_at_once.true)
+    leaf_as c.args.schema.now c.args.levels c.args.id.index c.core.result.now _ _ (omega arith) c.core.ensures.is refl (c.fits_at_once.ensures u p c.if-fits_at_once.true)
 
 pub is_any-returns-in-Bool : goal.is_any-returns-in-Bool
 is_any-returns-in-Bool t c u p y =
-    leaf_as c.args.schema.now c.args.levels c.args.id.index c.get.result.now _ _ (omega arith) c.get.ensures.is (ap value_of (c.in-Bool.ensures.is u p)) (c.fits_boolean.ensures y)
+    leaf_as c.args.schema.now c.args.levels c.args.id.index c.core-core.result.now _ _ (omega arith) c.core-core.ensures.is (ap value_of (c.in-Bool.ensures.is u p)) (c.fits_boolean.ensures y)
 
 pub is_any-returns-in-Int : goal.is_any-returns-in-Int
 is_any-returns-in-Int t c u p y =
-    leaf_as c.args.schema.now c.args.levels c.args.id.index c.get.result.now _ _ (omega arith) c.get.ensures.is (ap value_of (c.in-Int.ensures.is u p)) (subst (λ z. Fits (kind_of c.get.result.now.core) (integer z)) (to_z-of_z w128 c.in-Int.number (let f : SFits w128 c.in-Int.number = search rules in f)) (c.fits_integer.ensures y))
+    leaf_as c.args.schema.now c.args.levels c.args.id.index c.core-core.result.now _ _ (omega arith) c.core-core.ensures.is (ap value_of (c.in-Int.ensures.is u p)) (subst (λ z. Fits (kind_of c.core-core.result.now) (integer z)) (to_z-of_z w128 c.in-Int.number (let f : SFits w128 c.in-Int.number = search rules in f)) (c.fits_integer.ensures y))
 
 pub is_any-returns-in-Enum : goal.is_any-returns-in-Enum
 is_any-returns-in-Enum t c u p y =
@@ -32,27 +32,27 @@ is_any-returns-in-Enum t c u p y =
 
 pub is_any-returns-in-Null : goal.is_any-returns-in-Null
 is_any-returns-in-Null t c u p y =
-    leaf_as c.args.schema.now c.args.levels c.args.id.index c.get.result.now _ _ (omega arith) c.get.ensures.is (ap value_of (c.in-Null.ensures.is u p)) (c.fits_null.ensures y)
+    leaf_as c.args.schema.now c.args.levels c.args.id.index c.core-core.result.now _ _ (omega arith) c.core-core.ensures.is (ap value_of (c.in-Null.ensures.is u p)) (c.fits_null.ensures y)
 
 pub is_any-returns-in-Bits : goal.is_any-returns-in-Bits
 is_any-returns-in-Bits t c u p y =
-    leaf_as c.args.schema.now c.args.levels c.args.id.index c.get.result.now _ _ (omega arith) c.get.ensures.is (ap value_of (c.in-Bits.ensures.is u p).1) (c.fits_bits.ensures y)
+    leaf_as c.args.schema.now c.args.levels c.args.id.index c.core-core.result.now _ _ (omega arith) c.core-core.ensures.is (ap value_of (c.in-Bits.ensures.is u p).1) (c.fits_bits.ensures y)
 
 pub is_any-returns-in-Octets : goal.is_any-returns-in-Octets
 is_any-returns-in-Octets t c u p y =
-    leaf_as c.args.schema.now c.args.levels c.args.id.index c.get.result.now _ _ (omega arith) c.get.ensures.is (ap value_of (c.in-Octets.ensures.is u p).1) (c.fits_octets.ensures y)
+    leaf_as c.args.schema.now c.args.levels c.args.id.index c.core-core.result.now _ _ (omega arith) c.core-core.ensures.is (ap value_of (c.in-Octets.ensures.is u p).1) (c.fits_octets.ensures y)
 
 pub is_any-returns-in-Text : goal.is_any-returns-in-Text
 is_any-returns-in-Text t c u p y =
-    leaf_as c.args.schema.now c.args.levels c.args.id.index c.get.result.now _ _ (omega arith) c.get.ensures.is (ap value_of (c.in-Text.ensures.is u p).1) (c.fits_text.ensures y)
+    leaf_as c.args.schema.now c.args.levels c.args.id.index c.core-core.result.now _ _ (omega arith) c.core-core.ensures.is (ap value_of (c.in-Text.ensures.is u p).1) (c.fits_text.ensures y)
 
 pub is_any-returns-in-Oid : goal.is_any-returns-in-Oid
 is_any-returns-in-Oid t c u p y =
-    leaf_as c.args.schema.now c.args.levels c.args.id.index c.get.result.now _ _ (omega arith) c.get.ensures.is (ap value_of (c.in-Oid.ensures.is u p)) (c.fits_oid.ensures y)
+    leaf_as c.args.schema.now c.args.levels c.args.id.index c.core-core.result.now _ _ (omega arith) c.core-core.ensures.is (ap value_of (c.in-Oid.ensures.is u p)) (c.fits_oid.ensures y)
 
 pub is_any-returns-in-RelativeOid : goal.is_any-returns-in-RelativeOid
 is_any-returns-in-RelativeOid t c u p y =
-    leaf_as c.args.schema.now c.args.levels c.args.id.index c.get.result.now _ _ (omega arith) c.get.ensures.is (ap value_of (c.in-RelativeOid.ensures.is u p)) (c.fits_relative_oid.ensures y)
+    leaf_as c.args.schema.now c.args.levels c.args.id.index c.core-core.result.now _ _ (omega arith) c.core-core.ensures.is (ap value_of (c.in-RelativeOid.ensures.is u p)) (c.fits_relative_oid.ensures y)
 
 pub is_any-are_fields-requires : goal.is_any-are_fields-requires
 is_any-are_fields-requires t c =
@@ -66,7 +66,7 @@ is_any-returns-in-Sequence t c u p y =
     let s = c.args.schema.now in
     let row = row_of_options (placed c.in-Fields.size (λ i. component_value m.0 i)) in
     let b = subst (λ q. AreComponents s (c.args.levels - 1) (map component_of q) row × GroupsAreWhole (map component_of q) row) c.as_slice.ensures.value a in
-    held_as s c.args.levels c.args.id.index c.get.result.now _ _ _ (omega arith) c.get.ensures.is (ap kind_of c.in-Sequence.is) (ap value_of m.1) (of_sequence b.0 b.1)
+    held_as s c.args.levels c.args.id.index c.core-core.result.now _ _ _ (omega arith) c.core-core.ensures.is (ap kind_of c.in-Sequence.is) (ap value_of m.1) (of_sequence b.0 b.1)
 
 pub is_any-are_fields-requires-in-Set : goal.is_any-are_fields-requires-in-Set
 is_any-are_fields-requires-in-Set t c =
@@ -80,7 +80,7 @@ is_any-returns-in-Set t c u p y =
     let s = c.args.schema.now in
     let row = row_of_options (placed c.in-Fields.size (λ i. component_value m.0 i)) in
     let b = subst (λ q. AreComponents s (c.args.levels - 1) (map component_of q) row × GroupsAreWhole (map component_of q) row) c.as_slice-in-Set.ensures.value a in
-    held_as s c.args.levels c.args.id.index c.get.result.now _ _ _ (omega arith) c.get.ensures.is (ap kind_of c.in-Set.is) (ap value_of m.1) (of_set b.0 b.1)
+    held_as s c.args.levels c.args.id.index c.core-core.result.now _ _ _ (omega arith) c.core-core.ensures.is (ap kind_of c.in-Set.is) (ap value_of m.1) (of_set b.0 b.1)
 
 pub is_any-are_elements-requires : goal.is_any-are_elements-requires
 is_any-are_elements-requires t c =
@@ -91,7 +91,7 @@ pub is_any-returns-in-SequenceOf : goal.is_any-returns-in-SequenceOf
 is_any-returns-in-SequenceOf t c u p y =
     let m = c.in-List.ensures.is u p in
     let a = c.are_elements.ensures m.0 m.2 y in
-    held_as c.args.schema.now c.args.levels c.args.id.index c.get.result.now _ _ _ (omega arith) c.get.ensures.is (ap kind_of c.in-SequenceOf.is) (ap value_of m.1) (of_sequence_of a.0 a.1)
+    held_as c.args.schema.now c.args.levels c.args.id.index c.core-core.result.now _ _ _ (omega arith) c.core-core.ensures.is (ap kind_of c.in-SequenceOf.is) (ap value_of m.1) (of_sequence_of a.0 a.1)
 
 pub is_any-are_elements-requires-in-SetOf : goal.is_any-are_elements-requires-in-SetOf
 is_any-are_elements-requires-in-SetOf t c =
@@ -102,7 +102,7 @@ pub is_any-returns-in-SetOf : goal.is_any-returns-in-SetOf
 is_any-returns-in-SetOf t c u p y =
     let m = c.in-List.ensures.is u p in
     let a = c.are_elements-in-SetOf.ensures m.0 m.2 y in
-    held_as c.args.schema.now c.args.levels c.args.id.index c.get.result.now _ _ _ (omega arith) c.get.ensures.is (ap kind_of c.in-SetOf.is) (ap value_of m.1) (of_set_of a.0 a.1)
+    held_as c.args.schema.now c.args.levels c.args.id.index c.core-core.result.now _ _ _ (omega arith) c.core-core.ensures.is (ap kind_of c.in-SetOf.is) (ap value_of m.1) (of_set_of a.0 a.1)
 
 pub is_any-is_within-requires : goal.is_any-is_within-requires
 is_any-is_within-requires t c =
@@ -113,8 +113,8 @@ pub is_any-returns-in-Some : goal.is_any-returns-in-Some
 is_any-returns-in-Some t c u p y =
     let m = c.in-Alternative.ensures.is u p in
     let s = c.args.schema.now in
-    held_as s c.args.levels c.args.id.index c.get.result.now (kind_of c.get.result.now.core) _ _ (omega arith) c.get.ensures.is refl (ap value_of m.1)
-    (choice_of s (c.args.levels - 1) c.in-Alternative.number (kind_of c.get.result.now.core) _ (value_of m.0) c.in-Some.ensures (c.is_within.ensures m.0 m.2 y))
+    held_as s c.args.levels c.args.id.index c.core-core.result.now (kind_of c.core-core.result.now) _ _ (omega arith) c.core-core.ensures.is refl (ap value_of m.1)
+    (choice_of s (c.args.levels - 1) c.in-Alternative.number (kind_of c.core-core.result.now) _ (value_of m.0) c.in-Some.ensures (c.is_within.ensures m.0 m.2 y))
 
 pub are_components-loop-i-init : goal.are_components-loop-i-init
 are_components-loop-i-init t c = λ ms p. record { rest = ms; are = p; same = λ j l. refl; whole = λ h. h }

@@ -1,0 +1,117 @@
+//! Values that DEFAULTs share.
+
+ghost use Rattle.std.specs.Prelude.{◌≡◌, IfOk, IfSome};
+ghost use Rattle.asn_base.specs.Abstract.{abstract};
+ghost use Rattle.extensions.specs.proving.Tables.{shared_seen};
+
+use crate::equal::are_equal;
+use asn_base::value::Value;
+use names::Assigned;
+use resolve::Linked;
+use std::alloc::{AllocError, Global};
+use std::rc::Rc;
+use trees::{ValueForm, ValueSyntax};
+
+/// A value of a DEFAULT, which others may share.
+#[derive(Drop)]
+pub(crate) struct Shared {
+    pub held: Rc<Value>,
+}
+
+impl Shared {
+    /// The value alone.
+    fn of(alloc: Global, value: Value) -> Result<Self, AllocError>
+        ensures { IfOk result (λ s. shared_seen s ≡ abstract value) }
+    {
+        Ok(Shared {
+            held: Rc::new(alloc, value)?,
+        })
+    }
+
+    /// The same value once more.
+    fn share(&self) -> Result<Self, AllocError>
+        ensures { IfOk result (λ s. shared_seen s ≡ shared_seen self.now) }
+    {
+        Ok(Shared {
+            held: self.held.clone()?,
+        })
+    }
+}
+
+/// For each value assignment the value of the latest DEFAULT that names it, if there is one.
+#[derive(Drop)]
+pub(crate) struct Pool {
+    named: Vec<Option<Shared>>,
+}
+
+/// The number of the value that a notation names, where it is a name alone.
+fn named_by(linked: &Linked, within: &str, notation: &ValueSyntax) -> Option<usize> {
+    let ValueForm::Reference(reference) = &notation.form else {
+        return None;
+    };
+    match linked.refers(within, &reference.module, reference.name.as_str()) {
+        Some(Assigned::Value(number)) => Some(number),
+        Some(Assigned::Type(_)) => None,
+        None => None,
+    }
+}
+
+impl Pool {
+    /// No value, of so many value assignments.
+    pub(crate) fn of(alloc: Global, count: usize) -> Result<Self, AllocError> {
+        let mut named = Vec::new(alloc);
+        for step in 0..count {
+            named.push(None)?;
+        }
+        Ok(Pool { named })
+    }
+
+    /// The kept value of this number, where it is equal.
+    fn kept(&self, number: usize, value: &Value) -> Option<&Shared>
+        ensures { IfSome result (λ r. shared_seen r.now ≡ abstract value.now) }
+    {
+        match self.named.get(number) {
+            Some(Some(kept)) => {
+                if are_equal(&kept.held, value) {
+                    Some(kept)
+                } else {
+                    None
+                }
+            }
+            _ => None,
+        }
+    }
+
+    /// Keeps a value by this number.
+    fn keep(&mut self, number: usize, value: &Shared) -> Result<(), AllocError> {
+        if number < self.named.len() {
+            self.named[number] = Some(value.share()?);
+        }
+        Ok(())
+    }
+
+    /// The value of a DEFAULT, read in this module, in memory that it shares with the latest DEFAULT of the same name
+    /// if their values are equal. Without it components with one long DEFAULT would each have a copy.
+    pub(crate) fn place(
+        &mut self,
+        alloc: Global,
+        linked: &Linked,
+        within: &str,
+        notation: &ValueSyntax,
+        value: Value,
+    ) -> Result<Shared, AllocError>
+        ensures { IfOk result (λ r. shared_seen r ≡ abstract value) }
+    {
+        let Some(number) = named_by(linked, within, notation) else {
+            return Shared::of(alloc, value);
+        };
+        match self.kept(number, &value) {
+            Some(kept) => kept.share(),
+            None => {
+                let shared = Shared::of(alloc, value)?;
+                self.keep(number, &shared)?;
+                Ok(shared)
+            }
+        }
+    }
+}
