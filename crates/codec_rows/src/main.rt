@@ -14,6 +14,7 @@ mod front;
 mod headers;
 mod leaf;
 mod message;
+mod packed;
 mod place;
 mod refusal;
 mod segments;
@@ -50,6 +51,7 @@ fn answer_of(alloc: Global, schema: &Schema, code: &Code, row: &Row) -> Result<S
         "listing" => typed::listing(alloc, code),
         "der" => written::in_memory(alloc, code, row),
         "sink" => written::to_sink(alloc, code, row),
+        "uper" => packed::answer(alloc, schema, row),
         _ => answer_of_reader(alloc, schema, code, row),
     }
 }

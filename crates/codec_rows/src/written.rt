@@ -15,7 +15,7 @@ use std::alloc::{AllocError, Global};
 const MOST_SHOWN: usize = 64;
 
 /// The digits of octets; of many those of the first eight, and how many there are.
-fn shown(alloc: Global, octets: &[u8]) -> Result<String, AllocError> {
+pub fn shown(alloc: Global, octets: &[u8]) -> Result<String, AllocError> {
     let count = octets.len();
     if count <= MOST_SHOWN {
         return hex::encode_upper(alloc, octets);
