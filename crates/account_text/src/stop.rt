@@ -27,7 +27,7 @@ pub enum Stop {
     #[error("at octet {0}: found more text after the rows, expected its end")]
     Behind(usize),
     /// These are as many rows, but they are not those of one account.
-    #[error("found {0} rows that are not those of one account, expected after each row as many members as it says, at most 400 deep")]
+    #[error("found rows that are not those of one account, {0} of them, expected after each row as many members as it says, at most 400 deep")]
     NotOne(usize),
 }
 

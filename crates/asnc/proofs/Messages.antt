@@ -13,16 +13,14 @@ use Rattle.encodings.specs.Rules.{Rules, Basic, Distinguished}
 use Rattle.codec_source.specs.declared.fault.ReadFault.{ReadFault}
 use Rattle.codec_source.specs.declared.fault.ReadFault.TheVariants as reading
 use Rattle.ber_message.specs.Messages.{IsEncoding, BeginsEncoding, HasEncodingFirst, HasMessageFirst}
-use Rattle.names.specs.declared.scope.Assigned.{Assigned}
-use Rattle.names.specs.declared.scope.Assigned.TheVariants as assigned
 use Rattle.resolve.specs.Program.{Program}
 use Rattle.messages.specs.declared.fault.Fault.{Fault}
 use Rattle.messages.specs.declared.fault.Fault.TheVariants as faults
 use Rattle.codec_code.specs.Routines.{id_of}
 use Rattle.ber_reader.specs.Readings.{IsRefused}
 use Rattle.asnc.specs.Headline.{IsAnswer, IsMessageOf}
-use Rattle.asnc.specs.Named.{IsNamed, TypeNamed}
-use Rattle.asnc.specs.Reading.{IsNotDer, IsNotReadAs, IsRead, IsUnread, Names, rules_of}
+use Rattle.named_values.specs.Named.{TypeNamed}
+use Rattle.asnc.specs.Reading.{IsNotDer, IsNotReadAs, IsRead, IsUnread, rules_of}
 use Rattle.asnc.specs.Writing.{IsEncoded}
 use Rattle.asnc.specs.declared.reading.Rules.{Rules as Rules'}
 use Rattle.asnc.specs.declared.reading.Rules.TheVariants as asked
@@ -31,16 +29,6 @@ use Rattle.asnc.proofs.Weaker.{basic_of}
 -- a type that has a value is there
 pub type_there : {s : List Resolved} {n t : ℕ} {v : AbstractValue} → ValueIn s n t v → t < length s
 type_there {s} {n} {t} (value_in i o) = slice_get_within s t _ i.found
-
--- a text names one type at most
-pub one_named : (p : Program) (name : List ℕ) (r : Option Assigned) (n : ℕ)
-    → ((a : Assigned) → (r ≡ Some a ↔ IsNamed p name a))
-    → r ≡ Some (assigned.Type n)
-    → Names p name n
-one_named p name r n h e = record {
-  is = (h (assigned.Type n)).0 e;
-  only = λ u k. (let f = sym e ∙ (h (assigned.Type u)).1 k in cc);
-}
 
 -- of two faults it is the one that isn't want of memory
 only_trailing : {Z : Type 0} (r : Result Z ReadFault) (e : ReadFault) → r ≡ Err e → (e ≡ reading.Memory → ⊥)
@@ -143,6 +131,7 @@ never_refused p s l name o v (faults.Front x) m y r = absurd r
 never_refused p s l name o v (faults.Value x) m y r = absurd r
 never_refused p s l name o v faults.TooLong m y r = absurd r
 never_refused p s l name o v (faults.Device n) m y r = absurd r
+never_refused p s l name o v (faults.NotAccount x) m y r = absurd r
 
 -- what is written of a value says it by either rules
 says_by : (l : Rules') {s : List Resolved} {t : ℕ} {w : AbstractValue} {o : List ℕ} → Says s Distinguished t w 0 o

@@ -14,7 +14,8 @@ use Rattle.trees.specs.Values.{Name, Tree}
 use Rattle.resolve.specs.Program.{Program}
 use Rattle.front_end.specs.Accepted.{Accepted}
 use Rattle.front_end.specs.Untyped.{StandsFor}
-use Rattle.asnc.specs.Named.{AreNamed, TypeNamed}
+use Rattle.account_checker.specs.Reasons.{IsRight as IsRightBesideIt}
+use Rattle.named_values.specs.Named.{AreNamed, TypeNamed}
 
 -- For these texts of modules, the name of a type and the name of a value, the octets and the account are as they have
 -- to be.
@@ -39,6 +40,8 @@ pub record IsRight (texts : List (List ℕ)) (first second o : List ℕ) (a : Ac
   pub shortest : Shortest types type value o
   -- the account tells how the octets are made up
   pub account : Tells types type value o a
+  -- and the checker says yes to it
+  pub checked : IsRightBesideIt types type value o a
 
 -- For these texts of modules, the name of a type and octets, which are read by these rules, the printed text and the
 -- number are as they have to be.

@@ -18,7 +18,7 @@ use Rattle.resolve.specs.Program.{Program}
 use Rattle.messages.specs.declared.fault.Fault.{Fault}
 use Rattle.messages.specs.declared.fault.Fault.TheVariants as faults
 use Rattle.messages.specs.declared.fault.Unread.{Unread}
-use Rattle.asnc.specs.Named.{TypeNamed}
+use Rattle.named_values.specs.Named.{Names, TypeNamed}
 use Rattle.asnc.specs.Places.{IsStopped}
 use Rattle.asnc.specs.declared.reading.Rules.{Rules as Rules'}
 use Rattle.asnc.specs.declared.reading.Rules.TheVariants as asked
@@ -27,11 +27,6 @@ use Rattle.asnc.specs.declared.reading.Rules.TheVariants as asked
 abbrev pub rules_of : Rules' → Rules
 rules_of asked.Ber = Basic
 rules_of asked.Der = Distinguished
-
--- a text names type t, and no other one
-pub record Names (p : Program) (name : List ℕ) (t : ℕ) : Type 0 where
-  pub is : TypeNamed p name t
-  pub only : (u : ℕ) → TypeNamed p name u → u ≡ t
 
 -- The octets, at most as many as a message has and with at most 400 levels of headers, encode a value of type t as it
 -- stands there, with k additions that the type lacks, and neither another value nor another number of them; and they

@@ -11,10 +11,11 @@ ghost use Rattle.sinks.specs.Sent.{state};
 ghost use Rattle.messages.specs.declared.fault.Fault.TheVariants.{Device, Front, Memory};
 ghost use Rattle.asnc.specs.Kits.{IsNotOpened};
 ghost use Rattle.asnc.specs.Reading.{IsNotReadAs, IsReadAs, rules_of};
-ghost use Rattle.asnc.specs.Writing.{IsEncoded, IsMeant, IsNotEncoded, IsNotMeant, IsSent, IsSentInPart};
+ghost use Rattle.asnc.specs.Writing.{IsAccountOf, IsEncoded, IsNotEncoded, IsSent, IsSentInPart};
+ghost use Rattle.named_values.specs.Meant.{IsMeant, IsNotMeant};
 
-use crate::meaning::meant;
 use crate::reading::{Rules, read_as};
+use account_text::to_json;
 use asn_base::schema::{Schema, TypeId};
 use asn_base::value::Value;
 use codec_code::{Code, compile};
@@ -22,6 +23,7 @@ use der_writer::{WriteFault, write_der, write_der_to};
 use front_end::law::{accepted_keep, values_of_schema};
 use front_end::{FrontFault, Modules};
 use messages::Fault;
+use named_values::meant;
 use octet_account::account::Account;
 use resolve::Linked;
 use sinks::Sink;
@@ -145,6 +147,26 @@ impl Kit {
             Err(WriteFault::Memory) => Err(Fault::Memory),
             Err(WriteFault::TooLong) => Err(Fault::TooLong),
             Err(_) => unreachable!(),
+        }
+    }
+
+    /// The text of the account that [`Kit::der`] answers, in JSON without white space.
+    ///
+    /// `NoType`, `NoValue`, `Value`, `TooLong` and `Memory` as there.
+    pub fn account(&self, alloc: Global, ty: &str, value: &str) -> Result<String, Fault>
+        // It is the text of the account of the one encoding.
+        ensures told { IfOk result (λ s.
+            IsAccountOf self.now.program self.now.types ty.now value.now (string_bytes s)) }
+        // A refusal stands.
+        ensures refused { IfErr result (IsNotEncoded self.now.program self.now.types ty.now value.now) }
+    {
+        let (_octets, account) = match self.der(alloc, ty, value) {
+            Ok(written) => written,
+            Err(fault) => return Err(fault),
+        };
+        match to_json(alloc, &account) {
+            Ok(text) => Ok(text),
+            Err(_) => Err(Fault::Memory),
         }
     }
 

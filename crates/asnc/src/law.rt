@@ -1,6 +1,6 @@
 //! What follows for what a kit answers. A caller calls a law to know it; it takes no memory and no time.
 
-ghost use Rattle.std.specs.Prelude.{◌≡◌, ℕ, List, String};
+ghost use Rattle.std.specs.Prelude.{◌≡◌, ℕ, List, String, IsUtf8};
 ghost use Rattle.std.specs.Global.{Global};
 ghost use Rattle.asn_base.specs.Types.{Resolved};
 ghost use Rattle.encodings.specs.Account.{Account};
@@ -8,19 +8,21 @@ ghost use Rattle.encodings.specs.Rules.{Rules, Basic};
 ghost use Rattle.resolve.specs.Program.{Program};
 ghost use Rattle.front_end.specs.Accepted.{Accepted, AreAccepted};
 ghost use Rattle.messages.specs.declared.fault.Fault.{Fault};
-ghost use Rattle.messages.specs.declared.fault.Fault.TheVariants.{Memory, NoType, NoValue, Unread, Value};
+ghost use Rattle.messages.specs.declared.fault.Fault.TheVariants.{Memory, NoType, Unread};
 ghost use Rattle.messages.specs.declared.fault.Unread.{Unread as Unread'};
-ghost use Rattle.told_values.specs.declared.telling.ValueTold.{ValueTold};
 ghost use Rattle.asn_base.specs.Abstract.{AbstractValue};
 ghost use Rattle.asnc.specs.Headline.{IsAnswer, IsMessageOf, IsRight, IsRightlyRead};
 ghost use Rattle.asnc.specs.Kits.{IsNotOpened};
 ghost use Rattle.asnc.specs.Reading.{IsNotReadAs, IsReadAs, rules_of};
-ghost use Rattle.asnc.specs.Writing.{IsEncoded, IsNotEncoded, IsNotMeant};
+ghost use Rattle.asnc.specs.Writing.{IsAccountOf, IsEncoded, IsNotEncoded};
+ghost use Rattle.account_checker.specs.declared.reason.Verdict.TheVariants.{Yes};
+ghost use Rattle.judging.specs.Judged.{IsAccountIn, IsJudged};
 ghost use Rattle.asnc.specs.declared.reading.Rules.{Rules as Rules'};
 
 use asn_base::law::sameness;
 use encodings::{der_laws, level_laws, message_laws};
-use front_end::law::{accepted_keep, faults_exclude, one_value};
+use front_end::law::{accepted_keep, faults_exclude};
+use named_values::law::one_meaning;
 
 /// What [`crate::Kit::der`] answers of texts that [`crate::Kit::open`] took is right, from the texts to the octets.
 pub fn headline()
@@ -28,6 +30,21 @@ pub fn headline()
         Accepted xs p s →
         IsEncoded p s first second o a →
         IsRight xs first second o a }
+{}
+
+/// What [`crate::Kit::der`] answers of texts that [`crate::Kit::open`] took gets a yes from [`judging::judge`], by the text
+/// of the account beside it, in whatever JSON spelling; and so by what [`crate::Kit::account`] answers.
+pub fn judged()
+    ensures account { (xs : List (List ℕ)) (p : Program) (s : List Resolved) (first second o text : List ℕ) (a : Account) →
+        Accepted xs p s →
+        IsEncoded p s first second o a →
+        IsAccountIn text a →
+        IsJudged xs first second o text Yes }
+    ensures text { (xs : List (List ℕ)) (p : Program) (s : List Resolved) (first second text : List ℕ) →
+        Accepted xs p s →
+        IsUtf8 text →
+        (w : IsAccountOf p s first second text) →
+        IsJudged xs first second w.octets text Yes }
 {}
 
 /// What [`crate::Kit::ber`] answers of texts that [`crate::Kit::open`] took is right; each encoding of a value by the
@@ -90,25 +107,12 @@ pub fn one_answer()
 {
     faults_exclude();
     accepted_keep();
-    one_value();
+    one_meaning();
 }
 
-/// Refusals of names are told in one order: that of the type, then that of the value, then what is wrong with the
-/// notation or with the octets. Where one stands, none of another kind does.
+/// Of octets the name of the type is told first. The order of refusals of names is a law of [`named_values::law`].
 pub fn one_refusal()
-    ensures type_before_value { (p : Program) (first second : List ℕ) (x y : String Global) →
-        IsNotMeant p first second (NoType x) →
-        IsNotMeant p first second (NoValue y) →
-        ⊥ }
-    ensures type_before_notation { (p : Program) (first second : List ℕ) (x : String Global) (t : ValueTold) →
-        IsNotMeant p first second (NoType x) →
-        IsNotMeant p first second (Value t) →
-        ⊥ }
-    ensures value_before_notation { (p : Program) (first second : List ℕ) (x : String Global) (t : ValueTold) →
-        IsNotMeant p first second (NoValue x) →
-        IsNotMeant p first second (Value t) →
-        ⊥ }
-    ensures type_before_octets { (p : Program) (s : List Resolved) (r : Rules) (name o : List ℕ) (x : String Global)
+    ensures { (p : Program) (s : List Resolved) (r : Rules) (name o : List ℕ) (x : String Global)
         (u : Unread') →
         IsNotReadAs p s r name o (NoType x) →
         IsNotReadAs p s r name o (Unread u) →

@@ -4,8 +4,6 @@
 
 mod kit;
 pub mod law;
-mod meaning;
-mod naming;
 mod places;
 mod reading;
 

@@ -12,7 +12,6 @@ ghost use Rattle.views.specs.Seen.{IsView};
 ghost use Rattle.views.specs.Tree.{Tree, value_of};
 ghost use Rattle.asnc.specs.Reading.{IsNotRead, IsNotReadAs, IsRead, IsReadAs, IsReadBy, IsUnread, rules_of};
 
-use crate::naming::type_number;
 use crate::places::stopped;
 use asn_base::schema::{Schema, TypeId};
 use ber_reader::{Read, read_ber, read_der};
@@ -20,6 +19,7 @@ use codec_code::Code;
 use codec_source::ReadFault;
 use front_end::Modules;
 use messages::{Fault, Unread};
+use named_values::type_number;
 use std::alloc::Global;
 use view_text::print_shown;
 

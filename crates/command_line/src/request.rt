@@ -18,8 +18,12 @@ pub enum Verb {
     Der,
     /// To read octets as a value, by the basic encoding rules or by the distinguished ones.
     Ber,
+    /// To write how the distinguished encoding of a value is made up, header by header.
+    Account,
     /// To list the types, with what is written of each.
     List,
+    /// To judge octets by an account of them.
+    Check,
 }
 
 /// A command line's request. What its verb doesn't take is empty, `Nothing` or false.

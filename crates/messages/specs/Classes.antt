@@ -151,6 +151,7 @@ class_of (faults.Value t) = reason_class_of t.reason
 class_of faults.TooLong = (71, codes "TooLong")
 class_of (faults.Device n) = (72, codes "Device")
 class_of (faults.Unread u) = read_class_of u.fault
+class_of (faults.NotAccount s) = (100, codes "NotAccount")
 
 abbrev pub number_of : Fault → ℕ
 number_of f = (class_of f).0

@@ -6,6 +6,7 @@ ghost use Rattle.messages.specs.Status.{status_of};
 ghost use Rattle.messages.specs.declared.fault.Fault.TheVariants.{Memory};
 
 use crate::classes::told_class;
+use account_text::Stop;
 use codec_source::ReadFault;
 use front_end::FrontFault;
 use std::alloc::{AllocError, AllocFailed};
@@ -64,6 +65,9 @@ pub enum Fault {
     /// The octets are not read as a value of the type.
     #[error("error {0}")]
     Unread(Unread),
+    /// The octets are not the text of an account; where that shows.
+    #[error("error 100 NotAccount: {0}")]
+    NotAccount(Stop),
 }
 
 impl<T: Drop> From<AllocFailed<T>> for Fault {

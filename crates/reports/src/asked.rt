@@ -1,8 +1,9 @@
 //! Names of the command line that mean nothing, and files that can't be read, in words.
 
 use crate::finding::{assigns, module_text, parts};
+use account_text::Stop;
 use hints::{did_you_mean, is_near, is_small};
-use shown_texts::{escaped, shown, spelled_at, tokens_in};
+use shown_texts::{escaped, on_one_line, shown, spelled_at, tokens_in};
 use std::alloc::{AllocError, Global};
 use text::reserved::Word;
 
@@ -10,6 +11,13 @@ use text::reserved::Word;
 pub(crate) fn of_file(alloc: Global, name: &str, what: &str) -> Result<String, AllocError> {
     let name = escaped(alloc, name)?;
     format!(in alloc; "{name} {what}")
+}
+
+/// What stands behind the name of the fault where a file holds no account.
+pub(crate) fn of_account(alloc: Global, name: &str, stop: &Stop) -> Result<String, AllocError> {
+    let name = escaped(alloc, name)?;
+    let line = format!(in alloc; ": {name}: {stop}")?;
+    on_one_line(alloc, line.as_str())
 }
 
 /// The name of the first module that another name is near to, in words.

@@ -3,7 +3,7 @@
 ghost use Rattle.std.specs.Prelude.{IfOk, string_bytes};
 ghost use Rattle.reports.specs.Heading.{heading_of, Begins};
 
-use crate::asked::{of_file, of_no_name};
+use crate::asked::{of_account, of_file, of_no_name};
 use crate::finding::{octet_in, text_number};
 use crate::heading::heading;
 use crate::of_names::of_names;
@@ -66,6 +66,7 @@ fn sentence(
         Fault::NoValue(name) => of_no_name(alloc, texts, name.as_str(), true),
         Fault::TooLong => String::from_str(alloc, "the encoding has more than 16777216 octets"),
         Fault::Unread(unread) => of_unread(alloc, unread),
+        Fault::NotAccount(stop) => stop.to_string(alloc),
         Fault::Memory => String::from_str(alloc, "out of memory"),
         Fault::Device(sent) => format!(in alloc; "the output took {sent} octets and then no more"),
         Fault::File(name) => of_file(alloc, name.as_str(), "could not be read"),
@@ -90,6 +91,9 @@ fn told_behind(
     texts: &[Vec<u8>],
     fault: &Fault,
 ) -> Result<String, AllocError> {
+    if let Fault::NotAccount(stop) = fault {
+        return of_account(alloc, job.account.as_str(), stop);
+    }
     let Some(number) = text_number(alloc, texts, fault)? else {
         let words = sentence(alloc, texts, &[], fault)?;
         let line = format!(in alloc; ": {words}")?;
@@ -119,8 +123,9 @@ fn told_behind(
 /// `error 20 Unexpected: m.asn:3:14: found '}', expected a type`: the number and the name of the fault, the file, the
 /// line and the column of the place, both counted from 1, the column in characters, and what was found and expected
 /// there. Of octets that are not read, the place of the octet, from 0, and the part of the value that was being read, as
-/// `error 80 Truncated: at octet 17, in a.b[2].c: the octets end ..`. Where the job asks for the context and the fault stands at an octet of a text, its line and a line with a
-/// caret follow. Of the texts and of names at most 60 characters are shown at once.
+/// `error 80 Truncated: at octet 17, in a.b[2].c: the octets end ..`. Of an account, its file, and the octet and the row
+/// at which it stops being one, both from 0. Where the job asks for the context and the fault stands at an octet of a
+/// text, its line and a line with a caret follow. Of the texts and of names at most 60 characters are shown at once.
 pub fn report(
     alloc: Global,
     job: &Job,

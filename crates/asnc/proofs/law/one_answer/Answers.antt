@@ -6,7 +6,7 @@ returns-clause-opened c = opened c.faults_exclude.ensures
 
 pub returns-clause-written : goal.returns-clause-written
 returns-clause-written c = λ xs p s first second o a e ok.
-    written c.one_value.ensures p s first second o a e (c.accepted_keep.ensures xs p ok.accepted)
+    written c.one_meaning.ensures.one c.one_meaning.ensures.refused p s first second o a e (c.accepted_keep.ensures xs p ok.accepted)
 
 pub returns-clause-read : goal.returns-clause-read
 returns-clause-read c = read

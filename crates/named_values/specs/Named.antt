@@ -1,0 +1,38 @@
+-- What a text of the form Module.Name names in a program (X.680, 14.1).
+use Rattle.std.specs.Prelude.{◌≡◌, ℕ, ◌<◌, List, ◌++◌, ◌∷◌, length, get_or}
+use Rattle.trees.specs.Values.{Name, Tree}
+use Rattle.names.specs.declared.scope.Assigned.{Assigned}
+use Rattle.names.specs.declared.scope.Assigned.TheVariants as assigned
+use Rattle.names.specs.Names.{Meaning}
+use Rattle.range_ends.specs.Ends.{IsValueAt}
+use Rattle.resolve.specs.Program.{Program}
+
+-- a module's name, in which no dot stands, a dot, and a name
+pub record IsQualified (text : List ℕ) (M x : Name) : Type 0 where
+  pub spelled : text ≡ M ++ (46 ∷ x)
+  pub plain : (i : ℕ) → i < length M → get_or M i 0 ≡ 46 → ⊥
+
+-- a module's name, a dot, and a name with this meaning there, be it assigned there or imported
+pub record IsNamed (p : Program) (text : List ℕ) (a : Assigned) : Type 0 where
+  pub within : Name
+  pub name : Name
+  pub is : IsQualified text within name
+  pub means : Meaning p.modules within name a
+
+abbrev pub TypeNamed : Program → List ℕ → ℕ → Type 0
+TypeNamed p text t = IsNamed p text (assigned.Type t)
+
+abbrev pub ValueNamed : Program → List ℕ → ℕ → Type 0
+ValueNamed p text i = IsNamed p text (assigned.Value i)
+
+-- the first text names type t, the second a value, which has notation n, read in module M
+pub record AreNamed (p : Program) (first second : List ℕ) (t : ℕ) (M : Name) (n : Tree) : Type 0 where
+  pub typed : TypeNamed p first t
+  pub number : ℕ
+  pub valued : ValueNamed p second number
+  pub at : IsValueAt p number M n
+
+-- a text names type t, and no other one
+pub record Names (p : Program) (name : List ℕ) (t : ℕ) : Type 0 where
+  pub is : TypeNamed p name t
+  pub only : (u : ℕ) → TypeNamed p name u → u ≡ t
